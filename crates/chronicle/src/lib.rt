@@ -1,0 +1,2 @@
+//! What may happen in a run, and what it adds.
+#![tactic(auto)]

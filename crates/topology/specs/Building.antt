@@ -1,0 +1,67 @@
+-- What each call of a topology adds, and when it refuses.
+use Rattle.std.specs.Prelude.{ℕ, Bool, true, false, not, ◌&&◌, ◌==◌, nat_le, List, [], ◌∷◌, ◌++◌, length, Option, Some, None, Result, IsErrOf, IsOkUnless, if◌then◌else◌}
+use Rattle.topology.specs.Lists.{has}
+use Rattle.topology.specs.Net.{Net, linked, has_prefix}
+use Rattle.topology.specs.declared.links.Link.{Link}
+use Rattle.topology.specs.declared.links.Relation.{Relation}
+use Rattle.topology.specs.declared.prefixes.Prefix.{Prefix}
+use Rattle.topology.specs.declared.building.BuildError.{BuildError}
+use Rattle.topology.specs.declared.building.BuildError.TheVariants.{DuplicateNode, UnknownNode, DuplicateLink, SelfLink, DuplicatePrefix, TooMany, NoMemory, NoLink}
+
+-- nothing was added
+abbrev pub nothing : Net
+nothing = record { nodes = []; consolidators = []; links = []; preferences = []; prefixes = [] }
+
+-- the node at the end of the nodes, and of the consolidators where it is one
+abbrev pub with_node : Net → ℕ → Bool → Net
+with_node net id consolidator = record net {
+  nodes = net.nodes ++ id ∷ [];
+  consolidators = if consolidator then net.consolidators ++ id ∷ [] else net.consolidators;
+}
+
+abbrev pub with_link : Net → Link → Net
+with_link net link = record net { links = net.links ++ link ∷ [] }
+
+abbrev pub with_prefix : Net → Prefix → Net
+with_prefix net p = record net { prefixes = net.prefixes ++ p ∷ [] }
+
+-- why a node is not added: the first that holds
+abbrev pub node_refusal : Net → ℕ → Bool → Option BuildError
+node_refusal net id consolidator =
+    if has net.nodes id then Some DuplicateNode
+    else if nat_le 64 (length net.nodes) then Some TooMany
+    else if consolidator && nat_le 7 (length net.consolidators) then Some TooMany
+    else None
+
+-- why a link is not added: the first that holds
+abbrev pub link_refusal : Net → ℕ → ℕ → Option BuildError
+link_refusal net a b =
+    if not (has net.nodes a) then Some (UnknownNode a)
+    else if not (has net.nodes b) then Some (UnknownNode b)
+    else if a == b then Some SelfLink
+    else if linked net a b then Some DuplicateLink
+    else if nat_le 512 (length net.links) then Some TooMany
+    else None
+
+-- why a prefix is not added: the first that holds
+abbrev pub prefix_refusal : Net → Prefix → Option BuildError
+prefix_refusal net p =
+    if has_prefix net p then Some DuplicatePrefix
+    else if nat_le 256 (length net.prefixes) then Some TooMany
+    else None
+
+-- the answer is the refusal where there is one, else Ok unless memory runs out
+abbrev pub AnswersBy : {T : Type 0} → Result T BuildError → Option BuildError → Type 0
+AnswersBy result None = IsOkUnless result NoMemory
+AnswersBy result (Some refusal) = IsErrOf result refusal
+
+-- each refusal by its number, as users see it
+abbrev pub number_of : BuildError → ℕ
+number_of DuplicateNode = 1
+number_of (UnknownNode id) = 2
+number_of DuplicateLink = 3
+number_of SelfLink = 4
+number_of DuplicatePrefix = 5
+number_of TooMany = 6
+number_of NoMemory = 7
+number_of NoLink = 8

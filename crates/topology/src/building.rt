@@ -1,0 +1,46 @@
+//! Why something is not added to a topology.
+ghost use Rattle.std.specs.Prelude.{◌≡◌};
+ghost use Rattle.topology.specs.Building.{number_of};
+
+use crate::NodeId;
+use thiserror::Error;
+
+/// Why something is not added to a topology. Of several the first in this order is answered:
+/// an unknown node, equal ends, no link, a duplicate, too many.
+#[derive(Clone, Copy, Debug, PartialEq, Eq, Error)]
+pub enum BuildError {
+    #[error("the node is there already")]
+    DuplicateNode,
+    #[error("there is no such node")]
+    UnknownNode(NodeId),
+    #[error("the link is there already")]
+    DuplicateLink,
+    #[error("the two ends are one node")]
+    SelfLink,
+    #[error("the prefix is there already")]
+    DuplicatePrefix,
+    #[error("there are too many")]
+    TooMany,
+    #[error("out of memory")]
+    NoMemory,
+    #[error("the two nodes have no link")]
+    NoLink,
+}
+
+impl BuildError {
+    /// The number of the refusal, from 1 to 8.
+    pub fn number(&self) -> u8
+        ensures { result ≡ number_of self.now }
+    {
+        match self {
+            BuildError::DuplicateNode => 1,
+            BuildError::UnknownNode(_) => 2,
+            BuildError::DuplicateLink => 3,
+            BuildError::SelfLink => 4,
+            BuildError::DuplicatePrefix => 5,
+            BuildError::TooMany => 6,
+            BuildError::NoMemory => 7,
+            BuildError::NoLink => 8,
+        }
+    }
+}
