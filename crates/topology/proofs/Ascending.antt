@@ -34,45 +34,45 @@ has-put : (n : ℕ) (xs : List ℕ) (m : ℕ) → has (put_ascending n xs) m ≡
 has-put n [] m = refl
 has-put n (x ∷ xs) m =
     elim (nat_lt n x) as (λ t. has (if t then n ∷ x ∷ xs else x ∷ put_ascending n xs) m ≡ (n == m || (x == m || has xs m))) [
-      true ↦ refl |
-      false ↦ ap (λ b. x == m || b) (has-put n xs m) ∙ or_swap (x == m) (n == m) (has xs m)
+      | true ↦ refl
+      | false ↦ ap (λ b. x == m || b) (has-put n xs m) ∙ or_swap (x == m) (n == m) (has xs m)
     ]
 
 pub length-put : (n : ℕ) (xs : List ℕ) → length (put_ascending n xs) ≡ suc (length xs)
 length-put n [] = refl
 length-put n (x ∷ xs) =
     elim (nat_lt n x) as (λ t. length (if t then n ∷ x ∷ xs else x ∷ put_ascending n xs) ≡ suc (suc (length xs))) [
-      true ↦ refl |
-      false ↦ ap suc (length-put n xs)
+      | true ↦ refl
+      | false ↦ ap suc (length-put n xs)
     ]
 
 each-put : (P : ℕ → Type 0) (n : ℕ) (xs : List ℕ) → P n → AllByRecursion P xs → AllByRecursion P (put_ascending n xs)
 each-put P n [] p h = (p, tt)
 each-put P n (x ∷ xs) p h =
     elim (nat_lt n x) as (λ t. AllByRecursion P (if t then n ∷ x ∷ xs else x ∷ put_ascending n xs)) [
-      true ↦ (p, h) |
-      false ↦ (h.0, each-put P n xs p h.1)
+      | true ↦ (p, h)
+      | false ↦ (h.0, each-put P n xs p h.1)
     ]
 
 climbs-put : (n : ℕ) (xs : List ℕ) → Climbs xs → Climbs (put_ascending n xs)
 climbs-put n [] c = (tt, tt)
 climbs-put n (x ∷ xs) c =
     (elim (nat_lt n x) as (λ t. nat_lt n x ≡ t → Climbs (if t then n ∷ x ∷ xs else x ∷ put_ascending n xs)) [
-      true ↦ λ e.
-        let below : n < x = grind (arith, nat_tests) in
-        ((omega arith, each_weaker (λ y. x ≤ y) (λ y. n ≤ y) (λ y h. omega arith) xs c.0), c) |
-      false ↦ λ e.
-        let above : x ≤ n = grind (arith, nat_tests) in
-        (each-put (λ y. x ≤ y) n xs above c.0, climbs-put n xs c.1)
+      | true ↦ λ e.
+          let below : n < x = grind (arith, nat_tests) in
+          ((omega arith, each_weaker (λ y. x ≤ y) (λ y. n ≤ y) (λ y h. omega arith) xs c.0), c)
+      | false ↦ λ e.
+          let above : x ≤ n = grind (arith, nat_tests) in
+          (each-put (λ y. x ≤ y) n xs above c.0, climbs-put n xs c.1)
     ]) refl
 
 differ-put : (n : ℕ) (xs : List ℕ) → differ (put_ascending n xs) ≡ (not (has xs n) && differ xs)
 differ-put n [] = refl
 differ-put n (x ∷ xs) =
     elim (nat_lt n x) as (λ t. differ (if t then n ∷ x ∷ xs else x ∷ put_ascending n xs) ≡ (not (has (x ∷ xs) n) && differ (x ∷ xs))) [
-      true ↦ refl |
-      false ↦
-        rw (has-put n xs x) (rw (differ-put n xs) (rw (same_sym n x) (exchange (x == n) (has xs x) (has xs n) (differ xs))))
+      | true ↦ refl
+      | false ↦
+          rw (has-put n xs x) (rw (differ-put n xs) (rw (same_sym n x) (exchange (x == n) (has xs x) (has xs n) (differ xs))))
     ]
 
 -- all of them, one after another
@@ -97,8 +97,8 @@ climbs-into (n ∷ ns) sorted c = climbs-into ns (put_ascending n sorted) (climb
 pub absent : (n m : ℕ) (ns : List ℕ) → has ns n ≡ false → has ns m ≡ true → (n == m) ≡ false
 absent n m ns e f =
     (elim (n == m) as (λ t. (n == m) ≡ t → t ≡ false) [
-      true ↦ λ same. let eq = same_is n m same in sym f ∙ (rw eq at e) |
-      false ↦ λ other. refl
+      | true ↦ λ same. let eq = same_is n m same in sym f ∙ (rw eq at e)
+      | false ↦ λ other. refl
     ]) refl
 
 differ-into : (ns sorted : List ℕ) → differ sorted ≡ true → differ ns ≡ true → ((m : ℕ) → has ns m ≡ true → has sorted m ≡ false) → differ (into sorted ns) ≡ true
@@ -107,9 +107,9 @@ differ-into (n ∷ ns) sorted d e apart =
     let new : has ns n ≡ false = not_true (has ns n) (and_left (not (has ns n)) (differ ns) e) in
     let here : has sorted n ≡ false = apart n (or_first (n == n) (has ns n) (same_refl n)) in
     differ-into ns (put_ascending n sorted)
-      (differ-put n sorted ∙ and_both (not (has sorted n)) (differ sorted) (not_false (has sorted n) here) d)
-      (and_right (not (has ns n)) (differ ns) e)
-      (λ m in'. has-put n sorted m ∙ or_none (n == m) (has sorted m) (absent n m ns new in') (apart m (or_second (n == m) (has ns m) in')))
+    (differ-put n sorted ∙ and_both (not (has sorted n)) (differ sorted) (not_false (has sorted n) here) d)
+    (and_right (not (has ns n)) (differ ns) e)
+    (λ m in'. has-put n sorted m ∙ or_none (n == m) (has sorted m) (absent n m ns new in') (apart m (or_second (n == m) (has ns m) in')))
 
 into-append : (ns sorted : List ℕ) (n : ℕ) → into sorted (ns ++ n ∷ []) ≡ put_ascending n (into sorted ns)
 into-append [] sorted n = refl

@@ -21,8 +21,8 @@ pub put_is_insert : (n : ℕ) (xs : List ℕ) → put_ascending n xs ≡ insert 
 put_is_insert n [] = refl
 put_is_insert n (x ∷ xs) =
     elim (nat_lt n x) as (λ t. (if t then n ∷ x ∷ xs else x ∷ put_ascending n xs) ≡ insert (x ∷ xs) (cond (not t) (1 + position_or_len (λ x. nat_lt n x) xs) 0) n) [
-      true ↦ refl |
-      false ↦ rw one-add (ap (λ l. x ∷ l) (put_is_insert n xs))
+      | true ↦ refl
+      | false ↦ rw one-add (ap (λ l. x ∷ l) (put_is_insert n xs))
     ]
 
 -- the first place that passes is that of the node
@@ -38,8 +38,8 @@ has_at xs n i l e = list_any_at (λ x. x == n) xs i 0 l (rw e (same_refl n))
 beside : (xs : List ℕ) (n i k : ℕ) → k < length xs → ((k : ℕ) → k < i → get_or xs k 0 < n) → ((k : ℕ) → i ≤ k → k < length xs → n < get_or xs k 0) → (get_or xs k 0 == n) ≡ false
 beside xs n i k l below above =
     (elim (nat_lt k i) as (λ t. nat_lt k i ≡ t → (get_or xs k 0 == n) ≡ false) [
-      true ↦ λ e. let h : k < i = grind (arith, nat_tests) in let lower = below k h in grind (arith, nat_tests) |
-      false ↦ λ e. let h : i ≤ k = grind (arith, nat_tests) in let higher = above k h l in grind (arith, nat_tests)
+      | true ↦ λ e. let h : k < i = grind (arith, nat_tests) in let lower = below k h in grind (arith, nat_tests)
+      | false ↦ λ e. let h : i ≤ k = grind (arith, nat_tests) in let higher = above k h l in grind (arith, nat_tests)
     ]) refl
 
 -- a search in a list that rises finds each number that it has
@@ -65,8 +65,8 @@ pub differ-append : (xs : List ℕ) (n : ℕ) → differ xs ≡ true → has xs 
 differ-append [] n d e = refl
 differ-append (x ∷ xs) n d e =
     and_both (not (has (xs ++ n ∷ []) x)) (differ (xs ++ n ∷ []))
-      (not_false _ (has-append xs n x ∙ or_none (has xs x) (n == x) (not_true _ (and_left (not (has xs x)) (differ xs) d)) (same_sym n x ∙ or_left (x == n) (has xs n) e)))
-      (differ-append xs n (and_right (not (has xs x)) (differ xs) d) (or_right (x == n) (has xs n) e))
+    (not_false _ (has-append xs n x ∙ or_none (has xs x) (n == x) (not_true _ (and_left (not (has xs x)) (differ xs) d)) (same_sym n x ∙ or_left (x == n) (has xs n) e)))
+    (differ-append xs n (and_right (not (has xs x)) (differ xs) d) (or_right (x == n) (has xs n) e))
 
 pub both_orders-append : (added rising : List ℕ) (n : ℕ) → InBothOrders added rising → has added n ≡ false → InBothOrders (added ++ n ∷ []) (put_ascending n rising)
 both_orders-append added rising n both new = record {
@@ -90,8 +90,8 @@ pub place_is : (p : ℕ → Bool) (xs : List ℕ) → unwrap_or (position p xs) 
 place_is p xs =
     let l = prefix_len-le-length (λ x. not (p x)) xs in
     (elim (nat_lt (position_or_len p xs) (length xs)) as (λ t. nat_lt (position_or_len p xs) (length xs) ≡ t → unwrap_or (cond t (Some (position_or_len p xs)) None) (length xs) ≡ position_or_len p xs) [
-      true ↦ λ e. refl |
-      false ↦ λ e. grind (arith, nat_tests)
+      | true ↦ λ e. refl
+      | false ↦ λ e. grind (arith, nat_tests)
     ]) refl
 
 pub on_ok : {A E : Type 0} (r : Result A E) (new old then' : List ℕ) → new ≡ (if is_ok r then then' else old) → (wanted : List ℕ) → then' ≡ wanted → OnOk r (new ≡ wanted)
