@@ -15,7 +15,8 @@ use Rattle.topology.specs.declared.prefixes.Prefix.{Prefix}
 use Rattle.topology.proofs.Tests.{and_left, and_right, and_both, or_left, or_right, or_none, or_first, or_second, or_false, or_comm, not_true, not_false, same_sym, same_is, same_not, same_refl}
 use Rattle.topology.proofs.Ascending.{absent, each_weaker}
 use Rattle.topology.proofs.Sets.{differ-append, has-append}
-use Rattle.topology.proofs.Near.{neighbours-node, neighbours-none, neighbours-link, neighbours-link_other, joins_sym}
+use Rattle.topology.proofs.Places.{has_placed, set_two}
+use Rattle.topology.proofs.Near.{neighbours-node, neighbours-none, neighbours-link, neighbours-link_to, neighbours-link_other, joins_sym}
 
 each-append : {X : Type 0} (P : X → Type 0) (xs : List X) (x : X) → AllByRecursion P xs → P x → AllByRecursion P (xs ++ x ∷ [])
 each-append P [] x h p = (p, tt)
@@ -128,6 +129,19 @@ valid-link net link v from to apart new few = record {
   few_prefixes = v.few_prefixes;
   few_consolidators = v.few_consolidators;
 }
+
+pub keeps-link : (net : Net) (lists : List (List ℕ)) (link : Link) (i j : ℕ) → Keeps net lists → slice_get net.nodes i ≡ Some link.a → slice_get net.nodes j ≡ Some link.b → link.a ≢ link.b → linked net link.a link.b ≡ false → length net.links < 512
+    → Keeps (with_link net link) (set (set lists i (put_ascending link.b (neighbours net link.a))) j (put_ascending link.a (neighbours net link.b)))
+keeps-link net lists link i j k at_a at_b apart new few =
+    let more = with_link net link in
+    let from = has_placed net.nodes i link.a at_a in
+    let to = has_placed net.nodes j link.b at_b in
+    record {
+      valid = valid-link net link k.valid from to apart new few;
+      near =
+        rw (k.near, ← neighbours-link net link k.valid.nodes_differ apart to new, ← neighbours-link_to net link k.valid.nodes_differ apart from new)
+          (set_two (neighbours net) (neighbours more) link.a link.b (λ u e f. sym (neighbours-link_other net link u e f)) net.nodes k.valid.nodes_differ i j at_a at_b);
+    }
 
 -- a prefix
 

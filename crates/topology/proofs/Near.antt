@@ -6,11 +6,11 @@ use Rattle.std.proofs.lemmas.List.Elements.{filter_agree}
 use Rattle.std.proofs.lemmas.List.Folds.{list_any-append}
 use Rattle.topology.specs.Lists.{has, put_ascending, ascending}
 use Rattle.topology.specs.Paths.{differ}
-use Rattle.topology.specs.Net.{Net, joins, linked, neighbours, JoinsNodes}
+use Rattle.topology.specs.Net.{Net, joins, linked, neighbours, JoinsNodes, IsValid}
 use Rattle.topology.specs.Building.{with_node, with_link, with_prefix}
 use Rattle.topology.specs.declared.links.Link.{Link}
 use Rattle.topology.proofs.Tests.{and_left, and_right, and_both, and_no, or_left, or_right, or_none, or_first, or_second, or_false, or_comm, not_true, not_false, same_sym, same_is, same_not, same_refl}
-use Rattle.topology.proofs.Ascending.{Rises, absent, each_weaker, ascending-append, rises-ascending, has-ascending}
+use Rattle.topology.proofs.Ascending.{Rises, absent, each_weaker, ascending-append, rises-ascending, has-ascending, length-ascending}
 
 -- lists that are filtered
 
@@ -116,6 +116,9 @@ linked-link net link u v = list_any-append (joins u v) net.links (link ∷ []) �
 joins_first : (a b v : ℕ) (link : Link) → link.a ≡ a → link.b ≡ b → a ≢ b → joins a v link ≡ (v == b)
 joins_first a b v link e f apart = rw (e, f) (grind (arith, nat_tests))
 
+joins_second : (a b v : ℕ) (link : Link) → link.a ≡ a → link.b ≡ b → a ≢ b → joins b v link ≡ (v == a)
+joins_second a b v link e f apart = rw (e, f) (grind (arith, nat_tests))
+
 joins_none : (u v : ℕ) (link : Link) → (u == link.a) ≡ false → (u == link.b) ≡ false → joins u v link ≡ false
 joins_none u v link e f = rw (same_sym link.a u ∙ e, same_sym link.b u ∙ f) (and_no (link.a == v))
 
@@ -127,7 +130,46 @@ neighbours-link net link d apart in' new =
       new
       (ascending net.nodes) (rises-ascending net.nodes d) (has-ascending net.nodes link.b ∙ in')
 
+pub neighbours-link_to : (net : Net) (link : Link) → differ net.nodes ≡ true → link.a ≢ link.b → has net.nodes link.a ≡ true → linked net link.a link.b ≡ false → neighbours (with_link net link) link.b ≡ put_ascending link.a (neighbours net link.b)
+unfolding neighbours
+neighbours-link_to net link d apart in' new =
+    filter_more (linked net link.b) (linked (with_link net link) link.b) link.a
+      (λ v. linked-link net link link.b v ∙ ap (λ b. linked net link.b v || b) (joins_second link.a link.b v link refl refl apart))
+      (any_agree (joins link.b link.a) (joins link.a link.b) (joins_sym link.b link.a) net.links ∙ new)
+      (ascending net.nodes) (rises-ascending net.nodes d) (has-ascending net.nodes link.a ∙ in')
+
 pub neighbours-link_other : (net : Net) (link : Link) (u : ℕ) → (u == link.a) ≡ false → (u == link.b) ≡ false → neighbours (with_link net link) u ≡ neighbours net u
 unfolding neighbours
 neighbours-link_other net link u e f =
     filter_agree _ _ (λ v. linked-link net link u v ∙ ap (λ b. linked net u v || b) (joins_none u v link e f) ∙ or_false (linked net u v)) (ascending net.nodes)
+
+-- no node is its own neighbour, so that one node at least is no neighbour
+
+not_own : (nodes : List ℕ) (links : List Link) → AllByRecursion (JoinsNodes nodes) links → (u : ℕ) → list_any (joins u u) links ≡ false
+not_own nodes [] h u = refl
+not_own nodes (l ∷ ls) h u =
+    let apart : l.a ≢ l.b = h.0.apart in
+    let here : joins u u l ≡ false = grind (arith, nat_tests) in
+    rw here (not_own nodes ls h.1 u)
+
+filter_shorter : (p : ℕ → Bool) (xs : List ℕ) → length (filter p xs) ≤ length xs
+filter_shorter p [] = omega arith
+filter_shorter p (x ∷ xs) =
+    let rest = filter_shorter p xs in
+    elim (p x) as (λ t. length (cond t (x ∷ filter p xs) (filter p xs)) ≤ suc (length xs)) [ true ↦ omega arith | false ↦ omega arith ]
+
+filter_lacks : (p : ℕ → Bool) (u : ℕ) → p u ≡ false → (xs : List ℕ) → has xs u ≡ true → length (filter p xs) < length xs
+filter_lacks p u lacks [] e = cc
+filter_lacks p u lacks (x ∷ xs) e =
+    (elim (x == u) as (λ t. (x == u) ≡ t → length (filter p (x ∷ xs)) < suc (length xs)) [
+      true ↦ λ same. let gone : p x ≡ false = rw (same_is x u same) lacks in rw gone (omega (arith, filter_shorter p xs)) |
+      false ↦ λ other.
+        let rest = filter_lacks p u lacks xs (rw other at e) in
+        elim (p x) as (λ t. length (cond t (x ∷ filter p xs) (filter p xs)) < suc (length xs)) [ true ↦ omega arith | false ↦ omega arith ]
+    ]) refl
+
+pub neighbours_few : (net : Net) (u : ℕ) → IsValid net → has net.nodes u ≡ true → length (neighbours net u) ≤ 63
+unfolding neighbours
+neighbours_few net u v in' =
+    let few = v.few_nodes in
+    omega (arith, length-ascending net.nodes, filter_lacks (linked net u) u (not_own net.nodes net.links v.links_join u) (ascending net.nodes) (has-ascending net.nodes u ∙ in'))
