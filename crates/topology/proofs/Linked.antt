@@ -1,5 +1,5 @@
 -- Links that are kept under their ends.
-use Rattle.std.proofs.Common.{◌≡◌, ◌≢◌, ℕ, ◌+◌, ◌<◌, ◌≤◌, min, max, Bool, true, false, not, cond, ◌&&◌, ◌||◌, ◌==◌, List, [], ◌∷◌, ◌++◌, map, find, refl, sym, ap, ◌∙◌, arith, if◌then◌else◌, nat_lt, Option, Some, None}
+use Rattle.std.proofs.Common.{◌≡◌, ◌≢◌, ℕ, ◌+◌, ◌<◌, ◌≤◌, min, max, Bool, true, false, not, cond, ◌&&◌, ◌||◌, ◌==◌, List, [], ◌∷◌, ◌++◌, map, find, refl, sym, ap, ◌∙◌, arith, if◌then◌else◌, nat_lt, Option, Some, None, is_some}
 use Rattle.std.specs.List.{list_any, AllByRecursion}
 use Rattle.std.specs.Map.{lookup, values_of}
 use Rattle.indexmap.specs.IndexMap.{insert_entry}
@@ -31,3 +31,10 @@ module _ (eq : Ends → Ends → Bool) (a b : ℕ) (is : (link : Link) → eq (e
 pub under-append : (entries : List (Ends × Link)) (link : Link) → UnderTheirEnds entries → UnderTheirEnds (entries ++ (ends link.a link.b, link) ∷ [])
 under-append [] link under = record { each = (refl, tt) }
 under-append (e ∷ es) link under = record { each = (under.each.0, (under-append es link (record { each = under.each.1 })).each) }
+
+-- one that passes is found where there is one
+pub is_some_find : {X : Type 0} (p : X → Bool) (xs : List X) → is_some (find p xs) ≡ list_any p xs
+is_some_find p [] = refl
+is_some_find p (x ∷ xs) = elim (p x) as (λ t. is_some (cond t (Some x) (find p xs)) ≡ (t || list_any p xs)) [ true ↦ refl | false ↦ is_some_find p xs ]
+
+pub ruleset any_found = (is_some_find)

@@ -22,8 +22,8 @@ filter-put_other : (p : ℕ → Bool) (n : ℕ) → p n ≡ false → (xs : List
 filter-put_other p n fails [] = rw fails
 filter-put_other p n fails (x ∷ xs) =
     elim (nat_lt n x) as (λ t. filter p (if t then n ∷ x ∷ xs else x ∷ put_ascending n xs) ≡ filter p (x ∷ xs)) [
-      true ↦ rw fails |
-      false ↦ ap (λ l. cond (p x) (x ∷ l) l) (filter-put_other p n fails xs)
+      | true ↦ rw fails
+      | false ↦ ap (λ l. cond (p x) (x ∷ l) l) (filter-put_other p n fails xs)
     ]
 
 filter_none : (p : ℕ → Bool) → ((x : ℕ) → p x ≡ false) → (xs : List ℕ) → filter p xs ≡ []
@@ -39,16 +39,16 @@ each-filter : (P : ℕ → Type 0) (p : ℕ → Bool) (xs : List ℕ) → AllByR
 each-filter P p [] h = tt
 each-filter P p (x ∷ xs) h =
     elim (p x) as (λ t. AllByRecursion P (cond t (x ∷ filter p xs) (filter p xs))) [
-      true ↦ (h.0, each-filter P p xs h.1) |
-      false ↦ each-filter P p xs h.1
+      | true ↦ (h.0, each-filter P p xs h.1)
+      | false ↦ each-filter P p xs h.1
     ]
 
 above_has : (b x : ℕ) (xs : List ℕ) → AllByRecursion (λ y. x < y) xs → has xs b ≡ true → x < b
 above_has b x [] h e = cc
 above_has b x (y ∷ ys) h e =
     (elim (y == b) as (λ t. (y == b) ≡ t → x < b) [
-      true ↦ λ same. let is = same_is y b same in let up : x < y = h.0 in omega arith |
-      false ↦ λ other. above_has b x ys h.1 (rw other at e)
+      | true ↦ λ same. let is = same_is y b same in let up : x < y = h.0 in omega arith
+      | false ↦ λ other. above_has b x ys h.1 (rw other at e)
     ]) refl
 
 -- the numbers that one test more lets through
@@ -63,25 +63,25 @@ module _ (p q : ℕ → Bool) (b : ℕ) (more : (x : ℕ) → q x ≡ (p x || x 
   filter_more [] r e = cc
   filter_more (x ∷ xs) r e =
       (elim (x == b) as (λ t. (x == b) ≡ t → filter q (x ∷ xs) ≡ put_ascending b (filter p (x ∷ xs))) [
-        true ↦ λ same.
-          let is : x ≡ b = same_is x b same in
-          let here : q x ≡ true = more x ∙ or_second (p x) (x == b) same in
-          let gone : p x ≡ false = rw is new in
-          let rest : AllByRecursion (λ y. b < y) xs = rw (← is) r.0 in
-          rw (here, gone) (rw is (ap (λ l. b ∷ l) (filter_later xs rest) ∙ sym (put_front b (filter p xs) (each-filter (λ y. b < y) p xs rest)))) |
-        false ↦ λ other.
-          let later : has xs b ≡ true = rw other at e in
-          let up : x < b = above_has b x xs r.0 later in
-          let step : filter q xs ≡ put_ascending b (filter p xs) = filter_more xs r.1 later in
-          rw (more x, other, or_false (p x)) (past x xs up step)
+        | true ↦ λ same.
+            let is : x ≡ b = same_is x b same in
+            let here : q x ≡ true = more x ∙ or_second (p x) (x == b) same in
+            let gone : p x ≡ false = rw is new in
+            let rest : AllByRecursion (λ y. b < y) xs = rw (← is) r.0 in
+            rw (here, gone) (rw is (ap (λ l. b ∷ l) (filter_later xs rest) ∙ sym (put_front b (filter p xs) (each-filter (λ y. b < y) p xs rest))))
+        | false ↦ λ other.
+            let later : has xs b ≡ true = rw other at e in
+            let up : x < b = above_has b x xs r.0 later in
+            let step : filter q xs ≡ put_ascending b (filter p xs) = filter_more xs r.1 later in
+            rw (more x, other, or_false (p x)) (past x xs up step)
       ]) refl
     where
       past : (x : ℕ) (xs : List ℕ) → x < b → filter q xs ≡ put_ascending b (filter p xs) → cond (p x) (x ∷ filter q xs) (filter q xs) ≡ put_ascending b (cond (p x) (x ∷ filter p xs) (filter p xs))
       past x xs up step =
           let fails : nat_lt b x ≡ false = grind (arith, nat_tests) in
           elim (p x) as (λ t. cond t (x ∷ filter q xs) (filter q xs) ≡ put_ascending b (cond t (x ∷ filter p xs) (filter p xs))) [
-            true ↦ rw fails (ap (λ l. x ∷ l) step) |
-            false ↦ step
+            | true ↦ rw fails (ap (λ l. x ∷ l) step)
+            | false ↦ step
           ]
 
 -- links and their ends
@@ -126,17 +126,17 @@ pub neighbours-link : (net : Net) (link : Link) → differ net.nodes ≡ true �
 unfolding neighbours
 neighbours-link net link d apart in' new =
     filter_more (linked net link.a) (linked (with_link net link) link.a) link.b
-      (λ v. linked-link net link link.a v ∙ ap (λ b. linked net link.a v || b) (joins_first link.a link.b v link refl refl apart))
-      new
-      (ascending net.nodes) (rises-ascending net.nodes d) (has-ascending net.nodes link.b ∙ in')
+    (λ v. linked-link net link link.a v ∙ ap (λ b. linked net link.a v || b) (joins_first link.a link.b v link refl refl apart))
+    new
+    (ascending net.nodes) (rises-ascending net.nodes d) (has-ascending net.nodes link.b ∙ in')
 
 pub neighbours-link_to : (net : Net) (link : Link) → differ net.nodes ≡ true → link.a ≢ link.b → has net.nodes link.a ≡ true → linked net link.a link.b ≡ false → neighbours (with_link net link) link.b ≡ put_ascending link.a (neighbours net link.b)
 unfolding neighbours
 neighbours-link_to net link d apart in' new =
     filter_more (linked net link.b) (linked (with_link net link) link.b) link.a
-      (λ v. linked-link net link link.b v ∙ ap (λ b. linked net link.b v || b) (joins_second link.a link.b v link refl refl apart))
-      (any_agree (joins link.b link.a) (joins link.a link.b) (joins_sym link.b link.a) net.links ∙ new)
-      (ascending net.nodes) (rises-ascending net.nodes d) (has-ascending net.nodes link.a ∙ in')
+    (λ v. linked-link net link link.b v ∙ ap (λ b. linked net link.b v || b) (joins_second link.a link.b v link refl refl apart))
+    (any_agree (joins link.b link.a) (joins link.a link.b) (joins_sym link.b link.a) net.links ∙ new)
+    (ascending net.nodes) (rises-ascending net.nodes d) (has-ascending net.nodes link.a ∙ in')
 
 pub neighbours-link_other : (net : Net) (link : Link) (u : ℕ) → (u == link.a) ≡ false → (u == link.b) ≡ false → neighbours (with_link net link) u ≡ neighbours net u
 unfolding neighbours
@@ -162,10 +162,10 @@ filter_lacks : (p : ℕ → Bool) (u : ℕ) → p u ≡ false → (xs : List ℕ
 filter_lacks p u lacks [] e = cc
 filter_lacks p u lacks (x ∷ xs) e =
     (elim (x == u) as (λ t. (x == u) ≡ t → length (filter p (x ∷ xs)) < suc (length xs)) [
-      true ↦ λ same. let gone : p x ≡ false = rw (same_is x u same) lacks in rw gone (omega (arith, filter_shorter p xs)) |
-      false ↦ λ other.
-        let rest = filter_lacks p u lacks xs (rw other at e) in
-        elim (p x) as (λ t. length (cond t (x ∷ filter p xs) (filter p xs)) < suc (length xs)) [ true ↦ omega arith | false ↦ omega arith ]
+      | true ↦ λ same. let gone : p x ≡ false = rw (same_is x u same) lacks in rw gone (omega (arith, filter_shorter p xs))
+      | false ↦ λ other.
+          let rest = filter_lacks p u lacks xs (rw other at e) in
+          elim (p x) as (λ t. length (cond t (x ∷ filter p xs) (filter p xs)) < suc (length xs)) [ true ↦ omega arith | false ↦ omega arith ]
     ]) refl
 
 pub neighbours_few : (net : Net) (u : ℕ) → IsValid net → has net.nodes u ≡ true → length (neighbours net u) ≤ 63

@@ -26,7 +26,7 @@ module _ {X Y : Type 0} (g : X → Y) (f : ℕ → Y) where
   value_there vs ns i n v e at is =
       let read : slice_get vs i ≡ Some v = slice_get_read vs (length vs) i v refl (within_both vs ns i n e at) is in
       same_Some (g v) (f n)
-        (ap (option_map g) (sym read) ∙ sym (slice_get-map g vs i) ∙ ap (λ l. slice_get l i) e ∙ slice_get-map f ns i ∙ ap (option_map f) at)
+      (ap (option_map g) (sym read) ∙ sym (slice_get-map g vs i) ∙ ap (λ l. slice_get l i) e ∙ slice_get-map f ns i ∙ ap (option_map f) at)
 
 -- a value anew at the place of one node
 
@@ -55,11 +55,13 @@ set_two {Y} f g a b others xs d i j at_a at_b =
   where
     first : ℕ → Y
     first u = if u == a then g a else f u
+
     first_is : (u : ℕ) → (u == a) ≡ false → f u ≡ first u
     first_is u e = sym (ap (λ t. if t then g a else f u) e)
+
     then_is : (u : ℕ) → (u == b) ≡ false → first u ≡ g u
     then_is u e =
         (elim (u == a) as (λ t. (u == a) ≡ t → (if t then g a else f u) ≡ g u) [
-          true ↦ λ same. ap g (sym (same_is u a same)) |
-          false ↦ λ other. others u other e
+          | true ↦ λ same. ap g (sym (same_is u a same))
+          | false ↦ λ other. others u other e
         ]) refl

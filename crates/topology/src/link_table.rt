@@ -70,6 +70,14 @@ impl LinkTable {
         self.links.get(&Ends::of(a, b)).copied()
     }
 
+    /// Whether two nodes have a link.
+    #[tactic(auto, using(crate::proofs::Linked::any_found))]
+    pub fn has(&self, a: NodeId, b: NodeId) -> bool
+        ensures { result ≡ list_any (joins a b) self.now }
+    {
+        self.find(a, b).is_some()
+    }
+
     /// The link at a place in the order in which they were added.
     pub fn at(&self, place: usize) -> Option<Link>
         ensures { result ≡ slice_get self.now place }

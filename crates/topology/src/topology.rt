@@ -1,5 +1,5 @@
 //! A network: its nodes, links and prefixes, in the order in which they were added.
-ghost use Rattle.std.specs.Prelude.{◌≡◌, ◌<◌, ◌≤◌, ◌↔◌, false, Some, IfOk, OnOk, OnErr, IfSome, IsNone, length, slice_get, option_map};
+ghost use Rattle.std.specs.Prelude.{◌≡◌, ◌^◌, ◌<◌, ◌≤◌, ◌↔◌, false, None, Some, IfErr, IfOk, OnOk, OnErr, IfSome, IsNone, length, slice_get, option_map};
 ghost use Rattle.topology.specs.Lists.{ascending, has, put_ascending};
 ghost use Rattle.topology.specs.Net.{neighbours, relation, file_preference, has_prefix, IsValid, IsPrefix};
 ghost use Rattle.topology.specs.Building.{nothing, with_node, with_link, with_prefix, node_refusal, link_refusal, prefix_refusal, AnswersBy};
@@ -67,6 +67,50 @@ impl Topology {
         }
     }
 
+    // Whether a node may be added.
+    fn check_node(&self, id: NodeId, consolidator: bool) -> Result<(), BuildError>
+        ensures ok { OnOk result (node_refusal self.now id consolidator ≡ None) }
+        ensures fits { OnOk result (id < 2 ^ 16) }
+        ensures err { IfErr result (λ e. node_refusal self.now id consolidator ≡ Some e) }
+    {
+        if self.nodes.contains(id) {
+            return Err(BuildError::DuplicateNode);
+        }
+        if self.nodes.len() >= MAX_NODES {
+            return Err(BuildError::TooMany);
+        }
+        if consolidator && self.consolidators.len() >= MAX_CONSOLIDATORS {
+            return Err(BuildError::TooMany);
+        }
+        let _fits = id.number();
+        Ok(())
+    }
+
+    // The places of the two ends, where a link between them may be added.
+    fn check_link(&self, a: NodeId, b: NodeId) -> Result<(usize, usize), BuildError>
+        ensures ok { OnOk result (link_refusal self.now a b ≡ None) }
+        ensures from { IfOk result (λ places. slice_get self.now.nodes places.0 ≡ Some a) }
+        ensures to { IfOk result (λ places. slice_get self.now.nodes places.1 ≡ Some b) }
+        ensures err { IfErr result (λ e. link_refusal self.now a b ≡ Some e) }
+    {
+        let Some(from) = self.nodes.place(a) else {
+            return Err(BuildError::UnknownNode(a));
+        };
+        let Some(to) = self.nodes.place(b) else {
+            return Err(BuildError::UnknownNode(b));
+        };
+        if a == b {
+            return Err(BuildError::SelfLink);
+        }
+        if self.links.has(a, b) {
+            return Err(BuildError::DuplicateLink);
+        }
+        if self.links.len() >= MAX_LINKS {
+            return Err(BuildError::TooMany);
+        }
+        Ok((from, to))
+    }
+
     /// Adds a node, numbered from 1. There are at most 64, of which at most 7 are consolidators.
     pub fn add_node(&mut self, id: NodeId, consolidator: bool) -> Result<(), BuildError>
         requires { 0 < id }
@@ -74,14 +118,7 @@ impl Topology {
         ensures refused { AnswersBy result (node_refusal self.old id consolidator) }
         ensures err { OnErr result (self.new ≡ self.old) }
     {
-        if self.nodes.contains(id) {
-            return Err(BuildError::DuplicateNode);
-        }
-        if self.nodes.len() >= MAX_NODES
-            || (consolidator && self.consolidators.len() >= MAX_CONSOLIDATORS)
-        {
-            return Err(BuildError::TooMany);
-        }
+        self.check_node(id, consolidator)?;
         self.nodes.reserve()?;
         self.consolidators.reserve()?;
         self.neighbours.push(Vec::new(self.alloc))?;
@@ -99,23 +136,9 @@ impl Topology {
         ensures refused { AnswersBy result (link_refusal self.old a b) }
         ensures err { OnErr result (self.new ≡ self.old) }
     {
-        let Some(from) = self.nodes.place(a) else {
-            return Err(BuildError::UnknownNode(a));
-        };
-        let Some(to) = self.nodes.place(b) else {
-            return Err(BuildError::UnknownNode(b));
-        };
-        if a == b {
-            return Err(BuildError::SelfLink);
-        }
-        if self.links.find(a, b).is_some() {
-            return Err(BuildError::DuplicateLink);
-        }
-        if self.links.len() >= MAX_LINKS {
-            return Err(BuildError::TooMany);
-        }
-        let near_a = with_ascending(&self.neighbours[from], b, self.alloc)?;
-        let near_b = with_ascending(&self.neighbours[to], a, self.alloc)?;
+        let (from, to) = self.check_link(a, b)?;
+        let near_a = with_ascending(self.neighbours(a), b, self.alloc)?;
+        let near_b = with_ascending(self.neighbours(b), a, self.alloc)?;
         self.links.add(Link { a, b, relation })?;
         self.neighbours[from] = near_a;
         self.neighbours[to] = near_b;

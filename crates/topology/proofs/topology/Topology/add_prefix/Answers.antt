@@ -11,7 +11,7 @@ pub invariant_of-self-2 : goal.invariant_of-self-2
 invariant_of-self-2 c =
     let new = sym c.contains.ensures ∙ c.if-contains.false in
     rw (c.in_ok-place.ensures.keys, last_of _ _ c.args.prefix new)
-      (keeps-prefix _ _ c.args.prefix c.self.invariant new (omega arith))
+    (keeps-prefix _ _ c.args.prefix c.self.invariant new (omega arith))
 
 pub returns-clause-place : goal.returns-clause-place
 returns-clause-place c =
