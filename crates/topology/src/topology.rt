@@ -52,12 +52,7 @@ impl Topology {
 
     /// Adds a link: `b` has this relation to `a`, and `a` the converse one to `b`. There are at
     /// most 512, and one between two nodes.
-    pub fn add_link(
-        &mut self,
-        a: NodeId,
-        b: NodeId,
-        relation: Relation,
-    ) -> Result<(), BuildError>
+    pub fn add_link(&mut self, a: NodeId, b: NodeId, relation: Relation) -> Result<(), BuildError>
         ensures ok { OnOk result (self.new ≡ with_link self.old (record { a = a; b = b; relation = relation })) }
         ensures refused { AnswersBy result (link_refusal self.old a b) }
         ensures err { OnErr result (self.new ≡ self.old) }
