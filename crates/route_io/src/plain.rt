@@ -34,8 +34,6 @@ impl Source for PlainSource {
     fn read(&mut self, buf: &mut [u8]) -> Result<usize, Failed>
         ensures bound { ReadsAtMost result buf.new }
         ensures bytes { ReadConsumes (Some self.old.content) (Some self.new.content) result buf.new }
-        ensures told { StaysTold (Some self.old.content) (Some self.new.content) }
-        ensures cause { HasCause 0 0 result }
         ensures never_fails { IsOk result }
         ensures fills { IfOk result (λ n. n ≡ min (length buf.old) (length self.old.content)) }
     {
@@ -80,10 +78,8 @@ impl Sink for PlainSink {
     ghost faults = { λ s. s.faults };
 
     fn write(&mut self, piece: &[u8]) -> Result<usize, Failed>
-        ensures bound { IfOk result (λ n. n ≤ length piece.now) }
         ensures some { 0 < length piece.now → IfOk result (λ n. 0 < n) }
         ensures bytes { WriteAppends (Some self.old.room.held) (Some self.new.room.held) result piece.now }
-        ensures told { StaysTold (Some self.old.room.held) (Some self.new.room.held) }
         ensures same_room { Some self.new.room.size ≡ Some self.old.room.size }
         ensures cause { HasCause self.old.faults self.new.faults result }
         ensures fails { IsErr result ↔ FindsNoRoom self.old.room piece.now }
@@ -98,3 +94,6 @@ impl Sink for PlainSink {
         Ok(taken)
     }
 }
+
+#[cfg(test)]
+mod tests;
