@@ -1,4 +1,10 @@
 //! Reads a schedule.
+ghost use Rattle.std.specs.Prelude.{◌≡◌, ◌<◌, ◌-◌, ◌^◌, List, [], length, IfOk, IfErr};
+ghost use Rattle.consensus_routing.specs.Spelling.{lines_of};
+ghost use Rattle.consensus_routing.specs.Grammar.{IsFile, Reads};
+ghost use Rattle.consensus_routing.specs.Ends.{SaysWhy, IsWantOfMemory};
+ghost use Rattle.consensus_routing.specs.declared.directives.Line.{Line};
+
 use crate::directives::{Directive, Line, Numbered, Schedule};
 use crate::reading::read_line;
 use crate::words::cut_at;
@@ -101,8 +107,15 @@ fn take(
     Ok(())
 }
 
-/// The schedule that the bytes spell.
-pub fn parse(alloc: Global, text: &[u8]) -> Result<Schedule, ParseEnd> {
+/// The schedule that the bytes spell, else the first line that is outside the grammar. Linear in
+/// the bytes.
+pub fn parse(alloc: Global, text: &[u8]) -> Result<Schedule, ParseEnd>
+    requires { length text.now < 2 ^ 32 - 1 }
+    ensures ok { IfOk result (λ schedule. IsFile text.now schedule) }
+    ensures err { IfErr result (SaysWhy text.now) }
+    // A file of the grammar is refused for want of memory alone.
+    ensures complete { (lines : List Line) → Reads [] (lines_of text.now) lines → IfErr result IsWantOfMemory }
+{
     let mut schedule = Schedule {
         topology: Topology::empty(alloc),
         lines: Vec::new(alloc),

@@ -1,4 +1,8 @@
 //! Reads one line of a schedule.
+ghost use Rattle.std.specs.Prelude.{◌≢◌, IfSome, IfNone};
+ghost use Rattle.consensus_routing.specs.Spelling.{Spells};
+ghost use Rattle.consensus_routing.specs.declared.directives.Line.{Line};
+
 use crate::directives::Line;
 use crate::words::{Cut, cut_at, read_number, read_prefix};
 use topology::{NodeId, Prefix};
@@ -56,7 +60,10 @@ fn origin_of(words: &[u8]) -> Option<(NodeId, Prefix)> {
 }
 
 /// The line that these bytes spell. None exactly where they spell none.
-pub fn read_line(bytes: &[u8]) -> Option<Line> {
+pub fn read_line(bytes: &[u8]) -> Option<Line>
+    ensures some { IfSome result (λ line. Spells bytes.now line) }
+    ensures none { IfNone result ((line : Line) → Spells bytes.now line → ⊥) }
+{
     let Cut { front, rest } = cut_at(SPACE, bytes);
     match front {
         b"node" => node_line(rest?),
