@@ -1,8 +1,7 @@
 -- The first of the candidates that are kept, and the place of a neighbour.
-use Rattle.std.proofs.Common.{◌≡◌, ◌≢◌, ℕ, suc, zero, ◌+◌, ◌<◌, ◌≤◌, Bool, true, false, cond, ◌||◌, ◌==◌, List, [], ◌∷◌, length, get_or, slice_get, take, add-one, refl, sym, ap, ◌∙◌, subst, arith, Option, Some, None, option_map, option_and_then, fold, Result, Ok, Err, IfSome, IfNone, ◌⊎◌, inl, inr, ⊎_elim}
-use Rattle.std.specs.Prelude.{if◌then◌else◌}
+use Rattle.std.proofs.Common.{◌≡◌, ◌≢◌, ℕ, suc, zero, ◌+◌, ◌<◌, ◌≤◌, Bool, true, false, ◌==◌, List, [], ◌∷◌, length, get_or, slice_get, take, add-one, refl, sym, ap, ◌∙◌, subst, arith, Option, Some, None, option_map, option_and_then, fold, Result, Ok, Err, IfSome, IfNone, inl, inr, ⊎_elim}
 use Rattle.std.specs.Borrow.{Bor}
-use Rattle.std.specs.List.{AllByRecursion, HoldsAt, AllWithin}
+use Rattle.std.specs.List.{AllByRecursion, HoldsAt}
 use Rattle.std.specs.Slice.{IsGetResult}
 use Rattle.std.specs.List.Sorted.{IsBinarySearchResult, IsSearchInRange, IsNonDecreasingBy}
 use Rattle.std.specs.Result.{result_ok}
@@ -12,11 +11,12 @@ use Rattle.std.proofs.lemmas.Bool.{cases_lt}
 use Rattle.std.proofs.lemmas.Bool.Decides.{nat_tests}
 use Rattle.std.proofs.lemmas.List.{take_all}
 use Rattle.std.proofs.lemmas.Option.{slice_get_past, slice_get_read}
-use Rattle.topology.specs.Lists.{has}
+use Rattle.topology.specs.Lists.{has, Among}
 use Rattle.path_vector.specs.declared.neighbours.Neighbour.{Neighbour}
 use Rattle.path_vector.specs.declared.neighbours.Found.{Found}
 use Rattle.path_vector.specs.declared.policy.Ranked.{Ranked}
 use Rattle.path_vector.specs.Selection.{Choice, ranked, consider, goes_first}
+use Rattle.path_vector.proofs.Listing.{old_at, ids_within}
 use Rattle.path_vector.specs.Kept.{Rises, ids, kept_choice, first_kept, IsFound, is_sooner}
 
 -- the place of a neighbour
@@ -59,9 +59,9 @@ no_place ns x (Ok i) l h up = tt
 no_place ns x (Err i) l h up =
     let parted = h (comparisons_rise ns x up) in
     not_there ns x (λ k d b same. ⊎_elim
-      (λ (low : k < i). let e : nat_cmp (get_or ns k d).id x ≡ Less = parted.0 k d (omega arith) low in grind (arith, nat_tests))
-      (λ (high : i ≤ k). let e : nat_cmp (get_or ns k d).id x ≡ Greater = parted.1 k d high b in grind (arith, nat_tests))
-      (cases_lt k i))
+    (λ (low : k < i). let e : nat_cmp (get_or ns k d).id x ≡ Less = parted.0 k d (omega arith) low in grind (arith, nat_tests))
+    (λ (high : i ≤ k). let e : nat_cmp (get_or ns k d).id x ≡ Greater = parted.1 k d high b in grind (arith, nat_tests))
+    (cases_lt k i))
 
 -- the first by rank
 
@@ -130,3 +130,16 @@ found_read before ns p place found o r past is get h =
     whole : (c : Option Choice) → IsFound ns p (Some found) c → option_and_then (λ (n : Bor Neighbour). kept_choice p n.now) r ≡ c
     whole None h = absurd h
     whole (Some c) h = read_found ns p found.place (Some c) r get h.0
+
+among_at : (ns : List Neighbour) (i : ℕ) (n : Neighbour) → slice_get ns i ≡ Some n → Among n ns
+among_at [] i n e = absurd (cc e)
+among_at (m ∷ ms) zero n e = inl (cc e)
+among_at (m ∷ ms) (suc i) n e = inr (among_at ms i n e)
+
+pub read_among : (ns : List Neighbour) (i : ℕ) (r : Option (Bor Neighbour)) → IsGetResult ns i i r → IfSome r (λ (n : Bor Neighbour). Among n.now ns)
+read_among ns i None get = tt
+read_among ns i (Some n) get = among_at ns i n.now (slice_get_read ns (length ns) i n.now refl get.3.0 (get.3.1 n.now))
+
+-- what is read at the place of v is of v, and one of them
+pub found_one : (ns : List Neighbour) (i v : ℕ) (n : Neighbour) → slice_get (ids ns) i ≡ Some v → n ≡ get_or ns i n → (n.id ≡ v) × Among n ns
+found_one ns i v n is read = ((old_at ns i v n is read).0, among_at ns i n (slice_get_read ns (length ns) i n refl (ids_within ns i v is) read))

@@ -1,15 +1,14 @@
 -- What an entry changes in what is kept of all neighbours.
-use Rattle.std.proofs.Common.{◌≡◌, ◌≢◌, ℕ, suc, zero, ◌<◌, ◌≤◌, Bool, true, false, cond, ◌&&◌, ◌||◌, ◌==◌, List, [], ◌∷◌, length, map, set, get_or, slice_get, take, refl, sym, ap, ◌∙◌, subst, arith, Option, Some, None, option_map, option_and_then, fold, Result, Ok, Err}
-use Rattle.std.specs.Prelude.{if◌then◌else◌}
+use Rattle.std.proofs.Common.{◌≡◌, ℕ, suc, zero, ◌<◌, true, false, ◌||◌, ◌==◌, List, [], ◌∷◌, length, set, get_or, slice_get, refl, sym, ap, ◌∙◌, subst, arith, Some, option_map}
 use Rattle.std.specs.List.{AllByRecursion}
 use Rattle.std.proofs.lemmas.Bool.Decides.{nat_tests}
 use Rattle.std.proofs.lemmas.Option.{slice_get_read}
 use Rattle.topology.specs.declared.names.Scope.{Scope}
 use Rattle.topology.specs.Lists.{has}
-use Rattle.topology.specs.Net.{Net, IsValid, neighbours, relation, file_preference}
+use Rattle.topology.specs.Net.{Net}
 use Rattle.path_vector.specs.declared.causes.Cause.{Cause}
 use Rattle.path_vector.specs.declared.neighbours.Neighbour.{Neighbour}
-use Rattle.path_vector.specs.History.{History, Accepts, change}
+use Rattle.path_vector.specs.History.{History, change}
 use Rattle.path_vector.specs.Standing.{Remembers}
 use Rattle.path_vector.specs.Kept.{Keeps, Rises, ids, names}
 use Rattle.path_vector.proofs.Neighbourhood.{neighbours_rise, or_left, or_right, not_behind}

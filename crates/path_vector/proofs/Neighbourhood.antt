@@ -1,5 +1,5 @@
 -- The neighbours of a node rise, and each has a relation.
-use Rattle.std.proofs.Common.{◌≡◌, ◌≢◌, ℕ, suc, zero, ◌<◌, ◌≤◌, Bool, true, false, not, ◌&&◌, ◌||◌, ◌==◌, List, [], ◌∷◌, length, get_or, fold, filter, find, refl, sym, ap, ◌∙◌, arith, nat_lt, Option, Some, None, option_map, cond}
+use Rattle.std.proofs.Common.{◌≡◌, ◌≢◌, ℕ, ◌<◌, ◌≤◌, Bool, true, false, not, ◌&&◌, ◌||◌, ◌==◌, List, [], ◌∷◌, fold, filter, find, refl, sym, ap, ◌∙◌, arith, nat_lt, Some, None, option_map, cond}
 use Rattle.std.specs.Prelude.{if◌then◌else◌}
 use Rattle.std.specs.List.{list_any, AllByRecursion}
 use Rattle.std.proofs.lemmas.Bool.Decides.{nat_tests}
@@ -61,11 +61,11 @@ rises-put n (x ∷ xs) r new =
     let other : (x == n) ≡ false = or_left (x == n) (has xs n) new in
     (elim (nat_lt n x) as (λ t. nat_lt n x ≡ t → Rises (if t then n ∷ x ∷ xs else x ∷ put_ascending n xs)) [
       | true ↦ λ e.
-        let below : n < x = grind (arith, nat_tests) in
-        ((below, each_weaker (λ y. x < y) (λ y. n < y) (λ y h. omega arith) xs r.0), r)
+          let below : n < x = grind (arith, nat_tests) in
+          ((below, each_weaker (λ y. x < y) (λ y. n < y) (λ y h. omega arith) xs r.0), r)
       | false ↦ λ e.
-        let above : x < n = grind (arith, nat_tests) in
-        (each-put (λ y. x < y) n xs above r.0, rises-put n xs r.1 (or_right (x == n) (has xs n) new))
+          let above : x < n = grind (arith, nat_tests) in
+          (each-put (λ y. x < y) n xs above r.0, rises-put n xs r.1 (or_right (x == n) (has xs n) new))
     ]) refl
 
 -- all of them, one after another
@@ -76,13 +76,13 @@ rises-into (n ∷ ns) sorted r e apart =
     let fresh : has ns n ≡ false = not_true (has ns n) (and_left (not (has ns n)) (differ ns) e) in
     let first : (n == n || has ns n) ≡ true = grind (arith, nat_tests) in
     rises-into ns (put_ascending n sorted) (rises-put n sorted r (apart n first)) (and_right (not (has ns n)) (differ ns) e) (λ m later.
-        let behind : (n == m || has ns m) ≡ true = grind (arith, nat_tests) in
-        let before : has sorted m ≡ false = apart m behind in
-        let other : (n == m) ≡ false = (elim (n == m) as (λ t. (n == m) ≡ t → t ≡ false) [
-          | true ↦ λ e. let same : n ≡ m = grind (arith, nat_tests) in sym later ∙ (rw same at fresh)
-          | false ↦ λ e. refl
-        ]) refl in
-        rw (has-put n sorted m, other) before)
+    let behind : (n == m || has ns m) ≡ true = grind (arith, nat_tests) in
+    let before : has sorted m ≡ false = apart m behind in
+    let other : (n == m) ≡ false = (elim (n == m) as (λ t. (n == m) ≡ t → t ≡ false) [
+      | true ↦ λ e. let same : n ≡ m = grind (arith, nat_tests) in sym later ∙ (rw same at fresh)
+      | false ↦ λ e. refl
+    ]) refl in
+    rw (has-put n sorted m, other) before)
 
 rises-ascending : (ns : List ℕ) → differ ns ≡ true → Rises (ascending ns)
 unfolding ascending
@@ -126,9 +126,9 @@ passes test [] n e = absurd (cc e)
 passes test (x ∷ xs) n e =
     (elim (test x) as (λ t. test x ≡ t → has (cond t (x ∷ filter test xs) (filter test xs)) n ≡ true → test n ≡ true) [
       | true ↦ λ t e. (elim (x == n) as (λ b. (x == n) ≡ b → test n ≡ true) [
-          | true ↦ λ s. let same : x ≡ n = grind (arith, nat_tests) in rw same at t
-          | false ↦ λ s. passes test xs n (rw s at e)
-        ]) refl
+        | true ↦ λ s. let same : x ≡ n = grind (arith, nat_tests) in rw same at t
+        | false ↦ λ s. passes test xs n (rw s at e)
+      ]) refl
       | false ↦ λ t e. passes test xs n e
     ]) refl e
 

@@ -1,5 +1,5 @@
 -- What an entry changes in what is kept of a neighbour.
-use Rattle.std.proofs.Common.{◌≡◌, ◌≢◌, ℕ, suc, zero, ◌<◌, ◌≤◌, max, Bool, true, false, cond, not, ◌&&◌, ◌==◌, List, [], ◌∷◌, length, set, replicate, slice_get, refl, sym, ap, ◌∙◌, subst, arith, Option, Some, None, option_map, option_and_then}
+use Rattle.std.proofs.Common.{◌≡◌, ◌≢◌, ℕ, suc, zero, ◌<◌, max, Bool, true, false, cond, ◌&&◌, ◌==◌, List, [], ◌∷◌, length, set, replicate, slice_get, refl, sym, ap, ◌∙◌, subst, arith, Option, Some, None, option_map, option_and_then}
 use Rattle.std.specs.Prelude.{if◌then◌else◌}
 use Rattle.std.proofs.lemmas.Bool.Decides.{nat_tests}
 use Rattle.topology.specs.declared.names.Scope.{Scope}
@@ -108,7 +108,7 @@ unfolding beyond
 other_candidate u past scope cause p w n =
     rw (other_held cause w (held past w) n)
     (by_session u (heard past p w) (heard (change scope cause ∷ past) p w) (held past w) (λ s e.
-        same_cond (concerns p scope) (heard_by cause w s (heard past p w s)) (heard past p w s) (other_heard cause w s (heard past p w s) n)))
+    same_cond (concerns p scope) (heard_by cause w s (heard past p w s)) (heard past p w s) (other_heard cause w s (heard past p w s) n)))
 
 -- what is kept of a neighbour stays where the entry is about another
 pub unmoved : (net : Net) (u : ℕ) (past : History) (n : Neighbour) (scope : Scope) (cause : Cause) → names cause ≢ Some n.id
@@ -154,12 +154,12 @@ heard_candidate u past p v s seq path None q = refl
 heard_candidate u past p v s seq path (Some t) q =
     let self : (v == v) ≡ true = grind (arith, nat_tests) in
     elim (p == q) as (λ c. option_map (λ path. u ∷ path) (option_and_then (usable u) (option_and_then (λ path. path) (cond c (cond (v == v && s == t) (Some path) (heard past q v t)) (heard past q v t))))
-        ≡ cond (t == s) (cond c (led_by u (Recv v s seq path)) (candidate_by u (heard past q v) (Some t))) (candidate_by u (heard past q v) (Some t))) [
+    ≡ cond (t == s) (cond c (led_by u (Recv v s seq path)) (candidate_by u (heard past q v) (Some t))) (candidate_by u (heard past q v) (Some t))) [
       | true ↦ rw self (elim (t == s) as (λ b. (t == s) ≡ b → option_map (λ path. u ∷ path) (option_and_then (usable u) (option_and_then (λ path. path) (cond (s == t) (Some path) (heard past q v t))))
           ≡ cond b (led_by u (Recv v s seq path)) (candidate_by u (heard past q v) (Some t))) [
-          | true ↦ λ e. let back : (s == t) ≡ true = grind (arith, nat_tests) in rw back (taken u path)
-          | false ↦ λ e. let back : (s == t) ≡ false = grind (arith, nat_tests) in rw back refl
-        ] refl)
+            | true ↦ λ e. let back : (s == t) ≡ true = grind (arith, nat_tests) in rw back (taken u path)
+            | false ↦ λ e. let back : (s == t) ≡ false = grind (arith, nat_tests) in rw back refl
+          ] refl)
       | false ↦ elim (t == s) as (λ b. candidate_by u (heard past q v) (Some t) ≡ cond b (candidate_by u (heard past q v) (Some t)) (candidate_by u (heard past q v) (Some t))) [ true ↦ refl | false ↦ refl ]
     ]
 

@@ -1,6 +1,6 @@
 //! What a node keeps of its neighbours.
 ghost use Rattle.std.specs.Prelude.{◌≡◌, ℕ, [], ◌∷◌, Some, None, IfOk, IfSome, IfNone, true, false, if◌then◌else◌, length, replicate, slice_get, option_map, option_and_then};
-ghost use Rattle.topology.specs.Lists.{has};
+ghost use Rattle.topology.specs.Lists.{Among, has};
 ghost use Rattle.topology.specs.Net.{Net, neighbours};
 ghost use Rattle.path_vector.specs.History.{History, HasScope, Accepts, change};
 ghost use Rattle.path_vector.specs.Selection.{ranked};
@@ -151,7 +151,11 @@ fn neighbour_of(
 }
 
 // The neighbours of a node that has entered nothing.
-pub(crate) fn neighbours_of(alloc: Global, topology: &Topology, node: NodeId) -> Result<Vec<Neighbour>, NoMemory>
+pub(crate) fn neighbours_of(
+    alloc: Global,
+    topology: &Topology,
+    node: NodeId,
+) -> Result<Vec<Neighbour>, NoMemory>
     ensures { IfOk result (λ neighbours. Keeps topology.now node [] neighbours.items) }
 {
     // the nodes of a topology are valid
@@ -208,11 +212,22 @@ pub(crate) fn place_of(neighbours: &[Neighbour], id: NodeId) -> Option<usize>
         .ok()
 }
 
+// The neighbour of this number.
+pub(crate) fn find(neighbours: &[Neighbour], id: NodeId) -> Option<&Neighbour>
+    ensures some { IfSome result (λ neighbour. (neighbour.now.id ≡ id) × Among neighbour.now neighbours.now) }
+    ensures none { Rises (ids neighbours.now) → IfNone result (has (ids neighbours.now) id ≡ false) }
+{
+    match place_of(neighbours, id) {
+        None => None,
+        Some(place) => Some(&neighbours[place]),
+    }
+}
+
 // Takes an entry. `led` is the own node before the path of an update.
-pub(crate) fn heed(neighbours: &mut Vec<Neighbour>, scope: Scope, cause: &Cause, led: Option<Path>)
+pub(crate) fn heed(neighbours: &mut Vec<Neighbour>, scope: &Scope, cause: &Cause, led: Option<Path>)
     ensures { (net : Net) (u : ℕ) (past : History) → Keeps net u past neighbours.old.items →
-        Accepts past scope cause.now → led ≡ led_by u cause.now →
-        Keeps net u (change scope cause.now ∷ past) neighbours.new.items }
+        Accepts past scope.now cause.now → led ≡ led_by u cause.now →
+        Keeps net u (change scope.now cause.now ∷ past) neighbours.new.items }
 {
     let Some(id) = named(cause) else {
         return;
@@ -220,7 +235,7 @@ pub(crate) fn heed(neighbours: &mut Vec<Neighbour>, scope: Scope, cause: &Cause,
     let Some(place) = place_of(neighbours, id) else {
         return;
     };
-    neighbours[place].heed(scope, cause, led);
+    neighbours[place].heed(*scope, cause, led);
 }
 
 // Whether nothing was found so far, or this is before it.
@@ -234,9 +249,14 @@ fn goes_first<P: Policy>(policy: &P, found: &Option<Found>, rank: &Ranked) -> bo
 }
 
 // The neighbour whose candidate is first by rank.
-pub(crate) fn first<'a, P: Policy>(policy: &P, neighbours: &'a [Neighbour], prefix: PrefixId) -> Option<&'a Neighbour>
-    ensures { option_and_then (λ neighbour. kept_choice prefix neighbour.now) result
+pub(crate) fn first<'a, P: Policy>(
+    policy: &P,
+    neighbours: &'a [Neighbour],
+    prefix: PrefixId,
+) -> Option<&'a Neighbour>
+    ensures first { option_and_then (λ neighbour. kept_choice prefix neighbour.now) result
         ≡ first_kept (P.rules policy.now).before prefix neighbours.now }
+    ensures among { IfSome result (λ neighbour. Among neighbour.now neighbours.now) }
 {
     let mut found: Option<Found> = None;
     for place in 0..neighbours.len() {

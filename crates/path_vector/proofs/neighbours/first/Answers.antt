@@ -1,6 +1,5 @@
-use Rattle.std.proofs.Common.{◌≡◌, sym, ◌∙◌, subst}
-use Rattle.path_vector.specs.Kept.{IsFound, first_kept}
-use Rattle.path_vector.proofs.Choosing.{found_none, found_here, found_other, found_read}
+use Rattle.std.proofs.Common.{sym, ◌∙◌}
+use Rattle.path_vector.proofs.Choosing.{found_none, found_here, found_other, found_read, read_among}
 use Rattle.path_vector.proofs.neighbours.first.Goals.{in-Some+then-goes_first, in-Some+else-goes_first, in_default}
 use Rattle.path_vector.proofs.neighbours.first.Goals as goal
 
@@ -17,5 +16,8 @@ loop-place-preserved g c =
       | in_default w ↦ rw w.found-is (found_none before c.args.prefix ns c.loop-place.place n inside is c.loop-place.found (sym w.in_default.is ∙ c.rank.ensures) c.loop-place.invariant)
     ]
 
-pub returns-in-Some-found : goal.returns-in-Some-found
-returns-in-Some-found g c = found_read (g.P.Policy.rules c.args.policy.now).before c.args.neighbours.now c.args.prefix c.loop-place.place c.in-Some-found.found c.loop-place.found c.get.result c.loop-place-test.false c.in-Some-found.is c.get.ensures.lookup c.loop-place.invariant
+pub returns-in-Some-found-clause-first : goal.returns-in-Some-found-clause-first
+returns-in-Some-found-clause-first g c = found_read (g.P.Policy.rules c.args.policy.now).before c.args.neighbours.now c.args.prefix c.loop-place.place c.in-Some-found.found c.loop-place.found c.get.result c.loop-place-test.false c.in-Some-found.is c.get.ensures.lookup c.loop-place.invariant
+
+pub returns-in-Some-found-clause-among : goal.returns-in-Some-found-clause-among
+returns-in-Some-found-clause-among g c = read_among c.args.neighbours.now c.in-Some-found.found.place c.get.result c.get.ensures.lookup

@@ -1,4 +1,4 @@
-use Rattle.std.proofs.Common.{◌≡◌, ℕ, ◌<◌, Some, None, false, length, map, slice_get, sym, ◌∙◌, ap, subst, arith}
+use Rattle.std.proofs.Common.{◌≡◌, Some, None, false, slice_get, sym, ◌∙◌, ap, subst}
 use Rattle.topology.specs.Lists.{has}
 use Rattle.path_vector.specs.Kept.{ids, names}
 use Rattle.path_vector.proofs.Listing.{keeps_rise, about_none, about_one, ids_within, old_at}
@@ -6,13 +6,13 @@ use Rattle.path_vector.proofs.neighbours.heed.Goals as goal
 
 pub returns-in_default : goal.returns-in_default
 returns-in_default c = λ net u past k a l.
-    about_none net u past c.args.scope c.args.cause.now c.args.neighbours.now.items (λ v e. let none : None ≡ names c.args.cause.now = c.in_default.ensures in absurd (cc (none ∙ e))) k
+    about_none net u past c.args.scope.now c.args.cause.now c.args.neighbours.now.items (λ v e. let none : None ≡ names c.args.cause.now = c.in_default.ensures in absurd (cc (none ∙ e))) k
 
 pub returns-in_default-place_of : goal.returns-in_default-place_of
 returns-in_default-place_of c = λ net u past k a l.
     let off = c.in_default-place_of.ensures.none in
     let items = c.deref.ensures.value in
-    about_none net u past c.args.scope c.args.cause.now c.args.neighbours.now.items
+    about_none net u past c.args.scope.now c.args.cause.now c.args.neighbours.now.items
     (λ v e. let same : c.in-Some.id ≡ v = let some : Some c.in-Some.id ≡ names c.args.cause.now = c.in-Some.ensures in cc (some ∙ e) in subst (λ w. has (ids c.args.neighbours.now.items) w ≡ false) same (rw items at off (keeps_rise net u past c.args.neighbours.now.items k))) k
 
 pub index_mut-requires : goal.index_mut-requires
@@ -28,5 +28,5 @@ returns c = λ net u past k a l.
     let old = old_at items place id c.index_mut.result.now at_place c.index_mut.ensures.value in
     let own : c.index_mut.result.now.id ≡ id = old.0 in
     let names_old : names c.args.cause.now ≡ Some c.index_mut.result.now.id = names_it ∙ ap (λ v. Some v) (sym own) in
-    about_one net u past c.args.scope c.args.cause.now items place c.heed.new.self id names_it at_place (c.heed.ensures.id ∙ own)
+    about_one net u past c.args.scope.now c.args.cause.now items place c.heed.new.self id names_it at_place (c.heed.ensures.id ∙ own)
     (c.heed.ensures.remembers net u past (old.1 net u past k.each) a names_old l) k

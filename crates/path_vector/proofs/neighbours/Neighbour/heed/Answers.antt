@@ -1,6 +1,3 @@
-use Rattle.std.proofs.Common.{◌≡◌, Some, subst, sym, ap, ◌∙◌}
-use Rattle.path_vector.specs.declared.causes.Cause.TheVariants.{Recv}
-use Rattle.path_vector.specs.Kept.{Hears, led_by}
 use Rattle.path_vector.proofs.Remembering.{hears_as, turns}
 use Rattle.path_vector.proofs.neighbours.Neighbour.heed.Goals as goal
 
