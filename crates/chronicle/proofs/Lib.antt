@@ -1,0 +1,4 @@
+pub mod Opened
+pub mod Shown
+mod Line
+mod Square
