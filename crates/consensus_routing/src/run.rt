@@ -1,12 +1,22 @@
 //! The top call.
-ghost use Rattle.std.specs.Prelude.{◌≡◌, map};
+ghost use Rattle.std.specs.Prelude.{◌≡◌, ◌↔◌, IsTrue, map};
 ghost use Rattle.std.specs.String.{string_bytes};
-ghost use Rattle.consensus_routing.specs.Headline.{Headline, side};
+ghost use Rattle.consensus_routing.specs.Headline.{Headline, side, replay_form};
 
 use crate::replay::replay;
 use route_io::{Sink, Source};
 use std::alloc::Global;
 use topology::Status;
+
+// Whether the words are the one form that is built.
+fn is_replay(words: &[String]) -> bool
+    ensures { IsTrue result ↔ (map (λ word. string_bytes word) words.now ≡ replay_form) }
+{
+    match words {
+        [word] => word.as_str() == "replay",
+        _ => false,
+    }
+}
 
 /// Does what the words say. The words are those after the program's name; `replay` reads a
 /// schedule from the source, runs it, and writes its text to the sink. What a user may rely on
@@ -24,7 +34,7 @@ pub fn run<I: Source, O: Sink>(
     ensures untouched { result ≡ Status.Usage → (source.new ≡ source.old) × (sink.new ≡ sink.old) }
     ensures same_room { O.room sink.new ≡ O.room sink.old }
 {
-    if words.len() != 1 || words[0].as_str() != "replay" {
+    if !is_replay(words) {
         return Status::Usage;
     }
     replay(alloc, source, sink)
