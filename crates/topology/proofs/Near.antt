@@ -110,7 +110,7 @@ neighbours-none net id h new =
 
 -- a link makes its two ends neighbours
 
-linked-link : (net : Net) (link : Link) (u v : ℕ) → linked (with_link net link) u v ≡ (linked net u v || joins u v link)
+pub linked-link : (net : Net) (link : Link) (u v : ℕ) → linked (with_link net link) u v ≡ (linked net u v || joins u v link)
 linked-link net link u v = list_any-append (joins u v) net.links (link ∷ []) ∙ ap (λ b. linked net u v || b) (or_false (joins u v link))
 
 joins_first : (a b v : ℕ) (link : Link) → link.a ≡ a → link.b ≡ b → a ≢ b → joins a v link ≡ (v == b)
