@@ -1,0 +1,5 @@
+pub mod Cutting
+pub mod Spelling
+pub mod Grammar
+pub mod Text
+pub mod Ends
