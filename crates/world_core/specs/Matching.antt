@@ -40,7 +40,8 @@ pub record IsChannel (rules : Rules) (net : Net) (past : Chronicle) (u w : ℕ) 
   pub placed : AllByRecursion (IsPlaced net) (channel u w past)
 
 -- what is kept of node u
-pub record IsSite {P : Type 0} (policy : P) (rules : Rules) (net : Net) (past : Chronicle) (u : ℕ) (site : Site P) : Type 0 where
+pub record IsSite {P : Type 0} (policy : P) (rules : Rules) (net : Net) (past : Chronicle)
+    (u : ℕ) (site : Site P) : Type 0 where
   pub routes : StandsFor policy net u site.routes (log_of u past)
   pub entries : site.entries ≡ length (log_of u past)
   pub plain : AllByRecursion IsRouteChange (log_of u past)
@@ -49,7 +50,8 @@ pub record IsSite {P : Type 0} (policy : P) (rules : Rules) (net : Net) (past : 
       → IsChannel rules net past u w kept
 
 -- the nodes stand ascending, each as the run has it
-pub record Matches {P : Type 0} (policy : P) (rules : Rules) (net : Net) (past : Chronicle) (sites : List (Site P)) : Type 0 where
+pub record Matches {P : Type 0} (policy : P) (rules : Rules) (net : Net) (past : Chronicle)
+    (sites : List (Site P)) : Type 0 where
   pub valid : IsValid net
   pub count : length sites ≡ length (ascending net.nodes)
   pub each : (i u : ℕ) (site : Site P) → slice_get (ascending net.nodes) i ≡ Some u → slice_get sites i ≡ Some site
