@@ -1,0 +1,6 @@
+pub mod Ballots
+pub mod History
+pub mod Promises
+pub mod Proposals
+pub mod Decisions
+pub mod Quorums

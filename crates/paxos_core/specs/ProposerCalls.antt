@@ -1,0 +1,100 @@
+-- What the calls of a proposer answer.
+use Rattle.std.specs.Prelude.{ℕ, suc, ◌+◌, max, Bool, true, false, not, Option, Some, None, List, [], ◌∷◌, ◌++◌, length, option_map, ◌≡◌, if◌then◌else◌}
+use Rattle.topology.specs.Lists.{has}
+use Rattle.topology.specs.declared.ballots.Ballot.{Ballot}
+use Rattle.paxos_core.specs.declared.proposer.Phase.{Phase}
+use Rattle.paxos_core.specs.declared.proposer.Phase.TheVariants.{Idle, Preparing, Gathering}
+use Rattle.paxos_core.specs.declared.proposer.Tally.{Tally}
+use Rattle.paxos_core.specs.declared.proposer.Tally.TheVariants.{Counted, Majority, Stale, Duplicate}
+use Rattle.paxos_core.specs.Facts.{same_ballot, Pair, Heard, Message, Promise, Accept, Accepted, Decision, Chronicle}
+use Rattle.paxos_core.specs.Rules.{higher}
+use Rattle.paxos_core.specs.Answers.{Refusal, Duplicate as refused_twice, StaleBallot, refusal, just_majority, to_each, or_fresh, announce, proposed, answers}
+use Rattle.paxos_core.specs.Tallying.{Tallying, StandsFor}
+
+-- nothing is prepared, gathered or counted
+abbrev pub forgotten : {V : Type 0} → Tallying V → Tallying V
+forgotten kept = record kept { phase = Idle; counted = []; best = None; won = false }
+
+-- the ballot is prepared, and nobody is counted yet
+abbrev pub opened : {V : Type 0} → Tallying V → Ballot → Tallying V
+opened kept b = record kept { last_round = b.round; phase = Preparing b; counted = []; best = None; won = false }
+
+-- the ballot that is prepared is gathered from now on
+abbrev pub gathered : Phase → Phase
+gathered Idle = Idle
+gathered (Preparing b) = Gathering b
+gathered (Gathering b) = Gathering b
+
+-- a ballot is prepared
+abbrev pub IsPreparing : Phase → Type 0
+IsPreparing (Preparing b) = Unit {0}
+IsPreparing other = ⊥
+
+-- this ballot is prepared
+abbrev pub prepares : Phase → Ballot → Bool
+prepares (Preparing c) b = same_ballot c b
+prepares other b = false
+
+-- this ballot is gathered
+abbrev pub gathers : Phase → Ballot → Bool
+gathers (Gathering c) b = same_ballot c b
+gathers other b = false
+
+-- the answer where the ballot is, or is not, the present one, and the sender is new or counted already
+abbrev pub tally_of : {V : Type 0} → Bool → List ℕ → ℕ → ℕ → Option V → Tally V
+tally_of present counted from members value =
+    if not present then Stale
+    else if has counted from then Duplicate
+    else if just_majority members (suc (length counted)) then Majority value
+    else Counted
+
+-- the answer to a Promise: with a majority comes the value of the highest pair named, where there is one
+abbrev pub promise_tally : {V : Type 0} → Tallying V → ℕ → Ballot → Option (Pair V) → ℕ → Tally V
+promise_tally kept from b named members =
+    tally_of (prepares kept.phase b) kept.counted from members (option_map (λ p. p.1) (higher named kept.best))
+
+-- the answer to an Accepted, with which no value comes
+abbrev pub vote_tally : {V : Type 0} → Tallying V → ℕ → Ballot → ℕ → Tally (Unit {0})
+vote_tally kept from b members = tally_of (gathers kept.phase b) kept.counted from members None
+
+-- what is kept after a Promise
+abbrev pub after_promise : {V : Type 0} → Tally V → Tallying V → ℕ → Option (Pair V) → Tallying V
+after_promise Counted kept from named = record kept { counted = kept.counted ++ from ∷ []; best = higher named kept.best }
+after_promise (Majority value) kept from named = record kept { counted = kept.counted ++ from ∷ []; best = None; won = true }
+after_promise Stale kept from named = kept
+after_promise Duplicate kept from named = kept
+
+-- what is kept after an Accepted
+abbrev pub after_vote : {V : Type 0} → Tally (Unit {0}) → Tallying V → ℕ → Tallying V
+after_vote Counted kept from = record kept { counted = kept.counted ++ from ∷ [] }
+after_vote (Majority value) kept from = record kept { counted = kept.counted ++ from ∷ [] }
+after_vote Stale kept from = kept
+after_vote Duplicate kept from = kept
+
+-- the message is not refused, the proposer goes on with it, and these are the answers to it
+pub record Takes {V : Type 0} (members : ℕ) (new : Tallying V) (past : Chronicle V) (u from : ℕ) (m : Message V) (sent : List ℕ → List ℕ → V → List (ℕ × Message V)) : Type 0 where
+  pub heard : refusal past u from m ≡ None
+  pub stands : StandsFor members new (Heard u from m ∷ past) u
+  pub sends : (ms nodes : List ℕ) (fresh : V) → length ms ≡ members → answers ms nodes fresh past u from m ≡ sent ms nodes fresh
+
+-- the message is refused for this reason, and nothing changes
+pub record Refuses {V : Type 0} (old new : Tallying V) (past : Chronicle V) (u from : ℕ) (m : Message V) (why : Refusal) : Type 0 where
+  pub refused : refusal past u from m ≡ Some why
+  pub unchanged : new ≡ old
+
+-- what the answer to a Promise means: with a majority an Accept goes to each member, of the value that
+-- comes with the answer or of a fresh one
+abbrev pub SaysPromise : {V : Type 0} → Tally V → ℕ → Tallying V → Tallying V → Chronicle V → ℕ → ℕ → Ballot → Option (Pair V) → Type 0
+SaysPromise Counted members old new past u from b named = Takes members new past u from (Promise b named) (λ ms nodes fresh. [])
+SaysPromise (Majority value) members old new past u from b named =
+    Takes members new past u from (Promise b named) (λ ms nodes fresh. to_each ms (Accept b (or_fresh value fresh)))
+SaysPromise Stale members old new past u from b named = Refuses old new past u from (Promise b named) StaleBallot
+SaysPromise Duplicate members old new past u from b named = Refuses old new past u from (Promise b named) refused_twice
+
+-- what the answer to an Accepted means: with a majority a Decision of the proposed value goes to each node
+abbrev pub SaysVote : {V : Type 0} → Tally (Unit {0}) → ℕ → Tallying V → Tallying V → Chronicle V → ℕ → ℕ → Ballot → Type 0
+SaysVote Counted members old new past u from b = Takes members new past u from (Accepted b) (λ ms nodes fresh. [])
+SaysVote (Majority value) members old new past u from b =
+    Takes members new past u from (Accepted b) (λ ms nodes fresh. announce nodes (proposed past u b))
+SaysVote Stale members old new past u from b = Refuses old new past u from (Accepted b) StaleBallot
+SaysVote Duplicate members old new past u from b = Refuses old new past u from (Accepted b) refused_twice
