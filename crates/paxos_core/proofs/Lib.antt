@@ -4,3 +4,4 @@ pub mod Promises
 pub mod Proposals
 pub mod Decisions
 pub mod Quorums
+pub mod Tests

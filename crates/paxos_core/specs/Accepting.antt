@@ -23,4 +23,4 @@ PassesBy u w other = Unit {0}
 -- the acceptor of u reads nothing of this fact
 abbrev pub Unread : {V : Type 0} → ℕ → Fact V → Type 0
 Unread u (Heard w from m) = PassesBy u w m
-Unread u other = Unit {0}
+Unread u _ = Unit {0}

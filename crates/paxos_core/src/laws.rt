@@ -25,3 +25,9 @@ pub fn decision_is_chosen<V>()
     ensures { (members : List ℕ) (chronicle : Chronicle V) (u from : ℕ) (v : V) → Obeys members chronicle →
         Has chronicle (Heard u from (Decision v)) → Chosen members chronicle v }
 {}
+
+/// A node refuses a message exactly where the rules do not let it hear the message.
+pub fn refusals<V>()
+    ensures { (past : Chronicle V) (u from : ℕ) (m : Message V) →
+        (refusal past u from m ≡ None) ↔ MayHear past u from m }
+{}

@@ -99,13 +99,11 @@ impl<V: Drop> Proposer<V> {
         } else {
             self.last_round
         };
-        let ballot = Ballot {
-            round: greater + 1,
-            node: self.node,
-        };
-        self.clear(Phase::Preparing(ballot));
-        self.last_round = ballot.round;
-        ballot
+        let round = greater + 1;
+        let node = self.node;
+        self.last_round = round;
+        self.clear(Phase::Preparing(Ballot { round, node }));
+        Ballot { round, node }
     }
 
     /// Drops the tally and keeps the round: the node crashed, or it learnt a decision.
