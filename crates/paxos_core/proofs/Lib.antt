@@ -5,3 +5,5 @@ pub mod Proposals
 pub mod Decisions
 pub mod Quorums
 pub mod Tests
+pub mod Posting
+pub mod Tallies
