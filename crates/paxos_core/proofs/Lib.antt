@@ -7,3 +7,5 @@ pub mod Quorums
 pub mod Tests
 pub mod Posting
 pub mod Tallies
+pub mod Following
+pub mod Unread

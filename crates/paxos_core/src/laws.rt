@@ -7,6 +7,9 @@ ghost use Rattle.paxos_core.specs.Readings.{Has};
 ghost use Rattle.paxos_core.specs.Rules.{MayHear, Obeys};
 ghost use Rattle.paxos_core.specs.Chosen.{Chosen};
 ghost use Rattle.paxos_core.specs.Answers.{refusal, received, opened, proposed, posted, to_each};
+ghost use Rattle.paxos_core.specs.Accepting.{Accepting, StandsFor, Unread};
+ghost use Rattle.paxos_core.specs.Tallying.{Tallying};
+ghost use Rattle.paxos_core.specs.Tallying.{StandsFor as StandsTally, Unread as UnreadTally};
 
 /// At most one value is chosen. Here values are numbers.
 pub fn agreement()
@@ -30,4 +33,38 @@ pub fn decision_is_chosen<V>()
 pub fn refusals<V>()
     ensures { (past : Chronicle V) (u from : ℕ) (m : Message V) →
         (refusal past u from m ≡ None) ↔ MayHear past u from m }
+{}
+
+/// A ballot that a node starts, and its Prepare to each member, follow the rules.
+pub fn starts_follow<V>()
+    ensures { (members : List ℕ) (past : Chronicle V) (u : ℕ) → Obeys members past → Obeys members (opened members past u) }
+{}
+
+/// What a node does with a message that was sent to it, and all that it answers, follows the rules.
+pub fn answers_follow<V>()
+    ensures { (members nodes : List ℕ) (fresh : V) (past : Chronicle V) (u from : ℕ) (m : Message V) →
+        Obeys members past → Has past (Mail from u m) → Obeys members (received members nodes fresh past u from m) }
+{}
+
+/// A fact that an acceptor does not read leaves it as it is.
+pub fn acceptor_unread<V>()
+    ensures { (kept : Accepting V) (past : Chronicle V) (u : ℕ) (f : Fact V) →
+        Unread u f → StandsFor kept past u → StandsFor kept (f ∷ past) u }
+{}
+
+/// A fact that a proposer does not read leaves it as it is.
+pub fn proposer_unread<V>()
+    ensures { (n : ℕ) (kept : Tallying V) (past : Chronicle V) (u : ℕ) (f : Fact V) →
+        UnreadTally u f → StandsTally n kept past u → StandsTally n kept (f ∷ past) u }
+{}
+
+/// Once a node sent an Accept to someone, its value is the proposed one.
+pub fn proposal<V>()
+    ensures { (past : Chronicle V) (u to : ℕ) (tos : List ℕ) (b : Ballot) (v : V) →
+        proposed (posted u (to_each (to ∷ tos) (Accept b v)) past) u b ≡ Some v }
+{}
+
+/// Each value is chosen in some chronicle of three members that obeys the rules.
+pub fn some_choice()
+    ensures { (v : ℕ) → (chronicle : Chronicle ℕ) × Obeys (1 ∷ 2 ∷ 3 ∷ []) chronicle × Chosen (1 ∷ 2 ∷ 3 ∷ []) chronicle v }
 {}
