@@ -4,7 +4,7 @@ use Rattle.topology.specs.Lists.{Among}
 use Rattle.topology.specs.declared.ballots.Ballot.{Ballot}
 use Rattle.paxos_core.proofs.Ballots.{same_ballot_self}
 use Rattle.paxos_core.proofs.History.{eq_self}
-use Rattle.paxos_core.proofs.Tests.{majority_is, proposed_is, refusal_none}
+use Rattle.paxos_core.proofs.Refusing.{majority_is, proposed_is, refusal_none}
 use Rattle.paxos_core.specs.Answers.{Refusal, announce, answers, just_majority, named_value, next_ballot, opened, or_fresh, posted, proposed, received, received_as, refusal, to_each}
 use Rattle.paxos_core.specs.Facts.{Accept, Accepted, Chronicle, Crash, Decision, Fact, Heard, Mail, Message, Other, Pair, Prepare, Promise, Start}
 use Rattle.paxos_core.specs.Readings.{Has, Proposed, accepted, last_act, promises, voters}
@@ -41,7 +41,7 @@ pub record Accepts {V : Type 0} (u from : ℕ) (b : Ballot) (named : Option (Pai
   pub counted : promises past u b ≡ ps
   pub value : (w : V) → Proposed past u b w → w ≡ v
 
-may_propose : {V : Type 0} (past : Chronicle V) (u : ℕ) (b : Ballot) (fresh : V) (q : Option (Pair V)) → ((w : V) → Proposed past u b w → w ≡ or_fresh (option_map (λ p. p.1) q) fresh)
+pub may_propose : {V : Type 0} (past : Chronicle V) (u : ℕ) (b : Ballot) (fresh : V) (q : Option (Pair V)) → ((w : V) → Proposed past u b w → w ≡ or_fresh (option_map (λ p. p.1) q) fresh)
     → MayPropose past u b (or_fresh (option_map (λ p. p.1) q) fresh) q
 may_propose past u b fresh None h = h
 may_propose past u b fresh (Some r) h = refl

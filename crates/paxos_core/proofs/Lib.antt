@@ -4,7 +4,7 @@ pub mod Promises
 pub mod Proposals
 pub mod Decisions
 pub mod Quorums
-pub mod Tests
+pub mod Refusing
 pub mod Posting
 pub mod Tallies
 pub mod Following

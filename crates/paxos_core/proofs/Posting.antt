@@ -44,14 +44,14 @@ posted_has w [] past u to n h = inl h
 posted_has {V = V} w (m ∷ ms) past u to n h =
     ⊎_elim
     (λ k. ⊎_elim
-      (λ (e : Mail w m.0 m.1 ≡ Mail u to n).
-      let make : ℕ → Message V → ℕ × Message V = λ x y. (x, y) in
-      let one : w ≡ u = cc e in
-      let two : m.0 ≡ to = cc e in
-      let three : m.1 ≡ n = cc e in
-      let pair : m ≡ (to, n) = ap (λ x. make x m.1) two ∙ ap (make to) three in
-      inr (one, inl pair))
-      (λ j. inl j) k)
+    (λ (e : Mail w m.0 m.1 ≡ Mail u to n).
+    let make : ℕ → Message V → ℕ × Message V = λ x y. (x, y) in
+    let one : w ≡ u = cc e in
+    let two : m.0 ≡ to = cc e in
+    let three : m.1 ≡ n = cc e in
+    let pair : m ≡ (to, n) = ap (λ x. make x m.1) two ∙ ap (make to) three in
+    inr (one, inl pair))
+    (λ j. inl j) k)
     (λ k. inr (k.0, inr k.1))
     (posted_has w ms (Mail w m.0 m.1 ∷ past) u to n h)
 

@@ -5,14 +5,15 @@ use Rattle.topology.specs.Lists.{Among, has}
 use Rattle.topology.specs.declared.ballots.Ballot.{Ballot}
 use Rattle.paxos_core.proofs.Ballots.{same_ballot_self, same_ballot_true}
 use Rattle.paxos_core.proofs.History.{eq_of_true, eq_self, not_eq, some_is}
+use Rattle.paxos_core.proofs.Following.{may_propose}
 use Rattle.paxos_core.proofs.Posting.{each_is, posted_has, posted_keeps, posted_open, posted_promises, posted_started, posted_voters}
 use Rattle.paxos_core.proofs.Proposals.{length_senders, open_now}
-use Rattle.paxos_core.proofs.Tests.{finds, finds_not, found_in, gathering_is, is_gathering, is_preparing, not_found, preparing_is}
+use Rattle.paxos_core.proofs.Refusing.{majority_is, finds, finds_not, found_in, gathering_is, is_gathering, is_preparing, not_found, preparing_is}
 use Rattle.paxos_core.specs.Answers.{StaleBallot, announce, answers, gathering, just_majority, named_value, or_fresh, posted, preparing, proposed, refusal, to_each}
 use Rattle.paxos_core.specs.Facts.{Accept, Accepted, Chronicle, Crash, Decision, Fact, Heard, Mail, Message, Other, Pair, Prepare, Promise, Start, same_ballot}
-use Rattle.paxos_core.specs.ProposerCalls.{Refuses, SaysPromise, SaysVote, Takes, forgotten, gathers, opened, prepares}
+use Rattle.paxos_core.specs.ProposerCalls.{LetsAccept, LetsDecide, Refuses, SaysPromise, SaysVote, Takes, forgotten, gathers, opened, prepares}
 use Rattle.paxos_core.specs.Readings.{Gathers, Has, Prepares, Proposed, open_by, open_ballot, promisers, promises, started, voters}
-use Rattle.paxos_core.specs.Rules.{higher, highest, round_of}
+use Rattle.paxos_core.specs.Rules.{MaySend, higher, highest, round_of}
 use Rattle.paxos_core.specs.Tallying.{CountsIn, CountsPromises, CountsVotes, NothingOf, SameMembers, StandsFor, Tallying, Unread, PassesBy, Leaves}
 use Rattle.paxos_core.specs.declared.proposer.Phase.{Phase}
 use Rattle.paxos_core.specs.declared.proposer.Phase.TheVariants.{Gathering, Idle, Preparing}
@@ -223,6 +224,42 @@ promise_counted {V = V} past u from n kept b named h on fresh few =
       sends = λ ms nodes v e. rw (e, few_read) refl;
     }
 
+-- an Accept of a ballot that is prepared may go out
+may_accept : {V : Type 0} (past : Chronicle V) (u from : ℕ) (b : Ballot) (named : Option (Pair V)) (fresh : V) (ms : List ℕ) (to : ℕ) → Prepares past u b
+    → just_majority (length ms) (suc (length (promises past u b))) ≡ true → Among to ms
+    → MaySend ms (Heard u from (Promise b named) ∷ past) u to (Accept b (or_fresh (named_value ((from, named) ∷ promises past u b)) fresh))
+may_accept {V = V} past u from b named fresh ms to prepares most member =
+    let grown : promises (Heard u from (Promise b named) ∷ past) u b ≡ (from, named) ∷ promises past u b = rw (eq_self u, same_ballot_self b) refl in
+    record {
+      from = from;
+      named = named;
+      answers = rw (eq_self u) refl;
+      majority = rw grown (majority_is (length ms) (suc (length (promises past u b))) most);
+      member = member;
+      value = rw grown (may_propose (Heard u from (Promise b named) ∷ past) u b fresh (highest ((from, named) ∷ promises past u b))
+          (λ w s. ⊎_elim (λ e. absurd (cc e)) (λ j. absurd (prepares.1 w (s.0, j))) s.1));
+    }
+
+lets_accept : {V : Type 0} (past : Chronicle V) (u from n : ℕ) (b : Ballot) (named : Option (Pair V)) (value : Option V) → Prepares past u b
+    → just_majority n (suc (length (promises past u b))) ≡ true → value ≡ named_value ((from, named) ∷ promises past u b)
+    → LetsAccept n (Heard u from (Promise b named) ∷ past) u b value
+lets_accept past u from n b named value prepares most is = record {
+  accept = λ ms fresh to e member. rw is (may_accept past u from b named fresh ms to prepares (rw e most) member);
+}
+
+lets_decide : {V : Type 0} (past : Chronicle V) (u from n : ℕ) (b : Ballot) → just_majority n (suc (length (voters past u b))) ≡ true → LetsDecide n (Heard u from (Accepted b) ∷ past) u b
+lets_decide {V = V} past u from n b most =
+    let grown : voters (Heard u from (Accepted b) ∷ past) u b ≡ from ∷ voters past u b = rw (eq_self u, same_ballot_self b) refl in
+    record {
+      decide = λ ms v to e s. record {
+        ballot = b;
+        from = from;
+        answers = rw (eq_self u) refl;
+        majority = rw grown (majority_is (length ms) (suc (length (voters past u b))) (rw e most));
+        value = s;
+      };
+    }
+
 won_now : (n k : ℕ) → just_majority n (suc k) ≡ true → (true ≡ nat_lt n (2 * suc k)) × (nat_lt n (2 * k) ≡ false)
 won_now n k e = (grind (arith, nat_tests), grind (arith, nat_tests))
 
@@ -235,12 +272,14 @@ promise_majority {V = V} past u from n kept b named value h on fresh most is =
     let most_read : just_majority n (suc (length (promises past u b))) ≡ true = rw (← many) most in
     let won = won_now n (length (promises past u b)) most_read in
     let best : kept.best ≡ highest (promises past u b) = was.best (was.won ∙ won.1) in
-    let value_read : value ≡ named_value ((from, named) ∷ promises past u b) = rw (← best) is in
-    record {
-      heard = promise_heard past u from n kept b named was fresh;
-      stands = promise_stands past u from n kept _ b named h on refl refl refl refl won.0 (λ w. absurd (true≢false w));
-      sends = λ ms nodes v e. rw (e, most_read, value_read) refl;
-    }
+    let value_read : value ≡ named_value ((from, named) ∷ promises past u b) = rw (← best) is in (
+      record {
+        heard = promise_heard past u from n kept b named was fresh;
+        stands = promise_stands past u from n kept _ b named h on refl refl refl refl won.0 (λ w. absurd (true≢false w));
+        sends = λ ms nodes v e. rw (e, most_read, value_read) refl;
+      },
+      lets_accept past u from n b named value was.prepares most_read value_read,
+    )
 
 -- the four answers to an Accepted
 pub vote_stale : {V : Type 0} (past : Chronicle V) (u from n : ℕ) (kept : Tallying V) (b : Ballot) → StandsFor n kept past u → gathers kept.phase b ≡ false
@@ -300,12 +339,14 @@ pub vote_majority : {V : Type 0} (past : Chronicle V) (u from n : ℕ) (kept : T
     → SaysVote (tally.Majority value) n kept (record kept { counted = kept.counted ++ from ∷ [] }) past u from b
 vote_majority {V = V} past u from n kept b value h on fresh most =
     let was = counts_votes past u n kept b h on in
-    let most_read : just_majority n (suc (length (voters past u b))) ≡ true = rw (← was.counted.length) most in
-    record {
-      heard = vote_heard past u from kept b was fresh;
-      stands = vote_stands past u from n kept b h on;
-      sends = λ ms nodes v e. rw (e, most_read) refl;
-    }
+    let most_read : just_majority n (suc (length (voters past u b))) ≡ true = rw (← was.counted.length) most in (
+      record {
+        heard = vote_heard past u from kept b was fresh;
+        stands = vote_stands past u from n kept b h on;
+        sends = λ ms nodes v e. rw (e, most_read) refl;
+      },
+      lets_decide past u from n b most_read,
+    )
 
 -- an Accept was sent
 sent_proposed : {V : Type 0} (u : ℕ) (b c : Ballot) (x y : V) (tos : List ℕ) (past : Chronicle V) → Proposed (posted u (to_each tos (Accept b x)) past) u c y → (b ≡ c) ⊎ Proposed past u c y

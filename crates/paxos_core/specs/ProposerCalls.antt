@@ -1,13 +1,14 @@
 -- What the calls of a proposer answer.
 use Rattle.std.specs.Prelude.{ℕ, suc, ◌+◌, max, Bool, true, false, not, Option, Some, None, List, [], ◌∷◌, ◌++◌, length, option_map, ◌≡◌, if◌then◌else◌}
-use Rattle.topology.specs.Lists.{has}
+use Rattle.topology.specs.Lists.{Among, has}
 use Rattle.topology.specs.declared.ballots.Ballot.{Ballot}
 use Rattle.paxos_core.specs.declared.proposer.Phase.{Phase}
 use Rattle.paxos_core.specs.declared.proposer.Phase.TheVariants.{Idle, Preparing, Gathering}
 use Rattle.paxos_core.specs.declared.proposer.Tally.{Tally}
 use Rattle.paxos_core.specs.declared.proposer.Tally.TheVariants.{Counted, Majority, Stale, Duplicate}
 use Rattle.paxos_core.specs.Facts.{same_ballot, Pair, Heard, Message, Promise, Accept, Accepted, Decision, Chronicle}
-use Rattle.paxos_core.specs.Rules.{higher}
+use Rattle.paxos_core.specs.Readings.{Proposed}
+use Rattle.paxos_core.specs.Rules.{higher, MaySend}
 use Rattle.paxos_core.specs.Answers.{Refusal, Duplicate as refused_twice, StaleBallot, refusal, just_majority, to_each, or_fresh, announce, proposed, answers}
 use Rattle.paxos_core.specs.Tallying.{Tallying, StandsFor}
 
@@ -82,12 +83,21 @@ pub record Refuses {V : Type 0} (old new : Tallying V) (past : Chronicle V) (u f
   pub refused : refusal past u from m ≡ Some why
   pub unchanged : new ≡ old
 
--- what the answer to a Promise means: with a majority an Accept goes to each member, of the value that
--- comes with the answer or of a fresh one
+-- with a majority of promises an Accept may go to each member, of the value that comes with the answer
+-- or of a fresh one
+pub record LetsAccept {V : Type 0} (members : ℕ) (past : Chronicle V) (u : ℕ) (b : Ballot) (value : Option V) : Type 0 where
+  pub accept : (ms : List ℕ) (fresh : V) (to : ℕ) → length ms ≡ members → Among to ms → MaySend ms past u to (Accept b (or_fresh value fresh))
+
+-- with a majority of acceptances a Decision of the proposed value may go to each node
+pub record LetsDecide {V : Type 0} (members : ℕ) (past : Chronicle V) (u : ℕ) (b : Ballot) : Type 0 where
+  pub decide : (ms : List ℕ) (v : V) (to : ℕ) → length ms ≡ members → Proposed past u b v → MaySend ms past u to (Decision v)
+
+-- what the answer to a Promise means: with a majority an Accept goes to each member
 abbrev pub SaysPromise : {V : Type 0} → Tally V → ℕ → Tallying V → Tallying V → Chronicle V → ℕ → ℕ → Ballot → Option (Pair V) → Type 0
 SaysPromise Counted members old new past u from b named = Takes members new past u from (Promise b named) (λ ms nodes fresh. [])
 SaysPromise (Majority value) members old new past u from b named =
     Takes members new past u from (Promise b named) (λ ms nodes fresh. to_each ms (Accept b (or_fresh value fresh)))
+    × LetsAccept members (Heard u from (Promise b named) ∷ past) u b value
 SaysPromise Stale members old new past u from b named = Refuses old new past u from (Promise b named) StaleBallot
 SaysPromise Duplicate members old new past u from b named = Refuses old new past u from (Promise b named) refused_twice
 
@@ -96,5 +106,6 @@ abbrev pub SaysVote : {V : Type 0} → Tally (Unit {0}) → ℕ → Tallying V �
 SaysVote Counted members old new past u from b = Takes members new past u from (Accepted b) (λ ms nodes fresh. [])
 SaysVote (Majority value) members old new past u from b =
     Takes members new past u from (Accepted b) (λ ms nodes fresh. announce nodes (proposed past u b))
+    × LetsDecide members (Heard u from (Accepted b) ∷ past) u b
 SaysVote Stale members old new past u from b = Refuses old new past u from (Accepted b) StaleBallot
 SaysVote Duplicate members old new past u from b = Refuses old new past u from (Accepted b) refused_twice

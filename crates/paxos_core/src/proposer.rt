@@ -1,5 +1,6 @@
 //! What a node counts of the ballot that it started.
-ghost use Rattle.std.specs.Prelude.{ℕ, suc, List, [], ◌∷◌, ◌+◌, ◌<◌, ◌≡◌, Some, None, true, false, Option, IfOk, OnErr, max, if◌then◌else◌, option_map};
+ghost use Rattle.std.specs.Prelude.{ℕ, suc, length, List, [], ◌∷◌, ◌+◌, ◌<◌, ◌≡◌, Some, None, true, false, Option, IfOk, OnErr, max, if◌then◌else◌, option_map};
+ghost use Rattle.topology.specs.Lists.{has};
 ghost use Rattle.paxos_core.specs.declared.proposer.Phase.{Phase};
 ghost use Rattle.paxos_core.specs.declared.proposer.Phase.TheVariants.{Preparing};
 ghost use Rattle.paxos_core.specs.Facts.{Chronicle, Heard, Accept, Start, Crash, Decision};
@@ -89,8 +90,9 @@ impl<V: Drop> Proposer<V> {
         requires round { self.old.last_round < 4294967295 }
         ensures ballot { result ≡ record { round = 1 + max self.old.last_round floor; node = self.old.node } }
         ensures kept { self.new ≡ opened self.old result }
-        ensures next { (n : ℕ) (past : Chronicle V) (u : ℕ) → StandsFor n self.old past u →
-            floor ≡ round_of (promised past u) → result ≡ next_ballot past u }
+        ensures follows { (n : ℕ) (past : Chronicle V) (u : ℕ) → StandsFor n self.old past u →
+            floor ≡ round_of (promised past u) →
+            (result ≡ next_ballot past u) × ((members : List ℕ) → MayFollow members past (Start u result)) }
         ensures stands { (n : ℕ) (past : Chronicle V) (u : ℕ) → StandsFor n self.old past u →
             StandsFor n self.new (Start u result ∷ past) u }
     {
@@ -134,10 +136,10 @@ impl<V: Drop> Proposer<V> {
         if !prepares(&self.phase, ballot) {
             return Ok(Tally::Stale);
         }
-        if self.counted.contains(&from) {
+        if self.has_counted(from) {
             return Ok(Tally::Duplicate);
         }
-        let majority = makes_majority(self.counted.len(), members);
+        let majority = self.makes_majority(members);
         self.counted.push(from)?;
         let best = higher_of(named, self.best.take());
         if majority {
@@ -179,15 +181,29 @@ impl<V: Drop> Proposer<V> {
         if !gathers(&self.phase, ballot) {
             return Ok(Tally::Stale);
         }
-        if self.counted.contains(&from) {
+        if self.has_counted(from) {
             return Ok(Tally::Duplicate);
         }
-        let majority = makes_majority(self.counted.len(), members);
+        let majority = self.makes_majority(members);
         self.counted.push(from)?;
         if majority {
             return Ok(Tally::Majority(None));
         }
         Ok(Tally::Counted)
+    }
+
+    /// Whether the sender was counted for the present ballot.
+    fn has_counted(&self, from: NodeId) -> bool
+        ensures { result ≡ has self.now.counted from }
+    {
+        self.counted.contains(&from)
+    }
+
+    /// Whether with one more sender the counted ones are a majority, and without it they are not.
+    fn makes_majority(&self, members: u32) -> bool
+        ensures { result ≡ just_majority members (suc (length self.now.counted)) }
+    {
+        self.counted.len() == members as usize / 2
     }
 
     /// Drops the tally and goes on in this phase.
@@ -251,11 +267,4 @@ fn gathering(phase: Phase) -> Phase
         Phase::Preparing(ballot) => Phase::Gathering(ballot),
         other => other,
     }
-}
-
-/// Whether one more than this many are a majority, and this many are none.
-fn makes_majority(counted: usize, members: u32) -> bool
-    ensures { result ≡ just_majority members (suc counted) }
-{
-    counted == members as usize / 2
 }

@@ -1,4 +1,4 @@
-use Rattle.paxos_core.proofs.Tests.{refusal_none, none_refused}
+use Rattle.paxos_core.proofs.Refusing.{refusal_none, none_refused}
 use Rattle.paxos_core.proofs.laws.refusals.Goals as goal
 
 pub returns : goal.returns
