@@ -30,6 +30,7 @@ any_follows members u m K (to ∷ tos) may on past k o = any_follows members u m
 
 -- a started ballot, and its Prepare to each member
 pub opened_obeys : {V : Type 0} (members : List ℕ) (past : Chronicle V) (u : ℕ) → Obeys members past → Obeys members (opened members past u)
+unfolding opened
 opened_obeys {V = V} members past u o =
     let b = next_ballot past u in
     let K : Chronicle V → Type 0 = λ p. last_act p u ≡ Some (Start u b) in
@@ -109,6 +110,7 @@ decision_follows {V = V} members nodes past u from b (Some v) o mailed may is mo
 -- all that a node answers to a message that it does not refuse
 answers_obey : {V : Type 0} (members nodes : List ℕ) (fresh : V) (past : Chronicle V) (u from : ℕ) (m : Message V) → Obeys members past → Has past (Mail from u m) → MayHear past u from m
     → Obeys members (posted u (answers members nodes fresh past u from m) (Heard u from m ∷ past))
+unfolding answers
 answers_obey members nodes fresh past u from (Prepare b) o mailed may = ((rw (eq_self u) refl, rw (eq_self u) refl), ((mailed, may), o))
 answers_obey {V = V} members nodes fresh past u from (Promise b named) o mailed may =
     (elim (just_majority (length members) (suc (length (promises past u b)))) as (λ t. just_majority (length members) (suc (length (promises past u b))) ≡ t
@@ -127,6 +129,7 @@ answers_obey members nodes fresh past u from (Decision v) o mailed may = ((maile
 
 pub received_obeys : {V : Type 0} (members nodes : List ℕ) (fresh : V) (past : Chronicle V) (u from : ℕ) (m : Message V) → Obeys members past → Has past (Mail from u m)
     → Obeys members (received members nodes fresh past u from m)
+unfolding received
 received_obeys {V = V} members nodes fresh past u from m o mailed =
     (elim (refusal past u from m) as (λ q. refusal past u from m ≡ q → Obeys members (received_as q members nodes fresh past u from m)) [
       | None ↦ λ e. answers_obey members nodes fresh past u from m o mailed (refusal_none past u from m e)

@@ -223,6 +223,7 @@ may_accept (Some c) q b h = rw (h.0) (may_again q b h.1)
 
 -- what is not refused may be heard
 pub refusal_none : {V : Type 0} (past : Chronicle V) (u from : ℕ) (m : Message V) → refusal past u from m ≡ None → MayHear past u from m
+unfolding refusal
 refusal_none past u from (Prepare b) e = prepare_may (promised past u) b e
 refusal_none past u from (Promise b n) e =
     let p = count_may (preparing past u b) (promisers past u b) from e in
@@ -238,6 +239,7 @@ refusal_none {V = V} past u from (Decision v) e =
     ]) refl e
 
 pub none_refused : {V : Type 0} (past : Chronicle V) (u from : ℕ) (m : Message V) → MayHear past u from m → refusal past u from m ≡ None
+unfolding refusal
 none_refused past u from (Prepare b) h = may_prepare (promised past u) b h
 none_refused past u from (Promise b n) h = rw (is_preparing past u b h.0, finds_not (promisers past u b) from h.1) refl
 none_refused past u from (Accept b v) h = may_accept (promised past u) (accepted past u) b h

@@ -155,6 +155,7 @@ false_by false h = refl
 -- the four answers to a Promise
 pub promise_stale : {V : Type 0} (past : Chronicle V) (u from n : ℕ) (kept : Tallying V) (b : Ballot) (named : Option (Pair V)) → StandsFor n kept past u → prepares kept.phase b ≡ false
     → SaysPromise tally.Stale n kept kept past u from b named
+unfolding refusal
 promise_stale past u from n kept b named h off = record {
   refused = rw (false_by (preparing past u b) (not_preparing past u n kept b kept.phase h.phase off)) refl;
   unchanged = refl;
@@ -162,6 +163,7 @@ promise_stale past u from n kept b named h off = record {
 
 pub promise_again : {V : Type 0} (past : Chronicle V) (u from n : ℕ) (kept : Tallying V) (b : Ballot) (named : Option (Pair V)) → StandsFor n kept past u → prepares kept.phase b ≡ true
     → has kept.counted from ≡ true → SaysPromise tally.Duplicate n kept kept past u from b named
+unfolding refusal
 promise_again past u from n kept b named h on found =
     let was = counts_promises past u n kept b h on in
     record {
@@ -172,6 +174,7 @@ promise_again past u from n kept b named h on found =
 -- a sender that is counted is not refused
 promise_heard : {V : Type 0} (past : Chronicle V) (u from n : ℕ) (kept : Tallying V) (b : Ballot) (named : Option (Pair V)) → CountsPromises n kept past u b → has kept.counted from ≡ false
     → refusal past u from (Promise b named) ≡ None
+unfolding refusal
 promise_heard past u from n kept b named was fresh =
     rw (is_preparing past u b was.prepares, finds_not (promisers past u b) from (λ i. not_found kept.counted from fresh (was.counted.back from i))) refl
 
@@ -214,6 +217,7 @@ won_stays n k w e few = grind (arith, nat_tests)
 pub promise_counted : {V : Type 0} (past : Chronicle V) (u from n : ℕ) (kept : Tallying V) (b : Ballot) (named : Option (Pair V)) → StandsFor n kept past u → prepares kept.phase b ≡ true
     → has kept.counted from ≡ false → just_majority n (suc (length kept.counted)) ≡ false
     → SaysPromise tally.Counted n kept (record kept { counted = kept.counted ++ from ∷ []; best = higher named kept.best }) past u from b named
+unfolding answers
 promise_counted {V = V} past u from n kept b named h on fresh few =
     let was = counts_promises past u n kept b h on in
     let many = many_promises past u n kept b was in
@@ -243,21 +247,18 @@ may_accept {V = V} past u from b named fresh ms to prepares most member =
 lets_accept : {V : Type 0} (past : Chronicle V) (u from n : ℕ) (b : Ballot) (named : Option (Pair V)) (value : Option V) → Prepares past u b
     → just_majority n (suc (length (promises past u b))) ≡ true → value ≡ named_value ((from, named) ∷ promises past u b)
     → LetsAccept n (Heard u from (Promise b named) ∷ past) u b value
-lets_accept past u from n b named value prepares most is = record {
-  accept = λ ms fresh to e member. rw is (may_accept past u from b named fresh ms to prepares (rw e most) member);
-}
+lets_accept past u from n b named value prepares most is =
+    λ ms fresh to e member. rw is (may_accept past u from b named fresh ms to prepares (rw e most) member)
 
 lets_decide : {V : Type 0} (past : Chronicle V) (u from n : ℕ) (b : Ballot) → just_majority n (suc (length (voters past u b))) ≡ true → LetsDecide n (Heard u from (Accepted b) ∷ past) u b
 lets_decide {V = V} past u from n b most =
     let grown : voters (Heard u from (Accepted b) ∷ past) u b ≡ from ∷ voters past u b = rw (eq_self u, same_ballot_self b) refl in
-    record {
-      decide = λ ms v to e s. record {
-        ballot = b;
-        from = from;
-        answers = rw (eq_self u) refl;
-        majority = rw grown (majority_is (length ms) (suc (length (voters past u b))) (rw e most));
-        value = s;
-      };
+    λ ms v to e s. record {
+      ballot = b;
+      from = from;
+      answers = rw (eq_self u) refl;
+      majority = rw grown (majority_is (length ms) (suc (length (voters past u b))) (rw e most));
+      value = s;
     }
 
 won_now : (n k : ℕ) → just_majority n (suc k) ≡ true → (true ≡ nat_lt n (2 * suc k)) × (nat_lt n (2 * k) ≡ false)
@@ -266,6 +267,7 @@ won_now n k e = (grind (arith, nat_tests), grind (arith, nat_tests))
 pub promise_majority : {V : Type 0} (past : Chronicle V) (u from n : ℕ) (kept : Tallying V) (b : Ballot) (named : Option (Pair V)) (value : Option V) → StandsFor n kept past u → prepares kept.phase b ≡ true
     → has kept.counted from ≡ false → just_majority n (suc (length kept.counted)) ≡ true → value ≡ option_map (λ p. p.1) (higher named kept.best)
     → SaysPromise (tally.Majority value) n kept (record kept { counted = kept.counted ++ from ∷ []; best = None; won = true }) past u from b named
+unfolding answers
 promise_majority {V = V} past u from n kept b named value h on fresh most is =
     let was = counts_promises past u n kept b h on in
     let many = many_promises past u n kept b was in
@@ -284,6 +286,7 @@ promise_majority {V = V} past u from n kept b named value h on fresh most is =
 -- the four answers to an Accepted
 pub vote_stale : {V : Type 0} (past : Chronicle V) (u from n : ℕ) (kept : Tallying V) (b : Ballot) → StandsFor n kept past u → gathers kept.phase b ≡ false
     → SaysVote tally.Stale n kept kept past u from b
+unfolding refusal
 vote_stale past u from n kept b h off = record {
   refused = rw (false_by (gathering past u b) (not_gathering past u n kept b kept.phase h.phase off)) refl;
   unchanged = refl;
@@ -291,6 +294,7 @@ vote_stale past u from n kept b h off = record {
 
 pub vote_again : {V : Type 0} (past : Chronicle V) (u from n : ℕ) (kept : Tallying V) (b : Ballot) → StandsFor n kept past u → gathers kept.phase b ≡ true
     → has kept.counted from ≡ true → SaysVote tally.Duplicate n kept kept past u from b
+unfolding refusal
 vote_again past u from n kept b h on found =
     let was = counts_votes past u n kept b h on in
     record {
@@ -299,6 +303,7 @@ vote_again past u from n kept b h on found =
     }
 
 vote_heard : {V : Type 0} (past : Chronicle V) (u from : ℕ) (kept : Tallying V) (b : Ballot) → CountsVotes kept past u b → has kept.counted from ≡ false → refusal past u from (Accepted b) ≡ None
+unfolding refusal
 vote_heard past u from kept b was fresh =
     rw (is_gathering past u b was.gathers, finds_not (voters past u b) from (λ i. not_found kept.counted from fresh (was.counted.back from i))) refl
 
@@ -325,6 +330,7 @@ vote_stands {V = V} past u from n kept b h on =
 pub vote_counted : {V : Type 0} (past : Chronicle V) (u from n : ℕ) (kept : Tallying V) (b : Ballot) → StandsFor n kept past u → gathers kept.phase b ≡ true
     → has kept.counted from ≡ false → just_majority n (suc (length kept.counted)) ≡ false
     → SaysVote tally.Counted n kept (record kept { counted = kept.counted ++ from ∷ [] }) past u from b
+unfolding answers
 vote_counted {V = V} past u from n kept b h on fresh few =
     let was = counts_votes past u n kept b h on in
     let few_read : just_majority n (suc (length (voters past u b))) ≡ false = rw (← was.counted.length) few in
@@ -337,6 +343,7 @@ vote_counted {V = V} past u from n kept b h on fresh few =
 pub vote_majority : {V : Type 0} (past : Chronicle V) (u from n : ℕ) (kept : Tallying V) (b : Ballot) (value : Option (Unit {0})) → StandsFor n kept past u → gathers kept.phase b ≡ true
     → has kept.counted from ≡ false → just_majority n (suc (length kept.counted)) ≡ true
     → SaysVote (tally.Majority value) n kept (record kept { counted = kept.counted ++ from ∷ [] }) past u from b
+unfolding answers
 vote_majority {V = V} past u from n kept b value h on fresh most =
     let was = counts_votes past u n kept b h on in
     let most_read : just_majority n (suc (length (voters past u b))) ≡ true = rw (← was.counted.length) most in (

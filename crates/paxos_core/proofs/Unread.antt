@@ -1,6 +1,7 @@
 -- What is not read changes nothing that is kept.
 use Rattle.std.proofs.Common.{ℕ, suc, ◌==◌, ◌≡◌, ◌≢◌, ◌⊎◌, ◌<◌, Bool, true, false, Option, Some, None, List, [], ◌∷◌, length, map, refl, sym, ◌∙◌, ap, subst, inl, inr, ⊎_elim, if◌then◌else◌, arith}
 use Rattle.std.proofs.lemmas.Bool.Decides.{nat_tests}
+use Rattle.std.specs.List.{AllByRecursion}
 use Rattle.topology.specs.Lists.{Among}
 use Rattle.topology.specs.declared.ballots.Ballot.{Ballot}
 use Rattle.paxos_core.proofs.Posting.{posted_accepted, posted_promised}
@@ -149,3 +150,11 @@ unread_same {V = V} past u Other h = record {
 
 pub proposer_unread : {V : Type 0} (n : ℕ) (kept : Tallying V) (past : Chronicle V) (u : ℕ) (f : Fact V) → UnreadTally u f → StandsTally n kept past u → StandsTally n kept (f ∷ past) u
 proposer_unread n kept past u f h s = same_stands n kept (f ∷ past) past u (unread_same past u f h) s
+
+-- what is sent, one message after the other
+pub acceptor_posted : {V : Type 0} (kept : Accepting V) (past : Chronicle V) (u w : ℕ) (ms : List (ℕ × Message V)) → StandsFor kept past u → StandsFor kept (posted w ms past) u
+acceptor_posted kept past u w ms s = record { promised = s.promised ∙ sym (posted_promised w u ms past); accepted = s.accepted ∙ sym (posted_accepted w u ms past) }
+
+pub proposer_posted : {V : Type 0} (n : ℕ) (kept : Tallying V) (past : Chronicle V) (u w : ℕ) (ms : List (ℕ × Message V)) → AllByRecursion (λ m. LeavesTally u w m.1) ms → StandsTally n kept past u → StandsTally n kept (posted w ms past) u
+proposer_posted n kept past u w [] all s = s
+proposer_posted n kept past u w (m ∷ ms) all s = proposer_posted n kept (Mail w m.0 m.1 ∷ past) u w ms all.1 (proposer_unread n kept past u (Mail w m.0 m.1) all.0 s)

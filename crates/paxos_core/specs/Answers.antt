@@ -6,8 +6,8 @@ use Rattle.paxos_core.specs.Facts.{below, same_ballot, Pair, Message, Prepare, P
 use Rattle.paxos_core.specs.Readings.{promised, accepted, open_ballot, promises, promisers, voters}
 use Rattle.paxos_core.specs.Rules.{next_round, highest}
 
--- why a node refuses a message: it promised this ballot; it counted the sender, or accepted the ballot,
--- already; the ballot is not the one that it prepares or gathers; it knows a decision
+-- why a node refuses a message: it promised this ballot; it counted the sender, or accepted the
+-- ballot, already; the ballot is not the one that it prepares or gathers; it knows a decision
 pub data Refusal : Type 0 where
   Promised : (ballot : Ballot) → Refusal
   Duplicate : Refusal
@@ -32,7 +32,8 @@ proposed_by other b before = before
 -- the value that u proposed in b: that of its last Accept of b
 abbrev pub proposed : {V : Type 0} → Chronicle V → ℕ → Ballot → Option V
 proposed [] u b = None
-proposed (Mail w to m ∷ past) u b = if w == u then proposed_by m b (proposed past u b) else proposed past u b
+proposed (Mail w to m ∷ past) u b =
+    if w == u then proposed_by m b (proposed past u b) else proposed past u b
 proposed (f ∷ past) u b = proposed past u b
 
 -- u prepares b
@@ -75,7 +76,7 @@ refuses_count present counted from =
     if not present then Some StaleBallot else if has counted from then Some Duplicate else None
 
 -- why u refuses the message; None where it does not
-abbrev pub refusal : {V : Type 0} → Chronicle V → ℕ → ℕ → Message V → Option Refusal
+unfoldable pub refusal : {V : Type 0} → Chronicle V → ℕ → ℕ → Message V → Option Refusal
 refusal past u from (Prepare b) = refuses_prepare (promised past u) b
 refusal past u from (Promise b named) = refuses_count (preparing past u b) (promisers past u b) from
 refusal past u from (Accept b v) = refuses_accept (promised past u) (accepted past u) b
@@ -106,15 +107,18 @@ announce nodes (Some v) = to_each nodes (Decision v)
 
 -- what u sends, to whom and in this order, when it heard the message. `past` is all before it, and
 -- `fresh` is the value that u proposes where no promise names one
-abbrev pub answers : {V : Type 0} → (members nodes : List ℕ) → (fresh : V) → Chronicle V → ℕ → ℕ → Message V → List (ℕ × Message V)
+unfoldable pub answers : {V : Type 0} → (members nodes : List ℕ) → (fresh : V) → Chronicle V → ℕ → ℕ →
+    Message V → List (ℕ × Message V)
 answers members nodes fresh past u from (Prepare b) = (from, Promise b (accepted past u)) ∷ []
 answers members nodes fresh past u from (Promise b named) =
-    if just_majority (length members) (suc (length (promises past u b)))
-    then to_each members (Accept b (or_fresh (named_value ((from, named) ∷ promises past u b)) fresh))
+    let counted = (from, named) ∷ promises past u b in
+    if just_majority (length members) (length counted)
+    then to_each members (Accept b (or_fresh (named_value counted) fresh))
     else []
 answers members nodes fresh past u from (Accept b v) = (from, Accepted b) ∷ []
 answers members nodes fresh past u from (Accepted b) =
-    if just_majority (length members) (suc (length (voters past u b))) then announce nodes (proposed past u b) else []
+    let counted = from ∷ voters past u b in
+    if just_majority (length members) (length counted) then announce nodes (proposed past u b) else []
 answers members nodes fresh past u from (Decision v) = []
 
 -- u sends these messages, one after the other
@@ -123,19 +127,23 @@ posted u [] past = past
 posted u (m ∷ ms) past = posted u ms (Mail u m.0 m.1 ∷ past)
 
 -- the chronicle after u received a message: as before where it refuses it
-abbrev pub received_as : {V : Type 0} → Option Refusal → (members nodes : List ℕ) → (fresh : V) → Chronicle V → ℕ → ℕ → Message V → Chronicle V
+abbrev pub received_as : {V : Type 0} → Option Refusal → (members nodes : List ℕ) → (fresh : V) →
+    Chronicle V → ℕ → ℕ → Message V → Chronicle V
 received_as None members nodes fresh past u from m =
     posted u (answers members nodes fresh past u from m) (Heard u from m ∷ past)
 received_as (Some why) members nodes fresh past u from m = past
 
-abbrev pub received : {V : Type 0} → (members nodes : List ℕ) → (fresh : V) → Chronicle V → ℕ → ℕ → Message V → Chronicle V
-received members nodes fresh past u from m = received_as (refusal past u from m) members nodes fresh past u from m
+-- the same, where u refuses it by the rules
+unfoldable pub received : {V : Type 0} → (members nodes : List ℕ) → (fresh : V) → Chronicle V → ℕ → ℕ →
+    Message V → Chronicle V
+received members nodes fresh past u from m =
+    received_as (refusal past u from m) members nodes fresh past u from m
 
 -- the ballot that u starts next
 abbrev pub next_ballot : {V : Type 0} → Chronicle V → ℕ → Ballot
 next_ballot past u = record { round = next_round past u; node = u }
 
 -- the chronicle after u started a ballot: it asks each member
-abbrev pub opened : {V : Type 0} → List ℕ → Chronicle V → ℕ → Chronicle V
+unfoldable pub opened : {V : Type 0} → List ℕ → Chronicle V → ℕ → Chronicle V
 opened members past u =
     posted u (to_each members (Prepare (next_ballot past u))) (Start u (next_ballot past u) ∷ past)

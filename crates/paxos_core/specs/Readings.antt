@@ -22,7 +22,8 @@ promised_by other before = before
 -- the promised ballot: the greatest of the Prepare and Accept messages that u heard
 abbrev pub promised : {V : Type 0} → Chronicle V → ℕ → Option Ballot
 promised [] u = None
-promised (Heard w from m ∷ past) u = if w == u then promised_by m (promised past u) else promised past u
+promised (Heard w from m ∷ past) u =
+    if w == u then promised_by m (promised past u) else promised past u
 promised (f ∷ past) u = promised past u
 
 -- the accepted pair after one more message
@@ -33,7 +34,8 @@ accepted_by other before = before
 -- the accepted pair: that of the last Accept that u heard
 abbrev pub accepted : {V : Type 0} → Chronicle V → ℕ → Option (Pair V)
 accepted [] u = None
-accepted (Heard w from m ∷ past) u = if w == u then accepted_by m (accepted past u) else accepted past u
+accepted (Heard w from m ∷ past) u =
+    if w == u then accepted_by m (accepted past u) else accepted past u
 accepted (f ∷ past) u = accepted past u
 
 -- the ballot that u started last
@@ -51,7 +53,8 @@ open_by other before = before
 abbrev pub open_ballot : {V : Type 0} → Chronicle V → ℕ → Option Ballot
 open_ballot [] u = None
 open_ballot (Start w b ∷ past) u = if w == u then Some b else open_ballot past u
-open_ballot (Heard w from m ∷ past) u = if w == u then open_by m (open_ballot past u) else open_ballot past u
+open_ballot (Heard w from m ∷ past) u =
+    if w == u then open_by m (open_ballot past u) else open_ballot past u
 open_ballot (Crash w ∷ past) u = if w == u then None else open_ballot past u
 open_ballot (f ∷ past) u = open_ballot past u
 
@@ -68,14 +71,17 @@ abbrev pub Gathers : {V : Type 0} → Chronicle V → ℕ → Ballot → Type 0
 Gathers {V} past u b = (open_ballot past u ≡ Some b) × (v : V) × Proposed past u b v
 
 -- the promises of b after one more message
-abbrev pub promises_by : {V : Type 0} → ℕ → Message V → Ballot → List (ℕ × Option (Pair V)) → List (ℕ × Option (Pair V))
-promises_by from (Promise c named) b before = if same_ballot c b then (from, named) ∷ before else before
+abbrev pub promises_by : {V : Type 0} → ℕ → Message V → Ballot → List (ℕ × Option (Pair V)) →
+    List (ℕ × Option (Pair V))
+promises_by from (Promise c named) b before =
+    if same_ballot c b then (from, named) ∷ before else before
 promises_by from other b before = before
 
 -- the promises of b that u heard: their senders, and what they name, the newest first
 abbrev pub promises : {V : Type 0} → Chronicle V → ℕ → Ballot → List (ℕ × Option (Pair V))
 promises [] u b = []
-promises (Heard w from m ∷ past) u b = if w == u then promises_by from m b (promises past u b) else promises past u b
+promises (Heard w from m ∷ past) u b =
+    if w == u then promises_by from m b (promises past u b) else promises past u b
 promises (f ∷ past) u b = promises past u b
 
 -- the members whose promise of b u counted
@@ -90,7 +96,8 @@ voters_by from other b before = before
 -- the members whose acceptance of b u counted, the newest first
 abbrev pub voters : {V : Type 0} → Chronicle V → ℕ → Ballot → List ℕ
 voters [] u b = []
-voters (Heard w from m ∷ past) u b = if w == u then voters_by from m b (voters past u b) else voters past u b
+voters (Heard w from m ∷ past) u b =
+    if w == u then voters_by from m b (voters past u b) else voters past u b
 voters (f ∷ past) u b = voters past u b
 
 -- the newest fact by which u acts: a start, or a message that it heard

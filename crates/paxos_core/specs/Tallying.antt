@@ -8,8 +8,8 @@ use Rattle.paxos_core.specs.Facts.{Pair, Message, Prepare, Promise, Accept, Acce
 use Rattle.paxos_core.specs.Readings.{started, open_ballot, Proposed, Prepares, Gathers, promises, promisers, voters}
 use Rattle.paxos_core.specs.Rules.{round_of, highest}
 
--- its node, the round of its last ballot, what it does with that ballot, whom it counted in the order
--- in which it did, the highest pair named, and whether the promises were a majority
+-- its node; the round of its last ballot; what it does with that ballot; whom it counted, in the order
+-- in which it did; the highest pair named; and whether the promises of it became a majority
 pub record Tallying (V : Type 0) : Type 0 where
   pub node : ℕ
   pub last_round : ℕ
@@ -25,7 +25,8 @@ pub record SameMembers (xs ys : List ℕ) : Type 0 where
   pub back : (x : ℕ) → Among x ys → Among x xs
 
 -- the promises of b are counted, with the highest pair until a majority has promised
-pub record CountsPromises {V : Type 0} (members : ℕ) (kept : Tallying V) (past : Chronicle V) (u : ℕ) (b : Ballot) : Type 0 where
+pub record CountsPromises {V : Type 0} (members : ℕ) (kept : Tallying V) (past : Chronicle V)
+    (u : ℕ) (b : Ballot) : Type 0 where
   pub prepares : Prepares past u b
   pub counted : SameMembers kept.counted (promisers past u b)
   pub won : kept.won ≡ nat_lt members (2 * length (promises past u b))
@@ -33,7 +34,8 @@ pub record CountsPromises {V : Type 0} (members : ℕ) (kept : Tallying V) (past
   pub no_voters : voters past u b ≡ []
 
 -- the votes for b are counted
-pub record CountsVotes {V : Type 0} (kept : Tallying V) (past : Chronicle V) (u : ℕ) (b : Ballot) : Type 0 where
+pub record CountsVotes {V : Type 0} (kept : Tallying V) (past : Chronicle V) (u : ℕ) (b : Ballot)
+    : Type 0 where
   pub gathers : Gathers past u b
   pub counted : SameMembers kept.counted (voters past u b)
 
@@ -50,7 +52,8 @@ pub record NothingOf {V : Type 0} (past : Chronicle V) (u : ℕ) (b : Ballot) : 
   pub proposed : (v : V) → Proposed past u b v → ⊥
 
 -- it is the proposer of u after these facts, where there are so many members
-pub record StandsFor {V : Type 0} (members : ℕ) (kept : Tallying V) (past : Chronicle V) (u : ℕ) : Type 0 where
+pub record StandsFor {V : Type 0} (members : ℕ) (kept : Tallying V) (past : Chronicle V) (u : ℕ)
+    : Type 0 where
   pub node : kept.node ≡ u
   pub last_round : kept.last_round ≡ round_of (started past u)
   pub phase : CountsIn kept.phase members kept past u

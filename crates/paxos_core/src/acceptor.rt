@@ -1,16 +1,16 @@
 //! What a member promises and accepts.
 ghost use Rattle.std.specs.Prelude.{ℕ, [], ◌≡◌, Some, None, Option, option_map};
-ghost use Rattle.paxos_core.specs.Facts.{Chronicle, Prepare, Accept};
+ghost use Rattle.paxos_core.specs.Facts.{Chronicle};
 ghost use Rattle.paxos_core.specs.Readings.{greater};
-ghost use Rattle.paxos_core.specs.Answers.{refusal, refuses_prepare, refuses_accept};
+ghost use Rattle.paxos_core.specs.Answers.{refuses_prepare, refuses_accept};
 ghost use Rattle.paxos_core.specs.Accepting.{StandsFor};
-ghost use Rattle.paxos_core.specs.AcceptorCalls.{SaysPrepared, SaysTook, Follows, kept_unless};
+ghost use Rattle.paxos_core.specs.AcceptorCalls.{SaysPrepared, SaysTook, AnswersPrepare, AnswersAccept, unless_refused, accepting};
 
 use std::marker::Model;
 use topology::Ballot;
 
-/// A member's part in the choice of a value: the ballot below which it accepts nothing, and what it
-/// accepted last. Both outlive a crash of its node.
+/// A member's part in the choice of a value: the ballot below which it accepts nothing, and what
+/// it accepted last. Both outlive a crash of its node. No call takes memory.
 #[derive(Drop)]
 pub struct Acceptor<V> {
     promised: Option<Ballot>,
@@ -76,13 +76,13 @@ impl<V: Drop> Acceptor<V> {
 
     /// Promises the ballot, where it is above the promised one. A Promise that goes back names what
     /// was accepted.
+    #[tactic(auto, unfolding(crate::specs::Answers::refusal))]
     pub fn on_prepare(&mut self, ballot: Ballot) -> Prepared
         ensures answer { SaysPrepared result (refuses_prepare self.old.promised ballot) }
         ensures promised { self.new.promised ≡ greater ballot self.old.promised }
         ensures accepted { self.new.accepted ≡ self.old.accepted }
         ensures stands { (past : Chronicle V) (u from : ℕ) → StandsFor self.old past u →
-            SaysPrepared result (refusal past u from (Prepare ballot))
-            × Follows (refusal past u from (Prepare ballot)) self.old self.new past u from (Prepare ballot) }
+            AnswersPrepare result self.old self.new past u from ballot }
     {
         let before = self.promised;
         match before {
@@ -94,15 +94,15 @@ impl<V: Drop> Acceptor<V> {
         }
     }
 
-    /// Promises the ballot and accepts its value, where no higher one is promised and this one was not
-    /// accepted before.
+    /// Promises the ballot and accepts its value, where no higher one is promised and this one was
+    /// not accepted before.
+    #[tactic(auto, unfolding(crate::specs::Answers::refusal))]
     pub fn on_accept(&mut self, ballot: Ballot, value: V) -> Took
         ensures answer { SaysTook result (refuses_accept self.old.promised self.old.accepted ballot) }
-        ensures kept { self.new ≡ kept_unless (refuses_accept self.old.promised self.old.accepted ballot) self.old
-            (record { promised = Some ballot; accepted = Some (ballot, value) }) }
+        ensures kept { self.new ≡ unless_refused
+            (refuses_accept self.old.promised self.old.accepted ballot) self.old (accepting ballot value) }
         ensures stands { (past : Chronicle V) (u from : ℕ) → StandsFor self.old past u →
-            SaysTook result (refusal past u from (Accept ballot value))
-            × Follows (refusal past u from (Accept ballot value)) self.old self.new past u from (Accept ballot value) }
+            AnswersAccept result self.old self.new past u from ballot value }
     {
         let before = self.promised;
         match before {

@@ -25,8 +25,9 @@ pub enum Phase {
     Gathering(Ballot),
 }
 
-/// A node's part in getting a value chosen: the ballot that it started last, and the tally of it. The
-/// round outlives a crash of the node, the tally does not.
+/// A node's part in getting a value chosen: the ballot that it started last, and the tally of it.
+/// The round outlives a crash of the node, the tally does not. Only `on_promise` and `on_accepted`
+/// take memory.
 #[derive(Drop)]
 pub struct Proposer<V> {
     node: NodeId,
@@ -42,7 +43,9 @@ impl<V> Model for Proposer<V> {
 
     ghost Value = { Tallying V };
 
-    ghost view = { λ p. record { node = p.node; last_round = p.last_round; phase = p.phase; counted = p.counted.items; best = p.best; won = p.won } };
+    ghost view = { λ p. record {
+        node = p.node; last_round = p.last_round; phase = p.phase;
+        counted = p.counted.items; best = p.best; won = p.won } };
 }
 
 /// The answer to a Promise or an Accepted.
@@ -63,7 +66,8 @@ pub enum Tally<V> {
 impl<V: Drop> Proposer<V> {
     /// A proposer that has started no ballot. Takes no memory.
     pub fn new(alloc: Global, node: NodeId) -> Proposer<V>
-        ensures nothing { (result.node ≡ node) × (result.last_round ≡ 0) × (result ≡ forgotten result) }
+        ensures node { result.node ≡ node }
+        ensures nothing { (result.last_round ≡ 0) × (result ≡ forgotten result) }
         ensures stands { (members : ℕ) → StandsFor {V = V} members result [] node }
     {
         Proposer {
@@ -88,11 +92,13 @@ impl<V: Drop> Proposer<V> {
     pub fn start(&mut self, floor: u32) -> Ballot
         requires floor { floor < 4294967295 }
         requires round { self.old.last_round < 4294967295 }
-        ensures ballot { result ≡ record { round = 1 + max self.old.last_round floor; node = self.old.node } }
+        ensures ballot { (result.round ≡ 1 + max self.old.last_round floor) × (result.node ≡ self.old.node) }
         ensures kept { self.new ≡ opened self.old result }
+        ensures next { (n : ℕ) (past : Chronicle V) (u : ℕ) → StandsFor n self.old past u →
+            floor ≡ round_of (promised past u) → result ≡ next_ballot past u }
         ensures follows { (n : ℕ) (past : Chronicle V) (u : ℕ) → StandsFor n self.old past u →
             floor ≡ round_of (promised past u) →
-            (result ≡ next_ballot past u) × ((members : List ℕ) → MayFollow members past (Start u result)) }
+            (members : List ℕ) → MayFollow members past (Start u result) }
         ensures stands { (n : ℕ) (past : Chronicle V) (u : ℕ) → StandsFor n self.old past u →
             StandsFor n self.new (Start u result ∷ past) u }
     {
@@ -113,13 +119,15 @@ impl<V: Drop> Proposer<V> {
         ensures kept { self.new ≡ forgotten self.old }
         ensures crash { (n : ℕ) (past : Chronicle V) (u : ℕ) → StandsFor n self.old past u →
             StandsFor n self.new (Crash u ∷ past) u }
-        ensures decided { (n : ℕ) (past : Chronicle V) (u from : ℕ) (v : V) → StandsFor n self.old past u →
+        ensures decided { (n : ℕ) (past : Chronicle V) (u from : ℕ) (v : V) →
+            StandsFor n self.old past u →
             StandsFor n self.new (Heard u from (Decision v) ∷ past) u }
     {
         self.clear(Phase::Idle);
     }
 
-    /// Counts the sender of a Promise. With a majority it answers the value that an Accept must carry.
+    /// Counts the sender of a Promise. With a majority it answers the value that an Accept must
+    /// carry. `members` is the number of all members, the same in all calls.
     pub fn on_promise(
         &mut self,
         from: NodeId,
@@ -127,9 +135,11 @@ impl<V: Drop> Proposer<V> {
         named: Option<(Ballot, V)>,
         members: u32,
     ) -> Result<Tally<V>, NoMemory>
-        ensures answer { IfOk result (λ tally. tally ≡ promise_tally self.old from ballot named members) }
+        ensures answer { IfOk result (λ tally.
+            tally ≡ promise_tally self.old from ballot named members) }
         ensures kept { IfOk result (λ tally. self.new ≡ after_promise tally self.old from named) }
-        ensures stands { IfOk result (λ tally. (past : Chronicle V) (u : ℕ) → StandsFor members self.old past u →
+        ensures stands { IfOk result (λ tally. (past : Chronicle V) (u : ℕ) →
+            StandsFor members self.old past u →
             SaysPromise tally members self.old self.new past u from ballot named) }
         ensures err { OnErr result (self.new ≡ self.old) }
     {
@@ -155,7 +165,8 @@ impl<V: Drop> Proposer<V> {
     pub fn propose(&mut self)
         requires preparing { IsPreparing self.old.phase }
         requires majority { self.old.won ≡ true }
-        ensures kept { self.new ≡ record self.old { phase = gathered self.old.phase; counted = []; best = None } }
+        ensures kept { self.new ≡ record self.old {
+            phase = gathered self.old.phase; counted = []; best = None } }
         ensures stands { (n : ℕ) (past : Chronicle V) (u to : ℕ) (tos : List ℕ) (b : Ballot) (v : V) →
             StandsFor n self.old past u → self.old.phase ≡ Preparing b →
             StandsFor n self.new (posted u (to_each (to ∷ tos) (Accept b v)) past) u }
@@ -174,7 +185,8 @@ impl<V: Drop> Proposer<V> {
     ) -> Result<Tally<()>, NoMemory>
         ensures answer { IfOk result (λ tally. tally ≡ vote_tally self.old from ballot members) }
         ensures kept { IfOk result (λ tally. self.new ≡ after_vote tally self.old from) }
-        ensures stands { IfOk result (λ tally. (past : Chronicle V) (u : ℕ) → StandsFor members self.old past u →
+        ensures stands { IfOk result (λ tally. (past : Chronicle V) (u : ℕ) →
+            StandsFor members self.old past u →
             SaysVote tally members self.old self.new past u from ballot) }
         ensures err { OnErr result (self.new ≡ self.old) }
     {
@@ -208,7 +220,8 @@ impl<V: Drop> Proposer<V> {
 
     /// Drops the tally and goes on in this phase.
     fn clear(&mut self, phase: Phase)
-        ensures { self.new ≡ record self.old { phase = phase; counted = []; best = None; won = false } }
+        ensures { self.new ≡ record self.old {
+            phase = phase; counted = []; best = None; won = false } }
     {
         self.phase = phase;
         self.counted.clear();

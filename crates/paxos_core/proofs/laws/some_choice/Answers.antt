@@ -5,7 +5,7 @@ use Rattle.paxos_core.specs.Facts.{Chronicle, Prepare, Promise, Accept, Heard, M
 use Rattle.paxos_core.specs.Readings.{Has}
 use Rattle.paxos_core.specs.Rules.{Obeys}
 use Rattle.paxos_core.specs.Chosen.{Chosen, Differ}
-use Rattle.paxos_core.specs.Answers.{opened, received}
+use Rattle.paxos_core.specs.Answers.{opened, received, refusal, answers}
 use Rattle.paxos_core.proofs.Following.{opened_obeys, received_obeys}
 use Rattle.paxos_core.proofs.laws.some_choice.Goals as goal
 
@@ -42,6 +42,7 @@ abbrev six : ℕ → Chronicle ℕ
 six v = after v (five v) 3 1 (Accept first v)
 
 obeys : (v : ℕ) → Obeys members (six v)
+unfolding opened received refusal answers
 obeys v =
     let a : Obeys members asked = opened_obeys members [] 1 tt in
     let b : Obeys members (one v) = received_obeys members members v asked 1 1 (Prepare first) a (search rules) in
@@ -52,6 +53,7 @@ obeys v =
     received_obeys members members v (five v) 3 1 (Accept first v) f (search rules)
 
 took : (v a : ℕ) → Among a (1 ∷ 3 ∷ []) → (from : ℕ) × Has (six v) (Heard a from (Accept first v))
+unfolding opened received refusal answers
 took v a (inl e) = rw (← e) (1, search rules)
 took v a (inr (inl e)) = rw (← e) (1, search rules)
 took v a (inr (inr h)) = absurd h
