@@ -22,19 +22,20 @@ SaysTook took.Again why = why ≡ Some Duplicate
 
 -- after a message that is taken the acceptor stands for one more fact, after one that is refused it
 -- is as it was
-abbrev pub GoesOn : {V : Type 0} → Option Refusal → (old new : Accepting V) → Chronicle V → ℕ → Fact V → Type 0
+abbrev pub GoesOn : {V : Type 0} → Option Refusal → (old new : Accepting V) → Chronicle V → ℕ →
+    Fact V → Type 0
 GoesOn None old new past u f = StandsFor new (f ∷ past) u
 GoesOn (Some why) old new past u f = new ≡ old
 
 -- the acceptor of u answers the Prepare of b as it must, and goes on
-pub record AnswersPrepare {V : Type 0} (said : Prepared) (old new : Accepting V) (past : Chronicle V)
-    (u from : ℕ) (b : Ballot) : Type 0 where
+pub record AnswersPrepare {V : Type 0} (said : Prepared) (old new : Accepting V)
+    (past : Chronicle V) (u from : ℕ) (b : Ballot) : Type 0 where
   pub answer : SaysPrepared said (refusal past u from (Prepare b))
   pub state : GoesOn (refusal past u from (Prepare b)) old new past u (Heard u from (Prepare b))
 
 -- the acceptor of u answers the Accept of b as it must, and goes on
-pub record AnswersAccept {V : Type 0} (said : Took) (old new : Accepting V) (past : Chronicle V)
-    (u from : ℕ) (b : Ballot) (v : V) : Type 0 where
+pub record AnswersAccept {V : Type 0} (said : Took) (old new : Accepting V)
+    (past : Chronicle V) (u from : ℕ) (b : Ballot) (v : V) : Type 0 where
   pub answer : SaysTook said (refusal past u from (Accept b v))
   pub state : GoesOn (refusal past u from (Accept b v)) old new past u (Heard u from (Accept b v))
 

@@ -107,8 +107,8 @@ announce nodes (Some v) = to_each nodes (Decision v)
 
 -- what u sends, to whom and in this order, when it heard the message. `past` is all before it, and
 -- `fresh` is the value that u proposes where no promise names one
-unfoldable pub answers : {V : Type 0} → (members nodes : List ℕ) → (fresh : V) → Chronicle V → ℕ → ℕ →
-    Message V → List (ℕ × Message V)
+unfoldable pub answers : {V : Type 0} → (members nodes : List ℕ) → (fresh : V) → Chronicle V →
+    ℕ → ℕ → Message V → List (ℕ × Message V)
 answers members nodes fresh past u from (Prepare b) = (from, Promise b (accepted past u)) ∷ []
 answers members nodes fresh past u from (Promise b named) =
     let counted = (from, named) ∷ promises past u b in
@@ -118,7 +118,9 @@ answers members nodes fresh past u from (Promise b named) =
 answers members nodes fresh past u from (Accept b v) = (from, Accepted b) ∷ []
 answers members nodes fresh past u from (Accepted b) =
     let counted = from ∷ voters past u b in
-    if just_majority (length members) (length counted) then announce nodes (proposed past u b) else []
+    if just_majority (length members) (length counted)
+    then announce nodes (proposed past u b)
+    else []
 answers members nodes fresh past u from (Decision v) = []
 
 -- u sends these messages, one after the other
@@ -134,8 +136,8 @@ received_as None members nodes fresh past u from m =
 received_as (Some why) members nodes fresh past u from m = past
 
 -- the same, where u refuses it by the rules
-unfoldable pub received : {V : Type 0} → (members nodes : List ℕ) → (fresh : V) → Chronicle V → ℕ → ℕ →
-    Message V → Chronicle V
+unfoldable pub received : {V : Type 0} → (members nodes : List ℕ) → (fresh : V) → Chronicle V →
+    ℕ → ℕ → Message V → Chronicle V
 received members nodes fresh past u from m =
     received_as (refusal past u from m) members nodes fresh past u from m
 

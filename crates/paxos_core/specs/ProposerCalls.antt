@@ -47,8 +47,8 @@ abbrev pub gathers : Phase → Ballot → Bool
 gathers (Gathering c) b = same_ballot c b
 gathers other b = false
 
--- the answer to a sender: whether the ballot is the present one, who is counted, and what comes with
--- a majority
+-- the answer to a sender: whether the ballot is the present one, who is counted, and what comes
+-- with a majority
 abbrev pub tally_of : {V : Type 0} → Bool → List ℕ → ℕ → ℕ → Option V → Tally V
 tally_of present counted from members value =
     if not present then Stale
@@ -56,7 +56,8 @@ tally_of present counted from members value =
     else if just_majority members (suc (length counted)) then Majority value
     else Counted
 
--- the answer to a Promise: with a majority comes the value of the highest pair named, if there is one
+-- the answer to a Promise: with a majority comes the value of the highest pair named, if there is
+-- one
 abbrev pub promise_tally : {V : Type 0} → Tallying V → ℕ → Ballot → Option (Pair V) → ℕ → Tally V
 promise_tally kept from b named members =
     let value = option_map (λ p. p.1) (higher named kept.best) in
@@ -72,8 +73,10 @@ counting kept from = record kept { counted = kept.counted ++ from ∷ [] }
 
 -- what is kept after a Promise; with a majority the highest pair is handed out
 abbrev pub after_promise : {V : Type 0} → Tally V → Tallying V → ℕ → Option (Pair V) → Tallying V
-after_promise Counted kept from named = record (counting kept from) { best = higher named kept.best }
-after_promise (Majority value) kept from named = record (counting kept from) { best = None; won = true }
+after_promise Counted kept from named =
+    record (counting kept from) { best = higher named kept.best }
+after_promise (Majority value) kept from named =
+    record (counting kept from) { best = None; won = true }
 after_promise Stale kept from named = kept
 after_promise Duplicate kept from named = kept
 
@@ -122,21 +125,22 @@ SaysPromise Counted members old new past u from b named =
     Takes members new past u from (Promise b named) nothing_sent
 SaysPromise (Majority value) members old new past u from b named =
     Takes members new past u from (Promise b named)
-      (λ ms nodes fresh. to_each ms (Accept b (or_fresh value fresh)))
+    (λ ms nodes fresh. to_each ms (Accept b (or_fresh value fresh)))
     × LetsAccept members (Heard u from (Promise b named) ∷ past) u b value
 SaysPromise Stale members old new past u from b named =
     Refuses old new past u from (Promise b named) StaleBallot
 SaysPromise Duplicate members old new past u from b named =
     Refuses old new past u from (Promise b named) refused_twice
 
--- what the answer to an Accepted means: with a majority a Decision of the proposed value goes to each
--- node
+-- what the answer to an Accepted means: with a majority a Decision of the proposed value goes to
+-- each node
 abbrev pub SaysVote : {V : Type 0} → Tally (Unit {0}) → ℕ → (old new : Tallying V) → Chronicle V →
     ℕ → ℕ → Ballot → Type 0
 SaysVote Counted members old new past u from b =
     Takes members new past u from (Accepted b) nothing_sent
 SaysVote (Majority value) members old new past u from b =
-    Takes members new past u from (Accepted b) (λ ms nodes fresh. announce nodes (proposed past u b))
+    Takes members new past u from (Accepted b)
+    (λ ms nodes fresh. announce nodes (proposed past u b))
     × LetsDecide members (Heard u from (Accepted b) ∷ past) u b
 SaysVote Stale members old new past u from b = Refuses old new past u from (Accepted b) StaleBallot
 SaysVote Duplicate members old new past u from b =

@@ -8,8 +8,8 @@ use Rattle.paxos_core.specs.Facts.{Pair, Message, Prepare, Promise, Accept, Acce
 use Rattle.paxos_core.specs.Readings.{started, open_ballot, Proposed, Prepares, Gathers, promises, promisers, voters}
 use Rattle.paxos_core.specs.Rules.{round_of, highest}
 
--- its node; the round of its last ballot; what it does with that ballot; whom it counted, in the order
--- in which it did; the highest pair named; and whether the promises of it became a majority
+-- its node; the round of its last ballot; what it does with that ballot; whom it counted, in the
+-- order in which it did; the highest pair named; and whether the promises of it became a majority
 pub record Tallying (V : Type 0) : Type 0 where
   pub node : ℕ
   pub last_round : ℕ

@@ -98,9 +98,11 @@ impl<V: Drop> Acceptor<V> {
     /// not accepted before.
     #[tactic(auto, unfolding(crate::specs::Answers::refusal))]
     pub fn on_accept(&mut self, ballot: Ballot, value: V) -> Took
-        ensures answer { SaysTook result (refuses_accept self.old.promised self.old.accepted ballot) }
+        ensures answer { SaysTook result
+            (refuses_accept self.old.promised self.old.accepted ballot) }
         ensures kept { self.new ≡ unless_refused
-            (refuses_accept self.old.promised self.old.accepted ballot) self.old (accepting ballot value) }
+            (refuses_accept self.old.promised self.old.accepted ballot)
+            self.old (accepting ballot value) }
         ensures stands { (past : Chronicle V) (u from : ℕ) → StandsFor self.old past u →
             AnswersAccept result self.old self.new past u from ballot value }
     {

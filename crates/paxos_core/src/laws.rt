@@ -26,8 +26,8 @@ pub fn agreement_of<V>()
 
 /// A decision that a node heard is chosen.
 pub fn decision_is_chosen<V>()
-    ensures { (members : List ℕ) (chronicle : Chronicle V) (u from : ℕ) (v : V) → Obeys members chronicle →
-        Has chronicle (Heard u from (Decision v)) → Chosen members chronicle v }
+    ensures { (members : List ℕ) (chronicle : Chronicle V) (u from : ℕ) (v : V) →
+        Obeys members chronicle → Has chronicle (Heard u from (Decision v)) → Chosen members chronicle v }
 {}
 
 /// A node refuses a message exactly where the rules do not let it hear the message.
@@ -44,8 +44,8 @@ pub fn starts_follow<V>()
 
 /// What a node does with a message that was sent to it, and all that it answers, follows the rules.
 pub fn answers_follow<V>()
-    ensures { (members nodes : List ℕ) (fresh : V) (past : Chronicle V) (u from : ℕ) (m : Message V) →
-        Obeys members past → Has past (Mail from u m) →
+    ensures { (members nodes : List ℕ) (fresh : V) (past : Chronicle V) (u from : ℕ)
+        (m : Message V) → Obeys members past → Has past (Mail from u m) →
         Obeys members (received members nodes fresh past u from m) }
 {}
 
@@ -57,7 +57,8 @@ pub fn acceptor_unread<V>()
         StandsFor kept past u → StandsFor kept (posted w ms past) u }
 {}
 
-/// A fact that a proposer does not read leaves it as it is; of what is sent it reads its own Accepts.
+/// A fact that a proposer does not read leaves it as it is; of what is sent it reads its own Accepts
+/// alone.
 pub fn proposer_unread<V>()
     ensures fact { (n : ℕ) (kept : Tallying V) (past : Chronicle V) (u : ℕ) (f : Fact V) →
         UnreadTally u f → StandsTally n kept past u → StandsTally n kept (f ∷ past) u }

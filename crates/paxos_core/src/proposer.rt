@@ -15,7 +15,7 @@ use std::marker::Model;
 use topology::{Ballot, NoMemory, NodeId};
 
 /// What the proposer does with the ballot that it started last.
-#[derive(Clone, Copy, Debug, PartialEq, Eq)]
+#[derive(Clone, Copy, Debug)]
 pub enum Phase {
     /// Nothing: it has started none, or has dropped its tally.
     Idle,
@@ -44,8 +44,13 @@ impl<V> Model for Proposer<V> {
     ghost Value = { Tallying V };
 
     ghost view = { λ p. record {
-        node = p.node; last_round = p.last_round; phase = p.phase;
-        counted = p.counted.items; best = p.best; won = p.won } };
+      node = p.node;
+      last_round = p.last_round;
+      phase = p.phase;
+      counted = p.counted.items;
+      best = p.best;
+      won = p.won;
+    } };
 }
 
 /// The answer to a Promise or an Accepted.
@@ -88,11 +93,13 @@ impl<V: Drop> Proposer<V> {
     }
 
     /// Starts a ballot. Its round is one above the greater of the last one and of `floor`, which is
-    /// the round of the ballot that the node's acceptor promised.
+    /// the round of the ballot that the node's acceptor promised, 0 where it promised none. There is
+    /// no round above 4,294,967,295.
     pub fn start(&mut self, floor: u32) -> Ballot
         requires floor { floor < 4294967295 }
-        requires round { self.old.last_round < 4294967295 }
-        ensures ballot { (result.round ≡ 1 + max self.old.last_round floor) × (result.node ≡ self.old.node) }
+        requires last { self.old.last_round < 4294967295 }
+        ensures round { result.round ≡ 1 + max self.old.last_round floor }
+        ensures node { result.node ≡ self.old.node }
         ensures kept { self.new ≡ opened self.old result }
         ensures next { (n : ℕ) (past : Chronicle V) (u : ℕ) → StandsFor n self.old past u →
             floor ≡ round_of (promised past u) → result ≡ next_ballot past u }
@@ -166,9 +173,12 @@ impl<V: Drop> Proposer<V> {
         requires preparing { IsPreparing self.old.phase }
         requires majority { self.old.won ≡ true }
         ensures kept { self.new ≡ record self.old {
-            phase = gathered self.old.phase; counted = []; best = None } }
-        ensures stands { (n : ℕ) (past : Chronicle V) (u to : ℕ) (tos : List ℕ) (b : Ballot) (v : V) →
-            StandsFor n self.old past u → self.old.phase ≡ Preparing b →
+          phase = gathered self.old.phase;
+          counted = [];
+          best = None;
+        } }
+        ensures stands { (n : ℕ) (past : Chronicle V) (u to : ℕ) (tos : List ℕ) (b : Ballot)
+            (v : V) → StandsFor n self.old past u → self.old.phase ≡ Preparing b →
             StandsFor n self.new (posted u (to_each (to ∷ tos) (Accept b v)) past) u }
     {
         self.phase = gathering(self.phase);
@@ -221,7 +231,11 @@ impl<V: Drop> Proposer<V> {
     /// Drops the tally and goes on in this phase.
     fn clear(&mut self, phase: Phase)
         ensures { self.new ≡ record self.old {
-            phase = phase; counted = []; best = None; won = false } }
+          phase = phase;
+          counted = [];
+          best = None;
+          won = false;
+        } }
     {
         self.phase = phase;
         self.counted.clear();
