@@ -1,24 +1,23 @@
 -- What each call of a proposer keeps.
-use Rattle.std.proofs.Common.{ℕ, suc, ◌+◌, ◌*◌, ◌-◌, ◌/◌, ◌<◌, ◌≤◌, Bool, true, false, not, ◌&&◌, ◌||◌, ◌==◌, ◌≡◌, ◌≢◌, ◌⊎◌, Option, Some, None, IfSome, List, [], ◌∷◌, ◌++◌, length, length-append, map, option_map, refl, sym, ◌∙◌, ap, subst, arith, inl, inr, ⊎_elim, true≢false, nat_lt, nat_le, if◌then◌else◌}
+use Rattle.std.proofs.Common.{ℕ, suc, ◌*◌, ◌<◌, Bool, true, false, ◌==◌, ◌≡◌, ◌⊎◌, Option, Some, None, List, [], ◌∷◌, ◌++◌, length, length-append, map, option_map, refl, sym, ◌∙◌, ap, subst, arith, inl, inr, ⊎_elim, true≢false, nat_lt, if◌then◌else◌}
 use Rattle.std.proofs.lemmas.Bool.Decides.{nat_tests}
 use Rattle.topology.specs.Lists.{Among, has}
 use Rattle.topology.specs.declared.ballots.Ballot.{Ballot}
 use Rattle.paxos_core.proofs.Ballots.{same_ballot_self, same_ballot_true}
-use Rattle.paxos_core.proofs.History.{eq_of_true, eq_self, not_eq, some_is}
+use Rattle.paxos_core.proofs.History.{eq_self, some_is}
 use Rattle.paxos_core.proofs.Following.{may_propose}
 use Rattle.paxos_core.proofs.Posting.{each_is, posted_has, posted_keeps, posted_open, posted_promises, posted_started, posted_voters}
 use Rattle.paxos_core.proofs.Proposals.{length_senders, open_now}
 use Rattle.paxos_core.proofs.Refusing.{majority_is, finds, finds_not, found_in, gathering_is, is_gathering, is_preparing, not_found, preparing_is}
-use Rattle.paxos_core.specs.Answers.{StaleBallot, announce, answers, gathering, just_majority, named_value, or_fresh, posted, preparing, proposed, refusal, to_each}
-use Rattle.paxos_core.specs.Facts.{Accept, Accepted, Chronicle, Crash, Decision, Fact, Heard, Mail, Message, Other, Pair, Prepare, Promise, Start, same_ballot}
-use Rattle.paxos_core.specs.ProposerCalls.{LetsAccept, LetsDecide, Refuses, SaysPromise, SaysVote, Takes, forgotten, gathers, opened, prepares}
-use Rattle.paxos_core.specs.Readings.{Gathers, Has, Prepares, Proposed, open_by, open_ballot, promisers, promises, started, voters}
+use Rattle.paxos_core.specs.Answers.{answers, gathering, just_majority, named_value, or_fresh, posted, preparing, refusal, to_each}
+use Rattle.paxos_core.specs.Facts.{Accept, Accepted, Chronicle, Crash, Decision, Fact, Heard, Mail, Message, Other, Pair, Promise, Start, same_ballot}
+use Rattle.paxos_core.specs.ProposerCalls.{LetsAccept, LetsDecide, SaysPromise, SaysVote, forgotten, gathers, opened, prepares}
+use Rattle.paxos_core.specs.Readings.{Prepares, Proposed, open_by, open_ballot, promisers, promises, started, voters}
 use Rattle.paxos_core.specs.Rules.{MaySend, higher, highest, round_of}
-use Rattle.paxos_core.specs.Tallying.{CountsIn, CountsPromises, CountsVotes, NothingOf, SameMembers, StandsFor, Tallying, Unread, PassesBy, Leaves}
+use Rattle.paxos_core.specs.Tallying.{CountsIn, CountsPromises, CountsVotes, NothingOf, SameMembers, StandsFor, Tallying}
 use Rattle.paxos_core.specs.declared.proposer.Phase.{Phase}
 use Rattle.paxos_core.specs.declared.proposer.Phase.TheVariants.{Gathering, Idle, Preparing}
 use Rattle.paxos_core.specs.declared.proposer.Tally.TheVariants as tally
-use Rattle.paxos_core.specs.Answers.{Duplicate}
 
 -- a ballot that is open was started last
 pub open_started : {V : Type 0} (C : Chronicle V) (u : ℕ) (b : Ballot) → open_ballot C u ≡ Some b → started C u ≡ Some b

@@ -1,17 +1,15 @@
 -- What is not read changes nothing that is kept.
-use Rattle.std.proofs.Common.{ℕ, suc, ◌==◌, ◌≡◌, ◌≢◌, ◌⊎◌, ◌<◌, Bool, true, false, Option, Some, None, List, [], ◌∷◌, length, map, refl, sym, ◌∙◌, ap, subst, inl, inr, ⊎_elim, if◌then◌else◌, arith}
+use Rattle.std.proofs.Common.{ℕ, ◌==◌, ◌≡◌, ◌≢◌, true, false, Option, List, [], ◌∷◌, refl, sym, ◌∙◌, ap, inr, ⊎_elim, if◌then◌else◌, arith}
 use Rattle.std.proofs.lemmas.Bool.Decides.{nat_tests}
 use Rattle.std.specs.List.{AllByRecursion}
-use Rattle.topology.specs.Lists.{Among}
 use Rattle.topology.specs.declared.ballots.Ballot.{Ballot}
 use Rattle.paxos_core.proofs.Posting.{posted_accepted, posted_promised}
 use Rattle.paxos_core.specs.Accepting.{Accepting, StandsFor, Unread, PassesBy}
 use Rattle.paxos_core.specs.Answers.{posted}
 use Rattle.paxos_core.specs.Facts.{Accept, Accepted, Chronicle, Crash, Decision, Fact, Heard, Mail, Message, Other, Pair, Prepare, Promise, Start}
-use Rattle.paxos_core.specs.ProposerCalls.{forgotten}
-use Rattle.paxos_core.specs.Readings.{Gathers, Has, Prepares, Proposed, accepted, accepted_by, open_by, open_ballot, promised, promised_by, promisers, promises, promises_by, started, voters, voters_by}
+use Rattle.paxos_core.specs.Readings.{Proposed, accepted, accepted_by, open_by, open_ballot, promised, promised_by, promises, promises_by, started, voters, voters_by}
 use Rattle.paxos_core.specs.Rules.{round_of}
-use Rattle.paxos_core.specs.Tallying.{CountsIn, CountsPromises, CountsVotes, NothingOf, Tallying}
+use Rattle.paxos_core.specs.Tallying.{CountsIn, Tallying}
 use Rattle.paxos_core.specs.Tallying.{Leaves as LeavesTally, PassesBy as PassesTally, StandsFor as StandsTally, Unread as UnreadTally}
 use Rattle.paxos_core.specs.declared.proposer.Phase.{Phase}
 use Rattle.paxos_core.specs.declared.proposer.Phase.TheVariants.{Gathering, Idle, Preparing}

@@ -1,7 +1,7 @@
 -- What an acceptor keeps of a chronicle.
-use Rattle.std.specs.Prelude.{ℕ, Option, Some, None, ◌≡◌, ◌≢◌}
+use Rattle.std.specs.Prelude.{ℕ, Option, ◌≡◌, ◌≢◌}
 use Rattle.topology.specs.declared.ballots.Ballot.{Ballot}
-use Rattle.paxos_core.specs.Facts.{Pair, Message, Prepare, Promise, Accept, Accepted, Decision, Fact, Start, Mail, Heard, Crash, Other, Chronicle}
+use Rattle.paxos_core.specs.Facts.{Pair, Message, Prepare, Accept, Fact, Heard, Chronicle}
 use Rattle.paxos_core.specs.Readings.{promised, accepted}
 
 -- the promised ballot, and the accepted pair
@@ -14,7 +14,7 @@ pub record StandsFor {V : Type 0} (kept : Accepting V) (past : Chronicle V) (u :
   pub promised : kept.promised ≡ promised past u
   pub accepted : kept.accepted ≡ accepted past u
 
--- w is another node, where an acceptor reads the message
+-- w heard the message: it is none that an acceptor reads, or w is not u
 abbrev pub PassesBy : {V : Type 0} → ℕ → ℕ → Message V → Type 0
 PassesBy u w (Prepare b) = w ≢ u
 PassesBy u w (Accept b v) = w ≢ u

@@ -1,5 +1,5 @@
 -- What the calls of an acceptor answer.
-use Rattle.std.specs.Prelude.{ℕ, Option, Some, None, ◌∷◌, ◌≡◌, if◌then◌else◌}
+use Rattle.std.specs.Prelude.{ℕ, Option, Some, None, ◌∷◌, ◌≡◌}
 use Rattle.topology.specs.declared.ballots.Ballot.{Ballot}
 use Rattle.paxos_core.specs.declared.acceptor.Prepared.{Prepared}
 use Rattle.paxos_core.specs.declared.acceptor.Prepared.TheVariants.{Promise, Refused}

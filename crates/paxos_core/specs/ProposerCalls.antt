@@ -1,5 +1,5 @@
 -- What the calls of a proposer answer.
-use Rattle.std.specs.Prelude.{ℕ, suc, ◌+◌, max, Bool, true, false, not, Option, Some, None, List, [], ◌∷◌, ◌++◌, length, option_map, ◌≡◌, if◌then◌else◌}
+use Rattle.std.specs.Prelude.{ℕ, suc, Bool, true, false, not, Option, Some, None, List, [], ◌∷◌, ◌++◌, length, option_map, ◌≡◌, if◌then◌else◌}
 use Rattle.topology.specs.Lists.{Among, has}
 use Rattle.topology.specs.declared.ballots.Ballot.{Ballot}
 use Rattle.paxos_core.specs.declared.proposer.Phase.{Phase}

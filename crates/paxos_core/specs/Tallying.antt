@@ -1,10 +1,10 @@
 -- What a proposer keeps of a chronicle.
-use Rattle.std.specs.Prelude.{ℕ, Bool, true, false, ◌*◌, ◌<◌, nat_lt, Option, Some, None, List, [], ◌∷◌, length, ◌≡◌, ◌≢◌}
+use Rattle.std.specs.Prelude.{ℕ, Bool, false, ◌*◌, ◌<◌, nat_lt, Option, None, List, [], length, ◌≡◌, ◌≢◌}
 use Rattle.topology.specs.Lists.{Among}
 use Rattle.topology.specs.declared.ballots.Ballot.{Ballot}
 use Rattle.paxos_core.specs.declared.proposer.Phase.{Phase}
 use Rattle.paxos_core.specs.declared.proposer.Phase.TheVariants.{Idle, Preparing, Gathering}
-use Rattle.paxos_core.specs.Facts.{Pair, Message, Prepare, Promise, Accept, Accepted, Decision, Fact, Start, Mail, Heard, Crash, Other, Chronicle}
+use Rattle.paxos_core.specs.Facts.{Pair, Message, Promise, Accept, Accepted, Decision, Fact, Start, Mail, Heard, Crash, Other, Chronicle}
 use Rattle.paxos_core.specs.Readings.{started, open_ballot, Proposed, Prepares, Gathers, promises, promisers, voters}
 use Rattle.paxos_core.specs.Rules.{round_of, highest}
 
@@ -18,7 +18,7 @@ pub record Tallying (V : Type 0) : Type 0 where
   pub best : Option (Pair V)
   pub won : Bool
 
--- the same numbers as often, in whatever order
+-- as many numbers, and the same ones, in whatever order
 pub record SameMembers (xs ys : List ℕ) : Type 0 where
   pub length : length xs ≡ length ys
   pub into : (x : ℕ) → Among x xs → Among x ys
@@ -45,13 +45,14 @@ CountsIn Idle members kept past u = open_ballot past u ≡ None
 CountsIn (Preparing b) members kept past u = CountsPromises members kept past u b
 CountsIn (Gathering b) members kept past u = CountsVotes kept past u b
 
--- of a ballot of a later round than these there is nothing yet
+-- u counted nobody for b, and proposed nothing in it
 pub record NothingOf {V : Type 0} (past : Chronicle V) (u : ℕ) (b : Ballot) : Type 0 where
   pub promises : promises past u b ≡ []
   pub voters : voters past u b ≡ []
   pub proposed : (v : V) → Proposed past u b v → ⊥
 
--- it is the proposer of u after these facts, where there are so many members
+-- it is the proposer of u after these facts, where there are so many members. For later rounds than
+-- its last there is nothing yet
 pub record StandsFor {V : Type 0} (members : ℕ) (kept : Tallying V) (past : Chronicle V) (u : ℕ)
     : Type 0 where
   pub node : kept.node ≡ u
@@ -59,14 +60,14 @@ pub record StandsFor {V : Type 0} (members : ℕ) (kept : Tallying V) (past : Ch
   pub phase : CountsIn kept.phase members kept past u
   pub later : (b : Ballot) → kept.last_round < b.round → NothingOf past u b
 
--- w is another node, where a proposer reads the message that it heard
+-- w heard the message: it is none that a proposer reads, or w is not u
 abbrev pub PassesBy : {V : Type 0} → ℕ → ℕ → Message V → Type 0
 PassesBy u w (Promise b named) = w ≢ u
 PassesBy u w (Accepted b) = w ≢ u
 PassesBy u w (Decision v) = w ≢ u
 PassesBy u w other = Unit {0}
 
--- w is another node, where a proposer reads the message that it sent
+-- w sent the message: it is no Accept, or w is not u
 abbrev pub Leaves : {V : Type 0} → ℕ → ℕ → Message V → Type 0
 Leaves u w (Accept b v) = w ≢ u
 Leaves u w other = Unit {0}

@@ -1,10 +1,10 @@
-use Rattle.std.proofs.Common.{rules, ℕ, List, [], ◌∷◌, ◌≡◌, None, refl, inl, inr, arith}
+use Rattle.std.proofs.Common.{rules, ℕ, List, [], ◌∷◌, None, inl, inr, arith}
 use Rattle.topology.specs.Lists.{Among}
 use Rattle.topology.specs.declared.ballots.Ballot.{Ballot}
 use Rattle.paxos_core.specs.Facts.{Chronicle, Prepare, Promise, Accept, Heard, Message}
 use Rattle.paxos_core.specs.Readings.{Has}
 use Rattle.paxos_core.specs.Rules.{Obeys}
-use Rattle.paxos_core.specs.Chosen.{Chosen, Differ}
+use Rattle.paxos_core.specs.Chosen.{Differ}
 use Rattle.paxos_core.specs.Answers.{opened, received, refusal, answers}
 use Rattle.paxos_core.proofs.Following.{opened_obeys, received_obeys}
 use Rattle.paxos_core.proofs.laws.some_choice.Goals as goal

@@ -1,4 +1,3 @@
-use Rattle.std.proofs.Common.{refl}
 use Rattle.paxos_core.proofs.Tallies.{crash_stands, decided_stands}
 use Rattle.paxos_core.proofs.proposer.Proposer.forget.Goals as goal
 

@@ -1,4 +1,4 @@
-use Rattle.std.proofs.Common.{None, ◌≡◌, refl, sym, ap, ◌∙◌, true, false, length}
+use Rattle.std.proofs.Common.{None, ◌≡◌, sym, ap, ◌∙◌}
 use Rattle.paxos_core.specs.Tallying.{Tallying}
 use Rattle.paxos_core.proofs.Tallies.{vote_stale, vote_again, vote_counted, vote_majority}
 use Rattle.paxos_core.proofs.proposer.Proposer.on_accepted.Goals as goal

@@ -1,6 +1,4 @@
-use Rattle.std.proofs.Common.{◌≡◌, refl, sym, ap, ◌∙◌, true, false, length}
-use Rattle.topology.specs.Lists.{has}
-use Rattle.paxos_core.specs.ProposerCalls.{prepares}
+use Rattle.std.proofs.Common.{◌≡◌, refl, sym, ap, ◌∙◌}
 use Rattle.paxos_core.specs.Tallying.{Tallying}
 use Rattle.paxos_core.proofs.Tallies.{promise_stale, promise_again, promise_counted, promise_majority}
 use Rattle.paxos_core.proofs.proposer.Proposer.on_promise.Goals as goal

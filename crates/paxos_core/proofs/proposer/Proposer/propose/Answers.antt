@@ -1,5 +1,3 @@
-use Rattle.std.proofs.Common.{refl}
-use Rattle.paxos_core.specs.ProposerCalls.{gathered}
 use Rattle.paxos_core.proofs.Tallies.{propose_stands}
 use Rattle.paxos_core.proofs.proposer.Proposer.propose.Goals as goal
 

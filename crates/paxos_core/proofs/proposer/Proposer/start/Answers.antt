@@ -1,4 +1,4 @@
-use Rattle.std.proofs.Common.{◌≡◌, ◌≤◌, ◌<◌, ap, arith}
+use Rattle.std.proofs.Common.{◌≡◌, ◌≤◌, ap, arith}
 use Rattle.paxos_core.specs.Tallying.{Tallying}
 use Rattle.paxos_core.proofs.Tallies.{start_stands}
 use Rattle.paxos_core.proofs.proposer.Proposer.start.Goals.{then-self-floor, else-self-floor}
