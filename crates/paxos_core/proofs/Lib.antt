@@ -9,3 +9,4 @@ pub mod Posting
 pub mod Tallies
 pub mod Following
 pub mod Unread
+pub mod Standing

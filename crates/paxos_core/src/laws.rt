@@ -1,6 +1,6 @@
 //! What holds of every chronicle in which nodes follow the rules. A law takes nothing and does
 //! nothing; whoever calls it knows what it says from then on.
-ghost use Rattle.std.specs.Prelude.{ℕ, List, [], ◌∷◌, ◌≡◌, ◌≢◌, ◌↔◌, Some, None};
+ghost use Rattle.std.specs.Prelude.{ℕ, length, List, [], ◌∷◌, ◌≡◌, ◌≢◌, ◌↔◌, Some, None};
 ghost use Rattle.std.specs.List.{AllByRecursion};
 ghost use Rattle.topology.specs.declared.ballots.Ballot.{Ballot};
 ghost use Rattle.paxos_core.specs.Facts.{Chronicle, Fact, Message, Heard, Mail, Decision, Accept};
@@ -65,6 +65,14 @@ pub fn proposer_unread<V>()
     ensures sent { (n : ℕ) (kept : Tallying V) (past : Chronicle V) (u w : ℕ)
         (ms : List (ℕ × Message V)) → AllByRecursion (λ m. Leaves u w m.1) ms →
         StandsTally n kept past u → StandsTally n kept (posted w ms past) u }
+{}
+
+/// For each chronicle that obeys the rules there are an acceptor and a proposer of each node that
+/// stand for it, so what the calls say of such chronicles is not said of none.
+pub fn each_is_stood_for<V>()
+    ensures acceptor { (past : Chronicle V) (u : ℕ) → (kept : Accepting V) × StandsFor kept past u }
+    ensures proposer { (members : List ℕ) (past : Chronicle V) (u : ℕ) → Obeys members past →
+        (kept : Tallying V) × StandsTally (length members) kept past u }
 {}
 
 /// Once a node sent an Accept to someone, its value is the proposed one.
