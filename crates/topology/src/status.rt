@@ -1,4 +1,5 @@
 //! How runs and single events end.
+ghost use Rattle.std.specs.Prelude.{◌≡◌};
 
 /// Why an event did nothing.
 #[derive(Clone, Copy, Debug, PartialEq, Eq)]
@@ -42,4 +43,23 @@ pub enum Status {
     ReadFault,
     /// The sink failed.
     WriteFault,
+}
+
+impl Status {
+    ghost use Rattle.topology.specs.Codes.{code_of};
+
+    /// The code with which the program ends.
+    pub fn code(&self) -> u8
+        ensures { result ≡ code_of self.now }
+    {
+        match self {
+            Status::Done => 0,
+            Status::Usage => 2,
+            Status::NoMemory => 3,
+            Status::BadSchedule(_, _) => 4,
+            Status::Limit(_, _) => 5,
+            Status::ReadFault => 6,
+            Status::WriteFault => 7,
+        }
+    }
 }

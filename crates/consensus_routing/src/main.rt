@@ -1,0 +1,46 @@
+//! Replays schedules of a network whose routers agree on stable tables.
+#![tactic(auto)]
+
+mod directives;
+mod parse;
+mod reading;
+mod replay;
+mod run;
+#[cfg(test)]
+mod tests;
+mod text;
+mod words;
+
+use route_io::{StdSink, StdSource};
+use std::env;
+use std::io;
+use std::process::ExitCode;
+use topology::Status;
+
+// The words after the program's name. Words that are no text are those of no form.
+fn words_of(rt: &HostRuntime) -> Result<Vec<String>, Status> {
+    let arguments = match env::args(rt) {
+        Ok(arguments) => arguments,
+        Err(error) if error.kind() == io::ErrorKind::OutOfMemory => return Err(Status::NoMemory),
+        Err(_) => return Err(Status::Usage),
+    };
+    let mut words = Vec::new(rt.alloc());
+    for word in arguments.skip(1) {
+        if words.push(word).is_err() {
+            return Err(Status::NoMemory);
+        }
+    }
+    Ok(words)
+}
+
+fn main(rt: HostRuntime) -> ExitCode {
+    let status = match words_of(&rt) {
+        Err(status) => status,
+        Ok(words) => {
+            let mut source = StdSource::new(rt.stdin());
+            let mut sink = StdSink::new(rt.stdout());
+            run::run(rt.alloc(), &words, &mut source, &mut sink)
+        }
+    };
+    ExitCode::from(status.code())
+}

@@ -1,0 +1,101 @@
+//! A source and a sink in memory with no call that is listed to fail.
+ghost use Rattle.std.specs.Prelude.{◌≡◌, ◌<◌, ◌↔◌, min, length, [], Some, IfOk, IsOk, IsErr, is_err};
+ghost use Rattle.std.specs.Io.{ReadsAtMost};
+ghost use Rattle.std.specs.Io.KnownBytes.{ReadConsumes, WriteAppends};
+ghost use Rattle.route_io.specs.Causes.{HasCause, counted};
+ghost use Rattle.route_io.specs.Shelf.{FindsNoRoom, free};
+
+use crate::content::Content;
+use crate::outside::{Failed, Sink, Source};
+use crate::room::Room;
+
+/// Bytes in memory. No read fails, and no call takes memory.
+#[derive(Drop)]
+pub struct PlainSource {
+    content: Content,
+}
+
+impl PlainSource {
+    /// All of `content` is to come.
+    pub fn new(content: Vec<u8>) -> PlainSource
+        ensures { ⟦<PlainSource as Source>⟧.left result ≡ Some content.items }
+    {
+        PlainSource {
+            content: Content::new(content),
+        }
+    }
+}
+
+impl Source for PlainSource {
+    ghost left = { λ s. Some s.content };
+
+    ghost faults = { λ _. 0 };
+
+    fn read(&mut self, buf: &mut [u8]) -> Result<usize, Failed>
+        ensures bound { ReadsAtMost result buf.new }
+        ensures bytes { ReadConsumes (Some self.old.content) (Some self.new.content)
+            result buf.new }
+        ensures never_fails { IsOk result }
+        ensures fills { IfOk result (λ n. n ≡ min (length buf.old) (length self.old.content)) }
+    {
+        Ok(self.content.give(buf))
+    }
+}
+
+/// Room in memory. A write fails exactly where it finds nothing free. No call takes memory.
+#[derive(Drop)]
+pub struct PlainSink {
+    room: Room,
+    faults: u64,
+    ghost full: { 0 < faults → free room ≡ 0 },
+}
+
+impl PlainSink {
+    /// Nothing is held, and as many bytes can be taken as `room` is long.
+    pub fn new(room: Vec<u8>) -> PlainSink
+        ensures held { ⟦<PlainSink as Sink>⟧.held result ≡ Some [] }
+        ensures room { ⟦<PlainSink as Sink>⟧.room result ≡ Some (length room.items) }
+        ensures faults { ⟦<PlainSink as Sink>⟧.faults result ≡ 0 }
+    {
+        PlainSink {
+            room: Room::new(room),
+            faults: 0,
+        }
+    }
+
+    /// The bytes that were taken.
+    pub fn held(&self) -> &[u8]
+        ensures { ⟦<PlainSink as Sink>⟧.held self.now ≡ Some result.now }
+    {
+        self.room.held()
+    }
+}
+
+impl Sink for PlainSink {
+    ghost held = { λ s. Some s.room.held };
+
+    ghost room = { λ s. Some s.room.size };
+
+    ghost faults = { λ s. s.faults };
+
+    fn write(&mut self, piece: &[u8]) -> Result<usize, Failed>
+        ensures some { 0 < length piece.now → IfOk result (λ n. 0 < n) }
+        ensures bytes { WriteAppends (Some self.old.room.held) (Some self.new.room.held)
+            result piece.now }
+        ensures same_room { Some self.new.room.size ≡ Some self.old.room.size }
+        ensures cause { HasCause self.old.faults self.new.faults result }
+        ensures fails { IsErr result ↔ FindsNoRoom self.old.room piece.now }
+        ensures takes { IfOk result (λ n. n ≡ min (length piece.now) (free self.old.room)) }
+        ensures counted { self.new.faults ≡ counted (is_err result) self.old.faults }
+    {
+        let taken = self.room.take(piece);
+        if taken == 0 && !piece.is_empty() {
+            self.faults = self.faults.saturating_add(1);
+            return Err(Failed);
+        }
+        Ok(taken)
+    }
+}
+
+#[cfg(test)]
+mod tests;

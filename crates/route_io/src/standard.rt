@@ -1,0 +1,202 @@
+//! The trusted edge: a source and a sink over what `std::io` reads and writes.
+//!
+//! What the system gives and takes is told by no contract, so neither tells any content.
+ghost use Rattle.std.specs.Prelude.{◌≡◌, ◌<◌, ◌≤◌, length, take, None, IfOk, IfSome, is_err};
+ghost use Rattle.std.specs.Io.{ReadsAtMost};
+ghost use Rattle.std.specs.Io.KnownBytes.{ReadConsumes, Appends};
+ghost use Rattle.route_io.specs.Causes.{HasCause, counted};
+
+use crate::outside::{Failed, Sink, Source};
+use std::io::{Read, Write};
+
+/// A reader as a source. Each error that the reader answers is counted.
+#[derive(Drop)]
+pub struct StdSource<R> {
+    reader: R,
+    faults: u64,
+}
+
+impl<R: Read> StdSource<R> {
+    /// No call was made yet.
+    pub fn new(reader: R) -> StdSource<R>
+        ensures reader { result.reader ≡ reader }
+        ensures faults { result.faults ≡ 0 }
+    {
+        StdSource { reader, faults: 0 }
+    }
+}
+
+impl<R: Read> Source for StdSource<R> {
+    ghost left = { λ _. None };
+
+    ghost faults = { λ s. s.faults };
+
+    fn read(&mut self, buf: &mut [u8]) -> Result<usize, Failed>
+        ensures bound { ReadsAtMost result buf.new }
+        ensures cause { HasCause self.old.faults self.new.faults result }
+        ensures counted { self.new.faults ≡ counted (is_err result) self.old.faults }
+        // Where the reader tells what it gives, this is what it gave.
+        ensures gave { ReadConsumes (R.remaining self.old.reader) (R.remaining self.new.reader)
+            result buf.new }
+    {
+        let Ok(count) = self.reader.read(buf) else {
+            self.faults = self.faults.saturating_add(1);
+            return Err(Failed);
+        };
+        Ok(count)
+    }
+}
+
+/// A writer as a sink. It is flushed after each write. Each error that the writer answers is
+/// counted, and so is a write that takes nothing of a piece.
+#[derive(Drop)]
+pub struct StdSink<W> {
+    writer: W,
+    faults: u64,
+}
+
+impl<W: Write> StdSink<W> {
+    /// No call was made yet.
+    pub fn new(writer: W) -> StdSink<W>
+        ensures writer { result.writer ≡ writer }
+        ensures faults { result.faults ≡ 0 }
+    {
+        StdSink { writer, faults: 0 }
+    }
+}
+
+impl<W: Write> Sink for StdSink<W> {
+    ghost held = { λ _. None };
+
+    ghost room = { λ _. None };
+
+    ghost faults = { λ s. s.faults };
+
+    fn write(&mut self, piece: &[u8]) -> Result<usize, Failed>
+        ensures bound { IfOk result (λ n. n ≤ length piece.now) }
+        ensures some { 0 < length piece.now → IfOk result (λ n. 0 < n) }
+        ensures cause { HasCause self.old.faults self.new.faults result }
+        ensures counted { self.new.faults ≡ counted (is_err result) self.old.faults }
+        // Where the writer tells what it holds, this is what it took.
+        ensures took { IfOk result (λ n.
+            Appends (W.contents self.old.writer) (W.contents self.new.writer) (take n piece.now)) }
+    {
+        match write_through(&mut self.writer, piece) {
+            Some(count) => Ok(count),
+            None => {
+                self.faults = self.faults.saturating_add(1);
+                Err(Failed)
+            }
+        }
+    }
+}
+
+// Writes and flushes. None is an error, or a write that took nothing of a piece.
+fn write_through<W: Write>(writer: &mut W, piece: &[u8]) -> Option<usize>
+    ensures bound { IfSome result (λ n. n ≤ length piece.now) }
+    ensures some { 0 < length piece.now → IfSome result (λ n. 0 < n) }
+    ensures took { IfSome result (λ n.
+        Appends (W.contents writer.old) (W.contents writer.new) (take n piece.now)) }
+{
+    let count = writer.write(piece).ok()?;
+    if count == 0 && !piece.is_empty() {
+        return None;
+    }
+    writer.flush().ok()?;
+    Some(count)
+}
+
+#[cfg(test)]
+mod tests {
+    use super::{StdSink, StdSource};
+    use crate::outside::{Failed, ReadEnd, read_all, write_all};
+    use std::io;
+    use std::io::{Read, Write};
+    use std::test::Fail;
+
+    // Gives a text byte by byte, and fails once before the byte at `cut`.
+    #[derive(Drop)]
+    struct Flaky<'a> {
+        text: &'a [u8],
+        place: usize,
+        cut: Option<usize>,
+    }
+
+    impl<'a> Read for Flaky<'a> {
+        fn read(&mut self, buf: &mut [u8]) -> io::Result<usize> {
+            if self.cut == Some(self.place) {
+                self.cut = None;
+                return Err(io::Error::from(io::ErrorKind::BrokenPipe));
+            }
+            match (self.text.get(self.place), buf.first_mut()) {
+                (Some(byte), Some(front)) => {
+                    *front = *byte;
+                    self.place = self.place.saturating_add(1);
+                    Ok(1)
+                }
+                _ => Ok(0),
+            }
+        }
+    }
+
+    #[test]
+    fn reads_through(rt: HostRuntime) -> Result<(), Fail> {
+        let mut source = StdSource::new(Flaky {
+            text: b"routes",
+            place: 0,
+            cut: Some(4),
+        });
+        let cut = read_all(rt.alloc(), &mut source, 10);
+        assert!(rt; matches!(cut, Err(ReadEnd::Fault)));
+        assert_eq!(rt; source.faults, 1);
+        let rest = read_all(rt.alloc(), &mut source, 10)?;
+        assert_eq!(rt; rest.as_slice(), b"es".as_slice());
+        assert_eq!(rt; source.faults, 1);
+        Ok(())
+    }
+
+    // Its flushes fail, and so do its writes where it takes nothing.
+    #[derive(Drop)]
+    struct Broken {
+        takes: bool,
+    }
+
+    impl Write for Broken {
+        fn write(&mut self, buf: &[u8]) -> io::Result<usize> {
+            if self.takes {
+                Ok(buf.len())
+            } else {
+                Err(io::Error::from(io::ErrorKind::BrokenPipe))
+            }
+        }
+
+        fn flush(&mut self) -> io::Result<()> {
+            Err(io::Error::from(io::ErrorKind::BrokenPipe))
+        }
+    }
+
+    #[test]
+    fn writes_through(rt: HostRuntime) -> Result<(), Fail> {
+        let mut room = [0u8; 4];
+        let mut sink = StdSink::new(room.as_mut_slice());
+        assert_eq!(rt; write_all(&mut sink, b"abc"), Ok(()));
+        assert_eq!(rt; sink.faults, 0);
+        assert_eq!(rt;
+            write_all(&mut sink, b"de"),
+            Err(Failed),
+            "a write that takes nothing"
+        );
+        assert_eq!(rt; sink.faults, 1);
+        assert_eq!(rt; room.as_slice(), b"abcd".as_slice());
+        for takes in [true, false] {
+            let mut sink = StdSink::new(Broken { takes });
+            assert_eq!(rt;
+                write_all(&mut sink, b"abc"),
+                Err(Failed),
+                "a write took: {takes}"
+            );
+            assert_eq!(rt; sink.faults, 1);
+        }
+        Ok(())
+    }
+}

@@ -1,0 +1,27 @@
+-- What the facts of a run show to a user.
+use Rattle.std.specs.Prelude.{ℕ, suc, Bool, ◌≡◌, List, [], ◌∷◌, ◌++◌, length, if◌then◌else◌}
+use Rattle.chronicle.specs.Facts.{Fact, Chronicle, Log, Sent, Took}
+use Rattle.chronicle.specs.Logs.{log_of}
+use Rattle.chronicle.specs.Run.{Step, Idle, Goes}
+use Rattle.world_core.specs.declared.outcomes.Effect.{Effect}
+use Rattle.world_core.specs.declared.outcomes.Effect.TheVariants.{Logged, Queued}
+use Rattle.world_core.specs.declared.outcomes.Outcome.{Outcome}
+use Rattle.world_core.specs.declared.outcomes.Outcome.TheVariants as outcome
+
+-- an entry shows its place in the log, counted from 1; an item that is queued shows its channel
+abbrev pub effect_by : Fact → Chronicle → List Effect
+effect_by (Log u entry) past = Logged u (suc (length (log_of u past))) ∷ []
+effect_by (Sent from to session item queued) past = if queued then Queued from to ∷ [] else []
+effect_by (Took from to session item) past = []
+
+-- all effects of a run, the oldest first
+abbrev pub effects : Chronicle → List Effect
+effects [] = []
+effects (f ∷ past) = effects past ++ effect_by f past
+
+-- the outcome is the reason for which nothing was done, or the list of the effects that are new
+abbrev pub Tells : Chronicle → Step → Outcome → Type 0
+Tells past (Idle reason) (outcome.Idle told) = told ≡ reason
+Tells past (Idle reason) (outcome.Did list) = ⊥
+Tells past (Goes now) (outcome.Idle told) = ⊥
+Tells past (Goes now) (outcome.Did list) = effects past ++ list ≡ effects now

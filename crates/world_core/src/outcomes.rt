@@ -1,0 +1,64 @@
+//! What an event comes to.
+ghost use Rattle.std.specs.Prelude.{◌≡◌};
+
+use std::marker::Model;
+use topology::{NoMemory, NodeId, Reason};
+
+/// Something that an event did.
+#[derive(Clone, Copy, Debug, PartialEq, Eq)]
+pub enum Effect {
+    /// The node accepted an entry: its log has this many entries now.
+    Logged { node: NodeId, index: u32 },
+    /// A message was sent, and is on its way.
+    Queued { from: NodeId, to: NodeId },
+}
+
+/// What an event did, in the order in which it did it.
+#[derive(Debug, Drop)]
+pub struct Effects {
+    list: Vec<Effect>,
+}
+
+impl Model for Effects {
+    ghost use Rattle.std.specs.Prelude.{List};
+    ghost use Rattle.world_core.specs.declared.outcomes.Effect.{Effect};
+
+    ghost Value = { List Effect };
+
+    ghost view = { λ e. e.list.items };
+}
+
+impl Effects {
+    /// The list of these effects. Takes no memory.
+    pub fn new(list: Vec<Effect>) -> Effects
+        ensures { result ≡ list.items }
+    {
+        Effects { list }
+    }
+
+    pub fn as_slice(&self) -> &[Effect]
+        ensures { result.now ≡ self.now }
+    {
+        &self.list
+    }
+}
+
+/// What an event came to.
+#[derive(Debug, Drop)]
+pub enum Outcome {
+    Did(Effects),
+    /// Nothing was done, for this reason.
+    Idle(Reason),
+}
+
+/// Why a step was not made.
+#[derive(Clone, Copy, Debug, PartialEq, Eq)]
+pub enum Stop {
+    NoMemory,
+}
+
+impl From<NoMemory> for Stop {
+    fn from(_: NoMemory) -> Stop {
+        Stop::NoMemory
+    }
+}
