@@ -1,7 +1,10 @@
 pub mod Cutting
 pub mod Spelling
+pub mod Reading
 pub mod Grammar
-pub mod Text
+pub mod Standing
 pub mod Ends
-pub mod Running
+pub mod Text
 pub mod Headline
+pub mod Plain
+pub mod Running

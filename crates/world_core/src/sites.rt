@@ -3,7 +3,7 @@ ghost use Rattle.std.specs.Prelude.{◌≡◌, ◌<◌, ℕ, [], IfOk, OnOk, len
 ghost use Rattle.topology.specs.Net.{Net, neighbours};
 ghost use Rattle.topology.specs.declared.names.Scope.TheVariants.{One};
 ghost use Rattle.path_vector.specs.History.{History, change};
-ghost use Rattle.path_vector.specs.Selection.{Route};
+ghost use Rattle.path_vector.specs.Selection.{Route, best};
 ghost use Rattle.path_vector.specs.Standing.{StandsFor};
 ghost use Rattle.path_vector.specs.Answers.{Copies};
 ghost use Rattle.chronicle.specs.Facts.{Chronicle};
@@ -34,10 +34,12 @@ pub struct Site<P: Policy + Copy> {
     pub outgoing: Vec<Channel>,
 }
 
-// Tells each neighbour whose offer is another than before.
+// Tells each neighbour whose offer is another than before. The best route is looked up once for
+// all of them.
 fn tell_all<P: Policy + Copy>(
     routes: &RouteState<P>,
     before: &Chosen,
+    after: &Chosen,
     node: NodeId,
     near: &[NodeId],
     prefix: PrefixId,
@@ -47,14 +49,14 @@ fn tell_all<P: Policy + Copy>(
     requires width { length outgoing.old.items ≡ length near.now }
     ensures { OnOk result ((policy : P) (net : Net) (h : History) (route : Route) →
         StandsFor policy net node routes.now h → Copies net node before.now route →
-        prefix < length net.prefixes → near.now ≡ neighbours net node →
+        Copies net node after.now (best (P.rules policy) net node h prefix) → near.now ≡ neighbours net node →
         Spreads node (update_to (P.rules policy) net node h prefix route) near.now (length near.now)
         outgoing.old.items outgoing.new.items effects.old.items effects.new.items) }
 {
     for i in 0..near.len() {
         let to = near[i];
         let known = routes.offered_path(before, to);
-        let offered = routes.offer_path(prefix, to);
+        let offered = routes.offered_path(after, to);
         tell(&mut outgoing[i], effects, node, to, prefix, known, offered)?;
     }
     Ok(())
@@ -114,9 +116,11 @@ impl<P: Policy + Copy> Site<P> {
             node,
             index: entries,
         })?;
+        let after = self.routes.chosen(prefix)?;
         tell_all(
             &self.routes,
             &before,
+            &after,
             node,
             near,
             prefix,

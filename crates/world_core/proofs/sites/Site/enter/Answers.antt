@@ -20,7 +20,7 @@ returns-clause-site g c policy net past was route below near =
     let h = log_of node past in
     let stands = c.in_ok-apply.ensures.ok policy net node h was.routes (accepted h p cause route) in
     let spreads = c.in_ok-tell_all.ensures policy net (change (One p) cause ∷ h) (best rules net node h p) stands
-    (c.in_ok-before.ensures policy net node h was.routes below) below near in
+    (c.in_ok-before.ensures policy net node h was.routes below) (c.in_ok-after.ensures policy net node (change (One p) cause ∷ h) stands below) near in
     entered rules net past node p cause policy c.args.self.now (record { routes = c.apply.new.self; entries = c.in-Some.entries; outgoing = c.tell_all.new.outgoing })
     was route below stands c.in-Some.ensures.1 (rw near at spreads.channels)
 
@@ -33,7 +33,7 @@ returns-clause-effects g c policy net past first was route below near since =
     let h = log_of node past in
     let stands = c.in_ok-apply.ensures.ok policy net node h was.routes (accepted h p cause route) in
     let spreads = c.in_ok-tell_all.ensures policy net (change (One p) cause ∷ h) (best rules net node h p) stands
-    (c.in_ok-before.ensures policy net node h was.routes below) below near in
+    (c.in_ok-before.ensures policy net node h was.routes below) (c.in_ok-after.ensures policy net node (change (One p) cause ∷ h) stands below) near in
     let sent = flat_map (λ w. queued node w (update_to rules net node (change (One p) cause ∷ h) p (best rules net node h p) w)) in
     since_write rules net past node p cause (route, was.plain) below first c.args.effects.now.items c.tell_all.new.effects.items c.in-Some.entries
     (c.in-Some.ensures.1 ∙ (add-one c.args.self.now.entries ∙ ap suc was.entries))
