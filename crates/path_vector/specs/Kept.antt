@@ -1,5 +1,5 @@
 -- What a node keeps of its neighbours, as a list, and what an entry changes in it.
-use Rattle.std.specs.Prelude.{ℕ, Bool, true, false, ◌==◌, max, length, slice_set, ◌≡◌, ◌<◌, Option, Some, None, List, [], ◌∷◌, map, fold, slice_get, option_map, option_and_then, if◌then◌else◌}
+use Rattle.std.specs.Prelude.{IfSome, ℕ, Bool, true, false, ◌==◌, max, length, slice_set, ◌≡◌, ◌<◌, Option, Some, None, List, [], ◌∷◌, map, fold, slice_get, option_map, option_and_then, if◌then◌else◌}
 use Rattle.std.specs.List.{AllByRecursion}
 use Rattle.topology.specs.Lists.{has}
 use Rattle.topology.specs.Net.{Net, IsValid, neighbours}
@@ -21,6 +21,10 @@ names (Down v s) = Some v
 names (Up v s) = Some v
 names (Ready v s) = Some v
 names (Prefer v x) = Some v
+
+-- the neighbour that an entry is about, if any, is one of u
+abbrev pub IsOfNeighbour : Net → ℕ → Cause → Type 0
+IsOfNeighbour net u cause = IfSome (names cause) (λ v. has (neighbours net u) v ≡ true)
 
 -- u before the path of an update: none for a withdrawal, and where u is on the path
 abbrev pub led_by : ℕ → Cause → Option (List ℕ)

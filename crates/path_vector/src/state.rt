@@ -1,11 +1,12 @@
 //! The routing state of one node.
-ghost use Rattle.std.specs.Prelude.{◌≡◌, ◌<◌, ◌≤◌, ℕ, [], ◌∷◌, Some, true, IfOk, OnOk, OnErr, length, slice_get, option_map};
+ghost use Rattle.std.specs.Prelude.{◌≡◌, ◌↔◌, ◌<◌, ◌≤◌, ℕ, [], ◌∷◌, Some, true, IsTrue, IfOk, OnOk, OnErr, length, slice_get, option_map};
 ghost use Rattle.topology.specs.Lists.{has};
 ghost use Rattle.topology.specs.Net.{Net, neighbours, relation};
-ghost use Rattle.path_vector.specs.History.{History, change, Accepts, owns};
+ghost use Rattle.path_vector.specs.History.{History, HasScope, Accepts, change, owns};
 ghost use Rattle.path_vector.specs.Selection.{Route, candidate, best, choices, path_of};
 ghost use Rattle.path_vector.specs.Offers.{offered_route, exported, may_tell};
 ghost use Rattle.path_vector.specs.Standing.{StandsFor};
+ghost use Rattle.path_vector.specs.Kept.{IsOfNeighbour};
 ghost use Rattle.path_vector.specs.Taken.{Takes, IsTaken};
 ghost use Rattle.path_vector.specs.Answers.{Shows, GoesFirst, Copies, behind};
 
@@ -79,6 +80,24 @@ impl<P: Policy + Copy> RouteState<P> {
             StandsFor policy net u self.now h → result ≡ policy }
     {
         self.policy
+    }
+
+    /// Whether an entry may follow the entries so far: it has the scope of its cause, and opens
+    /// no session that was named before. An opening of no neighbour may not.
+    pub fn accepts(&self, scope: Scope, cause: &Cause) -> bool
+        ensures { (policy : P) (net : Net) (u : ℕ) (past : History) → StandsFor policy net u self.now past →
+            IsOfNeighbour net u cause.now → IsTrue result ↔ Accepts past scope cause.now }
+    {
+        if !has_scope(scope, cause) {
+            return false;
+        }
+        match cause {
+            Cause::Up { nbr, session } => match neighbours::find(&self.neighbours, *nbr) {
+                None => false,
+                Some(neighbour) => neighbour.highest < *session,
+            },
+            _ => true,
+        }
     }
 
     /// Takes one more entry of the log. An entry that does not fit the entries before it leaves
@@ -254,6 +273,22 @@ fn shown<'a>(via: Option<NodeId>, path: &'a Path) -> Best<'a>
     match via {
         None => Best::Own,
         Some(nbr) => Best::Via(nbr, &path.nodes()[1..]),
+    }
+}
+
+// Whether an entry has the scope of its cause.
+fn has_scope(scope: Scope, cause: &Cause) -> bool
+    ensures { IsTrue result ↔ HasScope scope cause.now }
+{
+    let one = match cause {
+        Cause::Originate => true,
+        Cause::Withdraw => true,
+        Cause::Recv { .. } => true,
+        _ => false,
+    };
+    match scope {
+        Scope::One(_) => one,
+        Scope::All => !one,
     }
 }
 
