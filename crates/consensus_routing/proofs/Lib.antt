@@ -1,0 +1,4 @@
+pub mod Steps
+pub mod Fitting
+pub mod Unique
+pub mod Ending

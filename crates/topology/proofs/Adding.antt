@@ -1,23 +1,25 @@
 -- What is added keeps a topology sound.
-use Rattle.std.proofs.Common.{◌≡◌, ◌≢◌, ℕ, suc, zero, ◌+◌, ◌<◌, ◌≤◌, ◌^◌, Bool, true, false, not, cond, ◌&&◌, ◌||◌, ◌==◌, List, [], ◌∷◌, ◌++◌, length, count_by, sum_by, map, set, get_or, slice_get, Option, Some, None, refl, sym, ap, ◌∙◌, arith, IsTrue, if◌then◌else◌, nat_lt, nat_le, true≢false, ◌⊎◌, inl, inr}
+use Rattle.std.proofs.Common.{◌≡◌, ◌≢◌, ℕ, suc, zero, ◌+◌, ◌<◌, ◌≤◌, ◌^◌, Bool, true, false, not, cond, ◌&&◌, ◌||◌, ◌==◌, List, [], ◌∷◌, ◌++◌, length, count_by, sum_by, map, set, get_or, slice_get, Option, Some, None, refl, sym, ap, subst, find, ◌∙◌, arith, IsTrue, if◌then◌else◌, nat_lt, nat_le, true≢false, ◌⊎◌, inl, inr}
 use Rattle.std.specs.List.{list_any, AllByRecursion}
 use Rattle.std.proofs.lemmas.Bool.Decides.{nat_tests}
 use Rattle.std.proofs.lemmas.List.{length_push, map_push}
+use Rattle.std.proofs.lemmas.Option.{same_Some}
 use Rattle.std.proofs.lemmas.List.Sums.{sum_by-cons, sum_by_push}
 use Rattle.std.proofs.lemmas.List.Folds.{list_any-append}
 use Rattle.topology.specs.Lists.{has, put_ascending}
 use Rattle.topology.specs.Paths.{differ}
-use Rattle.topology.specs.Net.{Net, joins, linked, neighbours, same_prefix, has_prefix, JoinsNodes, IsValid}
-use Rattle.topology.specs.Building.{nothing, with_node, with_link, with_prefix, node_refusal, link_refusal}
+use Rattle.topology.specs.Net.{Net, PrefersLinked, joins, linked, prefers, neighbours, same_prefix, has_prefix, JoinsNodes, IsValid}
+use Rattle.topology.specs.Building.{nothing, with_node, with_link, with_pref, with_prefix, put_preference, node_refusal, link_refusal, pref_refusal}
 use Rattle.topology.specs.Tables.{Keeps}
-use Rattle.topology.specs.declared.building.BuildError.TheVariants.{DuplicateNode, UnknownNode, DuplicateLink, SelfLink, TooMany}
+use Rattle.topology.specs.declared.building.BuildError.TheVariants.{DuplicateNode, UnknownNode, DuplicateLink, SelfLink, TooMany, NoLink}
 use Rattle.topology.specs.declared.links.Link.{Link}
+use Rattle.topology.specs.declared.links.Pref.{Pref}
 use Rattle.topology.specs.declared.prefixes.Prefix.{Prefix}
 use Rattle.topology.proofs.Tests.{and_left, and_right, and_both, or_left, or_right, or_none, or_first, or_second, or_false, or_comm, not_true, not_false, same_sym, same_is, same_not, same_refl}
 use Rattle.topology.proofs.Ascending.{absent, each_weaker}
 use Rattle.topology.proofs.Sets.{differ-append, has-append}
 use Rattle.topology.proofs.Places.{has_placed, set_two}
-use Rattle.topology.proofs.Near.{neighbours-node, neighbours-none, neighbours-link, neighbours-link_to, neighbours-link_other, joins_sym}
+use Rattle.topology.proofs.Near.{linked-link, neighbours-node, neighbours-none, neighbours-link, neighbours-link_to, neighbours-link_other, joins_sym}
 
 each-append : {X : Type 0} (P : X → Type 0) (xs : List X) (x : X) → AllByRecursion P xs → P x → AllByRecursion P (xs ++ x ∷ [])
 each-append P [] x h p = (p, tt)
@@ -106,6 +108,8 @@ valid-node net id consolidator v fits new few few_consolidators = record {
   ];
   links_join = each_weaker _ _ (λ l j. record { apart = j.apart; from = has_more net.nodes id l.a j.from; to = has_more net.nodes id l.b j.to }) net.links v.links_join;
   one_link_a_pair = v.one_link_a_pair;
+  preferences_fit = each_weaker _ _ (λ p f. record { linked_with = f.linked_with; small = f.small }) net.preferences v.preferences_fit;
+  one_preference_each = v.one_preference_each;
   prefixes_differ = v.prefixes_differ;
   few_nodes = omega (arith, length_push net.nodes id);
   few_links = v.few_links;
@@ -129,9 +133,9 @@ keeps-node net lists id consolidator k some fits free =
     record {
       valid = valid-node net id consolidator k.valid (some, fits) may.0 may.1 may.2;
       near =
-        ap (λ l. l ++ [] ∷ []) (k.near ∙ sym (map_agree (neighbours more) (neighbours net) same net.nodes))
-        ∙ ap (λ l. map (neighbours more) net.nodes ++ l ∷ []) (sym (same id ∙ neighbours-none net id k.valid.links_join may.0))
-        ∙ sym (map_push (neighbours more) net.nodes id);
+          ap (λ l. l ++ [] ∷ []) (k.near ∙ sym (map_agree (neighbours more) (neighbours net) same net.nodes))
+          ∙ ap (λ l. map (neighbours more) net.nodes ++ l ∷ []) (sym (same id ∙ neighbours-none net id k.valid.links_join may.0))
+          ∙ sym (map_push (neighbours more) net.nodes id);
     }
 
 -- a link
@@ -157,6 +161,8 @@ valid-link net link v from to apart new few = record {
   consolidators_are_nodes = v.consolidators_are_nodes;
   links_join = each-append _ net.links link v.links_join (record { apart = apart; from = from; to = to });
   one_link_a_pair = λ x y. one_more (joins x y) (joins link.a link.b) net.links link new (λ e other. same_pair x y link other e) (v.one_link_a_pair x y);
+  preferences_fit = each_weaker _ _ (λ p f. record { linked_with = linked-link net link p.a p.b ∙ or_first (linked net p.a p.b) (joins p.a p.b link) f.linked_with; small = f.small }) net.preferences v.preferences_fit;
+  one_preference_each = v.one_preference_each;
   prefixes_differ = v.prefixes_differ;
   few_nodes = v.few_nodes;
   few_links = omega (arith, length_push net.links link);
@@ -174,9 +180,108 @@ keeps-link net lists link i j k at_a at_b free =
     record {
       valid = valid-link net link k.valid from to may.0 may.1 may.2;
       near =
-        rw (k.near, ← neighbours-link net link k.valid.nodes_differ may.0 to may.1, ← neighbours-link_to net link k.valid.nodes_differ may.0 from may.1)
+          rw (k.near, ← neighbours-link net link k.valid.nodes_differ may.0 to may.1, ← neighbours-link_to net link k.valid.nodes_differ may.0 from may.1)
           (set_two (neighbours net) (neighbours more) link.a link.b (λ u e f. sym (neighbours-link_other net link u e f)) net.nodes k.valid.nodes_differ i j at_a at_b);
     }
+
+-- a preference
+
+each-put_preference : (P : Pref → Type 0) (pref : Pref) (ps : List Pref) → P pref → AllByRecursion P ps → AllByRecursion P (put_preference pref ps)
+each-put_preference P pref [] h hs = (h, tt)
+each-put_preference P pref (p ∷ ps) h hs =
+    elim (prefers pref.a pref.b p) as (λ t. AllByRecursion P (if t then pref ∷ ps else p ∷ put_preference pref ps)) [
+      | true ↦ (h, hs.1)
+      | false ↦ (hs.0, each-put_preference P pref ps h hs.1)
+    ]
+
+-- two preferences of the same node for the same other pass the same tests
+same_test : (u v : ℕ) (pref p : Pref) → prefers pref.a pref.b p ≡ true → prefers u v p ≡ prefers u v pref
+same_test u v pref p e =
+    let from = same_is p.a pref.a (and_left (p.a == pref.a) (p.b == pref.b) e) in
+    let to = same_is p.b pref.b (and_right (p.a == pref.a) (p.b == pref.b) e) in
+    rw (from, to)
+
+count_put_other : (u v : ℕ) (pref : Pref) → prefers u v pref ≡ false → (ps : List Pref) → count_by (prefers u v) (put_preference pref ps) ≡ count_by (prefers u v) ps
+count_put_other u v pref other [] = rw (count_cons (prefers u v) pref [], other)
+count_put_other u v pref other (p ∷ ps) =
+    (elim (prefers pref.a pref.b p) as (λ t. prefers pref.a pref.b p ≡ t → count_by (prefers u v) (if t then pref ∷ ps else p ∷ put_preference pref ps) ≡ count_by (prefers u v) (p ∷ ps)) [
+      | true ↦ λ e. rw (count_cons (prefers u v) pref ps, count_cons (prefers u v) p ps, same_test u v pref p e)
+      | false ↦ λ e. rw (count_cons (prefers u v) p (put_preference pref ps), count_cons (prefers u v) p ps, count_put_other u v pref other ps)
+    ]) refl
+
+same_pref : (u v : ℕ) (pref p : Pref) → prefers u v pref ≡ true → prefers u v p ≡ prefers pref.a pref.b p
+same_pref u v pref p e =
+    let from = same_is pref.a u (and_left (pref.a == u) (pref.b == v) e) in
+    let to = same_is pref.b v (and_right (pref.a == u) (pref.b == v) e) in
+    rw (from, to)
+
+count_put_same : (u v : ℕ) (pref : Pref) → prefers u v pref ≡ true → (ps : List Pref) → count_by (prefers u v) ps ≤ 1 → count_by (prefers u v) (put_preference pref ps) ≤ 1
+count_put_same u v pref same [] few = rw (count_cons (prefers u v) pref [], same) (omega arith)
+count_put_same u v pref same (p ∷ ps) few =
+    let split = count_cons (prefers u v) p ps in
+    (elim (prefers pref.a pref.b p) as (λ t. prefers pref.a pref.b p ≡ t → count_by (prefers u v) (if t then pref ∷ ps else p ∷ put_preference pref ps) ≤ 1) [
+      | true ↦ λ e.
+          let as_before : count_by (prefers u v) (pref ∷ ps) ≡ count_by (prefers u v) (p ∷ ps) = rw (count_cons (prefers u v) pref ps, split, same_test u v pref p e) in
+          rw as_before few
+      | false ↦ λ e.
+          let here : prefers u v p ≡ false = same_pref u v pref p same ∙ e in
+          let all = rw (split, here) at few in
+          let rest : count_by (prefers u v) ps ≤ 1 = omega (arith, all) in
+          let later = count_put_same u v pref same ps rest in
+          rw (count_cons (prefers u v) p (put_preference pref ps), here) (omega (arith, later))
+    ]) refl
+
+count_put : (u v : ℕ) (pref : Pref) (ps : List Pref) → count_by (prefers u v) ps ≤ 1 → count_by (prefers u v) (put_preference pref ps) ≤ 1
+count_put u v pref ps few =
+    (elim (prefers u v pref) as (λ t. prefers u v pref ≡ t → count_by (prefers u v) (put_preference pref ps) ≤ 1) [
+      | true ↦ λ e. count_put_same u v pref e ps few
+      | false ↦ λ e. rw (count_put_other u v pref e ps) few
+    ]) refl
+
+none_of_four : {X : Type 0} (a b c d : Bool) (x y z v : X) → ◌≡◌ {A = Option X} (if a then Some x else if b then Some y else if c then Some z else if d then Some v else None) None → d ≡ false
+none_of_four true b c d x y z v e = cc
+none_of_four false b c d x y z v e = (none_of_three b c d y z v e).2
+
+may_add_pref : (net : Net) (a b : ℕ) → pref_refusal net a b ≡ None → linked net a b ≡ true
+may_add_pref net a b e =
+    let joined = none_of_four (not (has net.nodes a)) (not (has net.nodes b)) (a == b) (not (linked net a b)) (UnknownNode a) (UnknownNode b) SelfLink NoLink e in
+    not_not (linked net a b) joined
+  where
+    not_not : (t : Bool) → not t ≡ false → t ≡ true
+    not_not true e = refl
+    not_not false e = cc
+
+pub keeps-pref : (net : Net) (lists : List (List ℕ)) (pref : Pref) → Keeps net lists → pref.value ≤ 1000000 → pref_refusal net pref.a pref.b ≡ None → Keeps (with_pref net pref) lists
+unfolding neighbours
+keeps-pref net lists pref k small free = record {
+  valid = record {
+    nodes_differ = k.valid.nodes_differ;
+    numbers = k.valid.numbers;
+    consolidators_differ = k.valid.consolidators_differ;
+    consolidators_are_nodes = k.valid.consolidators_are_nodes;
+    links_join = k.valid.links_join;
+    one_link_a_pair = k.valid.one_link_a_pair;
+    preferences_fit =
+        each-put_preference _ pref net.preferences
+        (record { linked_with = may_add_pref net pref.a pref.b free; small = small })
+        (each_weaker _ _ (λ p f. record { linked_with = f.linked_with; small = f.small }) net.preferences k.valid.preferences_fit);
+    one_preference_each = λ u v. count_put u v pref net.preferences (k.valid.one_preference_each u v);
+    prefixes_differ = k.valid.prefixes_differ;
+    few_nodes = k.valid.few_nodes;
+    few_links = k.valid.few_links;
+    few_prefixes = k.valid.few_prefixes;
+    few_consolidators = k.valid.few_consolidators;
+  };
+  near = k.near;
+}
+
+pub each_found : {X : Type 0} (P : X → Type 0) (p : X → Bool) (xs : List X) → AllByRecursion P xs → (x : X) → find p xs ≡ Some x → P x
+each_found P p [] h x e = cc
+each_found P p (y ∷ ys) h x e =
+    (elim (p y) as (λ t. cond t (Some y) (find p ys) ≡ Some x → P x) [
+      | true ↦ λ same. subst P (same_Some y x same) h.0
+      | false ↦ λ later. each_found P p ys h.1 x later
+    ]) e
 
 -- a prefix
 
@@ -194,6 +299,8 @@ valid-prefix net p v new few = record {
   consolidators_are_nodes = v.consolidators_are_nodes;
   links_join = v.links_join;
   one_link_a_pair = v.one_link_a_pair;
+  preferences_fit = each_weaker _ _ (λ p f. record { linked_with = f.linked_with; small = f.small }) net.preferences v.preferences_fit;
+  one_preference_each = v.one_preference_each;
   prefixes_differ = λ q. one_more (same_prefix q) (same_prefix p) net.prefixes p new (λ e r. same_one p q r e) (v.prefixes_differ q);
   few_nodes = v.few_nodes;
   few_links = v.few_links;

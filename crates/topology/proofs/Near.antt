@@ -35,7 +35,7 @@ put_front : (n : ℕ) (xs : List ℕ) → AllByRecursion (λ y. n < y) xs → pu
 put_front n [] h = refl
 put_front n (x ∷ xs) h = let t : nat_lt n x ≡ true = (let up : n < x = h.0 in grind (arith, nat_tests)) in rw t
 
-each-filter : (P : ℕ → Type 0) (p : ℕ → Bool) (xs : List ℕ) → AllByRecursion P xs → AllByRecursion P (filter p xs)
+pub each-filter : (P : ℕ → Type 0) (p : ℕ → Bool) (xs : List ℕ) → AllByRecursion P xs → AllByRecursion P (filter p xs)
 each-filter P p [] h = tt
 each-filter P p (x ∷ xs) h =
     elim (p x) as (λ t. AllByRecursion P (cond t (x ∷ filter p xs) (filter p xs))) [
@@ -110,7 +110,7 @@ neighbours-none net id h new =
 
 -- a link makes its two ends neighbours
 
-linked-link : (net : Net) (link : Link) (u v : ℕ) → linked (with_link net link) u v ≡ (linked net u v || joins u v link)
+pub linked-link : (net : Net) (link : Link) (u v : ℕ) → linked (with_link net link) u v ≡ (linked net u v || joins u v link)
 linked-link net link u v = list_any-append (joins u v) net.links (link ∷ []) ∙ ap (λ b. linked net u v || b) (or_false (joins u v link))
 
 joins_first : (a b v : ℕ) (link : Link) → link.a ≡ a → link.b ≡ b → a ≢ b → joins a v link ≡ (v == b)
@@ -145,7 +145,7 @@ neighbours-link_other net link u e f =
 
 -- no node is its own neighbour, so that one node at least is no neighbour
 
-not_own : (nodes : List ℕ) (links : List Link) → AllByRecursion (JoinsNodes nodes) links → (u : ℕ) → list_any (joins u u) links ≡ false
+pub not_own : (nodes : List ℕ) (links : List Link) → AllByRecursion (JoinsNodes nodes) links → (u : ℕ) → list_any (joins u u) links ≡ false
 not_own nodes [] h u = refl
 not_own nodes (l ∷ ls) h u =
     let apart : l.a ≢ l.b = h.0.apart in

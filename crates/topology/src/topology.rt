@@ -1,11 +1,14 @@
 //! A network: its nodes, links and prefixes, in the order in which they were added.
-ghost use Rattle.std.specs.Prelude.{◌≡◌, ◌^◌, ◌<◌, ◌≤◌, ◌↔◌, false, None, Some, IfErr, IfOk, OnOk, OnErr, IfSome, IsNone, length, slice_get, option_map};
+ghost use Rattle.std.specs.Prelude.{◌≡◌, ◌^◌, ◌<◌, ◌≤◌, ◌↔◌, false, None, Some, IfErr, IfOk, OnOk, OnErr, IfSome, IsNone, find, length, slice_get, option_map};
 ghost use Rattle.topology.specs.Lists.{ascending, has, put_ascending};
-ghost use Rattle.topology.specs.Net.{neighbours, relation, file_preference, has_prefix, IsValid, IsPrefix};
-ghost use Rattle.topology.specs.Building.{nothing, with_node, with_link, with_prefix, node_refusal, link_refusal, prefix_refusal, AnswersBy};
+ghost use Rattle.topology.specs.Net.{neighbours, relation, file_preference, prefers, has_prefix, IsValid, IsPrefix};
+ghost use Rattle.topology.specs.Building.{nothing, with_node, with_link, with_pref, with_prefix, node_refusal, link_refusal, pref_refusal, prefix_refusal, AnswersBy};
 
 use crate::node_set::insert_ascending;
-use crate::{BuildError, Link, LinkTable, NoMemory, NodeId, NodeSet, Prefix, PrefixId, Relation};
+use crate::{
+    BuildError, Link, LinkTable, NoMemory, NodeId, NodeSet, Pref, PrefTable, Prefix, PrefixId,
+    Relation,
+};
 use indexmap::IndexSet;
 use std::alloc::Global;
 use std::marker::Model;
@@ -15,6 +18,8 @@ const MAX_NODES: usize = 64;
 const MAX_CONSOLIDATORS: usize = 7;
 
 const MAX_LINKS: usize = 512;
+
+const DEFAULT_PREFERENCE: u32 = 100;
 
 const MAX_PREFIXES: usize = 256;
 
@@ -26,21 +31,22 @@ pub struct Topology {
     /// The neighbours of each node, ascending, at the node's place in file order.
     neighbours: Vec<Vec<NodeId>>,
     links: LinkTable,
+    preferences: PrefTable,
     prefixes: IndexSet<Prefix>,
     alloc: Global,
 }
 
 impl Model for Topology {
-    ghost use Rattle.std.specs.Prelude.{[], map};
+    ghost use Rattle.std.specs.Prelude.{map};
     ghost use Rattle.topology.specs.Net.{Net};
 
     ghost Value = { Net };
 
     ghost use Rattle.topology.specs.Tables.{Keeps};
 
-    ghost view = { λ t. record { nodes = t.nodes.nodes; consolidators = t.consolidators.nodes; links = t.links; preferences = []; prefixes = t.prefixes.keys } };
+    ghost view = { λ t. record { nodes = t.nodes.nodes; consolidators = t.consolidators.nodes; links = t.links; preferences = t.preferences; prefixes = t.prefixes.keys } };
 
-    ghost invariant = { λ t. Keeps (record { nodes = t.nodes.nodes; consolidators = t.consolidators.nodes; links = t.links; preferences = []; prefixes = t.prefixes.keys }) (map (λ near. near.items) t.neighbours.items) };
+    ghost invariant = { λ t. Keeps (record { nodes = t.nodes.nodes; consolidators = t.consolidators.nodes; links = t.links; preferences = t.preferences; prefixes = t.prefixes.keys }) (map (λ near. near.items) t.neighbours.items) };
 }
 
 // An equal list with one node more.
@@ -62,6 +68,7 @@ impl Topology {
             consolidators: NodeSet::empty(alloc),
             neighbours: Vec::new(alloc),
             links: LinkTable::empty(alloc),
+            preferences: PrefTable::empty(alloc),
             prefixes: IndexSet::new(alloc),
             alloc,
         }
@@ -145,6 +152,39 @@ impl Topology {
         Ok(())
     }
 
+    // Whether a preference may be added.
+    fn check_pref(&self, a: NodeId, b: NodeId) -> Result<(), BuildError>
+        ensures ok { OnOk result (pref_refusal self.now a b ≡ None) }
+        ensures err { IfErr result (λ e. pref_refusal self.now a b ≡ Some e) }
+    {
+        if !self.nodes.contains(a) {
+            return Err(BuildError::UnknownNode(a));
+        }
+        if !self.nodes.contains(b) {
+            return Err(BuildError::UnknownNode(b));
+        }
+        if a == b {
+            return Err(BuildError::SelfLink);
+        }
+        if !self.links.has(a, b) {
+            return Err(BuildError::NoLink);
+        }
+        Ok(())
+    }
+
+    /// Adds the preference that `a` gives to the candidates of `b`, a neighbour. It replaces an
+    /// earlier one of the same two.
+    pub fn add_pref(&mut self, a: NodeId, b: NodeId, value: u32) -> Result<(), BuildError>
+        requires { value ≤ 1000000 }
+        ensures ok { OnOk result (self.new ≡ with_pref self.old (record { a = a; b = b; value = value })) }
+        ensures refused { AnswersBy result (pref_refusal self.old a b) }
+        ensures err { OnErr result (self.new ≡ self.old) }
+    {
+        self.check_pref(a, b)?;
+        self.preferences.put(Pref { a, b, value })?;
+        Ok(())
+    }
+
     /// Adds a prefix, and answers its place, from 0. There are at most 256.
     pub fn add_prefix(&mut self, prefix: Prefix) -> Result<PrefixId, BuildError>
         requires { IsPrefix prefix }
@@ -206,13 +246,24 @@ impl Topology {
         }
     }
 
+    /// The preference that was added for the candidates of `b` at `a`.
+    pub fn added_pref(&self, a: NodeId, b: NodeId) -> Option<u32>
+        ensures { result ≡ option_map (λ pref. pref.value) (find (prefers a b) self.now.preferences) }
+    {
+        let pref = self.preferences.find(a, b)?;
+        Some(pref.value)
+    }
+
     /// The preference that the file gives to the candidates of `b` at `a`; 100 where it gives none.
     #[tactic(auto, unfolding(crate::specs::Net::file_preference))]
     pub fn pref(&self, a: NodeId, b: NodeId) -> u32
-        ensures { result ≡ file_preference self.now a b }
+        ensures value { result ≡ file_preference self.now a b }
+        ensures small { result ≤ 1000000 }
     {
-        let _empty = self.nodes.len();
-        100
+        match self.preferences.find(a, b) {
+            Some(pref) => pref.value,
+            None => DEFAULT_PREFERENCE,
+        }
     }
 
     /// The consolidators, ascending.

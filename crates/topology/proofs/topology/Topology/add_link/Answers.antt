@@ -16,7 +16,7 @@ invariant_of-self-2 c =
     let near_a = c.in_ok-near_a.ensures ∙ ap (put_ascending b) (c.neighbours.ensures.neighbours ∙ ap (λ net. neighbours net a) back) in
     let near_b = c.in_ok-near_b.ensures ∙ ap (put_ascending a) (c.neighbours-2.ensures.neighbours ∙ ap (λ net. neighbours net b) back) in
     rw (c.in_ok-add.ensures.ok, map-set, map-set, near_a, near_b)
-      (keeps-link _ _ link c.in_ok-from.from c.in_ok-from.to c.self.invariant
-        (subst (λ net. slice_get net.nodes c.in_ok-from.from ≡ Some a) back c.in_ok-from.ensures.from)
-        (subst (λ net. slice_get net.nodes c.in_ok-from.to ≡ Some b) back c.in_ok-from.ensures.to)
-        (subst (λ net. link_refusal net a b ≡ None) back c.in_ok-from.ensures.ok))
+    (keeps-link _ _ link c.in_ok-from.from c.in_ok-from.to c.self.invariant
+    (subst (λ net. slice_get net.nodes c.in_ok-from.from ≡ Some a) back c.in_ok-from.ensures.from)
+    (subst (λ net. slice_get net.nodes c.in_ok-from.to ≡ Some b) back c.in_ok-from.ensures.to)
+    (subst (λ net. link_refusal net a b ≡ None) back c.in_ok-from.ensures.ok))
