@@ -31,6 +31,15 @@ abbrev pub led_by : ℕ → Cause → Option (List ℕ)
 led_by u (Recv from session seq path) = option_and_then (λ nodes. if has nodes u then None else Some (u ∷ nodes)) path
 led_by u other = None
 
+-- the same is kept of the same neighbour
+pub record IsCopy (old new : Neighbour) : Type 0 where
+  pub id : new.id ≡ old.id
+  pub relation : new.relation ≡ old.relation
+  pub held : new.held ≡ old.held
+  pub highest : new.highest ≡ old.highest
+  pub preference : new.preference ≡ old.preference
+  pub told : new.told.items ≡ old.told.items
+
 -- the session is the held one
 abbrev pub is_held : Option ℕ → ℕ → Bool
 is_held None s = false

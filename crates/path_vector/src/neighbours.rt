@@ -1,12 +1,13 @@
 //! What a node keeps of its neighbours.
 ghost use Rattle.std.specs.Prelude.{◌≡◌, ℕ, [], ◌∷◌, Some, None, IfOk, IfSome, IfNone, true, false, if◌then◌else◌, length, replicate, slice_get, option_map, option_and_then};
+ghost use Rattle.std.specs.List.{AllZip};
 ghost use Rattle.topology.specs.Lists.{Among, has};
 ghost use Rattle.topology.specs.Net.{Net, neighbours};
 ghost use Rattle.path_vector.specs.History.{History, HasScope, Accepts, change};
 ghost use Rattle.path_vector.specs.Selection.{ranked};
 ghost use Rattle.topology.specs.declared.names.Scope.TheVariants.{All};
 ghost use Rattle.path_vector.specs.Standing.{Remembers};
-ghost use Rattle.path_vector.specs.Kept.{Hears, Turns, Keeps, Rises, ids, names, led_by, kept_path, kept_choice, first_kept, is_sooner};
+ghost use Rattle.path_vector.specs.Kept.{IsCopy, Hears, Turns, Keeps, Rises, ids, names, led_by, kept_path, kept_choice, first_kept, is_sooner};
 
 use crate::{Cause, Policy, Ranked};
 use std::alloc::Global;
@@ -50,6 +51,20 @@ impl Neighbour {
             nbr: self.id,
             preference: self.preference,
             length: path.nodes().len() as u32,
+        })
+    }
+
+    // An equal one.
+    fn copy(&self) -> Result<Neighbour, NoMemory>
+        ensures { IfOk result (λ copy. IsCopy self.now copy) }
+    {
+        Ok(Neighbour {
+            id: self.id,
+            relation: self.relation,
+            held: self.held,
+            highest: self.highest,
+            preference: self.preference,
+            told: copy_row(&self.told)?,
         })
     }
 
@@ -124,6 +139,36 @@ fn nothing_told(alloc: Global, prefixes: u16) -> Result<Vec<Option<Path>>, NoMem
         told.push(None)?;
     }
     Ok(told)
+}
+
+fn copy_row(told: &Vec<Option<Path>>) -> Result<Vec<Option<Path>>, NoMemory>
+    ensures { IfOk result (λ copy. copy.items ≡ told.now.items) }
+{
+    let mut copy = Vec::with_capacity(*told.allocator(), told.len())?;
+    for path in told {
+        copy.push(copy_path(path)?)?;
+    }
+    Ok(copy)
+}
+
+fn copy_path(path: &Option<Path>) -> Result<Option<Path>, NoMemory>
+    ensures { IfOk result (λ copy. copy ≡ path.now) }
+{
+    match path {
+        None => Ok(None),
+        Some(path) => Ok(Some(path.copy()?)),
+    }
+}
+
+// Equal neighbours.
+pub(crate) fn copy_of(neighbours: &Vec<Neighbour>) -> Result<Vec<Neighbour>, NoMemory>
+    ensures { IfOk result (λ copies. AllZip IsCopy neighbours.now.items copies.items) }
+{
+    let mut copies = Vec::with_capacity(*neighbours.allocator(), neighbours.len())?;
+    for neighbour in neighbours {
+        copies.push(neighbour.copy()?)?;
+    }
+    Ok(copies)
 }
 
 // A neighbour of a node that has entered nothing: their first session is held.

@@ -114,6 +114,20 @@ impl<P: Policy + Copy> RouteState<P> {
         Ok(())
     }
 
+    /// An equal state.
+    pub fn copy(&self) -> Result<RouteState<P>, NoMemory>
+        ensures { IfOk result (λ copy. (policy : P) (net : Net) (u : ℕ) (h : History) →
+            StandsFor policy net u self.now h → StandsFor policy net u copy h) }
+    {
+        Ok(RouteState {
+            alloc: self.alloc,
+            policy: self.policy,
+            alone: self.alone.copy()?,
+            owned: Vec::from_slice(self.alloc, &self.owned)?,
+            neighbours: neighbours::copy_of(&self.neighbours)?,
+        })
+    }
+
     /// Whether the node originates a prefix.
     pub fn owns(&self, prefix: PrefixId) -> bool
         ensures { (policy : P) (net : Net) (u : ℕ) (h : History) → StandsFor policy net u self.now h →
