@@ -40,7 +40,7 @@ heard_more v s (Up w t) before top h old = old ((elim (w == v) as (λ b. cond b 
 heard_more v s (Ready w t) before top h old = old ((elim (w == v) as (λ b. cond b (max top t) top < s → top < s) [ true ↦ λ h. omega arith | false ↦ λ h. h ]) h)
 heard_more v s (Prefer w x) before top h old = old h
 
-less : (v s top : ℕ) (cause : Cause) → highest_by cause v top < s → top < s
+pub less : (v s top : ℕ) (cause : Cause) → highest_by cause v top < s → top < s
 less v s top Originate h = h
 less v s top Withdraw h = h
 less v s top (Recv w t seq path) h = (elim (w == v) as (λ b. cond b (max top t) top < s → top < s) [ true ↦ λ h. omega arith | false ↦ λ h. h ]) h
