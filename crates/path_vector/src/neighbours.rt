@@ -24,11 +24,11 @@ pub struct Neighbour {
     pub told: Vec<Option<Path>>,
 }
 
-/// A candidate: the place of its neighbour, and its rank.
+// A candidate: the place of its neighbour, and its rank.
 #[derive(Clone, Copy)]
-pub struct Found {
-    pub place: usize,
-    pub rank: Ranked,
+struct Found {
+    place: usize,
+    rank: Ranked,
 }
 
 impl Neighbour {
@@ -43,7 +43,7 @@ impl Neighbour {
     }
 
     // Its candidate as a policy sees it.
-    fn rank(&self, prefix: PrefixId) -> Option<Ranked>
+    pub(crate) fn rank(&self, prefix: PrefixId) -> Option<Ranked>
         ensures { result ≡ option_map ranked (kept_choice prefix self.now) }
     {
         let path = self.path(prefix)?;
@@ -203,7 +203,7 @@ pub(crate) fn neighbours_of(
 ) -> Result<Vec<Neighbour>, NoMemory>
     ensures { IfOk result (λ neighbours. Keeps topology.now node [] neighbours.items) }
 {
-    // the nodes of a topology are valid
+    // what a topology keeps of its net is said of its nodes
     let _nodes = topology.nodes();
     let others = topology.neighbours(node);
     let mut neighbours = Vec::with_capacity(alloc, others.len())?;

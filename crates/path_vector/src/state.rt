@@ -7,11 +7,12 @@ ghost use Rattle.path_vector.specs.Selection.{Route, candidate, best, choices, p
 ghost use Rattle.path_vector.specs.Offers.{offered_route, exported, may_tell};
 ghost use Rattle.path_vector.specs.Standing.{StandsFor};
 ghost use Rattle.path_vector.specs.Kept.{IsOfNeighbour};
+ghost use Rattle.path_vector.specs.Order.{IsOrder};
 ghost use Rattle.path_vector.specs.Taken.{Takes, IsTaken};
 ghost use Rattle.path_vector.specs.Answers.{Shows, GoesFirst, Copies, behind};
 
 use crate::neighbours::{self, Neighbour};
-use crate::{Cause, Learned, Policy};
+use crate::{Cause, Learned, Policy, order};
 use std::alloc::Global;
 use topology::{NoMemory, NodeId, Path, PrefixId, Relation, Scope, Topology};
 
@@ -63,7 +64,7 @@ impl<P: Policy + Copy> RouteState<P> {
     ) -> Result<RouteState<P>, NoMemory>
         ensures { IfOk result (λ state. StandsFor policy topology.now node state []) }
     {
-        // the nodes of a topology are valid
+        // what a topology keeps of its net is said of its nodes
         let _nodes = topology.nodes();
         Ok(RouteState {
             alloc,
@@ -157,6 +158,16 @@ impl<P: Policy + Copy> RouteState<P> {
             return Best::None;
         };
         shown(taken.via, taken.path)
+    }
+
+    /// The neighbours: those with a candidate for the prefix by the policy's rank, then the
+    /// others, ascending.
+    pub fn order(&self, prefix: PrefixId) -> Result<Vec<NodeId>, NoMemory>
+        ensures { IfOk result (λ order. (policy : P) (net : Net) (u : ℕ) (h : History) →
+            StandsFor policy net u self.now h → prefix < length net.prefixes →
+            IsOrder (P.rules policy).before net u h prefix order.items) }
+    {
+        Ok(order::order(self.alloc, &self.policy, &self.neighbours, prefix)?)
     }
 
     /// The path of the best route, from the own node on.

@@ -69,11 +69,23 @@ fn goes_by_its_peer(rt: &impl Abort, state: &RouteState<GaoRexford>, chosen: &Ch
     assert!(rt; state.offered_path(chosen, NodeId::new(1)).is_none());
 }
 
+// A copy tries the peer first.
+fn tries_its_peer_first(rt: &impl Abort, state: &RouteState<GaoRexford>) -> Result<(), Fail> {
+    let again = state.copy()?;
+    let order = again.order(PrefixId::new(0))?;
+    assert_eq!(rt;
+        order.as_slice(),
+        [NodeId::new(3), NodeId::new(1)].as_slice()
+    );
+    Ok(())
+}
+
 fn run(rt: &impl Abort, alloc: Global, state: &mut RouteState<GaoRexford>) -> Result<(), Fail> {
     hear(state, alloc, 1, &[1, 3])?;
     hear(state, alloc, 3, &[3])?;
     let chosen = state.chosen(PrefixId::new(0))?;
     goes_by_its_peer(rt, state, &chosen);
+    tries_its_peer_first(rt, state)?;
     Ok(())
 }
 
