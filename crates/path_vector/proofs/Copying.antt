@@ -1,12 +1,12 @@
 -- A copy stands for the same entries.
-use Rattle.std.proofs.Common.{◌≡◌, ℕ, ◌<◌, List, [], ◌∷◌, length, slice_get, refl, sym, ap, ◌∙◌, subst}
+use Rattle.std.proofs.Common.{◌≡◌, ℕ, List, [], ◌∷◌, refl, ◌∙◌}
 use Rattle.std.specs.List.{AllByRecursion, AllZip}
 use Rattle.topology.specs.Net.{Net}
 use Rattle.path_vector.specs.declared.neighbours.Neighbour.{Neighbour}
 use Rattle.path_vector.specs.History.{History}
 use Rattle.path_vector.specs.Standing.{Remembers}
 use Rattle.path_vector.specs.Kept.{IsCopy, ids}
-use Rattle.path_vector.proofs.Remembering.{KeptOf, remembers}
+use Rattle.path_vector.proofs.Remembering.{remembers}
 
 one_copied : (net : Net) (u : ℕ) (h : History) (old new : Neighbour) → IsCopy old new → Remembers net u h old → Remembers net u h new
 one_copied net u h old new c r = remembers net u h old.id new c.id (record {

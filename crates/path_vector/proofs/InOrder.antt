@@ -1,20 +1,18 @@
 -- What is put in one after another is in order.
-use Rattle.std.proofs.Common.{ℕ, ◌<◌, Bool, true, false, cond, not, Option, Some, None, is_some, List, [], ◌∷◌, ◌++◌, ◌≡◌, ◌≢◌, refl, sym, ◌∙◌, ap, subst, arith, length, map, filter, filter_map, fold, option_map}
-use Rattle.std.specs.Prelude.{if◌then◌else◌}
+use Rattle.std.proofs.Common.{ℕ, ◌<◌, Bool, true, false, cond, not, Some, None, is_some, List, [], ◌∷◌, ◌++◌, ◌≡◌, ◌≢◌, refl, sym, ◌∙◌, ap, subst, arith, length, map, filter, filter_map, fold, option_map}
 use Rattle.std.specs.List.{AllByRecursion, cons_option}
 use Rattle.std.specs.List.Sorted.{IsPermutation}
 use Rattle.std.proofs.lemmas.List.{append-nil}
 use Rattle.std.proofs.lemmas.List.Sorted.{IsPermutation-refl, IsPermutation-sym, IsPermutation-trans, IsPermutation-cons, IsPermutation-middle, IsPermutation-append_left}
-use Rattle.topology.specs.Net.{Net, neighbours}
+use Rattle.topology.specs.Net.{Net}
 use Rattle.path_vector.specs.declared.neighbours.Neighbour.{Neighbour}
 use Rattle.path_vector.specs.declared.policy.Ranked.{Ranked}
 use Rattle.path_vector.specs.Rules.{IsRanking}
 use Rattle.path_vector.specs.History.{History}
-use Rattle.path_vector.specs.Selection.{Choice, candidate, choice, choices, ranked}
+use Rattle.path_vector.specs.Selection.{choice, choices, ranked}
 use Rattle.path_vector.specs.Standing.{Remembers}
-use Rattle.path_vector.specs.Kept.{Keeps, Rises, ids, kept_path, kept_choice}
+use Rattle.path_vector.specs.Kept.{Keeps, Rises, ids, kept_choice}
 use Rattle.path_vector.specs.Order.{IsInOrder, IsOrder, has_none, put, put_some, ranks_kept, keeps_none, others_kept}
-use Rattle.path_vector.proofs.Neighbourhood.{each_weaker}
 use Rattle.path_vector.proofs.Listing.{keeps_rise}
 use Rattle.path_vector.proofs.Answering.{kept_is, each_choice}
 use Rattle.path_vector.proofs.First.{choice_named}

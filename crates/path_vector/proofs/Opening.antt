@@ -1,5 +1,5 @@
 -- Opening a session changes no offer.
-use Rattle.std.proofs.Common.{ℕ, ◌<◌, ◌≤◌, max, Bool, true, false, cond, not, ◌==◌, ◌&&◌, Option, Some, None, List, [], ◌∷◌, ◌≡◌, refl, sym, ◌∙◌, ap, subst, arith, is_some, option_and_then, option_map}
+use Rattle.std.proofs.Common.{ℕ, ◌<◌, ◌≤◌, max, Bool, true, false, cond, ◌==◌, ◌&&◌, Option, Some, None, List, [], ◌∷◌, ◌≡◌, refl, ap, subst, arith, is_some, option_and_then, option_map}
 use Rattle.std.specs.Prelude.{if◌then◌else◌}
 use Rattle.std.proofs.lemmas.Bool.Decides.{nat_tests}
 use Rattle.topology.specs.declared.names.Scope.TheVariants.{All}
@@ -7,7 +7,7 @@ use Rattle.topology.specs.Net.{Net, neighbours}
 use Rattle.path_vector.specs.declared.causes.Cause.{Cause}
 use Rattle.path_vector.specs.declared.causes.Cause.TheVariants.{Originate, Withdraw, Recv, Down, Up, Ready, Prefer}
 use Rattle.path_vector.specs.Rules.{Rules}
-use Rattle.path_vector.specs.History.{History, change, held, highest, highest_by, opened, opened_by, ready, heard}
+use Rattle.path_vector.specs.History.{History, change, held, highest, highest_by, opened, opened_by, heard}
 use Rattle.path_vector.specs.Selection.{candidate, beyond, usable, choice, best, path_of}
 use Rattle.path_vector.specs.Offers.{offer, offered_route, exported, changed}
 use Rattle.path_vector.proofs.Local.{first_same}

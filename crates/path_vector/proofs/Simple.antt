@@ -1,18 +1,15 @@
 -- The paths of routes begin with the own node and repeat none.
-use Rattle.std.proofs.Common.{ℕ, ◌<◌, Bool, true, false, cond, not, ◌==◌, ◌&&◌, Option, Some, None, List, [], ◌∷◌, ◌≡◌, refl, sym, ◌∙◌, ap, subst, arith, length, fold, IfSome, option_map, option_and_then}
-use Rattle.std.specs.Prelude.{if◌then◌else◌}
+use Rattle.std.proofs.Common.{ℕ, Bool, true, false, cond, ◌==◌, ◌&&◌, Option, Some, None, List, [], ◌∷◌, ◌≡◌, refl, arith, fold, IfSome, option_map, option_and_then}
 use Rattle.topology.specs.Lists.{has}
-use Rattle.topology.specs.Paths.{IsPath, differ}
-use Rattle.topology.specs.declared.links.Relation.{Relation}
+use Rattle.topology.specs.Paths.{IsPath}
 use Rattle.topology.specs.Net.{Net, neighbours, relation}
 use Rattle.path_vector.specs.declared.causes.Cause.{Cause}
 use Rattle.path_vector.specs.declared.causes.Cause.TheVariants.{Originate, Withdraw, Recv, Down, Up, Ready, Prefer}
 use Rattle.path_vector.specs.declared.policy.Ranked.{Ranked}
-use Rattle.path_vector.specs.declared.policy.Learned.{Learned}
 use Rattle.path_vector.specs.Rules.{Rules}
 use Rattle.path_vector.specs.History.{History, concerns, held, owns, heard, heard_by}
-use Rattle.path_vector.specs.Selection.{Choice, Route, Nowhere, Home, Via, candidate, beyond, learnt, usable, choice, consider, goes_first, first, best, best_by, path_of}
-use Rattle.path_vector.specs.Offers.{offer, offered_route, exported, learned, may_tell}
+use Rattle.path_vector.specs.Selection.{Choice, Nowhere, candidate, beyond, learnt, usable, choice, consider, goes_first, first, best, best_by, path_of}
+use Rattle.path_vector.specs.Offers.{offer, offered_route, learned, may_tell}
 use Rattle.path_vector.specs.Simple.{BringsPath, BringsPaths, IsPathFrom}
 
 -- what was heard is a path

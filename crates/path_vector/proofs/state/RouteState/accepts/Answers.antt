@@ -1,10 +1,7 @@
-use Rattle.std.proofs.Common.{◌≡◌, refl, sym, ap, ◌∙◌, subst}
-use Rattle.topology.specs.Lists.{has}
-use Rattle.topology.specs.Net.{neighbours}
+use Rattle.std.proofs.Common.{◌≡◌, refl, ap, ◌∙◌, subst}
 use Rattle.path_vector.specs.History.{highest}
 use Rattle.path_vector.specs.Kept.{IsOfNeighbour}
 use Rattle.path_vector.specs.Standing.{Remembers}
-use Rattle.path_vector.specs.declared.causes.Cause.TheVariants.{Up}
 use Rattle.path_vector.proofs.Answering.{keeps_of, is_kept, among_all}
 use Rattle.path_vector.proofs.Accepting.{accepts_up}
 use Rattle.path_vector.proofs.state.RouteState.accepts.Goals as goal

@@ -1,4 +1,4 @@
-use Rattle.std.proofs.Common.{◌≡◌, sym, ap, ◌∙◌, length}
+use Rattle.std.proofs.Common.{◌≡◌, ◌∙◌}
 use Rattle.path_vector.proofs.Copying.{all_copied, ids_copied}
 use Rattle.path_vector.proofs.state.RouteState.copy.Goals as goal
 

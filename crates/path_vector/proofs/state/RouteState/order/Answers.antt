@@ -1,4 +1,3 @@
-use Rattle.std.proofs.Common.{◌≡◌, sym, ap, ◌∙◌}
 use Rattle.path_vector.proofs.Answering.{keeps_of}
 use Rattle.path_vector.proofs.InOrder.{order_is}
 use Rattle.path_vector.proofs.state.RouteState.order.Goals as goal
