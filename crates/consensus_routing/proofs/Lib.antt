@@ -1,4 +1,12 @@
+pub mod Cuts
+pub mod Numbers
+pub mod Addresses
+pub mod Spellings
+pub mod Lines
+pub mod Grammars
+pub mod Names
 pub mod Steps
 pub mod Fitting
 pub mod Unique
 pub mod Ending
+pub mod Runs

@@ -2,10 +2,9 @@
 use Rattle.std.proofs.Common.{◌≡◌, ℕ, zero, suc, Bool, true, false, true≢false, List, [], ◌∷◌, refl, sym, ap, ◌∙◌, subst}
 use Rattle.consensus_routing.specs.declared.directives.Line.{Line}
 use Rattle.consensus_routing.specs.Spelling.{lines_of, Spells}
-use Rattle.consensus_routing.specs.Grammar.{allowed, Reads, FirstBad, IsFirstBad}
-
-one_line : (text : List ℕ) (l m : Line) → Spells text l → Spells text m → l ≡ m
-one_line text l m a b = ?
+use Rattle.consensus_routing.specs.Grammar.{Reads, FirstBad, IsFirstBad}
+use Rattle.consensus_routing.proofs.Grammars.{no_bad_line}
+use Rattle.consensus_routing.proofs.Spellings.{one_line}
 
 one_bad : (earlier : List Line) (texts : List (List ℕ)) (m n : ℕ) → FirstBad earlier texts m → FirstBad earlier texts n → m ≡ n
 one_bad earlier [] m n a b = absurd a
@@ -19,12 +18,6 @@ one_bad earlier (text ∷ texts) (suc m) (suc n) a b =
 pub one_first_bad : (bytes : List ℕ) (m n : ℕ) → IsFirstBad bytes m → IsFirstBad bytes n → m ≡ n
 one_first_bad bytes m n a b = a.1 ∙ (ap suc (one_bad [] (lines_of bytes) a.0 b.0 a.2 b.2) ∙ sym b.1)
 
-neither : (earlier : List Line) (texts : List (List ℕ)) (all : List Line) (n : ℕ) → Reads earlier texts all → FirstBad earlier texts n → ⊥
-neither earlier [] all n r b = b
-neither earlier (text ∷ texts) all zero r b = true≢false (sym r.2 ∙ b r.0 r.1)
-neither earlier (text ∷ texts) all (suc n) r b =
-    neither (r.0 ∷ earlier) texts all n r.3 (subst (λ l. FirstBad (l ∷ earlier) texts n) (one_line text b.0 r.0 b.1 r.1) b.3)
-
 -- what is read has no bad line
 pub not_both : (bytes : List ℕ) (lines : List Line) (line : ℕ) → Reads [] (lines_of bytes) lines → IsFirstBad bytes line → ⊥
-not_both bytes lines line r b = neither [] (lines_of bytes) lines b.0 r b.2
+not_both bytes lines line r b = no_bad_line [] (lines_of bytes) lines b.0 r b.2

@@ -1,7 +1,9 @@
 pub mod Cutting
 pub mod Spelling
+pub mod Reading
 pub mod Grammar
-pub mod Text
+pub mod Standing
 pub mod Ends
-pub mod Running
+pub mod Text
 pub mod Headline
+pub mod Running
