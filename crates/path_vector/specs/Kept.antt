@@ -28,7 +28,8 @@ IsOfNeighbour net u cause = IfSome (names cause) (λ v. has (neighbours net u) v
 
 -- u before the path of an update: none for a withdrawal, and where u is on the path
 abbrev pub led_by : ℕ → Cause → Option (List ℕ)
-led_by u (Recv from session seq path) = option_and_then (λ nodes. if has nodes u then None else Some (u ∷ nodes)) path
+led_by u (Recv from session seq path) =
+    option_and_then (λ nodes. if has nodes u then None else Some (u ∷ nodes)) path
 led_by u other = None
 
 -- the same is kept of the same neighbour
@@ -52,7 +53,8 @@ pub record Hears (p s : ℕ) (led : Option (List ℕ)) (old new : Neighbour) : T
   pub held : new.held ≡ old.held
   pub highest : new.highest ≡ max old.highest s
   pub preference : new.preference ≡ old.preference
-  pub told : new.told.items ≡ (if is_held old.held s then slice_set old.told.items p led else old.told.items)
+  pub told :
+      new.told.items ≡ (if is_held old.held s then slice_set old.told.items p led else old.told.items)
 
 -- a session begins or ends
 abbrev pub ends : Cause → Bool
@@ -68,7 +70,8 @@ pub record Turns (cause : Cause) (old new : Neighbour) : Type 0 where
   pub highest : new.highest ≡ highest_by cause old.id old.highest
   pub preference : new.preference ≡ preference_by cause old.id old.preference
   pub places : length new.told.items ≡ length old.told.items
-  pub told : (p : ℕ) → p < length old.told.items → slice_get new.told.items p ≡ (if ends cause then Some None else slice_get old.told.items p)
+  pub told : (p : ℕ) → p < length old.told.items →
+      slice_get new.told.items p ≡ (if ends cause then Some None else slice_get old.told.items p)
 
 -- the numbers of the neighbours
 abbrev pub ids : List Neighbour → List ℕ
@@ -91,7 +94,8 @@ kept_path p n = option_and_then (λ path. path) (slice_get n.told.items p)
 
 -- the same, as a candidate
 abbrev pub kept_choice : ℕ → Neighbour → Option Choice
-kept_choice p n = option_map (λ path. record { nbr = n.id; preference = n.preference; path = path }) (kept_path p n)
+kept_choice p n =
+    option_map (λ path. record { nbr = n.id; preference = n.preference; path = path }) (kept_path p n)
 
 -- the first by rank of those candidates
 abbrev pub first_kept : (Ranked → Ranked → Bool) → ℕ → List Neighbour → Option Choice
@@ -107,4 +111,5 @@ abbrev pub IsFound : List Neighbour → ℕ → Option Found → Option Choice �
 IsFound ns p None None = Unit {0}
 IsFound ns p None (Some c) = ⊥
 IsFound ns p (Some found) None = ⊥
-IsFound ns p (Some found) (Some c) = (option_and_then (kept_choice p) (slice_get ns found.place) ≡ Some c) × (found.rank ≡ ranked c)
+IsFound ns p (Some found) (Some c) =
+    (option_and_then (kept_choice p) (slice_get ns found.place) ≡ Some c) × (found.rank ≡ ranked c)

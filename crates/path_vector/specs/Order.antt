@@ -19,7 +19,8 @@ abbrev pub has_none : ℕ → History → ℕ → ℕ → Bool
 has_none u h p v = not (is_some (candidate u h p v))
 
 -- first the neighbours with a candidate, by rank, then the others, ascending
-pub record IsOrder (before : Ranked → Ranked → Bool) (net : Net) (u : ℕ) (h : History) (p : ℕ) (order : List ℕ) : Type 0 where
+pub record IsOrder (before : Ranked → Ranked → Bool) (net : Net) (u : ℕ) (h : History) (p : ℕ)
+    (order : List ℕ) : Type 0 where
   pub by_rank : List Ranked
   pub same : IsPermutation (map ranked (choices net u h p)) by_rank
   pub sorted : IsInOrder before by_rank
@@ -37,7 +38,8 @@ put_some before rs (Some r) = put before r rs
 
 -- the candidates that are kept, by rank
 abbrev pub ranks_kept : (Ranked → Ranked → Bool) → ℕ → List Neighbour → List Ranked
-ranks_kept before p ns = fold (λ rs n. put_some before rs (option_map ranked (kept_choice p n))) [] ns
+ranks_kept before p ns =
+    fold (λ rs n. put_some before rs (option_map ranked (kept_choice p n))) [] ns
 
 -- no candidate of n is kept
 abbrev pub keeps_none : ℕ → Neighbour → Bool

@@ -8,7 +8,9 @@ use Rattle.path_vector.specs.Rules.{Rules, IsRanking}
 
 -- fewer nodes, then the lower neighbour
 abbrev pub shorter : Ranked → Ranked → Bool
-shorter a b = if nat_lt a.length b.length then true else if a.length == b.length then nat_lt a.nbr b.nbr else false
+shorter a b =
+    if nat_lt a.length b.length then true
+    else if a.length == b.length then nat_lt a.nbr b.nbr else false
 
 -- every route goes everywhere
 abbrev pub everything : Learned → Relation → Bool

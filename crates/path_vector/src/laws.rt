@@ -12,7 +12,8 @@ ghost use Rattle.path_vector.specs.Simple.{BringsPaths, IsPathFrom};
 /// What is read of a prefix depends only on the entries that concern it.
 #[tactic(auto, using(crate::proofs::Local::candidate_local, crate::proofs::Local::best_local, crate::proofs::Local::offer_local, crate::proofs::Local::ready_local))]
 pub fn prefixes_are_apart()
-    ensures candidate { (u p v : ℕ) (h : History) → Scoped h → candidate u (concerning p h) p v ≡ candidate u h p v }
+    ensures candidate { (u p v : ℕ) (h : History) → Scoped h →
+        candidate u (concerning p h) p v ≡ candidate u h p v }
     ensures best { (rules : Rules) (net : Net) (u p : ℕ) (h : History) → Scoped h →
         best rules net u (concerning p h) p ≡ best rules net u h p }
     ensures offer { (rules : Rules) (net : Net) (u p w : ℕ) (h : History) → Scoped h →
@@ -23,14 +24,16 @@ pub fn prefixes_are_apart()
 /// An entry of another prefix changes no offer.
 #[tactic(auto, using(crate::proofs::Changes::other_prefix))]
 pub fn other_prefixes_change_nothing()
-    ensures { (rules : Rules) (net : Net) (u : ℕ) (h : History) (k : Change) (w p : ℕ) → Scoped (k ∷ h) →
+    ensures { (rules : Rules) (net : Net) (u : ℕ) (h : History) (k : Change) (w p : ℕ) →
+        Scoped (k ∷ h) →
         concerns p k.scope ≡ false → changed rules net u h k w p ≡ false }
 {}
 
 /// Opening a session, above all that were named and where none is held, changes no offer.
 #[tactic(auto, using(crate::proofs::Opening::opening_changes_nothing))]
 pub fn opening_changes_nothing()
-    ensures { (rules : Rules) (net : Net) (u : ℕ) (h : History) (w s x p : ℕ) → held h w ≡ None → highest h w < s →
+    ensures { (rules : Rules) (net : Net) (u : ℕ) (h : History) (w s x p : ℕ) → held h w ≡ None →
+        highest h w < s →
         changed rules net u h (change All (Up w s)) x p ≡ false }
 {}
 

@@ -72,7 +72,8 @@ impl Neighbour {
     // update: None for a withdrawal, and where the own node is on the path.
     fn heed(&mut self, scope: Scope, cause: &Cause, led: Option<Path>)
         ensures remembers { (net : Net) (u : ℕ) (past : History) → Remembers net u past self.old →
-            Accepts past scope cause.now → names cause.now ≡ Some self.old.id → led ≡ led_by u cause.now →
+            Accepts past scope cause.now → names cause.now ≡ Some self.old.id →
+            led ≡ led_by u cause.now →
             Remembers net u (change scope cause.now ∷ past) self.new }
         ensures id { self.new.id ≡ self.old.id }
     {
@@ -239,7 +240,8 @@ pub(crate) fn lead(cause: &Cause, node: NodeId) -> Result<Option<Path>, NoMemory
 }
 
 fn lead_path(path: &Option<Path>, node: NodeId) -> Result<Option<Path>, NoMemory>
-    ensures { IfOk result (λ led. led ≡ option_and_then (λ nodes. if has nodes node then None else Some (node ∷ nodes)) path.now) }
+    ensures { IfOk result (λ led. led ≡ option_and_then
+        (λ nodes. if has nodes node then None else Some (node ∷ nodes)) path.now) }
 {
     match path {
         None => Ok(None),
@@ -250,7 +252,8 @@ fn lead_path(path: &Option<Path>, node: NodeId) -> Result<Option<Path>, NoMemory
 // The place of a neighbour.
 pub(crate) fn place_of(neighbours: &[Neighbour], id: NodeId) -> Option<usize>
     ensures some { IfSome result (λ place. slice_get (ids neighbours.now) place ≡ Some id) }
-    ensures none { Rises (ids neighbours.now) → IfNone result (has (ids neighbours.now) id ≡ false) }
+    ensures none { Rises (ids neighbours.now) →
+        IfNone result (has (ids neighbours.now) id ≡ false) }
 {
     neighbours
         .binary_search_by_key(&id, |neighbour| neighbour.id)
@@ -259,8 +262,10 @@ pub(crate) fn place_of(neighbours: &[Neighbour], id: NodeId) -> Option<usize>
 
 // The neighbour of this number.
 pub(crate) fn find(neighbours: &[Neighbour], id: NodeId) -> Option<&Neighbour>
-    ensures some { IfSome result (λ neighbour. (neighbour.now.id ≡ id) × Among neighbour.now neighbours.now) }
-    ensures none { Rises (ids neighbours.now) → IfNone result (has (ids neighbours.now) id ≡ false) }
+    ensures some { IfSome result (λ neighbour.
+        (neighbour.now.id ≡ id) × Among neighbour.now neighbours.now) }
+    ensures none { Rises (ids neighbours.now) →
+        IfNone result (has (ids neighbours.now) id ≡ false) }
 {
     match place_of(neighbours, id) {
         None => None,

@@ -12,7 +12,8 @@ use topology::{NoMemory, NodeId, PrefixId};
 // The place of a rank among ranks in order: in front of the first that it is before.
 fn place_for<P: Policy>(policy: &P, ranks: &[Ranked], rank: &Ranked) -> usize
     ensures within { result ≤ length ranks.now }
-    ensures put { insert ranks.now result rank.now ≡ put (P.rules policy.now).before rank.now ranks.now }
+    ensures put { insert ranks.now result rank.now
+        ≡ put (P.rules policy.now).before rank.now ranks.now }
 {
     for place in 0..ranks.len() {
         if policy.before(*rank, ranks[place]) {
@@ -29,7 +30,8 @@ fn by_rank<P: Policy>(
     neighbours: &[Neighbour],
     prefix: PrefixId,
 ) -> Result<Vec<Ranked>, NoMemory>
-    ensures { IfOk result (λ ranks. ranks.items ≡ ranks_kept (P.rules policy.now).before prefix neighbours.now) }
+    ensures { IfOk result (λ ranks. ranks.items
+        ≡ ranks_kept (P.rules policy.now).before prefix neighbours.now) }
 {
     let mut ranks = Vec::with_capacity(alloc, neighbours.len())?;
     for neighbour in neighbours {

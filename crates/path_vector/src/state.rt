@@ -86,7 +86,8 @@ impl<P: Policy + Copy> RouteState<P> {
     /// Whether an entry may follow the entries so far: it has the scope of its cause, and opens
     /// no session that was named before. An opening of no neighbour may not.
     pub fn accepts(&self, scope: Scope, cause: &Cause) -> bool
-        ensures { (policy : P) (net : Net) (u : ℕ) (past : History) → StandsFor policy net u self.now past →
+        ensures { (policy : P) (net : Net) (u : ℕ) (past : History) →
+            StandsFor policy net u self.now past →
             IsOfNeighbour net u cause.now → IsTrue result ↔ Accepts past scope cause.now }
     {
         if !has_scope(scope, cause) {
@@ -131,7 +132,8 @@ impl<P: Policy + Copy> RouteState<P> {
 
     /// Whether the node originates a prefix.
     pub fn owns(&self, prefix: PrefixId) -> bool
-        ensures { (policy : P) (net : Net) (u : ℕ) (h : History) → StandsFor policy net u self.now h →
+        ensures { (policy : P) (net : Net) (u : ℕ) (h : History) →
+            StandsFor policy net u self.now h →
             prefix < length net.prefixes → result ≡ owns h prefix }
     {
         self.owned.get(prefix.place() as usize) == Some(&true)
@@ -139,7 +141,8 @@ impl<P: Policy + Copy> RouteState<P> {
 
     /// The candidate of a neighbour, without the own node.
     pub fn candidate(&self, prefix: PrefixId, nbr: NodeId) -> Option<&[NodeId]>
-        ensures { (policy : P) (net : Net) (u : ℕ) (h : History) → StandsFor policy net u self.now h →
+        ensures { (policy : P) (net : Net) (u : ℕ) (h : History) →
+            StandsFor policy net u self.now h →
             prefix < length net.prefixes → has (neighbours net u) nbr ≡ true →
             behind u (option_map (λ nodes. nodes.now) result) ≡ candidate u h prefix nbr }
     {
@@ -149,10 +152,13 @@ impl<P: Policy + Copy> RouteState<P> {
 
     /// The best route of a prefix: the own one, else the first candidate by the policy's rank.
     pub fn best(&self, prefix: PrefixId) -> Best<'_>
-        ensures best { (policy : P) (net : Net) (u : ℕ) (h : History) → StandsFor policy net u self.now h →
+        ensures best { (policy : P) (net : Net) (u : ℕ) (h : History) →
+            StandsFor policy net u self.now h →
             prefix < length net.prefixes → Shows u result (best (P.rules policy) net u h prefix) }
-        ensures first { (policy : P) (net : Net) (u : ℕ) (h : History) → StandsFor policy net u self.now h →
-            GoesFirst (P.rules policy).before (choices net u h prefix) (best (P.rules policy) net u h prefix) }
+        ensures first { (policy : P) (net : Net) (u : ℕ) (h : History) →
+            StandsFor policy net u self.now h →
+            GoesFirst (P.rules policy).before (choices net u h prefix)
+            (best (P.rules policy) net u h prefix) }
     {
         let Some(taken) = self.taken(prefix) else {
             return Best::None;
@@ -172,9 +178,11 @@ impl<P: Policy + Copy> RouteState<P> {
 
     /// The path of the best route, from the own node on.
     pub fn best_path(&self, prefix: PrefixId) -> Option<&Path>
-        ensures { (policy : P) (net : Net) (u : ℕ) (h : History) → StandsFor policy net u self.now h →
+        ensures { (policy : P) (net : Net) (u : ℕ) (h : History) →
+            StandsFor policy net u self.now h →
             prefix < length net.prefixes →
-            option_map (λ path. path.now) result ≡ path_of u (best (P.rules policy) net u h prefix) }
+            option_map (λ path. path.now) result
+            ≡ path_of u (best (P.rules policy) net u h prefix) }
     {
         let Some(taken) = self.taken(prefix) else {
             return None;
@@ -217,9 +225,11 @@ impl<P: Policy + Copy> RouteState<P> {
 
     /// The path that the node offers a neighbour, from the own node on.
     pub fn offer_path(&self, prefix: PrefixId, nbr: NodeId) -> Option<&Path>
-        ensures { (policy : P) (net : Net) (u : ℕ) (h : History) → StandsFor policy net u self.now h →
+        ensures { (policy : P) (net : Net) (u : ℕ) (h : History) →
+            StandsFor policy net u self.now h →
             prefix < length net.prefixes → has (neighbours net u) nbr ≡ true →
-            option_map (λ path. path.now) result ≡ path_of u (offered_route (P.rules policy) net u h prefix nbr) }
+            option_map (λ path. path.now) result
+            ≡ path_of u (offered_route (P.rules policy) net u h prefix nbr) }
     {
         let Some(taken) = self.taken(prefix) else {
             return None;
@@ -232,9 +242,11 @@ impl<P: Policy + Copy> RouteState<P> {
 
     /// The path that the node offered a neighbour while this was its best route.
     pub fn offered_path<'a>(&self, chosen: &'a Chosen, nbr: NodeId) -> Option<&'a Path>
-        ensures { (policy : P) (net : Net) (u : ℕ) (h : History) (route : Route) → StandsFor policy net u self.now h →
+        ensures { (policy : P) (net : Net) (u : ℕ) (h : History) (route : Route) →
+            StandsFor policy net u self.now h →
             Copies net u chosen.now route → has (neighbours net u) nbr ≡ true →
-            option_map (λ path. path.now) result ≡ path_of u (exported (P.rules policy) net u nbr route) }
+            option_map (λ path. path.now) result
+            ≡ path_of u (exported (P.rules policy) net u nbr route) }
     {
         if !self.tells(chosen.learned?, self.relation_to(nbr)) {
             return None;
@@ -252,7 +264,8 @@ impl<P: Policy + Copy> RouteState<P> {
 
     // What a neighbour is to the node.
     fn relation_to(&self, nbr: NodeId) -> Option<Relation>
-        ensures { (policy : P) (net : Net) (u : ℕ) (h : History) → StandsFor policy net u self.now h →
+        ensures { (policy : P) (net : Net) (u : ℕ) (h : History) →
+            StandsFor policy net u self.now h →
             has (neighbours net u) nbr ≡ true → result ≡ relation net u nbr }
     {
         Some(neighbours::find(&self.neighbours, nbr)?.relation)
@@ -260,8 +273,10 @@ impl<P: Policy + Copy> RouteState<P> {
 
     // The best route of a prefix.
     fn taken(&self, prefix: PrefixId) -> Option<Taken<'_>>
-        ensures { (policy : P) (net : Net) (u : ℕ) (h : History) → StandsFor policy net u self.now h →
-            prefix < length net.prefixes → IsTaken net u result (best (P.rules policy) net u h prefix) }
+        ensures { (policy : P) (net : Net) (u : ℕ) (h : History) →
+            StandsFor policy net u self.now h →
+            prefix < length net.prefixes →
+            IsTaken net u result (best (P.rules policy) net u h prefix) }
     {
         if self.owns(prefix) {
             return Some(Taken {
@@ -320,7 +335,8 @@ fn has_scope(scope: Scope, cause: &Cause) -> bool
 // An origin entry sets whether the node originates its prefix.
 fn mark(owned: &mut Vec<bool>, scope: &Scope, cause: &Cause)
     ensures places { length owned.new.items ≡ length owned.old.items }
-    ensures owns { (past : History) (p : ℕ) → Accepts past scope.now cause.now → p < length owned.old.items →
+    ensures owns { (past : History) (p : ℕ) → Accepts past scope.now cause.now →
+        p < length owned.old.items →
         slice_get owned.old.items p ≡ Some (owns past p) →
         slice_get owned.new.items p ≡ Some (owns (change scope.now cause.now ∷ past) p) }
 {
