@@ -96,3 +96,5 @@ fn each_call_answers_where_there_is_memory(rt: HostRuntime) -> Result<(), Fail> 
     run(&rt, rt.alloc(), &mut state)?;
     Ok(())
 }
+
+mod histories;
