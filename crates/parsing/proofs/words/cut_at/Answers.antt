@@ -1,0 +1,13 @@
+use Rattle.std.proofs.Common.{◌≡◌, ◌∙◌, sym, ap}
+use Rattle.std.proofs.Common.{arith}
+use Rattle.std.proofs.lemmas.Grind.{common_steps}
+use Rattle.parsing.proofs.Cuts.{cut_there}
+use Rattle.parsing.proofs.words.cut_at.Goals as goal
+
+pub returns-then-byte-mark : goal.returns-then-byte-mark
+returns-then-byte-mark c =
+    let there = cut_there c.args.mark c.loop-place.place c.args.bytes.now c.loop-place-test.true c.if-byte-mark.true in
+    record {
+      unmarked = rw c.split_at.ensures.front c.loop-place.invariant;
+      whole = cc;
+    }

@@ -1,0 +1,4 @@
+pub mod Cutting
+pub mod Spelling
+pub mod Grammar
+pub mod Ends

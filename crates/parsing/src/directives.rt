@@ -1,0 +1,39 @@
+//! What a schedule holds.
+use topology::{NodeId, Prefix, PrefixId, Topology};
+
+/// A line of a schedule, by its words alone: names are not looked up.
+#[derive(Clone, Copy, Debug, PartialEq, Eq)]
+pub enum Line {
+    Node { id: NodeId, consolidator: bool },
+    /// `b` is to `a` what `any` says.
+    Link { a: NodeId, b: NodeId },
+    Prefix { prefix: Prefix },
+    Begin,
+    Originate { node: NodeId, prefix: Prefix },
+    Withdraw { node: NodeId, prefix: Prefix },
+    Deliver { from: NodeId, to: NodeId },
+    ShowRib,
+}
+
+/// A line after `begin`, its names looked up in the network.
+#[derive(Clone, Copy, Debug, PartialEq, Eq)]
+pub enum Directive {
+    Originate { node: NodeId, prefix: PrefixId },
+    Withdraw { node: NodeId, prefix: PrefixId },
+    Deliver { from: NodeId, to: NodeId },
+    ShowRib,
+}
+
+/// A directive and the number of its line, from 1.
+#[derive(Clone, Copy, Debug, PartialEq, Eq)]
+pub struct Numbered {
+    pub line: u32,
+    pub directive: Directive,
+}
+
+/// A network and what is to happen in it.
+#[derive(Drop)]
+pub struct Schedule {
+    pub topology: Topology,
+    pub lines: Vec<Numbered>,
+}

@@ -1,0 +1,88 @@
+//! Words of a line, numbers and prefixes.
+ghost use Rattle.std.specs.Prelude.{ℕ, ◌≡◌, ◌≢◌, ◌≤◌, IfSome, IfNone};
+ghost use Rattle.std.specs.Fmt.{decimal};
+ghost use Rattle.parsing.specs.Spelling.{prefix_text, IsRange};
+ghost use Rattle.parsing.specs.Cutting.{Cuts};
+ghost use Rattle.topology.specs.declared.prefixes.Prefix.{Prefix as Range};
+
+use topology::Prefix;
+
+/// The bytes before the first `mark`, and those behind it, where there is one.
+#[derive(Clone, Copy, Debug)]
+pub struct Cut<'a> {
+    pub front: &'a [u8],
+    pub rest: Option<&'a [u8]>,
+}
+
+/// Cuts the bytes at the first `mark`.
+pub fn cut_at(mark: u8, bytes: &[u8]) -> Cut<'_>
+    ensures { Cuts mark bytes.now result }
+{
+    for (place, byte) in bytes.iter().enumerate() {
+        if *byte == mark {
+            let (front, rest) = bytes.split_at(place);
+            let (_, rest) = rest.split_at(1);
+            return Cut {
+                front,
+                rest: Some(rest),
+            };
+        }
+    }
+    Cut {
+        front: bytes,
+        rest: None,
+    }
+}
+
+/// The number that the word spells in decimal, without sign and leading zeros. None exactly where
+/// it spells none up to `max`.
+pub fn read_number(word: &[u8], max: u32) -> Option<u32>
+    ensures some { IfSome result (λ n. word.now ≡ decimal n) }
+    ensures within { IfSome result (λ n. n ≤ max) }
+    ensures none { IfNone result ((n : ℕ) → n ≤ max → word.now ≢ decimal n) }
+{
+    if word.is_empty() {
+        return None;
+    }
+    if word[0] == b'0' && word.len() > 1 {
+        return None;
+    }
+    let mut number: u64 = 0;
+    for byte in word {
+        if !byte.is_ascii_digit() {
+            return None;
+        }
+        number = number * 10 + u64::from(*byte - b'0');
+        if number > u64::from(max) {
+            return None;
+        }
+    }
+    Some(number as u32)
+}
+
+// The number of one byte before the mark, and what stands behind it.
+fn byte_before(mark: u8, word: &[u8]) -> Option<(u32, &[u8])> {
+    let Cut { front, rest } = cut_at(mark, word);
+    let number = read_number(front, 255)?;
+    Some((number, rest?))
+}
+
+/// The prefix that the word spells: four numbers joined by points, a slash and the length. None
+/// exactly where it spells none, or one with bits beyond its length.
+pub fn read_prefix(word: &[u8]) -> Option<Prefix>
+    ensures some { IfSome result (λ p. word.now ≡ prefix_text p) }
+    ensures in_range { IfSome result (λ p. IsRange p) }
+    ensures none { IfNone result ((p : Range) → IsRange p → word.now ≢ prefix_text p) }
+{
+    let (a, word) = byte_before(b'.', word)?;
+    let (b, word) = byte_before(b'.', word)?;
+    let (c, word) = byte_before(b'.', word)?;
+    let (d, word) = byte_before(b'/', word)?;
+    let len = read_number(word, 32)? as u8;
+    let bits = ((a * 256 + b) * 256 + c) * 256 + d;
+    let size = 1u64 << (32 - len);
+    if u64::from(bits) % size != 0 {
+        return None;
+    }
+    Some(Prefix { bits, len })
+}
