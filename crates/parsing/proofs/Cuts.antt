@@ -37,6 +37,16 @@ no_cut mark [] r (c ∷ g) k e =
     false≢true (sym (head_differs mark c g k) ∙ eq-eqb c mark (let q : c ≡ mark = cc in q))
 no_cut mark (b ∷ f) r (c ∷ g) k e = no_cut mark f r g (tail_lacks mark c g k) (let q : f ++ mark ∷ r ≡ g = cc in q)
 
+-- what a cut gives of a list that has the mark behind a front without it
+pub cut_is : (mark : ℕ) (front f r : List ℕ) (rest : Option (List ℕ)) → Lacks mark front → Lacks mark f → joined mark front rest ≡ f ++ mark ∷ r → (front ≡ f) × (rest ≡ Some r)
+cut_is mark front f r None h k e = absurd (no_cut mark f r front h (sym e))
+cut_is mark front f r (Some s) h k e = let same = same_cut mark front f s r h k e in (same.0, ap Some same.1)
+
+-- what a cut gives of a list without the mark
+pub cut_none : (mark : ℕ) (front f : List ℕ) (rest : Option (List ℕ)) → Lacks mark f → joined mark front rest ≡ f → (front ≡ f) × (rest ≡ None)
+cut_none mark front f None k e = (e, refl)
+cut_none mark front f (Some s) k e = absurd (no_cut mark front s f k e)
+
 -- the words of a list that is cut at a space
 pub words_of-cut : (front rest : List ℕ) → Lacks 32 front → words_of (front ++ 32 ∷ rest) ≡ front ∷ words_of rest
 words_of-cut [] rest h = refl

@@ -1,16 +1,18 @@
 -- Words of digits and the numbers that they spell.
-use Rattle.std.proofs.Common.{◌≡◌, ℕ, ◌+◌, ◌-◌, ◌*◌, ◌<◌, ◌≤◌, ◌^◌, Bool, true, false, List, [], ◌∷◌, ◌++◌, length, take, get_or, refl, sym, ap, ◌∙◌, inl, inr, arith}
+use Rattle.std.proofs.Common.{◌≡◌, ℕ, ◌+◌, ◌-◌, ◌*◌, ◌<◌, ◌≤◌, ◌^◌, ◌==◌, Bool, true, false, List, [], ◌∷◌, ◌++◌, length, take, get_or, refl, sym, ap, ◌∙◌, inl, inr, arith}
+use Rattle.std.specs.List.{list_any}
 use Rattle.std.specs.Fmt.{decimal}
 use Rattle.std.specs.Char.{digit_value, is_ascii_digit}
 use Rattle.std.specs.Int.{IsInRange}
 use Rattle.std.specs.Str.Parse.{AllDigits, digits_value}
-use Rattle.std.proofs.lemmas.Bool.{cases_lt}
+use Rattle.std.proofs.lemmas.Bool.{cases_lt, or_from, ne_eqb}
 use Rattle.std.proofs.lemmas.Bool.Decides.{nat_tests}
-use Rattle.std.proofs.lemmas.Fmt.{digits_decimal, digits_value-decimal, decimal-digits_value, decimal_nonempty, decimal_digit, first_decimal}
+use Rattle.std.proofs.lemmas.Fmt.{digits_decimal, digits_value-decimal, decimal-digits_value, decimal_nonempty, decimal_digit, first_decimal, decimal_injective}
 use Rattle.std.proofs.lemmas.Int.Digits.{digits_more, digits_value_more}
 use Rattle.std.proofs.lemmas.List.{take_all}
 use Rattle.std.proofs.lemmas.Str.{digit_value_digit}
-use Rattle.std.proofs.lemmas.Str.Parse.{IsNumeralModel, numerals_by_value, tells_digits, digit_at, digits_value-take-le}
+use Rattle.std.proofs.lemmas.Str.Parse.{IsNumeralModel, numerals_by_value, tells_digits, digit_at, digits_value-take-le, digit_from_value}
+use Rattle.parsing.proofs.Cuts.{Lacks, same_cut}
 
 own : IsNumeralModel (AllDigits 10) (digits_value 10)
 own = numerals_by_value (AllDigits 10) tells_digits
@@ -59,3 +61,19 @@ digit_more word i number within digit digits value =
     let range : IsInRange 48 57 (get_or word i 0) = (grind (arith, nat_tests)) in
     let one = digit_value_digit (get_or word i 0) range in
     (digits_more 10 word i within digits (omega arith), rw (digits_value_more 10 word i within) (omega arith))
+
+-- what is below 48 is in no number: a space, a newline, a point, a slash
+pub digits_lack : (mark : ℕ) (ds : List ℕ) → mark < 48 → AllDigits 10 ds → Lacks mark ds
+digits_lack mark [] low h = refl
+digits_lack mark (d ∷ ds) low h =
+    let range = digit_from_value d h.0 in
+    or_from (d == mark) (list_any (λ b. b == mark) ds) (ne_eqb d mark (λ e. omega arith)) (digits_lack mark ds low h.1)
+
+pub decimal_lacks : (mark n : ℕ) → mark < 48 → n < 2 ^ 64 → Lacks mark (decimal n)
+decimal_lacks mark n low h = digits_lack mark (decimal n) low (decimal_digits n h)
+
+-- a list begins with one number before a mark
+pub same_front : (mark m n : ℕ) (r s word : List ℕ) → mark < 48 → m < 2 ^ 64 → n < 2 ^ 64 → word ≡ decimal m ++ mark ∷ r → word ≡ decimal n ++ mark ∷ s → (m ≡ n) × (r ≡ s)
+same_front mark m n r s word low h k e f =
+    let same = same_cut mark (decimal m) (decimal n) r s (decimal_lacks mark m low h) (decimal_lacks mark n low k) (sym e ∙ f) in
+    (decimal_injective m n h k same.0, same.1)
