@@ -1,4 +1,5 @@
 pub mod Cutting
 pub mod Spelling
+pub mod Reading
 pub mod Grammar
 pub mod Ends

@@ -1,0 +1,22 @@
+-- Lines by their words, as they are read one after the other.
+use Rattle.std.specs.Prelude.{ℕ, ◌≡◌, List, [], codes}
+use Rattle.parsing.specs.declared.directives.Line.{Line}
+use Rattle.parsing.specs.declared.reading.Keyword.{Keyword}
+use Rattle.parsing.specs.declared.reading.Keyword.TheVariants.{Node, Link, Prefix, Begin, Originate, Withdraw, Deliver, Show}
+use Rattle.parsing.specs.Spelling.{line_words, InRange}
+
+-- the word that a line of this kind begins with
+abbrev pub keyword_text : Keyword → List ℕ
+keyword_text Node = codes "node"
+keyword_text Link = codes "link"
+keyword_text Prefix = codes "prefix"
+keyword_text Begin = codes "begin"
+keyword_text Originate = codes "originate"
+keyword_text Withdraw = codes "withdraw"
+keyword_text Deliver = codes "deliver"
+keyword_text Show = codes "show"
+
+-- these words spell the line
+pub record Says (words : List (List ℕ)) (line : Line) : Type 0 where
+  pub spelled : words ≡ line_words line
+  pub in_range : InRange line
