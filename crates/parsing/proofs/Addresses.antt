@@ -1,5 +1,5 @@
 -- The text of a prefix: its parts, and that it spells one prefix.
-use Rattle.std.proofs.Common.{◌≡◌, ℕ, ◌+◌, ◌*◌, ◌/◌, ◌%◌, ◌-◌, ◌<◌, ◌≤◌, ◌^◌, List, [], ◌∷◌, ◌++◌, append_assoc, refl, sym, ap, ap₂, ◌∙◌, arith}
+use Rattle.std.proofs.Common.{◌≡◌, ℕ, ◌+◌, ◌*◌, ◌/◌, ◌%◌, ◌-◌, ◌<◌, ◌≤◌, ◌^◌, ◌==◌, List, [], ◌∷◌, ◌++◌, append_assoc, refl, sym, ap, ap₂, ◌∙◌, arith}
 use Rattle.std.specs.Prelude.{codes}
 use Rattle.std.specs.Fmt.{decimal}
 use Rattle.topology.specs.declared.prefixes.Prefix.{Prefix as Range}
@@ -7,7 +7,11 @@ use Rattle.topology.specs.Net.{IsPrefix}
 use Rattle.parsing.specs.Spelling.{prefix_text, IsRange}
 use Rattle.std.proofs.lemmas.Fmt.{decimal_injective}
 use Rattle.std.proofs.lemmas.Nat.{one_shl}
-use Rattle.parsing.proofs.Numbers.{same_front}
+use Rattle.std.specs.List.{list_any}
+use Rattle.std.proofs.lemmas.Bool.{or_from}
+use Rattle.std.proofs.lemmas.List.Folds.{list_any-append}
+use Rattle.parsing.proofs.Cuts.{Lacks}
+use Rattle.parsing.proofs.Numbers.{same_front, decimal_lacks}
 
 -- what stands behind the first, the second and the third number
 abbrev pub from_fourth : ℕ → ℕ → List ℕ
@@ -93,3 +97,16 @@ same_prefix_text p q h k e =
     let fourth = reads_fourth q (from_fourth p.bits p.len) (p.bits % 256) (decimal p.len) third.1 (omega arith) refl in
     let same = reads_prefix q (p.bits / 2 ^ 24 % 256) (p.bits / 2 ^ 16 % 256) (p.bits / 2 ^ 8 % 256) (p.bits % 256) p.len k h.1.short first.0 second.0 third.0 fourth.0 fourth.1 in
     ap₂ (λ bits len. record { bits = bits; len = len }) (bits_from p.bits h.0 ∙ sym same.0) (sym same.1)
+
+append_lacks : (mark : ℕ) (xs ys : List ℕ) → Lacks mark xs → Lacks mark ys → Lacks mark (xs ++ ys)
+append_lacks mark xs ys h k = list_any-append (λ b. b == mark) xs ys ∙ or_from (list_any (λ b. b == mark) xs) (list_any (λ b. b == mark) ys) h k
+
+-- no space is in the text of a prefix
+pub prefix_text_lacks_space : (p : Range) → p.len ≤ 32 → Lacks 32 (prefix_text p)
+prefix_text_lacks_space p h =
+    let number : (n : ℕ) → n < 2 ^ 64 → Lacks 32 (decimal n) = λ n small. decimal_lacks 32 n (omega arith) small in
+    rw (text_by_parts p)
+    (append_lacks 32 (decimal (p.bits / 2 ^ 24 % 256)) (46 ∷ from_second p.bits p.len) (number (p.bits / 2 ^ 24 % 256) (omega arith))
+    (append_lacks 32 (decimal (p.bits / 2 ^ 16 % 256)) (46 ∷ from_third p.bits p.len) (number (p.bits / 2 ^ 16 % 256) (omega arith))
+    (append_lacks 32 (decimal (p.bits / 2 ^ 8 % 256)) (46 ∷ from_fourth p.bits p.len) (number (p.bits / 2 ^ 8 % 256) (omega arith))
+    (append_lacks 32 (decimal (p.bits % 256)) (47 ∷ decimal p.len) (number (p.bits % 256) (omega arith)) (number p.len (omega arith))))))

@@ -2,3 +2,4 @@ pub mod Cuts
 pub mod Numbers
 pub mod Addresses
 pub mod Spellings
+pub mod Lines

@@ -10,15 +10,10 @@ use Rattle.parsing.specs.Cutting.{joined}
 use Rattle.parsing.specs.Spelling.{grow, words_of, line_words, prefix_text, IsNumber, IsRange, InRange, Spells}
 use Rattle.parsing.specs.declared.reading.Keyword.{Keyword}
 use Rattle.parsing.specs.declared.reading.Keyword.TheVariants as keyword
-use Rattle.parsing.specs.Reading.{Says, keyword_text}
+use Rattle.parsing.specs.Reading.{Says, keyword_text, words_behind}
 use Rattle.parsing.proofs.Cuts.{Lacks, words_of-cut, words_of-whole}
 use Rattle.std.proofs.lemmas.Fmt.{decimal_injective}
 use Rattle.parsing.proofs.Addresses.{same_prefix_text}
-
--- the words behind a space, where there is one
-abbrev pub words_behind : Option (List ℕ) → List (List ℕ)
-words_behind None = []
-words_behind (Some rest) = words_of rest
 
 -- a list that is cut at its first space is one word and those behind
 pub words_by_cut : (bytes front : List ℕ) (rest : Option (List ℕ)) → Lacks 32 front → bytes ≡ joined 32 front rest → words_of bytes ≡ front ∷ words_behind rest
@@ -61,7 +56,7 @@ letter [] = 0
 letter ([] ∷ ws) = 0
 letter ((b ∷ bs) ∷ ws) = b
 
-abbrev behind : List (List ℕ) → List (List ℕ)
+abbrev pub behind : List (List ℕ) → List (List ℕ)
 behind [] = []
 behind (w ∷ ws) = ws
 
@@ -96,7 +91,7 @@ said k ws (Node id false) h = other_letter (keyword_text k ∷ ws) (line_words (
 said k ws (Node id true) h = other_letter (keyword_text k ∷ ws) (line_words (Node id true)) refl h.spelled
 said k ws other h = other_letter (keyword_text k ∷ ws) (line_words other) refl h.spelled
 
-abbrev word_at : ℕ → List (List ℕ) → List ℕ
+abbrev pub word_at : ℕ → List (List ℕ) → List ℕ
 word_at n ws = get_or ws n []
 
 same_node : (m n : ℕ) → IsNumber m → IsNumber n → decimal m ≡ decimal n → m ≡ n

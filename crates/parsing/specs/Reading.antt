@@ -1,9 +1,9 @@
 -- Lines by their words, as they are read one after the other.
-use Rattle.std.specs.Prelude.{ℕ, ◌≡◌, List, [], codes}
+use Rattle.std.specs.Prelude.{ℕ, ◌≡◌, List, [], Option, Some, None, codes}
 use Rattle.parsing.specs.declared.directives.Line.{Line}
 use Rattle.parsing.specs.declared.reading.Keyword.{Keyword}
 use Rattle.parsing.specs.declared.reading.Keyword.TheVariants.{Node, Link, Prefix, Begin, Originate, Withdraw, Deliver, Show}
-use Rattle.parsing.specs.Spelling.{line_words, InRange}
+use Rattle.parsing.specs.Spelling.{words_of, line_words, InRange}
 
 -- the word that a line of this kind begins with
 abbrev pub keyword_text : Keyword → List ℕ
@@ -15,6 +15,11 @@ keyword_text Originate = codes "originate"
 keyword_text Withdraw = codes "withdraw"
 keyword_text Deliver = codes "deliver"
 keyword_text Show = codes "show"
+
+-- the words behind a space, where there is one
+abbrev pub words_behind : Option (List ℕ) → List (List ℕ)
+words_behind None = []
+words_behind (Some rest) = words_of rest
 
 -- these words spell the line
 pub record Says (words : List (List ℕ)) (line : Line) : Type 0 where

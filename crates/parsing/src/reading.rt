@@ -1,9 +1,9 @@
 //! Reads one line of a schedule.
-ghost use Rattle.std.specs.Prelude.{ℕ, ◌≡◌, ◌≢◌, List, [], ◌∷◌, IfSome, IfNone, codes};
+ghost use Rattle.std.specs.Prelude.{ℕ, ◌≡◌, ◌≢◌, List, [], ◌∷◌, IfSome, IfNone, option_map, codes};
 ghost use Rattle.std.specs.Fmt.{decimal};
 ghost use Rattle.topology.specs.declared.prefixes.Prefix.{Prefix as Range};
 ghost use Rattle.parsing.specs.Spelling.{Spells, IsNumber, IsRange, words_of, prefix_text};
-ghost use Rattle.parsing.specs.Reading.{Says, keyword_text};
+ghost use Rattle.parsing.specs.Reading.{Says, keyword_text, words_behind};
 ghost use Rattle.parsing.specs.declared.directives.Line.{Line};
 ghost use Rattle.parsing.specs.declared.reading.Keyword.{Keyword};
 
@@ -24,6 +24,13 @@ enum Keyword {
     Withdraw,
     Deliver,
     Show,
+}
+
+// The first word, and the bytes behind its space, where there is one.
+fn first_word(bytes: &[u8]) -> Cut<'_>
+    ensures { words_of bytes.now ≡ result.front.now ∷ words_behind (option_map (λ rest. rest.now) result.rest) }
+{
+    cut_at(SPACE, bytes)
 }
 
 fn keyword_of(word: &[u8]) -> Option<Keyword>
@@ -61,14 +68,21 @@ fn node_line(words: &[u8]) -> Option<Line>
     ensures some { IfSome result (λ line. Says (codes "node" ∷ words_of words.now) line) }
     ensures none { IfNone result ((line : Line) → Says (codes "node" ∷ words_of words.now) line → ⊥) }
 {
-    let Cut { front, rest } = cut_at(SPACE, words);
+    let Cut { front, rest } = first_word(words);
     let id = node_of(front)?;
-    let consolidator = match rest {
-        None => false,
-        Some(b"consolidator") => true,
-        Some(_) => return None,
+    let Some(mark) = rest else {
+        return Some(Line::Node {
+            id,
+            consolidator: false,
+        });
     };
-    Some(Line::Node { id, consolidator })
+    if mark != b"consolidator".as_slice() {
+        return None;
+    }
+    Some(Line::Node {
+        id,
+        consolidator: true,
+    })
 }
 
 // The words behind `link`.
@@ -76,14 +90,15 @@ fn link_line(words: &[u8]) -> Option<Line>
     ensures some { IfSome result (λ line. Says (codes "link" ∷ words_of words.now) line) }
     ensures none { IfNone result ((line : Line) → Says (codes "link" ∷ words_of words.now) line → ⊥) }
 {
-    let Cut { front, rest } = cut_at(SPACE, words);
+    let Cut { front, rest } = first_word(words);
     let a = node_of(front)?;
-    let Cut { front, rest } = cut_at(SPACE, rest?);
+    let Cut { front, rest } = first_word(rest?);
     let b = node_of(front)?;
-    match rest {
-        Some(b"any") => Some(Line::Link { a, b }),
-        _ => None,
+    let relation = rest?;
+    if relation != b"any".as_slice() {
+        return None;
     }
+    Some(Line::Link { a, b })
 }
 
 // A prefix alone.
@@ -100,7 +115,7 @@ fn deliver_line(words: &[u8]) -> Option<Line>
     ensures some { IfSome result (λ line. Says (codes "deliver" ∷ words_of words.now) line) }
     ensures none { IfNone result ((line : Line) → Says (codes "deliver" ∷ words_of words.now) line → ⊥) }
 {
-    let Cut { front, rest } = cut_at(SPACE, words);
+    let Cut { front, rest } = first_word(words);
     let from = node_of(front)?;
     let to = node_of(rest?)?;
     Some(Line::Deliver { from, to })
@@ -113,10 +128,21 @@ fn origin_of(words: &[u8]) -> Option<(NodeId, Prefix)>
     ensures none { IfNone result
         ((node : ℕ) (p : Range) → IsNumber node → IsRange p → words_of words.now ≢ decimal node ∷ prefix_text p ∷ []) }
 {
-    let Cut { front, rest } = cut_at(SPACE, words);
+    let Cut { front, rest } = first_word(words);
     let node = node_of(front)?;
     let prefix = read_prefix(rest?)?;
     Some((node, prefix))
+}
+
+// What is shown.
+fn show_line(words: &[u8]) -> Option<Line>
+    ensures some { IfSome result (λ line. Says (codes "show" ∷ words_of words.now) line) }
+    ensures none { IfNone result ((line : Line) → Says (codes "show" ∷ words_of words.now) line → ⊥) }
+{
+    if words != b"rib".as_slice() {
+        return None;
+    }
+    Some(Line::ShowRib)
 }
 
 // The line of a keyword and the words behind it.
@@ -138,10 +164,18 @@ fn line_of(keyword: Keyword, words: &[u8]) -> Option<Line>
             Some(Line::Withdraw { node, prefix })
         }
         Keyword::Deliver => deliver_line(words),
-        Keyword::Show => match words {
-            b"rib" => Some(Line::ShowRib),
-            _ => None,
-        },
+        Keyword::Show => show_line(words),
+    }
+}
+
+// The line of a keyword without words behind it.
+fn line_alone(keyword: Keyword) -> Option<Line>
+    ensures some { IfSome result (λ line. Says (keyword_text keyword ∷ []) line) }
+    ensures none { IfNone result ((line : Line) → Says (keyword_text keyword ∷ []) line → ⊥) }
+{
+    match keyword {
+        Keyword::Begin => Some(Line::Begin),
+        _ => None,
     }
 }
 
@@ -150,13 +184,10 @@ pub fn read_line(bytes: &[u8]) -> Option<Line>
     ensures some { IfSome result (λ line. Spells bytes.now line) }
     ensures none { IfNone result ((line : Line) → Spells bytes.now line → ⊥) }
 {
-    let Cut { front, rest } = cut_at(SPACE, bytes);
+    let Cut { front, rest } = first_word(bytes);
     let keyword = keyword_of(front)?;
-    match rest {
-        Some(words) => line_of(keyword, words),
-        None => match keyword {
-            Keyword::Begin => Some(Line::Begin),
-            _ => None,
-        },
-    }
+    let Some(words) = rest else {
+        return line_alone(keyword);
+    };
+    line_of(keyword, words)
 }
