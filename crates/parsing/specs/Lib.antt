@@ -2,4 +2,5 @@ pub mod Cutting
 pub mod Spelling
 pub mod Reading
 pub mod Grammar
+pub mod Standing
 pub mod Ends

@@ -1,7 +1,8 @@
 //! Reads a schedule.
-ghost use Rattle.std.specs.Prelude.{◌≡◌, ◌<◌, ◌-◌, ◌^◌, List, [], length, IfOk, IfErr};
-ghost use Rattle.parsing.specs.Spelling.{lines_of};
-ghost use Rattle.parsing.specs.Grammar.{IsFile, Reads};
+ghost use Rattle.std.specs.Prelude.{ℕ, suc, ◌≡◌, ◌<◌, ◌-◌, ◌^◌, true, false, List, [], ◌∷◌, ◌++◌, length, map, IfSome, IfNone, IfOk, IfErr, OnOk, IsTrue};
+ghost use Rattle.parsing.specs.Spelling.{lines_of, InRange};
+ghost use Rattle.parsing.specs.Grammar.{IsFile, Reads, with_line, place_in, directed, allowed};
+ghost use Rattle.parsing.specs.Standing.{adds, knows, directs, refusal_of, IsAfter, UnlessMemory};
 ghost use Rattle.parsing.specs.Ends.{SaysWhy, IsWantOfMemory};
 ghost use Rattle.parsing.specs.declared.directives.Line.{Line};
 
@@ -27,6 +28,8 @@ enum Refusal {
 }
 
 impl From<BuildError> for Refusal {
+    ghost from_gives = { λ error why. why ≡ refusal_of error };
+
     fn from(error: BuildError) -> Refusal {
         match error {
             BuildError::NoMemory => Refusal::NoMemory,
@@ -35,7 +38,11 @@ impl From<BuildError> for Refusal {
     }
 }
 
-fn build(topology: &mut Topology, line: &Line) -> Result<(), Refusal> {
+fn build(topology: &mut Topology, line: &Line) -> Result<(), Refusal>
+    requires { InRange line.now }
+    ensures ok { OnOk result ((adds topology.old line.now ≡ true) × (topology.new ≡ with_line line.now topology.old)) }
+    ensures refused { IfErr result (λ why. UnlessMemory why (adds topology.old line.now ≡ false)) }
+{
     match line {
         Line::Node { id, consolidator } => topology.add_node(*id, *consolidator)?,
         Line::Link { a, b } => topology.add_link(*a, *b, Relation::Any)?,
@@ -47,12 +54,23 @@ fn build(topology: &mut Topology, line: &Line) -> Result<(), Refusal> {
     Ok(())
 }
 
-fn origin(topology: &Topology, node: NodeId, prefix: Prefix) -> Option<PrefixId> {
+// The place of the prefix, where the node and the prefix are known.
+fn origin(topology: &Topology, node: NodeId, prefix: Prefix) -> Option<PrefixId>
+    ensures known { IfSome result (λ _. knows topology.now node prefix ≡ true) }
+    ensures place { IfSome result (λ place. place ≡ place_in prefix topology.now.prefixes) }
+    ensures none { IfNone result (knows topology.now node prefix ≡ false) }
+{
     topology.rank_of(node)?;
+    // The call says that no prefix is there twice.
+    let _valid = topology.nodes();
     topology.find_prefix(prefix)
 }
 
-fn look_up(topology: &Topology, line: &Line) -> Option<Directive> {
+fn look_up(topology: &Topology, line: &Line) -> Option<Directive>
+    ensures some { IfSome result (λ _. directs topology.now line.now ≡ true) }
+    ensures directive { IfSome result (λ directive. directed topology.now line.now ≡ directive ∷ []) }
+    ensures none { IfNone result (directs topology.now line.now ≡ false) }
+{
     match line {
         Line::Originate { node, prefix } => {
             let place = origin(topology, *node, *prefix)?;
@@ -80,20 +98,14 @@ fn look_up(topology: &Topology, line: &Line) -> Option<Directive> {
     }
 }
 
-// Takes one line more.
-fn take(
-    schedule: &mut Schedule,
-    begun: &mut bool,
-    number: u32,
-    line: &Line,
-) -> Result<(), Refusal> {
-    if !*begun {
-        if *line == Line::Begin {
-            *begun = true;
-            return Ok(());
-        }
-        return build(&mut schedule.topology, line);
-    }
+// Takes a line after begin.
+fn direct(schedule: &mut Schedule, number: u32, line: &Line) -> Result<(), Refusal>
+    ensures ok { OnOk result ((directs schedule.old.topology line.now ≡ true)
+        × (schedule.new.topology ≡ schedule.old.topology)
+        × (schedule.new.lines.items ≡ schedule.old.lines.items
+            ++ map (λ d. record { line = number; directive = d }) (directed schedule.old.topology line.now))) }
+    ensures refused { IfErr result (λ why. UnlessMemory why (directs schedule.old.topology line.now ≡ false)) }
+{
     let Some(directive) = look_up(&schedule.topology, line) else {
         return Err(Refusal::NotAllowed);
     };
@@ -105,6 +117,29 @@ fn take(
         return Err(Refusal::NoMemory);
     }
     Ok(())
+}
+
+// Takes one line more.
+fn take(
+    schedule: &mut Schedule,
+    begun: &mut bool,
+    number: u32,
+    line: &Line,
+) -> Result<(), Refusal>
+    requires { InRange line.now }
+    ensures ok { OnOk result ((earlier : List Line) → IsAfter schedule.old begun.old earlier → number ≡ suc (length earlier)
+        → IsTrue (allowed earlier line.now) × IsAfter schedule.new begun.new (line.now ∷ earlier)) }
+    ensures refused { IfErr result (λ why. UnlessMemory why
+        ((earlier : List Line) → IsAfter schedule.old begun.old earlier → allowed earlier line.now ≡ false)) }
+{
+    if *begun {
+        return direct(schedule, number, line);
+    }
+    if matches!(line, Line::Begin) {
+        *begun = true;
+        return Ok(());
+    }
+    build(&mut schedule.topology, line)
 }
 
 /// The schedule that the bytes spell, else the first line that is outside the grammar. Linear in
