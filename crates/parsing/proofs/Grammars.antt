@@ -1,8 +1,8 @@
 -- Lines read one after the other: what the first of them tells, and that a text is read in one way.
-use Rattle.std.proofs.Common.{◌≡◌, ℕ, zero, suc, ◌+◌, ◌<◌, Bool, true, false, List, [], ◌∷◌, ◌++◌, length, drop, refl, sym, ap, ◌∙◌, arith}
+use Rattle.std.proofs.Common.{◌≡◌, ℕ, zero, suc, ◌+◌, ◌<◌, ◌≤◌, Bool, true, false, List, [], ◌∷◌, ◌++◌, length, drop, append_assoc, refl, sym, ap, subst, ◌∙◌, arith}
 use Rattle.std.specs.Prelude.{Option, Some, None, IsTrue}
 use Rattle.std.proofs.lemmas.Bool.{both_ways}
-use Rattle.std.proofs.lemmas.List.{drop_at, drop_all}
+use Rattle.std.proofs.lemmas.List.{drop_at, drop_all, length_push, length-drop, length-append, drop-drop}
 use Rattle.parsing.specs.declared.directives.Line.{Line}
 use Rattle.parsing.specs.Cutting.{joined}
 use Rattle.parsing.specs.Spelling.{lines_of, Spells}
@@ -13,11 +13,9 @@ use Rattle.parsing.proofs.Spellings.{one_line}
 -- the front of a cut at a newline is the first line, and the others are in what is behind it
 pub next_line : (bytes front : List ℕ) (rest : Option (List ℕ)) → 0 < length bytes → Lacks 10 front → bytes ≡ joined 10 front rest → lines_of bytes ≡ front ∷ lines_of (drop (length front + 1) bytes)
 next_line bytes front (Some rest) some h e =
-    let behind : drop (length front + 1) bytes ≡ rest = ap (drop (length front + 1)) e ∙ past_mark front rest in
+    let front_and_mark : front ++ 10 ∷ rest ≡ (front ++ 10 ∷ []) ++ rest = sym (append_assoc front (10 ∷ []) rest) in
+    let behind : drop (length front + 1) bytes ≡ rest = ap (drop (length front + 1)) (e ∙ front_and_mark) ∙ drop_at (front ++ 10 ∷ []) rest (length front + 1) (length_push front 10) in
     ap lines_of e ∙ lines_of-cut front rest h ∙ ap (λ bs. front ∷ lines_of bs) (sym behind)
-    where
-      past_mark : (f r : List ℕ) → drop (length f + 1) (f ++ 10 ∷ r) ≡ r
-      past_mark f r = ?
 next_line bytes [] None some h e = absurd (omega (arith, ap length e))
 next_line bytes (b ∷ front) None some h e =
     let behind : drop (length (b ∷ front) + 1) bytes ≡ [] = drop_all (length (b ∷ front) + 1) bytes (omega (arith, ap length e)) in
@@ -59,3 +57,15 @@ bad_here earlier text texts whole h none = let e : length earlier + 0 ≡ length
 -- where the one line of the text is not allowed, none is
 pub only_line : (earlier : List Line) (text : List ℕ) (line other : Line) → Spells text line → allowed earlier line ≡ false → Spells text other → allowed earlier other ≡ false
 only_line earlier text line other h bad k = ap (allowed earlier) (one_line text other line k h) ∙ bad
+
+pub front_within : (mark : ℕ) (bytes front : List ℕ) (rest : Option (List ℕ)) → bytes ≡ joined mark front rest → length front ≤ length bytes
+front_within mark bytes front None e = omega (arith, ap length e)
+front_within mark bytes front (Some rest) e = omega (arith, ap length e, length-append front (mark ∷ rest))
+
+-- the line that is cut at a place of the text is the first of those that remain
+pub line_here : (earlier : List Line) (text bytes front : List ℕ) (place : ℕ) (rest : Option (List ℕ)) (whole : List (List ℕ)) → place < length text → bytes ≡ drop place text → Lacks 10 front → bytes ≡ joined 10 front rest → Continues earlier (lines_of (drop place text)) whole → Continues earlier (front ∷ lines_of (drop (place + (length front + 1)) text)) whole
+line_here earlier text bytes front place rest whole within b h e k =
+    let some : 0 < length (drop place text) = omega (arith, length-drop place text) in
+    let first = next_line (drop place text) front rest some h (sym b ∙ e) in
+    let next = drop-drop (length front + 1) place text in
+    subst (λ texts. Continues earlier texts whole) (first ∙ ap (λ bs. front ∷ lines_of bs) next) k

@@ -174,3 +174,10 @@ pub fn parse(alloc: Global, text: &[u8]) -> Result<Schedule, ParseEnd>
     }
     Ok(schedule)
 }
+
+/// A text is spelled by one list of lines at most, so a file says one schedule.
+pub fn reading_is_unique()
+    ensures { (text : List ℕ) (lines others : List Line)
+        → Reads [] (lines_of text) lines → Reads [] (lines_of text) others → lines ≡ others }
+{
+}
