@@ -1,8 +1,7 @@
 -- What is read of a line word by word, and what line that makes.
-use Rattle.std.proofs.Common.{◌≡◌, ℕ, Bool, true, false, List, [], ◌∷◌, ◌++◌, length, refl, sym, ap, ◌∙◌, inl, inr, arith}
+use Rattle.std.proofs.Common.{◌≡◌, ℕ, true, false, List, [], ◌∷◌, length, refl, sym, ap, ◌∙◌, inl, inr, arith}
 use Rattle.std.specs.Prelude.{codes, ◌⊎◌, Option, Some, None}
 use Rattle.std.specs.Fmt.{decimal}
-use Rattle.std.proofs.lemmas.Option.{none-some}
 use Rattle.topology.specs.declared.prefixes.Prefix.{Prefix as Range}
 use Rattle.parsing.specs.declared.directives.Line.{Line}
 use Rattle.parsing.specs.declared.directives.Line.TheVariants.{Node, Link, Prefix, Begin, Originate, Withdraw, Deliver, ShowRib}
@@ -10,7 +9,7 @@ use Rattle.parsing.specs.declared.reading.Keyword.{Keyword}
 use Rattle.parsing.specs.declared.reading.Keyword.TheVariants as keyword
 use Rattle.parsing.specs.Spelling.{words_of, line_words, prefix_text, IsNumber, IsRange, Spells}
 use Rattle.parsing.specs.Reading.{Says, keyword_text, words_behind}
-use Rattle.parsing.proofs.Cuts.{Lacks, words_of-whole}
+use Rattle.parsing.proofs.Cuts.{words_of-whole}
 use Rattle.parsing.proofs.Numbers.{decimal_lacks}
 use Rattle.parsing.proofs.Addresses.{prefix_text_lacks_space}
 use Rattle.parsing.proofs.Spellings.{said, one_word, words_of-some, word_at, behind}

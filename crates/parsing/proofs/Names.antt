@@ -1,40 +1,24 @@
 -- Names looked up in the network: links by their ends, prefixes by their place.
-use Rattle.std.proofs.Common.{◌≡◌, ℕ, zero, suc, ◌+◌, ◌<◌, ◌≤◌, Bool, true, false, cond, ◌==◌, ◌&&◌, ◌||◌, List, [], ◌∷◌, ◌++◌, length, refl, sym, ap, ◌∙◌, arith}
-use Rattle.std.specs.Prelude.{Option, Some, None, option_map, slice_get}
+use Rattle.std.proofs.Common.{◌≡◌, ℕ, zero, suc, ◌+◌, ◌≤◌, Bool, true, false, cond, ◌==◌, ◌||◌, List, [], ◌∷◌, refl, sym, ap, ◌∙◌, arith}
+use Rattle.std.specs.Prelude.{Some, option_map, is_some, slice_get}
 use Rattle.std.specs.List.{list_any, find, count_by}
-use Rattle.std.proofs.lemmas.Bool.{false≢true, and_from, eq-eqb, cond-true, cond_both}
+use Rattle.std.proofs.lemmas.Bool.{and_from, eq-eqb, cond-true, cond_both}
 use Rattle.std.proofs.lemmas.List.Recursion.{is_count_by}
 use Rattle.std.proofs.lemmas.Option.{same_Some, none-some}
-use Rattle.topology.specs.declared.links.Link.{Link}
-use Rattle.topology.specs.declared.links.Relation.{Relation}
 use Rattle.topology.specs.declared.prefixes.Prefix.{Prefix as Range}
 use Rattle.topology.specs.Net.{Net, relation, linked, joins, seen_from, same_prefix}
 use Rattle.parsing.specs.Grammar.{place_in}
 
--- a relation is that of a link that joins the two
-found : {X Y : Type 0} (f : X → Y) (p : X → Bool) (xs : List X) (y : Y) → option_map f (find p xs) ≡ Some y → list_any p xs ≡ true
-found f p [] y e = absurd (none-some y e)
-found f p (x ∷ xs) y e =
-    (elim (p x) as (λ t. option_map f (cond t (Some x) (find p xs)) ≡ Some y → (t || list_any p xs) ≡ true) [
-      true ↦ λ h. refl
-    | false ↦ λ h. found f p xs y h
-    ]) e
+-- a list has one that passes where one is found
+found : {X Y : Type 0} (f : X → Y) (p : X → Bool) (xs : List X) → is_some (option_map f (find p xs)) ≡ list_any p xs
+found f p [] = refl
+found f p (x ∷ xs) =
+    elim (p x) as (λ t. is_some (option_map f (cond t (Some x) (find p xs))) ≡ (t || list_any p xs)) [ true ↦ refl | false ↦ found f p xs ]
 
-not_found : {X Y : Type 0} (f : X → Y) (p : X → Bool) (xs : List X) → option_map f (find p xs) ≡ None → list_any p xs ≡ false
-not_found f p [] e = refl
-not_found f p (x ∷ xs) e =
-    (elim (p x) as (λ t. option_map f (cond t (Some x) (find p xs)) ≡ None → (t || list_any p xs) ≡ false) [
-      true ↦ λ h. absurd (none-some (f x) (sym h))
-    | false ↦ λ h. not_found f p xs h
-    ]) e
-
-pub linked_where : (net : Net) (u v : ℕ) (r : Relation) → relation net u v ≡ Some r → linked net u v ≡ true
+-- two nodes have a relation where they have a link
+pub related : (net : Net) (u v : ℕ) → is_some (relation net u v) ≡ linked net u v
 unfolding relation
-linked_where net u v r e = found (seen_from u) (joins u v) net.links r e
-
-pub not_linked_where : (net : Net) (u v : ℕ) → relation net u v ≡ None → linked net u v ≡ false
-unfolding relation
-not_linked_where net u v e = not_found (seen_from u) (joins u v) net.links e
+related net u v = found (seen_from u) (joins u v) net.links
 
 pub same_prefix-self : (p : Range) → same_prefix p p ≡ true
 same_prefix-self p = and_from (p.bits == p.bits) (p.len == p.len) (eq-eqb p.bits p.bits refl) (eq-eqb p.len p.len refl)
@@ -62,8 +46,8 @@ placed p (q ∷ qs) (suc i) e h =
     let more = counted p qs i e in
     let next : counts (same_prefix p) qs ≤ 1 → i ≡ place_in p qs = placed p qs i e in
     (elim (same_prefix p q) as (λ t. cond t (1 + counts (same_prefix p) qs) (counts (same_prefix p) qs) ≤ 1 → suc i ≡ cond t 0 (suc (place_in p qs))) [
-      true ↦ λ k. absurd (omega arith)
-    | false ↦ λ k. ap suc (next k)
+      | true ↦ λ k. absurd (omega arith)
+      | false ↦ λ k. ap suc (next k)
     ]) h
 
 -- where prefixes differ, one that stands at a place has that place

@@ -1,8 +1,8 @@
 -- Words of digits and the numbers that they spell.
-use Rattle.std.proofs.Common.{◌≡◌, ℕ, ◌+◌, ◌-◌, ◌*◌, ◌<◌, ◌≤◌, ◌^◌, ◌==◌, Bool, true, false, List, [], ◌∷◌, ◌++◌, length, take, get_or, refl, sym, ap, ◌∙◌, inl, inr, arith}
+use Rattle.std.proofs.Common.{◌≡◌, ℕ, ◌+◌, ◌-◌, ◌*◌, ◌<◌, ◌≤◌, ◌^◌, ◌==◌, true, false, List, [], ◌∷◌, ◌++◌, length, take, get_or, refl, sym, ap, ◌∙◌, inl, inr, arith}
 use Rattle.std.specs.List.{list_any}
 use Rattle.std.specs.Fmt.{decimal}
-use Rattle.std.specs.Char.{digit_value, is_ascii_digit}
+use Rattle.std.specs.Char.{is_ascii_digit}
 use Rattle.std.specs.Int.{IsInRange}
 use Rattle.std.specs.Str.Parse.{AllDigits, digits_value}
 use Rattle.std.proofs.lemmas.Bool.{cases_lt, or_from, ne_eqb}
@@ -30,8 +30,8 @@ not_empty word n h none e = let some = decimal_nonempty n h in omega (arith, ap 
 pub no_zero_first : (word : List ℕ) (n : ℕ) → n < 2 ^ 64 → get_or word 0 0 ≡ 48 → 1 < length word → word ≡ decimal n → ⊥
 no_zero_first word n h zero long e =
     elim (cases_lt 0 n) [
-      inl pos ↦ let f = first_decimal n pos h in omega (arith, ap (λ w. get_or w 0 0) e)
-    | inr none ↦ let d = decimal_digit n (omega arith) in omega (arith, ap length (e ∙ d))
+      | inl pos ↦ let f = first_decimal n pos h in omega (arith, ap (λ w. get_or w 0 0) e)
+      | inr none ↦ let d = decimal_digit n (omega arith) in omega (arith, ap length (e ∙ d))
     ]
 
 -- each byte of a number is a digit

@@ -1,8 +1,7 @@
 -- What the words of a line are, keyword by keyword, and that they spell one line.
-use Rattle.std.proofs.Common.{◌≡◌, ℕ, ◌<◌, ◌≤◌, ◌^◌, Bool, true, false, cond, ◌==◌, List, [], ◌∷◌, ◌++◌, length, get_or, refl, sym, ap, ◌∙◌, inl, inr, arith}
-use Rattle.std.specs.Prelude.{codes, Option, Some, None, ◌⊎◌}
+use Rattle.std.proofs.Common.{◌≡◌, ℕ, true, false, cond, ◌==◌, List, [], ◌∷◌, length, get_or, refl, sym, ap, ◌∙◌, arith}
+use Rattle.std.specs.Prelude.{codes, Option, Some, None}
 use Rattle.std.specs.Fmt.{decimal}
-use Rattle.topology.specs.declared.prefixes.Prefix.{Prefix as Range}
 use Rattle.std.proofs.lemmas.Bool.{false≢true, eq-eqb}
 use Rattle.parsing.specs.declared.directives.Line.{Line}
 use Rattle.parsing.specs.declared.directives.Line.TheVariants.{Node, Link, Prefix, Begin, Originate, Withdraw, Deliver, ShowRib}
@@ -29,8 +28,8 @@ pub words_of-some : (bytes : List ℕ) → words_of bytes ≡ [] → ⊥
 words_of-some [] e = let q : [] ∷ [] ≡ [] = e in cc
 words_of-some (b ∷ bs) e =
     (elim (b == 32) as (λ t. cond t ([] ∷ words_of bs) (grow b (words_of bs)) ≡ [] → ⊥) [
-      true ↦ λ q. (let r : [] ∷ words_of bs ≡ [] = q in cc)
-    | false ↦ λ q. grow_some b (words_of bs) q
+      | true ↦ λ q. (let r : [] ∷ words_of bs ≡ [] = q in cc)
+      | false ↦ λ q. grow_some b (words_of bs) q
     ]) e
 
 grown : (b : ℕ) (bs word : List ℕ) (parts : List (List ℕ)) → ((part : List ℕ) → words_of bs ≡ part ∷ [] → bs ≡ part) → words_of bs ≡ parts → grow b parts ≡ word ∷ [] → b ∷ bs ≡ word
@@ -46,8 +45,8 @@ pub one_word : (bytes word : List ℕ) → words_of bytes ≡ word ∷ [] → by
 one_word [] word e = let q : [] ∷ [] ≡ word ∷ [] = e in cc
 one_word (b ∷ bs) word e =
     (elim (b == 32) as (λ t. cond t ([] ∷ words_of bs) (grow b (words_of bs)) ≡ word ∷ [] → b ∷ bs ≡ word) [
-      true ↦ λ q. absurd (words_of-some bs (let r : [] ∷ words_of bs ≡ word ∷ [] = q in cc))
-    | false ↦ λ q. grown b bs word (words_of bs) (λ part h. one_word bs part h) refl q
+      | true ↦ λ q. absurd (words_of-some bs (let r : [] ∷ words_of bs ≡ word ∷ [] = q in cc))
+      | false ↦ λ q. grown b bs word (words_of bs) (λ part h. one_word bs part h) refl q
     ]) e
 
 -- the first letter of a line

@@ -25,3 +25,7 @@ words_behind (Some rest) = words_of rest
 pub record Says (words : List (List ℕ)) (line : Line) : Type 0 where
   pub spelled : words ≡ line_words line
   pub in_range : InRange line
+
+-- no line has these words
+abbrev pub SaysNone : List (List ℕ) → Type 0
+SaysNone words = (line : Line) → Says words line → ⊥

@@ -1,5 +1,5 @@
 -- What the parser holds after some lines, and what its steps promise.
-use Rattle.std.specs.Prelude.{ℕ, Bool, true, false, ◌&&◌, ◌≡◌, is_none, List, ◌∷◌, []}
+use Rattle.std.specs.Prelude.{ℕ, suc, Bool, true, false, ◌&&◌, ◌≡◌, is_none, IsTrue, List, ◌∷◌, length, map}
 use Rattle.topology.specs.declared.prefixes.Prefix.{Prefix as Range}
 use Rattle.topology.specs.declared.building.BuildError.{BuildError}
 use Rattle.topology.specs.declared.building.BuildError.TheVariants as building
@@ -7,11 +7,13 @@ use Rattle.topology.specs.Lists.{has}
 use Rattle.topology.specs.Net.{Net, linked, has_prefix}
 use Rattle.topology.specs.Building.{node_refusal, link_refusal, prefix_refusal}
 use Rattle.parsing.specs.declared.directives.Line.{Line}
-use Rattle.parsing.specs.declared.directives.Line.TheVariants.{Node, Link, Prefix, Begin, Originate, Withdraw, Deliver, ShowRib}
+use Rattle.parsing.specs.declared.directives.Line.TheVariants.{Node, Link, Prefix, Originate, Withdraw, Deliver, ShowRib}
+use Rattle.parsing.specs.declared.directives.Directive.{Directive}
+use Rattle.parsing.specs.declared.directives.Numbered.{Numbered}
 use Rattle.parsing.specs.declared.directives.Schedule.{Schedule}
 use Rattle.parsing.specs.declared.parse.Refusal.{Refusal}
 use Rattle.parsing.specs.declared.parse.Refusal.TheVariants.{NoMemory, NotAllowed}
-use Rattle.parsing.specs.Grammar.{net_of, begun, directives_of}
+use Rattle.parsing.specs.Grammar.{net_of, begun, directives_of, allowed}
 
 -- lists of lines are newest first
 
@@ -39,6 +41,19 @@ pub record IsAfter (schedule : Schedule) (started : Bool) (earlier : List Line) 
   pub topology : schedule.topology ≡ net_of earlier
   pub lines : schedule.lines.items ≡ directives_of earlier
   pub start : started ≡ begun earlier
+
+-- after any lines that the schedule stands for, the line may follow, and then it stands for all of them
+abbrev pub Takes : Schedule → Bool → ℕ → Line → Schedule → Bool → Type 0
+Takes old started number line new later =
+    (earlier : List Line) → IsAfter old started earlier → number ≡ suc (length earlier) → IsTrue (allowed earlier line) × IsAfter new later (line ∷ earlier)
+
+-- after lines that the schedule stands for the line may not follow
+abbrev pub Refuses : Schedule → Bool → Line → Type 0
+Refuses old started line = (earlier : List Line) → IsAfter old started earlier → allowed earlier line ≡ false
+
+-- the directives, as they stand on the line of this number
+abbrev pub numbered : ℕ → List Directive → List Numbered
+numbered number directives = map (λ d. record { line = number; directive = d }) directives
 
 -- what the refusal of the network means for the line
 abbrev pub refusal_of : BuildError → Refusal

@@ -1,8 +1,9 @@
 //! Reads a schedule.
 ghost use Rattle.std.specs.Prelude.{ℕ, suc, ◌≡◌, ◌<◌, ◌-◌, ◌^◌, true, false, List, [], ◌∷◌, ◌++◌, length, map, IfSome, IfNone, IfOk, IfErr, OnOk, IsTrue};
+ghost use Rattle.topology.specs.Net.{linked};
 ghost use Rattle.parsing.specs.Spelling.{lines_of, InRange};
 ghost use Rattle.parsing.specs.Grammar.{IsFile, Reads, with_line, place_in, directed, allowed};
-ghost use Rattle.parsing.specs.Standing.{adds, knows, directs, refusal_of, IsAfter, UnlessMemory};
+ghost use Rattle.parsing.specs.Standing.{adds, knows, directs, numbered, refusal_of, Takes, Refuses, UnlessMemory};
 ghost use Rattle.parsing.specs.Ends.{SaysWhy, IsWantOfMemory};
 ghost use Rattle.parsing.specs.declared.directives.Line.{Line};
 
@@ -38,9 +39,11 @@ impl From<BuildError> for Refusal {
     }
 }
 
+// Adds what the line declares.
 fn build(topology: &mut Topology, line: &Line) -> Result<(), Refusal>
     requires { InRange line.now }
-    ensures ok { OnOk result ((adds topology.old line.now ≡ true) × (topology.new ≡ with_line line.now topology.old)) }
+    ensures adds { OnOk result (adds topology.old line.now ≡ true) }
+    ensures ok { OnOk result (topology.new ≡ with_line line.now topology.old) }
     ensures refused { IfErr result (λ why. UnlessMemory why (adds topology.old line.now ≡ false)) }
 {
     match line {
@@ -66,9 +69,18 @@ fn origin(topology: &Topology, node: NodeId, prefix: Prefix) -> Option<PrefixId>
     topology.find_prefix(prefix)
 }
 
+// The two nodes have a link.
+fn linked(topology: &Topology, from: NodeId, to: NodeId) -> bool
+    ensures { result ≡ linked topology.now from to }
+{
+    topology.relation(from, to).is_some()
+}
+
+// What the line directs, its names looked up.
 fn look_up(topology: &Topology, line: &Line) -> Option<Directive>
     ensures some { IfSome result (λ _. directs topology.now line.now ≡ true) }
-    ensures directive { IfSome result (λ directive. directed topology.now line.now ≡ directive ∷ []) }
+    ensures directive { IfSome result
+        (λ directive. directed topology.now line.now ≡ directive ∷ []) }
     ensures none { IfNone result (directs topology.now line.now ≡ false) }
 {
     match line {
@@ -87,7 +99,9 @@ fn look_up(topology: &Topology, line: &Line) -> Option<Directive>
             })
         }
         Line::Deliver { from, to } => {
-            topology.relation(*from, *to)?;
+            if !linked(topology, *from, *to) {
+                return None;
+            }
             Some(Directive::Deliver {
                 from: *from,
                 to: *to,
@@ -100,11 +114,12 @@ fn look_up(topology: &Topology, line: &Line) -> Option<Directive>
 
 // Takes a line after begin.
 fn direct(schedule: &mut Schedule, number: u32, line: &Line) -> Result<(), Refusal>
-    ensures ok { OnOk result ((directs schedule.old.topology line.now ≡ true)
-        × (schedule.new.topology ≡ schedule.old.topology)
-        × (schedule.new.lines.items ≡ schedule.old.lines.items
-            ++ map (λ d. record { line = number; directive = d }) (directed schedule.old.topology line.now))) }
-    ensures refused { IfErr result (λ why. UnlessMemory why (directs schedule.old.topology line.now ≡ false)) }
+    ensures directs { OnOk result (directs schedule.old.topology line.now ≡ true) }
+    ensures topology { OnOk result (schedule.new.topology ≡ schedule.old.topology) }
+    ensures lines { let more = numbered number (directed schedule.old.topology line.now) in
+        OnOk result (schedule.new.lines.items ≡ schedule.old.lines.items ++ more) }
+    ensures refused { IfErr result
+        (λ why. UnlessMemory why (directs schedule.old.topology line.now ≡ false)) }
 {
     let Some(directive) = look_up(&schedule.topology, line) else {
         return Err(Refusal::NotAllowed);
@@ -120,17 +135,12 @@ fn direct(schedule: &mut Schedule, number: u32, line: &Line) -> Result<(), Refus
 }
 
 // Takes one line more.
-fn take(
-    schedule: &mut Schedule,
-    begun: &mut bool,
-    number: u32,
-    line: &Line,
-) -> Result<(), Refusal>
+fn take(schedule: &mut Schedule, begun: &mut bool, number: u32, line: &Line) -> Result<(), Refusal>
     requires { InRange line.now }
-    ensures ok { OnOk result ((earlier : List Line) → IsAfter schedule.old begun.old earlier → number ≡ suc (length earlier)
-        → IsTrue (allowed earlier line.now) × IsAfter schedule.new begun.new (line.now ∷ earlier)) }
-    ensures refused { IfErr result (λ why. UnlessMemory why
-        ((earlier : List Line) → IsAfter schedule.old begun.old earlier → allowed earlier line.now ≡ false)) }
+    ensures ok { OnOk result
+        (Takes schedule.old begun.old number line.now schedule.new begun.new) }
+    ensures refused { IfErr result
+        (λ why. UnlessMemory why (Refuses schedule.old begun.old line.now)) }
 {
     if *begun {
         return direct(schedule, number, line);
@@ -149,7 +159,8 @@ pub fn parse(alloc: Global, text: &[u8]) -> Result<Schedule, ParseEnd>
     ensures ok { IfOk result (λ schedule. IsFile text.now schedule) }
     ensures err { IfErr result (SaysWhy text.now) }
     // A file of the grammar is refused for want of memory alone.
-    ensures complete { (lines : List Line) → Reads [] (lines_of text.now) lines → IfErr result IsWantOfMemory }
+    ensures complete { (lines : List Line) → Reads [] (lines_of text.now) lines
+        → IfErr result IsWantOfMemory }
 {
     let mut schedule = Schedule {
         topology: Topology::empty(alloc),
@@ -179,5 +190,4 @@ pub fn parse(alloc: Global, text: &[u8]) -> Result<Schedule, ParseEnd>
 pub fn reading_is_unique()
     ensures { (text : List ℕ) (lines others : List Line)
         → Reads [] (lines_of text) lines → Reads [] (lines_of text) others → lines ≡ others }
-{
-}
+{}

@@ -3,7 +3,7 @@ ghost use Rattle.std.specs.Prelude.{ℕ, ◌≡◌, ◌≢◌, List, [], ◌∷�
 ghost use Rattle.std.specs.Fmt.{decimal};
 ghost use Rattle.topology.specs.declared.prefixes.Prefix.{Prefix as Range};
 ghost use Rattle.parsing.specs.Spelling.{Spells, IsNumber, IsRange, words_of, prefix_text};
-ghost use Rattle.parsing.specs.Reading.{Says, keyword_text, words_behind};
+ghost use Rattle.parsing.specs.Reading.{Says, SaysNone, keyword_text, words_behind};
 ghost use Rattle.parsing.specs.declared.directives.Line.{Line};
 ghost use Rattle.parsing.specs.declared.reading.Keyword.{Keyword};
 
@@ -28,7 +28,8 @@ enum Keyword {
 
 // The first word, and the bytes behind its space, where there is one.
 fn first_word(bytes: &[u8]) -> Cut<'_>
-    ensures { words_of bytes.now ≡ result.front.now ∷ words_behind (option_map (λ rest. rest.now) result.rest) }
+    ensures { let rest = option_map (λ bytes. bytes.now) result.rest in
+        words_of bytes.now ≡ result.front.now ∷ words_behind rest }
 {
     cut_at(SPACE, bytes)
 }
@@ -65,8 +66,8 @@ fn node_of(word: &[u8]) -> Option<NodeId>
 
 // The words behind `node`.
 fn node_line(words: &[u8]) -> Option<Line>
-    ensures some { IfSome result (λ line. Says (codes "node" ∷ words_of words.now) line) }
-    ensures none { IfNone result ((line : Line) → Says (codes "node" ∷ words_of words.now) line → ⊥) }
+    ensures some { IfSome result (Says (codes "node" ∷ words_of words.now)) }
+    ensures none { IfNone result (SaysNone (codes "node" ∷ words_of words.now)) }
 {
     let Cut { front, rest } = first_word(words);
     let id = node_of(front)?;
@@ -87,8 +88,8 @@ fn node_line(words: &[u8]) -> Option<Line>
 
 // The words behind `link`.
 fn link_line(words: &[u8]) -> Option<Line>
-    ensures some { IfSome result (λ line. Says (codes "link" ∷ words_of words.now) line) }
-    ensures none { IfNone result ((line : Line) → Says (codes "link" ∷ words_of words.now) line → ⊥) }
+    ensures some { IfSome result (Says (codes "link" ∷ words_of words.now)) }
+    ensures none { IfNone result (SaysNone (codes "link" ∷ words_of words.now)) }
 {
     let Cut { front, rest } = first_word(words);
     let a = node_of(front)?;
@@ -101,19 +102,19 @@ fn link_line(words: &[u8]) -> Option<Line>
     Some(Line::Link { a, b })
 }
 
-// A prefix alone.
+// The words behind `prefix`.
 fn prefix_line(words: &[u8]) -> Option<Line>
-    ensures some { IfSome result (λ line. Says (codes "prefix" ∷ words_of words.now) line) }
-    ensures none { IfNone result ((line : Line) → Says (codes "prefix" ∷ words_of words.now) line → ⊥) }
+    ensures some { IfSome result (Says (codes "prefix" ∷ words_of words.now)) }
+    ensures none { IfNone result (SaysNone (codes "prefix" ∷ words_of words.now)) }
 {
     let prefix = read_prefix(words)?;
     Some(Line::Prefix { prefix })
 }
 
-// The two ends of a delivery.
+// The words behind `deliver`.
 fn deliver_line(words: &[u8]) -> Option<Line>
-    ensures some { IfSome result (λ line. Says (codes "deliver" ∷ words_of words.now) line) }
-    ensures none { IfNone result ((line : Line) → Says (codes "deliver" ∷ words_of words.now) line → ⊥) }
+    ensures some { IfSome result (Says (codes "deliver" ∷ words_of words.now)) }
+    ensures none { IfNone result (SaysNone (codes "deliver" ∷ words_of words.now)) }
 {
     let Cut { front, rest } = first_word(words);
     let from = node_of(front)?;
@@ -121,12 +122,12 @@ fn deliver_line(words: &[u8]) -> Option<Line>
     Some(Line::Deliver { from, to })
 }
 
-// A node and a prefix.
+// A node and a prefix, and no more words.
 fn origin_of(words: &[u8]) -> Option<(NodeId, Prefix)>
     ensures some { IfSome result (λ r. words_of words.now ≡ decimal r.0 ∷ prefix_text r.1 ∷ []) }
     ensures in_range { IfSome result (λ r. IsNumber r.0 × IsRange r.1) }
-    ensures none { IfNone result
-        ((node : ℕ) (p : Range) → IsNumber node → IsRange p → words_of words.now ≢ decimal node ∷ prefix_text p ∷ []) }
+    ensures none { IfNone result ((node : ℕ) (p : Range) → IsNumber node → IsRange p
+        → words_of words.now ≢ decimal node ∷ prefix_text p ∷ []) }
 {
     let Cut { front, rest } = first_word(words);
     let node = node_of(front)?;
@@ -134,10 +135,10 @@ fn origin_of(words: &[u8]) -> Option<(NodeId, Prefix)>
     Some((node, prefix))
 }
 
-// What is shown.
+// The words behind `show`.
 fn show_line(words: &[u8]) -> Option<Line>
-    ensures some { IfSome result (λ line. Says (codes "show" ∷ words_of words.now) line) }
-    ensures none { IfNone result ((line : Line) → Says (codes "show" ∷ words_of words.now) line → ⊥) }
+    ensures some { IfSome result (Says (codes "show" ∷ words_of words.now)) }
+    ensures none { IfNone result (SaysNone (codes "show" ∷ words_of words.now)) }
 {
     if words != b"rib".as_slice() {
         return None;
@@ -147,8 +148,8 @@ fn show_line(words: &[u8]) -> Option<Line>
 
 // The line of a keyword and the words behind it.
 fn line_of(keyword: Keyword, words: &[u8]) -> Option<Line>
-    ensures some { IfSome result (λ line. Says (keyword_text keyword ∷ words_of words.now) line) }
-    ensures none { IfNone result ((line : Line) → Says (keyword_text keyword ∷ words_of words.now) line → ⊥) }
+    ensures some { IfSome result (Says (keyword_text keyword ∷ words_of words.now)) }
+    ensures none { IfNone result (SaysNone (keyword_text keyword ∷ words_of words.now)) }
 {
     match keyword {
         Keyword::Node => node_line(words),
@@ -170,8 +171,8 @@ fn line_of(keyword: Keyword, words: &[u8]) -> Option<Line>
 
 // The line of a keyword without words behind it.
 fn line_alone(keyword: Keyword) -> Option<Line>
-    ensures some { IfSome result (λ line. Says (keyword_text keyword ∷ []) line) }
-    ensures none { IfNone result ((line : Line) → Says (keyword_text keyword ∷ []) line → ⊥) }
+    ensures some { IfSome result (Says (keyword_text keyword ∷ [])) }
+    ensures none { IfNone result (SaysNone (keyword_text keyword ∷ [])) }
 {
     match keyword {
         Keyword::Begin => Some(Line::Begin),

@@ -65,7 +65,8 @@ fn number_before(mark: u8, word: &[u8]) -> Option<(u32, &[u8])>
     requires { mark < 48 }
     ensures some { IfSome result (λ r. word.now ≡ decimal r.0 ++ mark ∷ r.1.now) }
     ensures within { IfSome result (λ r. r.0 ≤ 255) }
-    ensures none { IfNone result ((n : ℕ) (rest : List ℕ) → n ≤ 255 → word.now ≢ decimal n ++ mark ∷ rest) }
+    ensures none { IfNone result ((n : ℕ) (rest : List ℕ) → n ≤ 255
+        → word.now ≢ decimal n ++ mark ∷ rest) }
 {
     let Cut { front, rest } = cut_at(mark, word);
     let number = read_number(front, 255)?;

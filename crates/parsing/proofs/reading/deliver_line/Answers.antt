@@ -1,4 +1,4 @@
-use Rattle.std.proofs.Common.{◌≡◌, ◌∷◌, ◌∙◌, sym, ap}
+use Rattle.std.proofs.Common.{◌∷◌, ◌∙◌, sym, ap}
 use Rattle.std.specs.Prelude.{option_map, codes}
 use Rattle.std.specs.Fmt.{decimal}
 use Rattle.std.proofs.lemmas.Option.{same_Some}
@@ -20,8 +20,8 @@ returns-clause-some c =
     let rest = c.in_ok-rest.field-0.now in
     record {
       spelled = ap (λ ws. codes "deliver" ∷ ws)
-        (words_are (words_of c.args.words.now) cut.front.now (decimal c.in_ok-from.from) rest (decimal c.in_ok-to.to) (option_map (λ r. r.now) cut.rest)
-        c.first_word.ensures c.in_ok-from.ensures.some (ap (option_map (λ r. r.now)) c.in_ok-rest.was)
-        (number_word rest c.in_ok-to.to c.in_ok-to.ensures.in_range c.in_ok-to.ensures.some));
+          (words_are (words_of c.args.words.now) cut.front.now (decimal c.in_ok-from.from) rest (decimal c.in_ok-to.to) (option_map (λ r. r.now) cut.rest)
+          c.first_word.ensures c.in_ok-from.ensures.some (ap (option_map (λ r. r.now)) c.in_ok-rest.was)
+          (number_word rest c.in_ok-to.to c.in_ok-to.ensures.in_range c.in_ok-to.ensures.some));
       in_range = (c.in_ok-from.ensures.in_range, c.in_ok-to.ensures.in_range);
     }

@@ -1,7 +1,4 @@
-use Rattle.std.proofs.Common.{◌≡◌, ◌∷◌, ◌∙◌, sym, ap}
 use Rattle.parsing.specs.Spelling.{words_of}
-use Rattle.parsing.specs.Reading.{Says, keyword_text}
-use Rattle.parsing.specs.declared.reading.Keyword.TheVariants.{Begin}
 use Rattle.parsing.proofs.Spellings.{words_of-some}
 use Rattle.parsing.proofs.Lines.{begin_parts}
 use Rattle.parsing.proofs.reading.line_of.Goals as goal

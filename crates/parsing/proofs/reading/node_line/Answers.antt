@@ -1,4 +1,4 @@
-use Rattle.std.proofs.Common.{◌≡◌, ◌≢◌, ◌∙◌, sym, ap, inl, inr, rules}
+use Rattle.std.proofs.Common.{◌≢◌, ◌∙◌, sym, ap, inl, inr, rules}
 use Rattle.std.specs.Prelude.{codes, option_map}
 use Rattle.std.specs.Fmt.{decimal}
 use Rattle.std.proofs.lemmas.Option.{same_Some, none-some}
@@ -14,7 +14,7 @@ returns-then-ne-clause-none c = λ line h.
     let rest = option_map (λ r. r.now) cut.rest in
     let is = ap (option_map (λ r. r.now)) c.in-Some.is in
     elim p.2 [
-      inl e ↦ (let read = last_word (words_of c.args.words.now) cut.front.now (decimal p.0) rest c.first_word.ensures e in none-some c.in-Some.mark.now (sym read.1 ∙ is))
-    | inr e ↦ (let read = two_words (words_of c.args.words.now) cut.front.now (decimal p.0) (codes "consolidator") rest c.first_word.ensures e in
-        other (same_Some c.in-Some.mark.now (codes "consolidator") (sym is ∙ read.1)))
+      | inl e ↦ (let read = last_word (words_of c.args.words.now) cut.front.now (decimal p.0) rest c.first_word.ensures e in none-some c.in-Some.mark.now (sym read.1 ∙ is))
+      | inr e ↦ (let read = two_words (words_of c.args.words.now) cut.front.now (decimal p.0) (codes "consolidator") rest c.first_word.ensures e in
+          other (same_Some c.in-Some.mark.now (codes "consolidator") (sym is ∙ read.1)))
     ]

@@ -1,4 +1,4 @@
-use Rattle.std.proofs.Common.{◌≡◌, ◌∷◌, ap}
+use Rattle.std.proofs.Common.{◌∷◌, ap}
 use Rattle.std.specs.Prelude.{codes}
 use Rattle.parsing.specs.Spelling.{words_of, prefix_text}
 use Rattle.parsing.proofs.Spellings.{one_word}

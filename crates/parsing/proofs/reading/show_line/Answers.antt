@@ -1,4 +1,4 @@
-use Rattle.std.proofs.Common.{◌≡◌, ◌≢◌, rules}
+use Rattle.std.proofs.Common.{◌≢◌, rules}
 use Rattle.std.specs.Prelude.{codes}
 use Rattle.parsing.specs.Spelling.{words_of}
 use Rattle.parsing.proofs.Spellings.{one_word}

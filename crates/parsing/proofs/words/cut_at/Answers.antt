@@ -1,6 +1,3 @@
-use Rattle.std.proofs.Common.{◌≡◌, ◌∙◌, sym, ap}
-use Rattle.std.proofs.Common.{arith}
-use Rattle.std.proofs.lemmas.Grind.{common_steps}
 use Rattle.parsing.proofs.Cuts.{cut_there}
 use Rattle.parsing.proofs.words.cut_at.Goals as goal
 

@@ -1,5 +1,4 @@
-use Rattle.std.proofs.Common.{◌≡◌, ◌+◌, ◌≤◌, ◌<◌, ◌^◌, length, get_or, arith, ap, rules}
-use Rattle.std.proofs.lemmas.Grind.{common_steps}
+use Rattle.std.proofs.Common.{◌+◌, ◌<◌, length, arith, rules}
 use Rattle.parsing.proofs.Numbers.{not_empty, no_zero_first, no_other_byte, front_no_more, spells_value, digit_more}
 use Rattle.parsing.proofs.words.read_number.Goals as goal
 use Rattle.parsing.proofs.words.read_number.Goals.{else-word-eq48-via-then-word-eq48+else-word-gt1, else-word-eq48-via-else-word-eq48}

@@ -1,6 +1,5 @@
-use Rattle.std.proofs.Common.{◌≡◌, ◌-◌, ◌/◌, ◌%◌, ◌^◌, ◌∙◌, sym, arith}
+use Rattle.std.proofs.Common.{◌/◌, ◌%◌, ◌^◌, ◌∙◌, sym, arith}
 use Rattle.std.specs.Fmt.{decimal}
-use Rattle.topology.specs.declared.prefixes.Prefix.{Prefix as Range}
 use Rattle.parsing.proofs.Addresses.{text_by_parts, from_second, from_third, from_fourth, reads_first, reads_second, reads_third, reads_fourth, spells_parts, reads_prefix, masked_by}
 use Rattle.parsing.proofs.words.read_prefix.Goals as goal
 
