@@ -1,5 +1,5 @@
 -- A list of bytes, cut at the first of a mark.
-use Rattle.std.specs.Prelude.{ℕ, ◌≡◌, List, [], ◌∷◌, ◌++◌, option_map, Option, Some, None, false, ◌==◌}
+use Rattle.std.specs.Prelude.{ℕ, ◌≡◌, List, ◌∷◌, ◌++◌, option_map, Option, Some, None, false, ◌==◌}
 use Rattle.std.specs.List.{list_any}
 use Rattle.consensus_routing.specs.declared.words.Cut.{Cut}
 

@@ -1,5 +1,5 @@
 //! Words of a line, numbers and prefixes.
-ghost use Rattle.std.specs.Prelude.{ℕ, ◌≡◌, ◌≢◌, ◌≤◌, IfSome, IfNone};
+ghost use Rattle.std.specs.Prelude.{ℕ, ◌≡◌, ◌≢◌, ◌<◌, ◌≤◌, List, ◌∷◌, ◌++◌, IfSome, IfNone};
 ghost use Rattle.std.specs.Fmt.{decimal};
 ghost use Rattle.consensus_routing.specs.Spelling.{prefix_text, IsRange};
 ghost use Rattle.consensus_routing.specs.Cutting.{Cuts};
@@ -41,25 +41,33 @@ pub fn read_number(word: &[u8], max: u32) -> Option<u32>
     ensures within { IfSome result (λ n. n ≤ max) }
     ensures none { IfNone result ((n : ℕ) → n ≤ max → word.now ≢ decimal n) }
 {
-    if word.is_empty() || word[0] == b'0' && word.len() > 1 {
+    if word.is_empty() {
         return None;
     }
-    let mut number: u32 = 0;
+    if word[0] == b'0' && word.len() > 1 {
+        return None;
+    }
+    let mut number: u64 = 0;
     for byte in word {
         if !byte.is_ascii_digit() {
             return None;
         }
-        let digit = u32::from(*byte - b'0');
-        number = number.checked_mul(10)?.checked_add(digit)?;
-        if number > max {
+        number = number * 10 + u64::from(*byte - b'0');
+        if number > u64::from(max) {
             return None;
         }
     }
-    Some(number)
+    Some(number as u32)
 }
 
-// The number of one byte before the mark, and what stands behind it.
-fn byte_before(mark: u8, word: &[u8]) -> Option<(u32, &[u8])> {
+// The number, up to 255, before the first mark, and what stands behind the mark.
+fn number_before(mark: u8, word: &[u8]) -> Option<(u32, &[u8])>
+    requires { mark < 48 }
+    ensures some { IfSome result (λ r. word.now ≡ decimal r.0 ++ mark ∷ r.1.now) }
+    ensures within { IfSome result (λ r. r.0 ≤ 255) }
+    ensures none { IfNone result ((n : ℕ) (rest : List ℕ) → n ≤ 255
+        → word.now ≢ decimal n ++ mark ∷ rest) }
+{
     let Cut { front, rest } = cut_at(mark, word);
     let number = read_number(front, 255)?;
     Some((number, rest?))
@@ -72,10 +80,10 @@ pub fn read_prefix(word: &[u8]) -> Option<Prefix>
     ensures in_range { IfSome result (λ p. IsRange p) }
     ensures none { IfNone result ((p : Range) → IsRange p → word.now ≢ prefix_text p) }
 {
-    let (a, word) = byte_before(b'.', word)?;
-    let (b, word) = byte_before(b'.', word)?;
-    let (c, word) = byte_before(b'.', word)?;
-    let (d, word) = byte_before(b'/', word)?;
+    let (a, word) = number_before(b'.', word)?;
+    let (b, word) = number_before(b'.', word)?;
+    let (c, word) = number_before(b'.', word)?;
+    let (d, word) = number_before(b'/', word)?;
     let len = read_number(word, 32)? as u8;
     let bits = ((a * 256 + b) * 256 + c) * 256 + d;
     let size = 1u64 << (32 - len);
