@@ -5,3 +5,7 @@ pub mod Spellings
 pub mod Lines
 pub mod Grammars
 pub mod Names
+pub mod Steps
+pub mod Fitting
+pub mod Unique
+pub mod Ending

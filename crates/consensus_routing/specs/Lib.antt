@@ -5,3 +5,5 @@ pub mod Grammar
 pub mod Standing
 pub mod Text
 pub mod Ends
+pub mod Running
+pub mod Headline

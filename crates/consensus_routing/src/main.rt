@@ -6,6 +6,8 @@ mod parse;
 mod reading;
 mod replay;
 mod run;
+#[cfg(test)]
+mod tests;
 mod text;
 mod words;
 

@@ -1,4 +1,12 @@
 //! Runs a schedule and writes its text.
+ghost use Rattle.std.specs.Prelude.{◌≡◌, [], IfOk};
+ghost use Rattle.std.specs.String.{string_bytes};
+ghost use Rattle.path_vector.specs.GaoRexford.{gao_rexford};
+ghost use Rattle.chronicle.specs.Run.{run};
+ghost use Rattle.consensus_routing.specs.Text.{event_of, said, text};
+ghost use Rattle.consensus_routing.specs.Running.{Fitting, AllFitting, Advances, Runs};
+ghost use Rattle.consensus_routing.specs.Headline.{Headline, side, replay_form};
+
 use crate::directives::{Directive, Numbered, Schedule};
 use crate::parse::{ParseEnd, parse};
 use crate::text::{idle_line, routes};
@@ -20,7 +28,9 @@ pub enum RunEnd {
 }
 
 // The event that a directive makes, where it makes one.
-fn event_of(directive: &Directive) -> Option<Event> {
+fn event_of(directive: &Directive) -> Option<Event>
+    ensures { result ≡ event_of directive.now }
+{
     match directive {
         Directive::Originate { node, prefix } => Some(Event::Originate {
             node: *node,
@@ -43,7 +53,12 @@ fn advance<P: Policy + Copy>(
     alloc: Global,
     world: World<P>,
     numbered: &Numbered,
-) -> Result<(World<P>, String), NoMemory> {
+) -> Result<(World<P>, String), NoMemory>
+    requires { Fitting world.net numbered.now.directive }
+    ensures world { IfOk result (λ r. Advances (P.rules world.policy) world r.0 numbered.now.directive) }
+    ensures text { IfOk result (λ r. string_bytes r.1
+        ≡ said (P.rules world.policy) world.net (run (P.rules world.policy) world.net world.events) numbered.now) }
+{
     let Some(event) = event_of(&numbered.directive) else {
         let text = routes(alloc, &world)?;
         return Ok((world, text));
@@ -62,7 +77,12 @@ pub fn run_lines<P: Policy + Copy, O: Sink>(
     world: World<P>,
     lines: &[Numbered],
     sink: &mut O,
-) -> Result<(), RunEnd> {
+) -> Result<(), RunEnd>
+    requires { AllFitting world.net lines.now }
+    ensures runs { Runs (side (O.held sink.old) (O.faults sink.old)) (side (O.held sink.new) (O.faults sink.new))
+        (text (P.rules world.policy) world.net (run (P.rules world.policy) world.net world.events) lines.now) result }
+    ensures same_room { O.room sink.new ≡ O.room sink.old }
+{
     let mut world = world;
     for numbered in lines {
         let Ok((next, text)) = advance(alloc, world, numbered) else {
@@ -76,32 +96,44 @@ pub fn run_lines<P: Policy + Copy, O: Sink>(
     Ok(())
 }
 
-fn run_schedule<O: Sink>(alloc: Global, schedule: Schedule, sink: &mut O) -> Status {
+// Runs a schedule in a new world.
+fn run_schedule<O: Sink>(alloc: Global, schedule: Schedule, sink: &mut O) -> Result<(), RunEnd>
+    requires { AllFitting schedule.topology schedule.lines.items }
+    ensures runs { Runs (side (O.held sink.old) (O.faults sink.old)) (side (O.held sink.new) (O.faults sink.new))
+        (text gao_rexford schedule.topology [] schedule.lines.items) result }
+    ensures same_room { O.room sink.new ≡ O.room sink.old }
+{
     let Schedule { topology, lines } = schedule;
     let Ok(topology) = Rc::new(alloc, topology) else {
-        return Status::NoMemory;
+        return Err(RunEnd::NoMemory);
     };
     let Ok(world) = World::new(alloc, topology, GaoRexford) else {
-        return Status::NoMemory;
+        return Err(RunEnd::NoMemory);
     };
-    match run_lines(alloc, world, &lines, sink) {
-        Ok(()) => Status::Done,
-        Err(RunEnd::NoMemory) => Status::NoMemory,
-        Err(RunEnd::WriteFault) => Status::WriteFault,
-    }
+    run_lines(alloc, world, &lines, sink)
 }
 
 /// Reads a schedule from the source, runs it, and writes its text to the sink.
-pub fn replay<I: Source, O: Sink>(alloc: Global, source: &mut I, sink: &mut O) -> Status {
-    let text = match read_all(alloc, source, MAX_BYTES as usize) {
-        Ok(text) => text,
+pub fn replay<I: Source, O: Sink>(alloc: Global, source: &mut I, sink: &mut O) -> Status
+    ensures headline { Headline replay_form
+        (side (I.left source.old) (I.faults source.old)) (side (I.left source.new) (I.faults source.new))
+        (side (O.held sink.old) (O.faults sink.old)) (side (O.held sink.new) (O.faults sink.new)) result }
+    ensures same_room { O.room sink.new ≡ O.room sink.old }
+{
+    let bytes = match read_all(alloc, source, MAX_BYTES as usize) {
+        Ok(bytes) => bytes,
         Err(ReadEnd::NoMemory) => return Status::NoMemory,
         Err(ReadEnd::Fault) => return Status::ReadFault,
         Err(ReadEnd::TooLong) => return Status::Limit(LimitKind::Bytes, MAX_BYTES),
     };
-    match parse(alloc, &text) {
-        Ok(schedule) => run_schedule(alloc, schedule, sink),
-        Err(ParseEnd::NoMemory) => Status::NoMemory,
-        Err(ParseEnd::Bad { line }) => Status::BadSchedule(line, BadKind::NotBuilt),
+    let schedule = match parse(alloc, &bytes) {
+        Ok(schedule) => schedule,
+        Err(ParseEnd::NoMemory) => return Status::NoMemory,
+        Err(ParseEnd::Bad { line }) => return Status::BadSchedule(line, BadKind::NotBuilt),
+    };
+    match run_schedule(alloc, schedule, sink) {
+        Ok(()) => Status::Done,
+        Err(RunEnd::NoMemory) => Status::NoMemory,
+        Err(RunEnd::WriteFault) => Status::WriteFault,
     }
 }

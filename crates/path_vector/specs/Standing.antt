@@ -1,5 +1,5 @@
 -- When a routing state stands for a list of entries: all that it keeps is what is read of the list.
-use Rattle.std.specs.Prelude.{ℕ, ◌≡◌, ◌<◌, [], ◌∷◌, Option, Some, List, length, map, slice_get}
+use Rattle.std.specs.Prelude.{ℕ, ◌≡◌, ◌<◌, [], ◌∷◌, Some, length, map, slice_get}
 use Rattle.std.specs.List.{AllByRecursion}
 use Rattle.topology.specs.Net.{Net, IsValid, neighbours, relation, file_preference}
 use Rattle.path_vector.specs.declared.neighbours.Neighbour.{Neighbour}

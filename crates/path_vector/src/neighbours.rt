@@ -1,9 +1,16 @@
 //! What a node keeps of its neighbours.
-ghost use Rattle.std.specs.Prelude.{◌≡◌, ◌<◌, ℕ, Some, false, IfSome, IfNone, map, length, slice_index_or};
-ghost use Rattle.std.specs.List.Sorted.{IsStrictlyIncreasing};
-ghost use Rattle.topology.specs.Lists.{has};
+ghost use Rattle.std.specs.Prelude.{◌≡◌, ℕ, [], ◌∷◌, Some, None, IfOk, IfSome, IfNone, true, false, if◌then◌else◌, length, replicate, slice_get, option_map, option_and_then};
+ghost use Rattle.topology.specs.Lists.{Among, has};
+ghost use Rattle.topology.specs.Net.{Net, neighbours};
+ghost use Rattle.path_vector.specs.History.{History, HasScope, Accepts, change};
+ghost use Rattle.path_vector.specs.Selection.{ranked};
+ghost use Rattle.topology.specs.declared.names.Scope.TheVariants.{All};
+ghost use Rattle.path_vector.specs.Standing.{Remembers};
+ghost use Rattle.path_vector.specs.Kept.{Hears, Turns, Keeps, Rises, ids, names, led_by, kept_path, kept_choice, first_kept, is_sooner};
 
-use topology::{NodeId, Path, PrefixId, Relation, Session};
+use crate::{Cause, Policy, Ranked};
+use std::alloc::Global;
+use topology::{NoMemory, NodeId, Path, PrefixId, Relation, Scope, Session, Topology};
 
 /// What a node keeps of one neighbour. `told` has its candidate for each prefix by its place.
 #[derive(Drop)]
@@ -14,4 +21,253 @@ pub struct Neighbour {
     pub highest: Session,
     pub preference: u32,
     pub told: Vec<Option<Path>>,
+}
+
+/// A candidate: the place of its neighbour, and its rank.
+#[derive(Clone, Copy)]
+pub struct Found {
+    pub place: usize,
+    pub rank: Ranked,
+}
+
+impl Neighbour {
+    // Its candidate for a prefix.
+    pub(crate) fn path(&self, prefix: PrefixId) -> Option<&Path>
+        ensures { option_map (λ path. path.now) result ≡ kept_path prefix self.now }
+    {
+        match self.told.get(prefix.place() as usize) {
+            None => None,
+            Some(path) => path.as_ref(),
+        }
+    }
+
+    // Its candidate as a policy sees it.
+    fn rank(&self, prefix: PrefixId) -> Option<Ranked>
+        ensures { result ≡ option_map ranked (kept_choice prefix self.now) }
+    {
+        let path = self.path(prefix)?;
+        Some(Ranked {
+            nbr: self.id,
+            preference: self.preference,
+            length: path.nodes().len() as u32,
+        })
+    }
+
+    // Takes an entry that names this neighbour. `led` is the own node before the path of an
+    // update: None for a withdrawal, and where the own node is on the path.
+    fn heed(&mut self, scope: Scope, cause: &Cause, led: Option<Path>)
+        ensures remembers { (net : Net) (u : ℕ) (past : History) → Remembers net u past self.old →
+            Accepts past scope cause.now → names cause.now ≡ Some self.old.id → led ≡ led_by u cause.now →
+            Remembers net u (change scope cause.now ∷ past) self.new }
+        ensures id { self.new.id ≡ self.old.id }
+    {
+        match scope {
+            Scope::One(prefix) => {
+                if let Cause::Recv { session, .. } = cause {
+                    self.hear(prefix, *session, led);
+                }
+            }
+            Scope::All => self.turn(cause),
+        }
+    }
+
+    // Takes an update, whose path counts where its session is held.
+    fn hear(&mut self, prefix: PrefixId, session: Session, led: Option<Path>)
+        ensures { Hears prefix session led self.old self.new }
+    {
+        self.highest = self.highest.max(session);
+        let place = prefix.place() as usize;
+        if self.held == Some(session) && place < self.told.len() {
+            self.told[place] = led;
+        }
+    }
+
+    // Takes an entry that concerns all prefixes.
+    fn turn(&mut self, cause: &Cause)
+        ensures turns { HasScope All cause.now → names cause.now ≡ Some self.old.id →
+            Turns cause.now self.old self.new }
+        ensures id { self.new.id ≡ self.old.id }
+    {
+        match cause {
+            Cause::Down { session, .. } => {
+                self.highest = self.highest.max(*session);
+                self.held = None;
+                forget(&mut self.told);
+            }
+            Cause::Up { session, .. } => {
+                self.highest = self.highest.max(*session);
+                self.held = Some(*session);
+                forget(&mut self.told);
+            }
+            Cause::Ready { session, .. } => self.highest = self.highest.max(*session),
+            Cause::Prefer { value, .. } => self.preference = *value,
+            _ => {}
+        }
+    }
+}
+
+// Empties a row.
+fn forget(told: &mut Vec<Option<Path>>)
+    ensures { told.new.items ≡ replicate (length told.old.items) None }
+{
+    for place in 0..told.len() {
+        told[place] = None;
+    }
+}
+
+// A row of a neighbour that has told nothing.
+fn nothing_told(alloc: Global, prefixes: u16) -> Result<Vec<Option<Path>>, NoMemory>
+    ensures { IfOk result (λ told. told.items ≡ replicate prefixes None) }
+{
+    let mut told = Vec::with_capacity(alloc, prefixes as usize)?;
+    for _prefix in 0..prefixes {
+        told.push(None)?;
+    }
+    Ok(told)
+}
+
+// A neighbour of a node that has entered nothing: their first session is held.
+fn neighbour_of(
+    alloc: Global,
+    topology: &Topology,
+    node: NodeId,
+    id: NodeId,
+) -> Result<Neighbour, NoMemory>
+    requires { has (neighbours topology.now node) id ≡ true }
+    ensures id { IfOk result (λ neighbour. neighbour.id ≡ id) }
+    ensures remembers { IfOk result (λ neighbour. Remembers topology.now node [] neighbour) }
+{
+    let Some(relation) = topology.relation(node, id) else {
+        unreachable!();
+    };
+    Ok(Neighbour {
+        id,
+        relation,
+        held: Some(Session::new(1)),
+        highest: Session::new(1),
+        preference: topology.pref(node, id),
+        told: nothing_told(alloc, topology.prefix_count())?,
+    })
+}
+
+// The neighbours of a node that has entered nothing.
+pub(crate) fn neighbours_of(
+    alloc: Global,
+    topology: &Topology,
+    node: NodeId,
+) -> Result<Vec<Neighbour>, NoMemory>
+    ensures { IfOk result (λ neighbours. Keeps topology.now node [] neighbours.items) }
+{
+    // the nodes of a topology are valid
+    let _nodes = topology.nodes();
+    let others = topology.neighbours(node);
+    let mut neighbours = Vec::with_capacity(alloc, others.len())?;
+    for id in others {
+        neighbours.push(neighbour_of(alloc, topology, node, *id)?)?;
+    }
+    Ok(neighbours)
+}
+
+// The neighbour that an entry is about.
+fn named(cause: &Cause) -> Option<NodeId>
+    ensures { result ≡ names cause.now }
+{
+    match cause {
+        Cause::Originate => None,
+        Cause::Withdraw => None,
+        Cause::Recv { from, .. } => Some(*from),
+        Cause::Down { nbr, .. } => Some(*nbr),
+        Cause::Up { nbr, .. } => Some(*nbr),
+        Cause::Ready { nbr, .. } => Some(*nbr),
+        Cause::Prefer { nbr, .. } => Some(*nbr),
+    }
+}
+
+// The own node before the path of an update.
+pub(crate) fn lead(cause: &Cause, node: NodeId) -> Result<Option<Path>, NoMemory>
+    ensures { IfOk result (λ path. path ≡ led_by node cause.now) }
+{
+    match cause {
+        Cause::Recv { path, .. } => lead_path(path, node),
+        _ => Ok(None),
+    }
+}
+
+fn lead_path(path: &Option<Path>, node: NodeId) -> Result<Option<Path>, NoMemory>
+    ensures { IfOk result (λ led. led ≡ option_and_then (λ nodes. if has nodes node then None else Some (node ∷ nodes)) path.now) }
+{
+    match path {
+        None => Ok(None),
+        Some(path) => path.led_by(node),
+    }
+}
+
+// The place of a neighbour.
+pub(crate) fn place_of(neighbours: &[Neighbour], id: NodeId) -> Option<usize>
+    ensures some { IfSome result (λ place. slice_get (ids neighbours.now) place ≡ Some id) }
+    ensures none { Rises (ids neighbours.now) → IfNone result (has (ids neighbours.now) id ≡ false) }
+{
+    neighbours
+        .binary_search_by_key(&id, |neighbour| neighbour.id)
+        .ok()
+}
+
+// The neighbour of this number.
+pub(crate) fn find(neighbours: &[Neighbour], id: NodeId) -> Option<&Neighbour>
+    ensures some { IfSome result (λ neighbour. (neighbour.now.id ≡ id) × Among neighbour.now neighbours.now) }
+    ensures none { Rises (ids neighbours.now) → IfNone result (has (ids neighbours.now) id ≡ false) }
+{
+    match place_of(neighbours, id) {
+        None => None,
+        Some(place) => Some(&neighbours[place]),
+    }
+}
+
+// Takes an entry. `led` is the own node before the path of an update.
+pub(crate) fn heed(neighbours: &mut Vec<Neighbour>, scope: &Scope, cause: &Cause, led: Option<Path>)
+    ensures { (net : Net) (u : ℕ) (past : History) → Keeps net u past neighbours.old.items →
+        Accepts past scope.now cause.now → led ≡ led_by u cause.now →
+        Keeps net u (change scope.now cause.now ∷ past) neighbours.new.items }
+{
+    let Some(id) = named(cause) else {
+        return;
+    };
+    let Some(place) = place_of(neighbours, id) else {
+        return;
+    };
+    neighbours[place].heed(*scope, cause, led);
+}
+
+// Whether nothing was found so far, or this is before it.
+fn goes_first<P: Policy>(policy: &P, found: &Option<Found>, rank: &Ranked) -> bool
+    ensures { result ≡ is_sooner (P.rules policy.now).before found.now rank.now }
+{
+    match found {
+        None => true,
+        Some(other) => policy.before(*rank, other.rank),
+    }
+}
+
+// The neighbour whose candidate is first by rank.
+pub(crate) fn first<'a, P: Policy>(
+    policy: &P,
+    neighbours: &'a [Neighbour],
+    prefix: PrefixId,
+) -> Option<&'a Neighbour>
+    ensures first { option_and_then (λ neighbour. kept_choice prefix neighbour.now) result
+        ≡ first_kept (P.rules policy.now).before prefix neighbours.now }
+    ensures among { IfSome result (λ neighbour. Among neighbour.now neighbours.now) }
+{
+    let mut found: Option<Found> = None;
+    for place in 0..neighbours.len() {
+        if let Some(rank) = neighbours[place].rank(prefix) {
+            if goes_first(policy, &found, &rank) {
+                found = Some(Found { place, rank });
+            }
+        }
+    }
+    match found {
+        None => None,
+        Some(found) => neighbours.get(found.place),
+    }
 }

@@ -1,17 +1,18 @@
 //! The routing state of one node.
-ghost use Rattle.std.specs.Prelude.{◌≡◌, ◌<◌, ◌≤◌, ℕ, [], ◌∷◌, Some, true, IfOk, OnOk, OnErr, length, option_map};
+ghost use Rattle.std.specs.Prelude.{◌≡◌, ◌<◌, ◌≤◌, ℕ, [], ◌∷◌, Some, true, IfOk, OnOk, OnErr, length, slice_get, option_map};
 ghost use Rattle.topology.specs.Lists.{has};
-ghost use Rattle.topology.specs.Net.{Net, neighbours};
+ghost use Rattle.topology.specs.Net.{Net, neighbours, relation};
 ghost use Rattle.path_vector.specs.History.{History, change, Accepts, owns};
-ghost use Rattle.path_vector.specs.Selection.{candidate, best, choices, path_of};
-ghost use Rattle.path_vector.specs.Offers.{offered_route, exported};
+ghost use Rattle.path_vector.specs.Selection.{Route, candidate, best, choices, path_of};
+ghost use Rattle.path_vector.specs.Offers.{offered_route, exported, may_tell};
 ghost use Rattle.path_vector.specs.Standing.{StandsFor};
+ghost use Rattle.path_vector.specs.Taken.{Takes, IsTaken};
 ghost use Rattle.path_vector.specs.Answers.{Shows, GoesFirst, Copies, behind};
 
-use crate::neighbours::Neighbour;
+use crate::neighbours::{self, Neighbour};
 use crate::{Cause, Learned, Policy};
 use std::alloc::Global;
-use topology::{NoMemory, NodeId, Path, PrefixId, Scope, Topology};
+use topology::{NoMemory, NodeId, Path, PrefixId, Relation, Scope, Topology};
 
 /// The best route of a node to a prefix.
 #[derive(Clone, Copy, Debug)]
@@ -30,6 +31,14 @@ pub enum Best<'a> {
 pub struct Chosen {
     pub path: Option<Path>,
     pub learned: Option<Learned>,
+}
+
+// A route: the neighbour that it goes by, where it was learnt, and its path from the own node on.
+#[derive(Clone, Copy)]
+struct Taken<'a> {
+    via: Option<NodeId>,
+    learned: Learned,
+    path: &'a Path,
 }
 
 /// What a node knows of its routes after the entries of its log: less than the log, and enough
@@ -53,8 +62,15 @@ impl<P: Policy + Copy> RouteState<P> {
     ) -> Result<RouteState<P>, NoMemory>
         ensures { IfOk result (λ state. StandsFor policy topology.now node state []) }
     {
-        let _valid = topology.nodes();
-        Err(NoMemory)
+        // the nodes of a topology are valid
+        let _nodes = topology.nodes();
+        Ok(RouteState {
+            alloc,
+            policy,
+            alone: Path::single(alloc, node)?,
+            owned: vec![in alloc; false; topology.prefix_count() as usize]?,
+            neighbours: neighbours::neighbours_of(alloc, topology, node)?,
+        })
     }
 
     /// The policy that the state was made with.
@@ -73,7 +89,10 @@ impl<P: Policy + Copy> RouteState<P> {
             StandsFor policy net u self.new (change scope cause.now ∷ past)) }
         ensures err { OnErr result (self.new ≡ self.old) }
     {
-        Err(NoMemory)
+        let led = neighbours::lead(cause, self.node())?;
+        mark(&mut self.owned, &scope, cause);
+        neighbours::heed(&mut self.neighbours, &scope, cause, led);
+        Ok(())
     }
 
     /// Whether the node originates a prefix.
@@ -90,7 +109,8 @@ impl<P: Policy + Copy> RouteState<P> {
             prefix < length net.prefixes → has (neighbours net u) nbr ≡ true →
             behind u (option_map (λ nodes. nodes.now) result) ≡ candidate u h prefix nbr }
     {
-        None
+        let path = neighbours::find(&self.neighbours, nbr)?.path(prefix)?;
+        Some(&path.nodes()[1..])
     }
 
     /// The best route of a prefix: the own one, else the first candidate by the policy's rank.
@@ -100,7 +120,10 @@ impl<P: Policy + Copy> RouteState<P> {
         ensures first { (policy : P) (net : Net) (u : ℕ) (h : History) → StandsFor policy net u self.now h →
             GoesFirst (P.rules policy).before (choices net u h prefix) (best (P.rules policy) net u h prefix) }
     {
-        Best::None
+        let Some(taken) = self.taken(prefix) else {
+            return Best::None;
+        };
+        shown(taken.via, taken.path)
     }
 
     /// The path of the best route, from the own node on.
@@ -109,7 +132,10 @@ impl<P: Policy + Copy> RouteState<P> {
             prefix < length net.prefixes →
             option_map (λ path. path.now) result ≡ path_of u (best (P.rules policy) net u h prefix) }
     {
-        None
+        let Some(taken) = self.taken(prefix) else {
+            return None;
+        };
+        Some(taken.path)
     }
 
     /// A copy of the best route, to be compared with a later one.
@@ -118,7 +144,16 @@ impl<P: Policy + Copy> RouteState<P> {
             StandsFor policy net u self.now h → prefix < length net.prefixes →
             Copies net u chosen (best (P.rules policy) net u h prefix)) }
     {
-        Err(NoMemory)
+        let Some(taken) = self.taken(prefix) else {
+            return Ok(Chosen {
+                path: None,
+                learned: None,
+            });
+        };
+        Ok(Chosen {
+            path: Some(taken.path.copy()?),
+            learned: Some(taken.learned),
+        })
     }
 
     /// What the node offers a neighbour: its best route where export allows it, else none.
@@ -127,7 +162,13 @@ impl<P: Policy + Copy> RouteState<P> {
             prefix < length topology.now.prefixes →
             Shows u result (offered_route (P.rules policy) topology.now u h prefix nbr) }
     {
-        Best::None
+        let Some(taken) = self.taken(prefix) else {
+            return Best::None;
+        };
+        if !self.tells(taken.learned, topology.relation(self.node(), nbr)) {
+            return Best::None;
+        }
+        shown(taken.via, taken.path)
     }
 
     /// The path that the node offers a neighbour, from the own node on.
@@ -136,15 +177,103 @@ impl<P: Policy + Copy> RouteState<P> {
             prefix < length net.prefixes → has (neighbours net u) nbr ≡ true →
             option_map (λ path. path.now) result ≡ path_of u (offered_route (P.rules policy) net u h prefix nbr) }
     {
-        None
+        let Some(taken) = self.taken(prefix) else {
+            return None;
+        };
+        if !self.tells(taken.learned, self.relation_to(nbr)) {
+            return None;
+        }
+        Some(taken.path)
     }
 
     /// The path that the node offered a neighbour while this was its best route.
     pub fn offered_path<'a>(&self, chosen: &'a Chosen, nbr: NodeId) -> Option<&'a Path>
-        ensures { (policy : P) (net : Net) (u : ℕ) (h : History) (route : _) → StandsFor policy net u self.now h →
+        ensures { (policy : P) (net : Net) (u : ℕ) (h : History) (route : Route) → StandsFor policy net u self.now h →
             Copies net u chosen.now route → has (neighbours net u) nbr ≡ true →
             option_map (λ path. path.now) result ≡ path_of u (exported (P.rules policy) net u nbr route) }
     {
-        None
+        if !self.tells(chosen.learned?, self.relation_to(nbr)) {
+            return None;
+        }
+        chosen.path.as_ref()
+    }
+
+    // The own node.
+    fn node(&self) -> NodeId
+        ensures { (policy : P) (net : Net) (u : ℕ) (h : History) →
+            StandsFor policy net u self.now h → result ≡ u }
+    {
+        self.alone.nodes()[0]
+    }
+
+    // What a neighbour is to the node.
+    fn relation_to(&self, nbr: NodeId) -> Option<Relation>
+        ensures { (policy : P) (net : Net) (u : ℕ) (h : History) → StandsFor policy net u self.now h →
+            has (neighbours net u) nbr ≡ true → result ≡ relation net u nbr }
+    {
+        Some(neighbours::find(&self.neighbours, nbr)?.relation)
+    }
+
+    // The best route of a prefix.
+    fn taken(&self, prefix: PrefixId) -> Option<Taken<'_>>
+        ensures { (policy : P) (net : Net) (u : ℕ) (h : History) → StandsFor policy net u self.now h →
+            prefix < length net.prefixes → IsTaken net u result (best (P.rules policy) net u h prefix) }
+    {
+        if self.owns(prefix) {
+            return Some(Taken {
+                via: None,
+                learned: Learned::Own,
+                path: &self.alone,
+            });
+        }
+        let neighbour = neighbours::first(&self.policy, &self.neighbours, prefix)?;
+        let path = neighbour.path(prefix)?;
+        Some(Taken {
+            via: Some(neighbour.id),
+            learned: Learned::From(neighbour.relation),
+            path,
+        })
+    }
+
+    // Whether what was learned so is told to a neighbour of this relation.
+    fn tells(&self, learned: Learned, to: Option<Relation>) -> bool
+        ensures { result ≡ may_tell (P.rules self.now.policy) (Some learned) to }
+    {
+        match to {
+            None => false,
+            Some(to) => self.policy.allows(learned, to),
+        }
+    }
+}
+
+// A route as callers see it, by the neighbour that it goes by and its path.
+fn shown<'a>(via: Option<NodeId>, path: &'a Path) -> Best<'a>
+    ensures { (net : Net) (u : ℕ) (learned : Learned) (route : Route) →
+        Takes net u via learned path.now route → Shows u result route }
+{
+    match via {
+        None => Best::Own,
+        Some(nbr) => Best::Via(nbr, &path.nodes()[1..]),
+    }
+}
+
+// An origin entry sets whether the node originates its prefix.
+fn mark(owned: &mut Vec<bool>, scope: &Scope, cause: &Cause)
+    ensures places { length owned.new.items ≡ length owned.old.items }
+    ensures owns { (past : History) (p : ℕ) → Accepts past scope.now cause.now → p < length owned.old.items →
+        slice_get owned.old.items p ≡ Some (owns past p) →
+        slice_get owned.new.items p ≡ Some (owns (change scope.now cause.now ∷ past) p) }
+{
+    let Scope::One(prefix) = *scope else {
+        return;
+    };
+    let place = prefix.place() as usize;
+    if place >= owned.len() {
+        return;
+    }
+    match cause {
+        Cause::Originate => owned[place] = true,
+        Cause::Withdraw => owned[place] = false,
+        _ => {}
     }
 }

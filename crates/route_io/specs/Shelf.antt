@@ -17,4 +17,5 @@ FindsNoRoom shelf piece = (0 < length piece) × (free shelf ≡ 0)
 
 -- where both are told, what is held and the piece are more than the room
 abbrev pub ExceedsRoom : Option ℕ → Option (List ℕ) → List ℕ → Type 0
-ExceedsRoom room held piece = IfSome room (λ size. IfSome held (λ xs. size < length xs + length piece))
+ExceedsRoom room held piece =
+    IfSome room (λ size. IfSome held (λ xs. size < length xs + length piece))

@@ -1,15 +1,15 @@
 //! A source and a sink in memory with no call that is listed to fail.
-ghost use Rattle.std.specs.Prelude.{◌≡◌, ◌<◌, ◌≤◌, ◌↔◌, min, length, [], Some, IfOk, IsOk, IsErr, is_err};
+ghost use Rattle.std.specs.Prelude.{◌≡◌, ◌<◌, ◌↔◌, min, length, [], Some, IfOk, IsOk, IsErr, is_err};
 ghost use Rattle.std.specs.Io.{ReadsAtMost};
 ghost use Rattle.std.specs.Io.KnownBytes.{ReadConsumes, WriteAppends};
-ghost use Rattle.route_io.specs.Causes.{HasCause, StaysTold, counted};
+ghost use Rattle.route_io.specs.Causes.{HasCause, counted};
 ghost use Rattle.route_io.specs.Shelf.{FindsNoRoom, free};
 
 use crate::content::Content;
 use crate::outside::{Failed, Sink, Source};
 use crate::room::Room;
 
-/// Bytes in memory. No read of it fails, and none takes memory.
+/// Bytes in memory. No read fails, and no call takes memory.
 #[derive(Drop)]
 pub struct PlainSource {
     content: Content,
@@ -33,7 +33,8 @@ impl Source for PlainSource {
 
     fn read(&mut self, buf: &mut [u8]) -> Result<usize, Failed>
         ensures bound { ReadsAtMost result buf.new }
-        ensures bytes { ReadConsumes (Some self.old.content) (Some self.new.content) result buf.new }
+        ensures bytes { ReadConsumes (Some self.old.content) (Some self.new.content)
+            result buf.new }
         ensures never_fails { IsOk result }
         ensures fills { IfOk result (λ n. n ≡ min (length buf.old) (length self.old.content)) }
     {
@@ -41,7 +42,7 @@ impl Source for PlainSource {
     }
 }
 
-/// Room in memory. A write fails exactly where it finds nothing free. It takes no memory.
+/// Room in memory. A write fails exactly where it finds nothing free. No call takes memory.
 #[derive(Drop)]
 pub struct PlainSink {
     room: Room,
@@ -79,7 +80,8 @@ impl Sink for PlainSink {
 
     fn write(&mut self, piece: &[u8]) -> Result<usize, Failed>
         ensures some { 0 < length piece.now → IfOk result (λ n. 0 < n) }
-        ensures bytes { WriteAppends (Some self.old.room.held) (Some self.new.room.held) result piece.now }
+        ensures bytes { WriteAppends (Some self.old.room.held) (Some self.new.room.held)
+            result piece.now }
         ensures same_room { Some self.new.room.size ≡ Some self.old.room.size }
         ensures cause { HasCause self.old.faults self.new.faults result }
         ensures fails { IsErr result ↔ FindsNoRoom self.old.room piece.now }

@@ -16,7 +16,8 @@ impl Model for Room {
 
     ghost Value = { Shelf };
 
-    ghost view = { λ r. record { held = take r.place r.bytes.items; size = length r.bytes.items } };
+    ghost view = { λ r.
+        record { held = take r.place r.bytes.items; size = length r.bytes.items } };
 
     ghost invariant = { λ r. r.place ≤ length r.bytes.items };
 }

@@ -1,9 +1,9 @@
 -- What each call of a topology adds, and when it refuses.
 use Rattle.std.specs.Prelude.{ℕ, Bool, true, false, not, ◌&&◌, ◌==◌, nat_le, List, [], ◌∷◌, ◌++◌, length, Option, Some, None, Result, IsErrOf, IsOkUnless, if◌then◌else◌}
 use Rattle.topology.specs.Lists.{has}
-use Rattle.topology.specs.Net.{Net, linked, has_prefix}
+use Rattle.topology.specs.Net.{Net, linked, prefers, has_prefix}
 use Rattle.topology.specs.declared.links.Link.{Link}
-use Rattle.topology.specs.declared.links.Relation.{Relation}
+use Rattle.topology.specs.declared.links.Pref.{Pref}
 use Rattle.topology.specs.declared.prefixes.Prefix.{Prefix}
 use Rattle.topology.specs.declared.building.BuildError.{BuildError}
 use Rattle.topology.specs.declared.building.BuildError.TheVariants.{DuplicateNode, UnknownNode, DuplicateLink, SelfLink, DuplicatePrefix, TooMany, NoMemory, NoLink}
@@ -25,6 +25,14 @@ with_link net link = record net { links = net.links ++ link ∷ [] }
 abbrev pub with_prefix : Net → Prefix → Net
 with_prefix net p = record net { prefixes = net.prefixes ++ p ∷ [] }
 
+-- the preference in the place of an earlier one of the same two, or else at the end
+abbrev pub put_preference : Pref → List Pref → List Pref
+put_preference pref [] = pref ∷ []
+put_preference pref (p ∷ ps) = if prefers pref.a pref.b p then pref ∷ ps else p ∷ put_preference pref ps
+
+abbrev pub with_pref : Net → Pref → Net
+with_pref net pref = record net { preferences = put_preference pref net.preferences }
+
 -- why a node is not added: the first that holds
 abbrev pub node_refusal : Net → ℕ → Bool → Option BuildError
 node_refusal net id consolidator =
@@ -41,6 +49,15 @@ link_refusal net a b =
     else if a == b then Some SelfLink
     else if linked net a b then Some DuplicateLink
     else if nat_le 512 (length net.links) then Some TooMany
+    else None
+
+-- why a preference is not added: the first that holds
+abbrev pub pref_refusal : Net → ℕ → ℕ → Option BuildError
+pref_refusal net a b =
+    if not (has net.nodes a) then Some (UnknownNode a)
+    else if not (has net.nodes b) then Some (UnknownNode b)
+    else if a == b then Some SelfLink
+    else if not (linked net a b) then Some NoLink
     else None
 
 -- why a prefix is not added: the first that holds

@@ -1,8 +1,11 @@
 //! Why something is not added to a topology.
 ghost use Rattle.std.specs.Prelude.{◌≡◌};
 ghost use Rattle.topology.specs.Building.{number_of};
+ghost use Rattle.topology.specs.declared.building.BuildError.TheVariants.{NoMemory};
 
 use crate::NodeId;
+use crate::paths::NoMemory as NoMoreMemory;
+use std::alloc::{AllocError, AllocFailed};
 use thiserror::Error;
 
 /// Why something is not added to a topology. Of several the first in this order is answered:
@@ -25,6 +28,30 @@ pub enum BuildError {
     NoMemory,
     #[error("the two nodes have no link")]
     NoLink,
+}
+
+impl From<NoMoreMemory> for BuildError {
+    ghost from_gives = { λ _ e. e ≡ NoMemory };
+
+    fn from(_: NoMoreMemory) -> BuildError {
+        BuildError::NoMemory
+    }
+}
+
+impl From<AllocError> for BuildError {
+    ghost from_gives = { λ _ e. e ≡ NoMemory };
+
+    fn from(_: AllocError) -> BuildError {
+        BuildError::NoMemory
+    }
+}
+
+impl<T: Drop> From<AllocFailed<T>> for BuildError {
+    ghost from_gives = { λ _ e. e ≡ NoMemory };
+
+    fn from(_: AllocFailed<T>) -> BuildError {
+        BuildError::NoMemory
+    }
 }
 
 impl BuildError {

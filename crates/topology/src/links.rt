@@ -1,4 +1,7 @@
 //! Links, and what the two ends of one are to each other.
+ghost use Rattle.std.specs.Prelude.{◌≡◌};
+ghost use Rattle.topology.specs.Net.{converse};
+
 use crate::NodeId;
 
 /// What the other end of a link is to a node, after Gao and Rexford. `Any` is outside their
@@ -9,6 +12,20 @@ pub enum Relation {
     Provider,
     Peer,
     Any,
+}
+
+impl Relation {
+    /// The relation as the other end has it.
+    pub fn converse(self) -> Relation
+        ensures { result ≡ converse self }
+    {
+        match self {
+            Relation::Customer => Relation::Provider,
+            Relation::Provider => Relation::Customer,
+            Relation::Peer => Relation::Peer,
+            Relation::Any => Relation::Any,
+        }
+    }
 }
 
 /// `b` has this relation to `a`; `a` has the converse one to `b`.

@@ -1,30 +1,61 @@
 //! A network: its nodes, links and prefixes, in the order in which they were added.
-ghost use Rattle.std.specs.Prelude.{◌≡◌, ◌<◌, ◌≤◌, ◌↔◌, false, Some, IfOk, OnOk, OnErr, IfSome, IsNone, length, slice_get, option_map};
-ghost use Rattle.topology.specs.Lists.{ascending, has};
-ghost use Rattle.topology.specs.Net.{neighbours, relation, file_preference, has_prefix, IsValid, IsPrefix};
-ghost use Rattle.topology.specs.Building.{nothing, with_node, with_link, with_prefix, node_refusal, link_refusal, prefix_refusal, AnswersBy};
+ghost use Rattle.std.specs.Prelude.{◌≡◌, ◌^◌, ◌<◌, ◌≤◌, ◌↔◌, false, None, Some, IfErr, IfOk, OnOk, OnErr, IfSome, IsNone, find, length, slice_get, option_map};
+ghost use Rattle.topology.specs.Lists.{ascending, has, put_ascending};
+ghost use Rattle.topology.specs.Net.{neighbours, relation, file_preference, prefers, has_prefix, IsValid, IsPrefix};
+ghost use Rattle.topology.specs.Building.{nothing, with_node, with_link, with_pref, with_prefix, node_refusal, link_refusal, pref_refusal, prefix_refusal, AnswersBy};
 
-use crate::{BuildError, Link, NodeId, Prefix, PrefixId, Relation};
+use crate::node_set::insert_ascending;
+use crate::{
+    BuildError, Link, LinkTable, NoMemory, NodeId, NodeSet, Pref, PrefTable, Prefix, PrefixId,
+    Relation,
+};
+use indexmap::IndexSet;
 use std::alloc::Global;
 use std::marker::Model;
+
+const MAX_NODES: usize = 64;
+
+const MAX_CONSOLIDATORS: usize = 7;
+
+const MAX_LINKS: usize = 512;
+
+const DEFAULT_PREFERENCE: u32 = 100;
+
+const MAX_PREFIXES: usize = 256;
 
 /// A network. It starts empty, and what is added stays.
 #[derive(Drop)]
 pub struct Topology {
-    nodes: Vec<NodeId>,
-    links: Vec<Link>,
-    prefixes: Vec<Prefix>,
+    nodes: NodeSet,
+    consolidators: NodeSet,
+    /// The neighbours of each node, ascending, at the node's place in file order.
+    neighbours: Vec<Vec<NodeId>>,
+    links: LinkTable,
+    preferences: PrefTable,
+    prefixes: IndexSet<Prefix>,
+    alloc: Global,
 }
 
 impl Model for Topology {
-    ghost use Rattle.std.specs.Prelude.{◌≡◌, []};
+    ghost use Rattle.std.specs.Prelude.{map};
     ghost use Rattle.topology.specs.Net.{Net};
 
     ghost Value = { Net };
 
-    ghost view = { λ t. record { nodes = t.nodes.items; consolidators = []; links = t.links.items; preferences = []; prefixes = t.prefixes.items } };
+    ghost use Rattle.topology.specs.Tables.{Keeps};
 
-    ghost invariant = { λ t. (t.nodes.items ≡ []) × (t.links.items ≡ []) × (t.prefixes.items ≡ []) };
+    ghost view = { λ t. record { nodes = t.nodes.nodes; consolidators = t.consolidators.nodes; links = t.links; preferences = t.preferences; prefixes = t.prefixes.keys } };
+
+    ghost invariant = { λ t. Keeps (record { nodes = t.nodes.nodes; consolidators = t.consolidators.nodes; links = t.links; preferences = t.preferences; prefixes = t.prefixes.keys }) (map (λ near. near.items) t.neighbours.items) };
+}
+
+// An equal list with one node more.
+fn with_ascending(nodes: &[NodeId], id: NodeId, alloc: Global) -> Result<Vec<NodeId>, NoMemory>
+    ensures { IfOk result (λ more. more.items ≡ put_ascending id nodes.now) }
+{
+    let mut more = Vec::from_slice(alloc, nodes)?;
+    insert_ascending(&mut more, id)?;
+    Ok(more)
 }
 
 impl Topology {
@@ -33,10 +64,58 @@ impl Topology {
         ensures { result ≡ nothing }
     {
         Topology {
-            nodes: Vec::new(alloc),
-            links: Vec::new(alloc),
-            prefixes: Vec::new(alloc),
+            nodes: NodeSet::empty(alloc),
+            consolidators: NodeSet::empty(alloc),
+            neighbours: Vec::new(alloc),
+            links: LinkTable::empty(alloc),
+            preferences: PrefTable::empty(alloc),
+            prefixes: IndexSet::new(alloc),
+            alloc,
         }
+    }
+
+    // Whether a node may be added.
+    fn check_node(&self, id: NodeId, consolidator: bool) -> Result<(), BuildError>
+        ensures ok { OnOk result (node_refusal self.now id consolidator ≡ None) }
+        ensures fits { OnOk result (id < 2 ^ 16) }
+        ensures err { IfErr result (λ e. node_refusal self.now id consolidator ≡ Some e) }
+    {
+        if self.nodes.contains(id) {
+            return Err(BuildError::DuplicateNode);
+        }
+        if self.nodes.len() >= MAX_NODES {
+            return Err(BuildError::TooMany);
+        }
+        if consolidator && self.consolidators.len() >= MAX_CONSOLIDATORS {
+            return Err(BuildError::TooMany);
+        }
+        let _fits = id.number();
+        Ok(())
+    }
+
+    // The places of the two ends, where a link between them may be added.
+    fn check_link(&self, a: NodeId, b: NodeId) -> Result<(usize, usize), BuildError>
+        ensures ok { OnOk result (link_refusal self.now a b ≡ None) }
+        ensures from { IfOk result (λ places. slice_get self.now.nodes places.0 ≡ Some a) }
+        ensures to { IfOk result (λ places. slice_get self.now.nodes places.1 ≡ Some b) }
+        ensures err { IfErr result (λ e. link_refusal self.now a b ≡ Some e) }
+    {
+        let Some(from) = self.nodes.place(a) else {
+            return Err(BuildError::UnknownNode(a));
+        };
+        let Some(to) = self.nodes.place(b) else {
+            return Err(BuildError::UnknownNode(b));
+        };
+        if a == b {
+            return Err(BuildError::SelfLink);
+        }
+        if self.links.has(a, b) {
+            return Err(BuildError::DuplicateLink);
+        }
+        if self.links.len() >= MAX_LINKS {
+            return Err(BuildError::TooMany);
+        }
+        Ok((from, to))
     }
 
     /// Adds a node, numbered from 1. There are at most 64, of which at most 7 are consolidators.
@@ -46,8 +125,15 @@ impl Topology {
         ensures refused { AnswersBy result (node_refusal self.old id consolidator) }
         ensures err { OnErr result (self.new ≡ self.old) }
     {
-        let _empty = self.nodes.len();
-        Err(BuildError::NoMemory)
+        self.check_node(id, consolidator)?;
+        self.nodes.reserve()?;
+        self.consolidators.reserve()?;
+        self.neighbours.push(Vec::new(self.alloc))?;
+        self.nodes.add(id);
+        if consolidator {
+            self.consolidators.add(id);
+        }
+        Ok(())
     }
 
     /// Adds a link: `b` has this relation to `a`, and `a` the converse one to `b`. There are at
@@ -57,8 +143,46 @@ impl Topology {
         ensures refused { AnswersBy result (link_refusal self.old a b) }
         ensures err { OnErr result (self.new ≡ self.old) }
     {
-        let _empty = self.nodes.len();
-        Err(BuildError::UnknownNode(a))
+        let (from, to) = self.check_link(a, b)?;
+        let near_a = with_ascending(self.neighbours(a), b, self.alloc)?;
+        let near_b = with_ascending(self.neighbours(b), a, self.alloc)?;
+        self.links.add(Link { a, b, relation })?;
+        self.neighbours[from] = near_a;
+        self.neighbours[to] = near_b;
+        Ok(())
+    }
+
+    // Whether a preference may be added.
+    fn check_pref(&self, a: NodeId, b: NodeId) -> Result<(), BuildError>
+        ensures ok { OnOk result (pref_refusal self.now a b ≡ None) }
+        ensures err { IfErr result (λ e. pref_refusal self.now a b ≡ Some e) }
+    {
+        if !self.nodes.contains(a) {
+            return Err(BuildError::UnknownNode(a));
+        }
+        if !self.nodes.contains(b) {
+            return Err(BuildError::UnknownNode(b));
+        }
+        if a == b {
+            return Err(BuildError::SelfLink);
+        }
+        if !self.links.has(a, b) {
+            return Err(BuildError::NoLink);
+        }
+        Ok(())
+    }
+
+    /// Adds the preference that `a` gives to the candidates of `b`, a neighbour. It replaces an
+    /// earlier one of the same two.
+    pub fn add_pref(&mut self, a: NodeId, b: NodeId, value: u32) -> Result<(), BuildError>
+        requires { value ≤ 1000000 }
+        ensures ok { OnOk result (self.new ≡ with_pref self.old (record { a = a; b = b; value = value })) }
+        ensures refused { AnswersBy result (pref_refusal self.old a b) }
+        ensures err { OnErr result (self.new ≡ self.old) }
+    {
+        self.check_pref(a, b)?;
+        self.preferences.put(Pref { a, b, value })?;
+        Ok(())
     }
 
     /// Adds a prefix, and answers its place, from 0. There are at most 256.
@@ -69,8 +193,14 @@ impl Topology {
         ensures refused { AnswersBy result (prefix_refusal self.old prefix) }
         ensures err { OnErr result (self.new ≡ self.old) }
     {
-        let _empty = self.nodes.len();
-        Err(BuildError::NoMemory)
+        if self.prefixes.contains(&prefix) {
+            return Err(BuildError::DuplicatePrefix);
+        }
+        if self.prefixes.len() >= MAX_PREFIXES {
+            return Err(BuildError::TooMany);
+        }
+        let (place, _) = self.prefixes.insert_full(prefix)?;
+        Ok(PrefixId::new(place as u16))
     }
 
     /// The nodes, ascending.
@@ -79,7 +209,7 @@ impl Topology {
         ensures nodes { result.now ≡ ascending self.now.nodes }
         ensures valid { IsValid self.now }
     {
-        &self.nodes
+        self.nodes.ascending()
     }
 
     /// The place of a node among the nodes, ascending, from 0.
@@ -88,8 +218,7 @@ impl Topology {
         ensures some { IfSome result (λ rank. slice_get (ascending self.now.nodes) rank ≡ Some id) }
         ensures none { IsNone result ↔ (has self.now.nodes id ≡ false) }
     {
-        let _empty = self.nodes.len();
-        None
+        self.nodes.rank(id)
     }
 
     /// The nodes that a node has a link with, ascending.
@@ -98,7 +227,10 @@ impl Topology {
         ensures neighbours { result.now ≡ neighbours self.now id }
         ensures few { length result.now ≤ 63 }
     {
-        &self.nodes
+        match self.nodes.place(id) {
+            Some(place) => &self.neighbours[place],
+            None => &[],
+        }
     }
 
     /// What `b` is to `a`. None exactly where they have no link.
@@ -106,17 +238,32 @@ impl Topology {
     pub fn relation(&self, a: NodeId, b: NodeId) -> Option<Relation>
         ensures { result ≡ relation self.now a b }
     {
-        let _empty = self.nodes.len();
-        None
+        let link = self.links.find(a, b)?;
+        if link.a == a {
+            Some(link.relation)
+        } else {
+            Some(link.relation.converse())
+        }
+    }
+
+    /// The preference that was added for the candidates of `b` at `a`.
+    pub fn added_pref(&self, a: NodeId, b: NodeId) -> Option<u32>
+        ensures { result ≡ option_map (λ pref. pref.value) (find (prefers a b) self.now.preferences) }
+    {
+        let pref = self.preferences.find(a, b)?;
+        Some(pref.value)
     }
 
     /// The preference that the file gives to the candidates of `b` at `a`; 100 where it gives none.
     #[tactic(auto, unfolding(crate::specs::Net::file_preference))]
     pub fn pref(&self, a: NodeId, b: NodeId) -> u32
-        ensures { result ≡ file_preference self.now a b }
+        ensures value { result ≡ file_preference self.now a b }
+        ensures small { result ≤ 1000000 }
     {
-        let _empty = self.nodes.len();
-        100
+        match self.preferences.find(a, b) {
+            Some(pref) => pref.value,
+            None => DEFAULT_PREFERENCE,
+        }
     }
 
     /// The consolidators, ascending.
@@ -124,8 +271,7 @@ impl Topology {
     pub fn consolidators(&self) -> &[NodeId]
         ensures { result.now ≡ ascending self.now.consolidators }
     {
-        let _empty = self.nodes.len();
-        &self.nodes
+        self.consolidators.ascending()
     }
 
     /// How many prefixes there are.
@@ -133,16 +279,14 @@ impl Topology {
         ensures count { result ≡ length self.now.prefixes }
         ensures few { result ≤ 256 }
     {
-        let _empty = self.nodes.len();
-        0
+        self.prefixes.len() as u16
     }
 
     /// The prefix at a place. None exactly where there is none.
     pub fn prefix(&self, id: PrefixId) -> Option<Prefix>
         ensures { result ≡ slice_get self.now.prefixes id }
     {
-        let _empty = self.nodes.len();
-        None
+        self.prefixes.get_index(usize::from(id.place())).copied()
     }
 
     /// The place of a prefix. None exactly where it was not added.
@@ -150,23 +294,23 @@ impl Topology {
         ensures some { IfSome result (λ id. slice_get self.now.prefixes id ≡ Some prefix) }
         ensures none { IsNone result ↔ (has_prefix self.now prefix ≡ false) }
     {
-        let _empty = self.nodes.len();
-        None
+        let place = self.prefixes.get_index_of(&prefix)?;
+        Some(PrefixId::new(place as u16))
     }
 
     /// The node at a place in file order, from 0, and whether it is a consolidator.
     pub fn node_at(&self, place: u16) -> Option<(NodeId, bool)>
         ensures { result ≡ option_map (λ id. (id, has self.now.consolidators id)) (slice_get self.now.nodes place) }
     {
-        let _empty = self.nodes.len();
-        None
+        let id = self.nodes.at(usize::from(place))?;
+        Some((id, self.consolidators.contains(id)))
     }
 
     /// The link at a place in file order, from 0, as it was added.
     pub fn link_at(&self, place: u16) -> Option<(NodeId, NodeId, Relation)>
         ensures { result ≡ option_map (λ link. (link.a, link.b, link.relation)) (slice_get self.now.links place) }
     {
-        let _empty = self.nodes.len();
-        None
+        let link = self.links.at(usize::from(place))?;
+        Some((link.a, link.b, link.relation))
     }
 }

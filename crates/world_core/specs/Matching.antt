@@ -19,12 +19,16 @@ use Rattle.chronicle.specs.Run.{only_session}
 use Rattle.world_core.specs.declared.sites.Channel.{Channel}
 use Rattle.world_core.specs.declared.sites.Site.{Site}
 
--- an entry of routes, with one prefix of the network: no session has ended or begun
-abbrev pub IsRouteChange : Net → Cause → Type 0
-IsRouteChange net Originate = Unit {0}
-IsRouteChange net Withdraw = Unit {0}
-IsRouteChange net (Recv from session seq path) = session ≡ only_session
-IsRouteChange net other = ⊥
+-- a cause of routes: no session has ended or begun
+abbrev pub IsOfRoutes : Cause → Type 0
+IsOfRoutes Originate = Unit {0}
+IsOfRoutes Withdraw = Unit {0}
+IsOfRoutes (Recv from session seq path) = session ≡ only_session
+IsOfRoutes other = ⊥
+
+-- an entry of routes, of one prefix
+abbrev pub IsRouteChange : Change → Type 0
+IsRouteChange k = HasScope k.scope k.cause × IsOfRoutes k.cause
 
 -- the item is of a prefix of the network
 abbrev pub IsPlaced : Net → Item → Type 0
@@ -40,7 +44,7 @@ pub record IsChannel (rules : Rules) (net : Net) (past : Chronicle) (u w : ℕ) 
 pub record IsSite {P : Type 0} (policy : P) (rules : Rules) (net : Net) (past : Chronicle) (u : ℕ) (site : Site P) : Type 0 where
   pub routes : StandsFor policy net u site.routes (log_of u past)
   pub entries : site.entries ≡ length (log_of u past)
-  pub plain : AllByRecursion (λ (k : Change). HasScope k.scope k.cause × IsRouteChange net k.cause) (log_of u past)
+  pub plain : AllByRecursion IsRouteChange (log_of u past)
   pub width : length site.outgoing.items ≡ length (neighbours net u)
   pub outgoing : (i w : ℕ) (kept : Channel) → slice_get (neighbours net u) i ≡ Some w → slice_get site.outgoing.items i ≡ Some kept
       → IsChannel rules net past u w kept

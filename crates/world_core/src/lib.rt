@@ -2,7 +2,9 @@
 #![tactic(auto)]
 
 pub mod outcomes;
+pub mod sending;
 pub mod sites;
+pub mod steps;
 pub mod world;
 
 pub use chronicle::Event;

@@ -1,20 +1,22 @@
 //! The world: all nodes and channels.
-ghost use Rattle.std.specs.Prelude.{◌≡◌, [], ◌∷◌, ◌++◌, false, IsTrue, IsNone, IfOk, IfSome, ◌↔◌};
+ghost use Rattle.std.specs.Prelude.{◌≡◌, [], ◌∷◌, ◌++◌, ◌&&◌, false, nat_lt, length, IsTrue, IsNone, IfOk, IfSome, ◌↔◌};
 ghost use Rattle.topology.specs.Lists.{has};
 ghost use Rattle.path_vector.specs.Standing.{StandsFor};
 ghost use Rattle.chronicle.specs.Logs.{log_of};
 ghost use Rattle.chronicle.specs.Run.{run, step};
 ghost use Rattle.world_core.specs.Fits.{fits};
 ghost use Rattle.world_core.specs.Effects.{Tells};
+ghost use Rattle.world_core.specs.Matching.{Matches};
 
 use crate::outcomes::{Outcome, Stop};
 use crate::sites::Site;
+use crate::steps::happen;
 use chronicle::Event;
 use path_vector::{Policy, RouteState};
 use std::alloc::Global;
 use std::marker::Model;
 use std::rc::Rc;
-use topology::{NoMemory, NodeId, Topology};
+use topology::{NoMemory, NodeId, PrefixId, Topology};
 
 /// All nodes and channels of a network, and the events so far.
 #[derive(Drop)]
@@ -38,16 +40,41 @@ impl<P: Policy + Copy> Model for World<P> {
     ghost invariant = { λ w. Matches w.policy (P.rules w.policy) w.topology.value (run (P.rules w.policy) w.topology.value w.events.items) w.sites.items };
 }
 
+// The sites of a world in which nothing has happened, by the ranks of the nodes.
+fn fresh_sites<P: Policy + Copy>(
+    alloc: Global,
+    topology: &Topology,
+    policy: P,
+) -> Result<Vec<Site<P>>, NoMemory>
+    ensures { IfOk result (λ sites. Matches policy (P.rules policy) topology.now [] sites.items) }
+{
+    let mut sites = Vec::new(alloc);
+    for node in topology.nodes() {
+        sites.push(Site::new(alloc, topology, *node, policy)?)?;
+    }
+    Ok(sites)
+}
+
+// Whether there is such a node and such a prefix.
+fn names(topology: &Topology, node: NodeId, prefix: PrefixId) -> bool
+    ensures { result ≡ (has topology.now.nodes node && nat_lt prefix (length topology.now.prefixes)) }
+{
+    topology.rank_of(node).is_some() && prefix.place() < topology.prefix_count()
+}
+
 impl<P: Policy + Copy> World<P> {
     /// The world in which nothing has happened.
-    pub fn new(
-        alloc: Global,
-        topology: Rc<Topology>,
-        policy: P,
-    ) -> Result<World<P>, NoMemory>
+    pub fn new(alloc: Global, topology: Rc<Topology>, policy: P) -> Result<World<P>, NoMemory>
         ensures { IfOk result (λ world. world ≡ record { policy = policy; net = topology.value; events = [] }) }
     {
-        Err(NoMemory)
+        let sites = fresh_sites(alloc, &topology, policy)?;
+        Ok(World {
+            alloc,
+            topology,
+            policy,
+            sites,
+            events: Vec::new(alloc),
+        })
     }
 
     /// The events so far, the oldest first.
@@ -68,7 +95,11 @@ impl<P: Policy + Copy> World<P> {
     pub fn fits(&self, event: &Event) -> bool
         ensures { result ≡ fits self.now.net event.now }
     {
-        false
+        match event {
+            Event::Originate { node, prefix } => names(&self.topology, *node, *prefix),
+            Event::Withdraw { node, prefix } => names(&self.topology, *node, *prefix),
+            Event::Deliver { from, to } => self.topology.relation(*from, *to).is_some(),
+        }
     }
 
     /// The routes of a node. None exactly where there is no such node.
@@ -77,7 +108,8 @@ impl<P: Policy + Copy> World<P> {
             (log_of id (run (P.rules self.now.policy) self.now.net self.now.events))) }
         ensures none { IsNone result ↔ (has self.now.net.nodes id ≡ false) }
     {
-        None
+        let rank = self.topology.rank_of(id)?;
+        Some(&self.sites[rank].routes)
     }
 
     /// The world after one more event, and what came of it. The cost is that of what the event
@@ -89,6 +121,24 @@ impl<P: Policy + Copy> World<P> {
             let past = run (P.rules self.policy) self.net self.events in
             Tells past (step (P.rules self.policy) self.net past event) r.1) }
     {
-        Err(Stop::NoMemory)
+        let World {
+            alloc,
+            topology,
+            policy,
+            mut sites,
+            mut events,
+        } = self;
+        let outcome = happen(alloc, &topology, &mut sites, &event)?;
+        let Ok(()) = events.push(event) else {
+            return Err(Stop::NoMemory);
+        };
+        let world = World {
+            alloc,
+            topology,
+            policy,
+            sites,
+            events,
+        };
+        Ok((world, outcome))
     }
 }

@@ -1,0 +1,45 @@
+-- What a run of directives asks and leaves.
+use Rattle.std.specs.Prelude.{ℕ, ◌≡◌, ◌≤◌, Option, Some, None, List, [], ◌∷◌, IsTrue, Result, OnOk, IsErrOf}
+use Rattle.std.specs.Io.KnownBytes.{Appends}
+use Rattle.route_io.specs.Causes.{Rose, AppendsFront, StaysTold}
+use Rattle.topology.specs.Lists.{Begins}
+use Rattle.topology.specs.Net.{Net}
+use Rattle.path_vector.specs.Rules.{Rules}
+use Rattle.chronicle.specs.declared.events.Event.{Event}
+use Rattle.chronicle.specs.Run.{run}
+use Rattle.world_core.specs.Fits.{fits}
+use Rattle.world_core.specs.View.{WorldView}
+use Rattle.consensus_routing.specs.declared.directives.Directive.{Directive}
+use Rattle.consensus_routing.specs.declared.directives.Numbered.{Numbered}
+use Rattle.consensus_routing.specs.declared.replay.RunEnd.{RunEnd}
+use Rattle.consensus_routing.specs.declared.replay.RunEnd.TheVariants.{WriteFault}
+use Rattle.consensus_routing.specs.Headline.{Side}
+use Rattle.consensus_routing.specs.Text.{event_of, goes_on}
+
+-- the event of a directive fits the network
+abbrev pub EventFits : Net → Option Event → Type 0
+EventFits net None = Unit {0}
+EventFits net (Some e) = IsTrue (fits net e)
+
+abbrev pub Fitting : Net → Directive → Type 0
+Fitting net directive = EventFits net (event_of directive)
+
+abbrev pub AllFitting : Net → List Numbered → Type 0
+AllFitting net [] = Unit {0}
+AllFitting net (d ∷ ds) = Fitting net d.directive × AllFitting net ds
+
+-- the world is that of the same network and policy, and its run has gone on by the directive
+pub record Advances {P : Type 0} (rules : Rules) (old new : WorldView P) (directive : Directive) : Type 0 where
+  pub same_policy : new.policy ≡ old.policy
+  pub same_net : new.net ≡ old.net
+  pub goes : run rules old.net new.events ≡ goes_on rules old.net (run rules old.net old.events) (event_of directive)
+
+-- what came of the run of a text: it was written whole, or else a front of it, which is not the
+-- whole where the sink failed
+pub record Runs (sink sink' : Side) (text : List ℕ) (result : Result (Unit {0}) RunEnd) : Type 0 where
+  pub whole : OnOk result (Appends sink.told sink'.told text)
+  pub front : (some : List ℕ) × Begins some text × Appends sink.told sink'.told some
+  pub fault : IsErrOf result WriteFault → Rose sink.faults sink'.faults
+  pub cut_off : IsErrOf result WriteFault → AppendsFront sink.told sink'.told text
+  pub stays : StaysTold sink.told sink'.told
+  pub later : sink.faults ≤ sink'.faults

@@ -1,0 +1,97 @@
+-- What a node keeps of its neighbours, as a list, and what an entry changes in it.
+use Rattle.std.specs.Prelude.{ℕ, Bool, true, false, ◌==◌, max, length, slice_set, ◌≡◌, ◌<◌, Option, Some, None, List, [], ◌∷◌, map, fold, slice_get, option_map, option_and_then, if◌then◌else◌}
+use Rattle.std.specs.List.{AllByRecursion}
+use Rattle.topology.specs.Lists.{has}
+use Rattle.topology.specs.Net.{Net, IsValid, neighbours}
+use Rattle.path_vector.specs.declared.causes.Cause.{Cause}
+use Rattle.path_vector.specs.declared.causes.Cause.TheVariants.{Originate, Withdraw, Recv, Down, Up, Ready, Prefer}
+use Rattle.path_vector.specs.declared.neighbours.Neighbour.{Neighbour}
+use Rattle.path_vector.specs.declared.neighbours.Found.{Found}
+use Rattle.path_vector.specs.declared.policy.Ranked.{Ranked}
+use Rattle.path_vector.specs.History.{History, held_by, highest_by, preference_by}
+use Rattle.path_vector.specs.Selection.{Choice, ranked, consider}
+use Rattle.path_vector.specs.Standing.{Remembers}
+
+-- the neighbour that an entry is about
+abbrev pub names : Cause → Option ℕ
+names Originate = None
+names Withdraw = None
+names (Recv from session seq path) = Some from
+names (Down v s) = Some v
+names (Up v s) = Some v
+names (Ready v s) = Some v
+names (Prefer v x) = Some v
+
+-- u before the path of an update: none for a withdrawal, and where u is on the path
+abbrev pub led_by : ℕ → Cause → Option (List ℕ)
+led_by u (Recv from session seq path) = option_and_then (λ nodes. if has nodes u then None else Some (u ∷ nodes)) path
+led_by u other = None
+
+-- the session is the held one
+abbrev pub is_held : Option ℕ → ℕ → Bool
+is_held None s = false
+is_held (Some t) s = t == s
+
+-- an update of p in session s: its path counts where the session is held
+pub record Hears (p s : ℕ) (led : Option (List ℕ)) (old new : Neighbour) : Type 0 where
+  pub id : new.id ≡ old.id
+  pub relation : new.relation ≡ old.relation
+  pub held : new.held ≡ old.held
+  pub highest : new.highest ≡ max old.highest s
+  pub preference : new.preference ≡ old.preference
+  pub told : new.told.items ≡ (if is_held old.held s then slice_set old.told.items p led else old.told.items)
+
+-- a session begins or ends
+abbrev pub ends : Cause → Bool
+ends (Up v s) = true
+ends (Down v s) = true
+ends other = false
+
+-- an entry that concerns all prefixes: the row is empty where a session begins or ends
+pub record Turns (cause : Cause) (old new : Neighbour) : Type 0 where
+  pub id : new.id ≡ old.id
+  pub relation : new.relation ≡ old.relation
+  pub held : new.held ≡ held_by cause old.id old.held
+  pub highest : new.highest ≡ highest_by cause old.id old.highest
+  pub preference : new.preference ≡ preference_by cause old.id old.preference
+  pub places : length new.told.items ≡ length old.told.items
+  pub told : (p : ℕ) → p < length old.told.items → slice_get new.told.items p ≡ (if ends cause then Some None else slice_get old.told.items p)
+
+-- the numbers of the neighbours
+abbrev pub ids : List Neighbour → List ℕ
+ids ns = map (λ (n : Neighbour). n.id) ns
+
+-- each number is below those after it
+abbrev pub Rises : List ℕ → Type 0
+Rises [] = Unit {0}
+Rises (x ∷ xs) = AllByRecursion (λ y. x < y) xs × Rises xs
+
+-- these are the neighbours of u, each as it is read of the list
+pub record Keeps (net : Net) (u : ℕ) (h : History) (ns : List Neighbour) : Type 0 where
+  pub valid : IsValid net
+  pub same : ids ns ≡ neighbours net u
+  pub each : AllByRecursion (Remembers net u h) ns
+
+-- what is kept of a neighbour for p
+abbrev pub kept_path : ℕ → Neighbour → Option (List ℕ)
+kept_path p n = option_and_then (λ path. path) (slice_get n.told.items p)
+
+-- the same, as a candidate
+abbrev pub kept_choice : ℕ → Neighbour → Option Choice
+kept_choice p n = option_map (λ path. record { nbr = n.id; preference = n.preference; path = path }) (kept_path p n)
+
+-- the first by rank of those candidates
+abbrev pub first_kept : (Ranked → Ranked → Bool) → ℕ → List Neighbour → Option Choice
+first_kept before p ns = fold (λ found n. consider before found (kept_choice p n)) None ns
+
+-- nothing was found so far, or this rank is before what was found
+abbrev pub is_sooner : (Ranked → Ranked → Bool) → Option Found → Ranked → Bool
+is_sooner before None rank = true
+is_sooner before (Some found) rank = before rank found.rank
+
+-- the place and the rank are those of this choice
+abbrev pub IsFound : List Neighbour → ℕ → Option Found → Option Choice → Type 0
+IsFound ns p None None = Unit {0}
+IsFound ns p None (Some c) = ⊥
+IsFound ns p (Some found) None = ⊥
+IsFound ns p (Some found) (Some c) = (option_and_then (kept_choice p) (slice_get ns found.place) ≡ Some c) × (found.rank ≡ ranked c)
