@@ -1,7 +1,17 @@
-use Rattle.std.proofs.Common.{◌+◌, [], ◌∷◌, length, ap, ◌∙◌, arith}
+use Rattle.std.proofs.Common.{◌+◌, [], ◌∷◌, length, refl, ap, ◌∙◌, arith}
 use Rattle.consensus_routing.specs.Spelling.{lines_of}
-use Rattle.consensus_routing.proofs.Grammars.{line_here, continues_more, front_within, bad_here, only_line, no_bad_line}
+use Rattle.consensus_routing.proofs.Grammars.{line_here, continues_at_start, continues_more, front_within, bad_here, only_line, no_bad_line}
 use Rattle.consensus_routing.proofs.parse.parse.Goals as goal
+
+pub loop-at-init : goal.loop-at-init
+loop-at-init c = record {
+  earlier = [];
+  stands = record { topology = c.empty.ensures; lines = c.new.ensures.items; start = refl };
+  counted = refl;
+  continues = continues_at_start (lines_of c.args.text.now);
+  behind = omega arith;
+  within = omega arith;
+}
 
 -- the bytes are no line, or one that is not allowed: no other line is spelled by them
 pub returns-in_default-clause-err : goal.returns-in_default-clause-err
