@@ -51,8 +51,6 @@ status_of (Err end.WriteFault) = WriteFault
 
 module _ (source source' sink sink' : Side) (bytes : List ℕ) (lines : List Line)
     (read : (told : List ℕ) → source.told ≡ Some told → bytes ≡ told) (short : length bytes ≤ most_bytes) (reads : Reads [] (lines_of bytes) lines) (later : source.faults ≤ source'.faults) where
-
-
   told_reads : (told : List ℕ) → source.told ≡ Some told → Reads [] (lines_of told) lines
   told_reads told t = subst (λ b. Reads [] (lines_of b) lines) (read told t) reads
 

@@ -61,10 +61,10 @@ only_line {text} {line} {other} earlier h bad k = ap (allowed earlier) (one_line
 
 pub front_within : {mark : ℕ} {bytes : List ℕ} {cut : Cut} → Cuts mark bytes cut → length cut.front.now ≤ length bytes
 front_within {mark} {bytes} {cut} h = go (option_map (λ r. r.now) cut.rest) h.whole
-    where
-      go : (rest : Option (List ℕ)) → bytes ≡ joined mark cut.front.now rest → length cut.front.now ≤ length bytes
-      go None e = omega (arith, ap length e)
-      go (Some rest) e = omega (arith, ap length e, length-append cut.front.now (mark ∷ rest))
+  where
+    go : (rest : Option (List ℕ)) → bytes ≡ joined mark cut.front.now rest → length cut.front.now ≤ length bytes
+    go None e = omega (arith, ap length e)
+    go (Some rest) e = omega (arith, ap length e, length-append cut.front.now (mark ∷ rest))
 
 -- the line that is cut at a place of the text is the first of those that remain
 pub line_here : {earlier : List Line} {bytes : List ℕ} {cut : Cut} {whole : List (List ℕ)} (text : List ℕ) (place : ℕ) → place < length text → bytes ≡ drop place text → Cuts 10 bytes cut → Continues earlier (lines_of (drop place text)) whole → Continues earlier (cut.front.now ∷ lines_of (drop (place + (length cut.front.now + 1)) text)) whole

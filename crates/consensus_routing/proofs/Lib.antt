@@ -9,3 +9,4 @@ pub mod Steps
 pub mod Fitting
 pub mod Unique
 pub mod Ending
+pub mod Runs

@@ -5,9 +5,12 @@ use Rattle.std.proofs.Math.Seq.{drop-cons}
 use Rattle.std.proofs.lemmas.List.{take_more}
 use Rattle.std.proofs.lemmas.Option.{slice_get-get_or}
 use Rattle.std.proofs.lemmas.Grind.{flat_map-append}
+use Rattle.std.proofs.lemmas.List.Sums.{fold-append}
 use Rattle.topology.specs.Net.{Net}
 use Rattle.path_vector.specs.Rules.{Rules}
+use Rattle.chronicle.specs.declared.events.Event.{Event}
 use Rattle.chronicle.specs.Facts.{Chronicle}
+use Rattle.chronicle.specs.Run.{run, after}
 use Rattle.consensus_routing.specs.declared.directives.Numbered.{Numbered}
 use Rattle.consensus_routing.specs.Text.{text, said, goes_on, event_of}
 use Rattle.consensus_routing.specs.Running.{AllFitting, Fitting}
@@ -26,6 +29,20 @@ text_step rules net past now lines i d all written words inside at goes says so_
     ∙ ap (λ bytes. written ++ (bytes ++ text rules net (goes_on rules net past (event_of d.directive)) (drop (i + 1) lines))) says
     ∙ ap (λ (ds : List Numbered). written ++ text rules net past ds) (sym (next_of lines i d inside at))
     ∙ so_far
+
+-- what is written for the directive at hand, and the text of what is left behind it
+pub text_here : (rules : Rules) (net : Net) (past : Chronicle) (lines : List Numbered) (i : ℕ) (d : Numbered) (all written words : List ℕ) → i < length lines → d ≡ get_or lines i d
+    → words ≡ said rules net past d → written ++ text rules net past (drop i lines) ≡ all
+    → written ++ (words ++ text rules net (goes_on rules net past (event_of d.directive)) (drop (i + 1) lines)) ≡ all
+text_here rules net past lines i d all written words inside at says so_far =
+    ap (λ bytes. written ++ (bytes ++ text rules net (goes_on rules net past (event_of d.directive)) (drop (i + 1) lines))) says
+    ∙ ap (λ (ds : List Numbered). written ++ text rules net past ds) (sym (next_of lines i d inside at))
+    ∙ so_far
+
+-- the run of one event more
+pub run_on : (rules : Rules) (net : Net) (events : List Event) (event : Event) → run rules net (events ++ event ∷ []) ≡ after rules net (run rules net events) event
+unfolding run
+run_on rules net events event = fold-append (after rules net) [] events (event ∷ [])
 
 -- the directive at hand fits, and so do those that are left
 pub fits_step : (net : Net) (lines : List Numbered) (i : ℕ) (d : Numbered) → i < length lines → d ≡ get_or lines i d → AllFitting net (drop i lines) → Fitting net d.directive × AllFitting net (drop (i + 1) lines)

@@ -2,9 +2,9 @@
 use Rattle.std.proofs.Common.{◌≡◌, ℕ, zero, suc, Bool, true, false, true≢false, List, [], ◌∷◌, refl, sym, ap, ◌∙◌, subst}
 use Rattle.consensus_routing.specs.declared.directives.Line.{Line}
 use Rattle.consensus_routing.specs.Spelling.{lines_of, Spells}
-use Rattle.consensus_routing.specs.Grammar.{allowed, Reads, FirstBad, IsFirstBad}
-use Rattle.consensus_routing.proofs.Spellings.{one_line}
+use Rattle.consensus_routing.specs.Grammar.{Reads, FirstBad, IsFirstBad}
 use Rattle.consensus_routing.proofs.Grammars.{no_bad_line}
+use Rattle.consensus_routing.proofs.Spellings.{one_line}
 
 one_bad : (earlier : List Line) (texts : List (List ℕ)) (m n : ℕ) → FirstBad earlier texts m → FirstBad earlier texts n → m ≡ n
 one_bad earlier [] m n a b = absurd a

@@ -3,7 +3,7 @@ pub mod Spelling
 pub mod Reading
 pub mod Grammar
 pub mod Standing
-pub mod Text
 pub mod Ends
-pub mod Running
+pub mod Text
 pub mod Headline
+pub mod Running

@@ -12,9 +12,8 @@ mod text;
 mod words;
 
 use route_io::{StdSink, StdSource};
-use std::env;
-use std::io;
 use std::process::ExitCode;
+use std::{env, io};
 use topology::Status;
 
 // The words after the program's name. Words that are no text are those of no form.

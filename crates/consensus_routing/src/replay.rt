@@ -9,13 +9,13 @@ ghost use Rattle.consensus_routing.specs.Headline.{Headline, side, replay_form};
 
 use crate::directives::{Directive, Numbered, Schedule};
 use crate::parse::{ParseEnd, parse};
-use crate::text::{idle_line, routes};
+use crate::text::{event_line, routes};
 use path_vector::{GaoRexford, Policy};
 use route_io::{ReadEnd, Sink, Source, read_all, write_all};
 use std::alloc::Global;
 use std::rc::Rc;
 use topology::{BadKind, LimitKind, NoMemory, Status};
-use world_core::{Event, Outcome, World};
+use world_core::{Event, World};
 
 /// The most bytes that a schedule may have.
 pub const MAX_BYTES: u32 = 65_536;
@@ -63,11 +63,10 @@ fn advance<P: Policy + Copy>(
         let text = routes(alloc, &world)?;
         return Ok((world, text));
     };
-    let (world, outcome) = world.step(event).map_err(|_| NoMemory)?;
-    let text = match outcome {
-        Outcome::Did(_) => String::new(alloc),
-        Outcome::Idle(reason) => idle_line(alloc, numbered.line, reason)?,
+    let Ok((world, outcome)) = world.step(event) else {
+        return Err(NoMemory);
     };
+    let text = event_line(alloc, numbered.line, &outcome)?;
     Ok((world, text))
 }
 

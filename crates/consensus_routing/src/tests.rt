@@ -5,17 +5,22 @@ use std::alloc::Global;
 use std::test::Fail;
 use topology::{BadKind, LimitKind, Status};
 
-const LINE: &str = "node 1 consolidator\nnode 2\nnode 3\nlink 1 2 any\nlink 2 3 any\nprefix 10.0.0.0/8\nbegin\n";
+const LINE: &str =
+    "node 1 consolidator\nnode 2\nnode 3\nlink 1 2 any\nlink 2 3 any\nprefix 10.0.0.0/8\nbegin\n";
 
-const ANNOUNCED: &str = "originate 1 10.0.0.0/8\ndeliver 1 2\ndeliver 2 3\nshow rib\nwithdraw 1 10.0.0.0/8\ndeliver 1 2\nshow rib\n";
+const ANNOUNCED: &str =
+    "originate 1 10.0.0.0/8\ndeliver 1 2\ndeliver 2 3\nshow rib\nwithdraw 1 10.0.0.0/8\ndeliver 1 2\nshow rib\n";
 
-const ANNOUNCED_TEXT: &str = "rib 1 10.0.0.0/8: 1\nrib 2 10.0.0.0/8: 2 1\nrib 3 10.0.0.0/8: 3 2 1\nrib 1 10.0.0.0/8: none\nrib 2 10.0.0.0/8: none\nrib 3 10.0.0.0/8: 3 2 1\n";
+const ANNOUNCED_TEXT: &str =
+    "rib 1 10.0.0.0/8: 1\nrib 2 10.0.0.0/8: 2 1\nrib 3 10.0.0.0/8: 3 2 1\nrib 1 10.0.0.0/8: none\nrib 2 10.0.0.0/8: none\nrib 3 10.0.0.0/8: 3 2 1\n";
 
 const FIRST_ROUTES: &str = "rib 1 10.0.0.0/8: 1\nrib 2 10.0.0.0/8: 2 1\nrib 3 10.0.0.0/8: 3 2 1\n";
 
-const IDLE: &str = "deliver 3 2\nwithdraw 1 10.0.0.0/8\noriginate 1 10.0.0.0/8\noriginate 1 10.0.0.0/8\nshow rib\n";
+const IDLE: &str =
+    "deliver 3 2\nwithdraw 1 10.0.0.0/8\noriginate 1 10.0.0.0/8\noriginate 1 10.0.0.0/8\nshow rib\n";
 
-const IDLE_TEXT: &str = "8: idle empty channel\n9: idle not origin\n11: idle already origin\nrib 1 10.0.0.0/8: 1\nrib 2 10.0.0.0/8: none\nrib 3 10.0.0.0/8: none\n";
+const IDLE_TEXT: &str =
+    "8: idle empty channel\n9: idle not origin\n11: idle already origin\nrib 1 10.0.0.0/8: 1\nrib 2 10.0.0.0/8: none\nrib 3 10.0.0.0/8: none\n";
 
 // The status of a run of this file with these words and failing calls, and what was written.
 fn outcome(
@@ -51,14 +56,63 @@ fn runs_files_and_names_each_fault(rt: HostRuntime) -> Result<(), Fail> {
     let idle = file_of(alloc, LINE, IDLE)?;
     let cases: [(&[&str], &str, &[u64], &[u64], Status, &str); 9] = [
         (&["replay"], "", &[], &[], Status::Done, ""),
-        (&["replay"], announced.as_str(), &[], &[], Status::Done, ANNOUNCED_TEXT),
-        (&["replay"], idle.as_str(), &[], &[], Status::Done, IDLE_TEXT),
-        (&["replay", "now"], announced.as_str(), &[], &[], Status::Usage, ""),
+        (
+            &["replay"],
+            announced.as_str(),
+            &[],
+            &[],
+            Status::Done,
+            ANNOUNCED_TEXT,
+        ),
+        (
+            &["replay"],
+            idle.as_str(),
+            &[],
+            &[],
+            Status::Done,
+            IDLE_TEXT,
+        ),
+        (
+            &["replay", "now"],
+            announced.as_str(),
+            &[],
+            &[],
+            Status::Usage,
+            "",
+        ),
         (&[], announced.as_str(), &[], &[], Status::Usage, ""),
-        (&["replay"], announced.as_str(), &[1], &[], Status::ReadFault, ""),
-        (&["replay"], announced.as_str(), &[2], &[], Status::ReadFault, ""),
-        (&["replay"], announced.as_str(), &[], &[1], Status::WriteFault, ""),
-        (&["replay"], announced.as_str(), &[], &[2], Status::WriteFault, FIRST_ROUTES),
+        (
+            &["replay"],
+            announced.as_str(),
+            &[1],
+            &[],
+            Status::ReadFault,
+            "",
+        ),
+        (
+            &["replay"],
+            announced.as_str(),
+            &[2],
+            &[],
+            Status::ReadFault,
+            "",
+        ),
+        (
+            &["replay"],
+            announced.as_str(),
+            &[],
+            &[1],
+            Status::WriteFault,
+            "",
+        ),
+        (
+            &["replay"],
+            announced.as_str(),
+            &[],
+            &[2],
+            Status::WriteFault,
+            FIRST_ROUTES,
+        ),
     ];
     for (words, file, reads, writes, status, text) in cases {
         let (answer, written) = outcome(alloc, words, file, reads, writes)?;
@@ -73,13 +127,37 @@ fn names_the_first_bad_line(rt: HostRuntime) -> Result<(), Fail> {
     let alloc = rt.alloc();
     // each line stands alone behind the seven lines of the network, or behind none
     let behind = [
-        "hello", "node 4", "begin", "originate 1", "originate 1 10.0.0.0/8 now", "deliver 1",
-        "originate 0 10.0.0.0/8", "originate 01 10.0.0.0/8", "originate +1 10.0.0.0/8",
-        "originate 65536 10.0.0.0/8", "originate 1 10.0.0.0", "originate 1 10.0.0/8",
-        "originate 1 256.0.0.0/8", "originate 1 10.0.0.0/33", "originate 1 10.0.0.1/8",
-        "originate 4 10.0.0.0/8", "originate 1 20.0.0.0/8", "deliver 1 1", "deliver 1 3",
-        "deliver 1 4", "show", "show log", "show rib 1", "snap 1", "", " show rib", "show rib ",
-        "show  rib", "show\trib", "show rib\r", "show rib # all",
+        "hello",
+        "node 4",
+        "begin",
+        "originate 1",
+        "originate 1 10.0.0.0/8 now",
+        "deliver 1",
+        "originate 0 10.0.0.0/8",
+        "originate 01 10.0.0.0/8",
+        "originate +1 10.0.0.0/8",
+        "originate 65536 10.0.0.0/8",
+        "originate 1 10.0.0.0",
+        "originate 1 10.0.0/8",
+        "originate 1 256.0.0.0/8",
+        "originate 1 10.0.0.0/33",
+        "originate 1 10.0.0.1/8",
+        "originate 4 10.0.0.0/8",
+        "originate 1 20.0.0.0/8",
+        "deliver 1 1",
+        "deliver 1 3",
+        "deliver 1 4",
+        "show",
+        "show log",
+        "show rib 1",
+        "snap 1",
+        "",
+        " show rib",
+        "show rib ",
+        "show  rib",
+        "show\trib",
+        "show rib\r",
+        "show rib # all",
     ];
     for line in behind {
         let file = file_of(alloc, LINE, line)?;
@@ -89,9 +167,22 @@ fn names_the_first_bad_line(rt: HostRuntime) -> Result<(), Fail> {
         assert_eq!(rt; text.as_str(), "", "{line}");
     }
     let before = [
-        "originate 1 10.0.0.0/8", "show rib", "node 2", "node 0", "node 65536", "node 3 any",
-        "link 1 2 any", "link 2 1 any", "link 1 1 any", "link 1 9 any", "link 1 2 peer", "link 1 2",
-        "prefix 10.0.0.0/8", "prefix 11.0.0.0/7", "prefix", "begin now",
+        "originate 1 10.0.0.0/8",
+        "show rib",
+        "node 2",
+        "node 0",
+        "node 65536",
+        "node 3 any",
+        "link 1 2 any",
+        "link 2 1 any",
+        "link 1 1 any",
+        "link 1 9 any",
+        "link 1 2 peer",
+        "link 1 2",
+        "prefix 10.0.0.0/8",
+        "prefix 11.0.0.0/7",
+        "prefix",
+        "begin now",
     ];
     let first = "node 1\nnode 2\nlink 1 2 any\nprefix 10.0.0.0/8\n";
     for line in before {

@@ -4,14 +4,16 @@ ghost use Rattle.std.specs.String.{string_bytes};
 ghost use Rattle.topology.specs.Lists.{has};
 ghost use Rattle.path_vector.specs.Selection.{Route, path_of};
 ghost use Rattle.path_vector.specs.Answers.{Shows};
-ghost use Rattle.chronicle.specs.Run.{run};
+ghost use Rattle.chronicle.specs.Facts.{Chronicle};
+ghost use Rattle.chronicle.specs.Run.{run, Step};
+ghost use Rattle.world_core.specs.Effects.{Tells};
 ghost use Rattle.consensus_routing.specs.Spelling.{prefix_text};
-ghost use Rattle.consensus_routing.specs.Text.{reason_words, idle_line, rib_text, node_text, rib_line, path_text, nodes_text};
+ghost use Rattle.consensus_routing.specs.Text.{reason_words, idle_line, step_text, rib_text, node_text, rib_line, path_text, nodes_text};
 
 use path_vector::{Best, Policy};
 use std::alloc::{AllocError, Global};
 use topology::{NoMemory, NodeId, Prefix, PrefixId, Reason};
-use world_core::World;
+use world_core::{Outcome, World};
 
 // The words of a reason.
 fn reason_words(reason: Reason) -> &'static str
@@ -24,8 +26,19 @@ fn reason_words(reason: Reason) -> &'static str
     }
 }
 
-/// The line of an event that did nothing.
-pub fn idle_line(alloc: Global, line: u32, reason: Reason) -> Result<String, NoMemory>
+/// What is shown of an event: a line, where it did nothing.
+pub fn event_line(alloc: Global, line: u32, outcome: &Outcome) -> Result<String, NoMemory>
+    ensures { (past : Chronicle) (step : Step) → Tells past step outcome.now →
+        IfOk result (λ text. string_bytes text ≡ step_text line step) }
+{
+    match outcome {
+        Outcome::Did(_) => Ok(String::new(alloc)),
+        Outcome::Idle(reason) => idle_line(alloc, line, *reason),
+    }
+}
+
+// The line of an event that did nothing.
+fn idle_line(alloc: Global, line: u32, reason: Reason) -> Result<String, NoMemory>
     ensures { IfOk result (λ text. string_bytes text ≡ idle_line line reason) }
 {
     let mut out = String::new(alloc);

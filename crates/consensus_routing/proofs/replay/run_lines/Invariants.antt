@@ -19,5 +19,6 @@ invariant-loop-numbered g l =
       written : (words : List ℕ) × Appends (held l.initial.sink) (held l.sink) words
           × (words ++ text rules net (run rules net l.world.events) (drop l.numbered-index l.lines) ≡ text rules net (run rules net l.fn.world.events) l.lines);
       told : StaysTold (held l.initial.sink) (held l.sink);
+      room : g.O.Sink.room l.sink ≡ g.O.Sink.room l.initial.sink;
       later : g.O.Sink.faults l.initial.sink ≤ g.O.Sink.faults l.sink;
     }

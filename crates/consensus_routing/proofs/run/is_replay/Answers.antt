@@ -17,8 +17,7 @@ head_of a b e = cc
 pub returns-in-len1 : goal.returns-in-len1
 returns-in-len1 c =
     let only = one_word c.args.words.now c.word-item.result c.word-item.is c.in-len1.len_at_least c.in-len1.len_below in
-    let same = slice_eq-Decides Decides-eqb _ _ _ c.eq.ensures in
-    (
+    let same = slice_eq-Decides Decides-eqb _ _ _ c.eq.ensures in (
       λ yes. only ∙ ap (λ (bytes : List ℕ). bytes ∷ []) (sym c.as_str.ensures.value ∙ same.0 yes),
       λ form. same.1 (c.as_str.ensures.value ∙ head_of _ _ (sym only ∙ form)),
     )

@@ -1,6 +1,0 @@
-pub mod Cutting
-pub mod Spelling
-pub mod Reading
-pub mod Grammar
-pub mod Standing
-pub mod Ends

@@ -1,7 +1,0 @@
-//! Scratch.
-#![tactic(auto)]
-
-pub mod directives;
-pub mod parse;
-pub mod reading;
-pub mod words;
