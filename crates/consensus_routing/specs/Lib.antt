@@ -6,4 +6,5 @@ pub mod Standing
 pub mod Ends
 pub mod Text
 pub mod Headline
+pub mod Plain
 pub mod Running

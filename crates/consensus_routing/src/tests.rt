@@ -1,6 +1,9 @@
 //! Runs over memory: files and their text, every refusal, and each side failing in turn.
+ghost use Rattle.std.specs.Prelude.{◌≡◌, ◌≢◌};
+ghost use Rattle.consensus_routing.specs.Plain.{HasTooLongText};
+
 use crate::run::run;
-use route_io::{MemSink, MemSource};
+use route_io::{MemSink, MemSource, PlainSink, PlainSource, Sink, Source};
 use std::alloc::Global;
 use std::test::Fail;
 use topology::{BadKind, LimitKind, Status};
@@ -207,5 +210,47 @@ fn takes_as_many_bytes_as_the_limit_says(rt: HostRuntime) -> Result<(), Fail> {
     let (answer, text) = outcome(alloc, &["replay"], file.as_str(), &[], &[])?;
     assert_eq!(rt; answer, Status::Limit(LimitKind::Bytes, 65_536));
     assert_eq!(rt; text.as_str(), "");
+    Ok(())
+}
+
+// Over a plain source no read fails, and over a plain sink a write fails only where the text is
+// longer than the room.
+fn run_plain(
+    alloc: Global,
+    words: &[String],
+    source: &mut PlainSource,
+    sink: &mut PlainSink,
+) -> Status
+    ensures no_read_fault { result ≢ Status.ReadFault }
+    ensures write_fault { result ≡ Status.WriteFault →
+        HasTooLongText (⟦<PlainSource as Source>⟧.left source.old)
+        (⟦<PlainSink as Sink>⟧.room sink.old) (⟦<PlainSink as Sink>⟧.held sink.old) }
+{
+    run(alloc, words, source, sink)
+}
+
+#[test]
+fn fails_over_plain_memory_only_for_room(rt: HostRuntime) -> Result<(), Fail> {
+    let alloc = rt.alloc();
+    let file = file_of(alloc, LINE, ANNOUNCED)?;
+    let words = vec![in alloc; String::from_str(alloc, "replay")?]?;
+    for (room, status) in [
+        (0, Status::WriteFault),
+        (ANNOUNCED_TEXT.len() - 1, Status::WriteFault),
+        (ANNOUNCED_TEXT.len(), Status::Done),
+        (ANNOUNCED_TEXT.len() + 1, Status::Done),
+    ] {
+        let mut source = PlainSource::new(Vec::from_slice(alloc, file.as_bytes())?);
+        let mut sink = PlainSink::new(vec![in alloc; 0; room]?);
+        assert_eq!(rt;
+            run_plain(alloc, &words, &mut source, &mut sink),
+            status,
+            "{room}"
+        );
+        assert!(rt;
+            ANNOUNCED_TEXT.as_bytes().starts_with(sink.held()),
+            "{room}"
+        );
+    }
     Ok(())
 }

@@ -50,7 +50,7 @@ pub shown_after : (u : ℕ) (nodes path : List ℕ) → nodes ≡ path → (rest
 shown_after u nodes path same (rest, own) = rw (same, own, sub-one) (ap (λ xs. u ∷ xs) (take_all (length rest) rest (omega arith)))
 
 -- the first that is kept is the first of the choices
-each_choice : (net : Net) (u : ℕ) (h : History) (p : ℕ) (n : Neighbour) → Remembers net u h n → p < length net.prefixes → kept_choice p n ≡ choice net u h p n.id
+pub each_choice : (net : Net) (u : ℕ) (h : History) (p : ℕ) (n : Neighbour) → Remembers net u h n → p < length net.prefixes → kept_choice p n ≡ choice net u h p n.id
 each_choice net u h p n r below = rw (kept_is net u h p n r below, r.prefers) refl
 
 folds : (before : Ranked → Ranked → Bool) (net : Net) (u : ℕ) (h : History) (p : ℕ) (found : Option Choice) (ns : List Neighbour) → AllByRecursion (Remembers net u h) ns → p < length net.prefixes

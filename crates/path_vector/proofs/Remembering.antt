@@ -40,7 +40,7 @@ heard_more v s (Up w t) before top h old = old ((elim (w == v) as (λ b. cond b 
 heard_more v s (Ready w t) before top h old = old ((elim (w == v) as (λ b. cond b (max top t) top < s → top < s) [ true ↦ λ h. omega arith | false ↦ λ h. h ]) h)
 heard_more v s (Prefer w x) before top h old = old h
 
-less : (v s top : ℕ) (cause : Cause) → highest_by cause v top < s → top < s
+pub less : (v s top : ℕ) (cause : Cause) → highest_by cause v top < s → top < s
 less v s top Originate h = h
 less v s top Withdraw h = h
 less v s top (Recv w t seq path) h = (elim (w == v) as (λ b. cond b (max top t) top < s → top < s) [ true ↦ λ h. omega arith | false ↦ λ h. h ]) h
@@ -178,15 +178,15 @@ row_length row p true led = length-set' row p led
 row_length row p false led = refl
 
 -- what is kept of neighbour v
-record KeptOf (net : Net) (u : ℕ) (h : History) (v : ℕ) (n : Neighbour) : Type 0 where
-  relates : relation net u v ≡ Some n.relation
-  holds : n.held ≡ held h v
-  named : n.highest ≡ highest h v
-  prefers : n.preference ≡ preference (file_preference net u v) h v
-  places : length n.told.items ≡ length net.prefixes
-  told : (p : ℕ) → p < length net.prefixes → slice_get n.told.items p ≡ Some (candidate u h p v)
+pub record KeptOf (net : Net) (u : ℕ) (h : History) (v : ℕ) (n : Neighbour) : Type 0 where
+  pub relates : relation net u v ≡ Some n.relation
+  pub holds : n.held ≡ held h v
+  pub named : n.highest ≡ highest h v
+  pub prefers : n.preference ≡ preference (file_preference net u v) h v
+  pub places : length n.told.items ≡ length net.prefixes
+  pub told : (p : ℕ) → p < length net.prefixes → slice_get n.told.items p ≡ Some (candidate u h p v)
 
-remembers : (net : Net) (u : ℕ) (h : History) (v : ℕ) (n : Neighbour) → n.id ≡ v → KeptOf net u h v n → Remembers net u h n
+pub remembers : (net : Net) (u : ℕ) (h : History) (v : ℕ) (n : Neighbour) → n.id ≡ v → KeptOf net u h v n → Remembers net u h n
 remembers net u h v n is k =
     let own : KeptOf net u h n.id n = subst (λ w. KeptOf net u h w n) (sym is) k in
     record { relates = own.relates; holds = own.holds; named = own.named; prefers = own.prefers; places = own.places; told = own.told }

@@ -1,5 +1,5 @@
 -- What a node keeps of its neighbours, as a list, and what an entry changes in it.
-use Rattle.std.specs.Prelude.{ℕ, Bool, true, false, ◌==◌, max, length, slice_set, ◌≡◌, ◌<◌, Option, Some, None, List, [], ◌∷◌, map, fold, slice_get, option_map, option_and_then, if◌then◌else◌}
+use Rattle.std.specs.Prelude.{IfSome, ℕ, Bool, true, false, ◌==◌, max, length, slice_set, ◌≡◌, ◌<◌, Option, Some, None, List, [], ◌∷◌, map, fold, slice_get, option_map, option_and_then, if◌then◌else◌}
 use Rattle.std.specs.List.{AllByRecursion}
 use Rattle.topology.specs.Lists.{has}
 use Rattle.topology.specs.Net.{Net, IsValid, neighbours}
@@ -22,10 +22,24 @@ names (Up v s) = Some v
 names (Ready v s) = Some v
 names (Prefer v x) = Some v
 
+-- the neighbour that an entry is about, if any, is one of u
+abbrev pub IsOfNeighbour : Net → ℕ → Cause → Type 0
+IsOfNeighbour net u cause = IfSome (names cause) (λ v. has (neighbours net u) v ≡ true)
+
 -- u before the path of an update: none for a withdrawal, and where u is on the path
 abbrev pub led_by : ℕ → Cause → Option (List ℕ)
-led_by u (Recv from session seq path) = option_and_then (λ nodes. if has nodes u then None else Some (u ∷ nodes)) path
+led_by u (Recv from session seq path) =
+    option_and_then (λ nodes. if has nodes u then None else Some (u ∷ nodes)) path
 led_by u other = None
+
+-- the same is kept of the same neighbour
+pub record IsCopy (old new : Neighbour) : Type 0 where
+  pub id : new.id ≡ old.id
+  pub relation : new.relation ≡ old.relation
+  pub held : new.held ≡ old.held
+  pub highest : new.highest ≡ old.highest
+  pub preference : new.preference ≡ old.preference
+  pub told : new.told.items ≡ old.told.items
 
 -- the session is the held one
 abbrev pub is_held : Option ℕ → ℕ → Bool
@@ -39,7 +53,8 @@ pub record Hears (p s : ℕ) (led : Option (List ℕ)) (old new : Neighbour) : T
   pub held : new.held ≡ old.held
   pub highest : new.highest ≡ max old.highest s
   pub preference : new.preference ≡ old.preference
-  pub told : new.told.items ≡ (if is_held old.held s then slice_set old.told.items p led else old.told.items)
+  pub told :
+      new.told.items ≡ (if is_held old.held s then slice_set old.told.items p led else old.told.items)
 
 -- a session begins or ends
 abbrev pub ends : Cause → Bool
@@ -55,7 +70,8 @@ pub record Turns (cause : Cause) (old new : Neighbour) : Type 0 where
   pub highest : new.highest ≡ highest_by cause old.id old.highest
   pub preference : new.preference ≡ preference_by cause old.id old.preference
   pub places : length new.told.items ≡ length old.told.items
-  pub told : (p : ℕ) → p < length old.told.items → slice_get new.told.items p ≡ (if ends cause then Some None else slice_get old.told.items p)
+  pub told : (p : ℕ) → p < length old.told.items →
+      slice_get new.told.items p ≡ (if ends cause then Some None else slice_get old.told.items p)
 
 -- the numbers of the neighbours
 abbrev pub ids : List Neighbour → List ℕ
@@ -78,7 +94,8 @@ kept_path p n = option_and_then (λ path. path) (slice_get n.told.items p)
 
 -- the same, as a candidate
 abbrev pub kept_choice : ℕ → Neighbour → Option Choice
-kept_choice p n = option_map (λ path. record { nbr = n.id; preference = n.preference; path = path }) (kept_path p n)
+kept_choice p n =
+    option_map (λ path. record { nbr = n.id; preference = n.preference; path = path }) (kept_path p n)
 
 -- the first by rank of those candidates
 abbrev pub first_kept : (Ranked → Ranked → Bool) → ℕ → List Neighbour → Option Choice
@@ -94,4 +111,5 @@ abbrev pub IsFound : List Neighbour → ℕ → Option Found → Option Choice �
 IsFound ns p None None = Unit {0}
 IsFound ns p None (Some c) = ⊥
 IsFound ns p (Some found) None = ⊥
-IsFound ns p (Some found) (Some c) = (option_and_then (kept_choice p) (slice_get ns found.place) ≡ Some c) × (found.rank ≡ ranked c)
+IsFound ns p (Some found) (Some c) =
+    (option_and_then (kept_choice p) (slice_get ns found.place) ≡ Some c) × (found.rank ≡ ranked c)

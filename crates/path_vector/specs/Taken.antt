@@ -13,7 +13,8 @@ nbr_of Home = None
 nbr_of (Via choice) = Some choice.nbr
 
 -- the route goes by this neighbour, was learnt so, and has this path, which begins with u
-pub record Takes (net : Net) (u : ℕ) (via : Option ℕ) (learned_so : Learned) (path : List ℕ) (route : Route) : Type 0 where
+pub record Takes (net : Net) (u : ℕ) (via : Option ℕ) (learned_so : Learned) (path : List ℕ)
+    (route : Route) : Type 0 where
   pub by : via ≡ nbr_of route
   pub learnt : Some learned_so ≡ learned net u route
   pub is : Some path ≡ path_of u route

@@ -1,12 +1,13 @@
 //! What a node keeps of its neighbours.
 ghost use Rattle.std.specs.Prelude.{◌≡◌, ℕ, [], ◌∷◌, Some, None, IfOk, IfSome, IfNone, true, false, if◌then◌else◌, length, replicate, slice_get, option_map, option_and_then};
+ghost use Rattle.std.specs.List.{AllZip};
 ghost use Rattle.topology.specs.Lists.{Among, has};
 ghost use Rattle.topology.specs.Net.{Net, neighbours};
 ghost use Rattle.path_vector.specs.History.{History, HasScope, Accepts, change};
 ghost use Rattle.path_vector.specs.Selection.{ranked};
 ghost use Rattle.topology.specs.declared.names.Scope.TheVariants.{All};
 ghost use Rattle.path_vector.specs.Standing.{Remembers};
-ghost use Rattle.path_vector.specs.Kept.{Hears, Turns, Keeps, Rises, ids, names, led_by, kept_path, kept_choice, first_kept, is_sooner};
+ghost use Rattle.path_vector.specs.Kept.{IsCopy, Hears, Turns, Keeps, Rises, ids, names, led_by, kept_path, kept_choice, first_kept, is_sooner};
 
 use crate::{Cause, Policy, Ranked};
 use std::alloc::Global;
@@ -23,11 +24,11 @@ pub struct Neighbour {
     pub told: Vec<Option<Path>>,
 }
 
-/// A candidate: the place of its neighbour, and its rank.
+// A candidate: the place of its neighbour, and its rank.
 #[derive(Clone, Copy)]
-pub struct Found {
-    pub place: usize,
-    pub rank: Ranked,
+struct Found {
+    place: usize,
+    rank: Ranked,
 }
 
 impl Neighbour {
@@ -42,7 +43,7 @@ impl Neighbour {
     }
 
     // Its candidate as a policy sees it.
-    fn rank(&self, prefix: PrefixId) -> Option<Ranked>
+    pub(crate) fn rank(&self, prefix: PrefixId) -> Option<Ranked>
         ensures { result ≡ option_map ranked (kept_choice prefix self.now) }
     {
         let path = self.path(prefix)?;
@@ -53,11 +54,26 @@ impl Neighbour {
         })
     }
 
+    // An equal one.
+    fn copy(&self) -> Result<Neighbour, NoMemory>
+        ensures { IfOk result (λ copy. IsCopy self.now copy) }
+    {
+        Ok(Neighbour {
+            id: self.id,
+            relation: self.relation,
+            held: self.held,
+            highest: self.highest,
+            preference: self.preference,
+            told: copy_row(&self.told)?,
+        })
+    }
+
     // Takes an entry that names this neighbour. `led` is the own node before the path of an
     // update: None for a withdrawal, and where the own node is on the path.
     fn heed(&mut self, scope: Scope, cause: &Cause, led: Option<Path>)
         ensures remembers { (net : Net) (u : ℕ) (past : History) → Remembers net u past self.old →
-            Accepts past scope cause.now → names cause.now ≡ Some self.old.id → led ≡ led_by u cause.now →
+            Accepts past scope cause.now → names cause.now ≡ Some self.old.id →
+            led ≡ led_by u cause.now →
             Remembers net u (change scope cause.now ∷ past) self.new }
         ensures id { self.new.id ≡ self.old.id }
     {
@@ -126,6 +142,36 @@ fn nothing_told(alloc: Global, prefixes: u16) -> Result<Vec<Option<Path>>, NoMem
     Ok(told)
 }
 
+fn copy_row(told: &Vec<Option<Path>>) -> Result<Vec<Option<Path>>, NoMemory>
+    ensures { IfOk result (λ copy. copy.items ≡ told.now.items) }
+{
+    let mut copy = Vec::with_capacity(*told.allocator(), told.len())?;
+    for path in told {
+        copy.push(copy_path(path)?)?;
+    }
+    Ok(copy)
+}
+
+fn copy_path(path: &Option<Path>) -> Result<Option<Path>, NoMemory>
+    ensures { IfOk result (λ copy. copy ≡ path.now) }
+{
+    match path {
+        None => Ok(None),
+        Some(path) => Ok(Some(path.copy()?)),
+    }
+}
+
+// Equal neighbours.
+pub(crate) fn copy_of(neighbours: &Vec<Neighbour>) -> Result<Vec<Neighbour>, NoMemory>
+    ensures { IfOk result (λ copies. AllZip IsCopy neighbours.now.items copies.items) }
+{
+    let mut copies = Vec::with_capacity(*neighbours.allocator(), neighbours.len())?;
+    for neighbour in neighbours {
+        copies.push(neighbour.copy()?)?;
+    }
+    Ok(copies)
+}
+
 // A neighbour of a node that has entered nothing: their first session is held.
 fn neighbour_of(
     alloc: Global,
@@ -158,7 +204,7 @@ pub(crate) fn neighbours_of(
 ) -> Result<Vec<Neighbour>, NoMemory>
     ensures { IfOk result (λ neighbours. Keeps topology.now node [] neighbours.items) }
 {
-    // the nodes of a topology are valid
+    // what a topology keeps of its net is said of its nodes
     let _nodes = topology.nodes();
     let others = topology.neighbours(node);
     let mut neighbours = Vec::with_capacity(alloc, others.len())?;
@@ -194,7 +240,8 @@ pub(crate) fn lead(cause: &Cause, node: NodeId) -> Result<Option<Path>, NoMemory
 }
 
 fn lead_path(path: &Option<Path>, node: NodeId) -> Result<Option<Path>, NoMemory>
-    ensures { IfOk result (λ led. led ≡ option_and_then (λ nodes. if has nodes node then None else Some (node ∷ nodes)) path.now) }
+    ensures { IfOk result (λ led. led ≡ option_and_then
+        (λ nodes. if has nodes node then None else Some (node ∷ nodes)) path.now) }
 {
     match path {
         None => Ok(None),
@@ -205,7 +252,8 @@ fn lead_path(path: &Option<Path>, node: NodeId) -> Result<Option<Path>, NoMemory
 // The place of a neighbour.
 pub(crate) fn place_of(neighbours: &[Neighbour], id: NodeId) -> Option<usize>
     ensures some { IfSome result (λ place. slice_get (ids neighbours.now) place ≡ Some id) }
-    ensures none { Rises (ids neighbours.now) → IfNone result (has (ids neighbours.now) id ≡ false) }
+    ensures none { Rises (ids neighbours.now) →
+        IfNone result (has (ids neighbours.now) id ≡ false) }
 {
     neighbours
         .binary_search_by_key(&id, |neighbour| neighbour.id)
@@ -214,8 +262,10 @@ pub(crate) fn place_of(neighbours: &[Neighbour], id: NodeId) -> Option<usize>
 
 // The neighbour of this number.
 pub(crate) fn find(neighbours: &[Neighbour], id: NodeId) -> Option<&Neighbour>
-    ensures some { IfSome result (λ neighbour. (neighbour.now.id ≡ id) × Among neighbour.now neighbours.now) }
-    ensures none { Rises (ids neighbours.now) → IfNone result (has (ids neighbours.now) id ≡ false) }
+    ensures some { IfSome result (λ neighbour.
+        (neighbour.now.id ≡ id) × Among neighbour.now neighbours.now) }
+    ensures none { Rises (ids neighbours.now) →
+        IfNone result (has (ids neighbours.now) id ≡ false) }
 {
     match place_of(neighbours, id) {
         None => None,

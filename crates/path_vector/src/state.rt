@@ -1,16 +1,18 @@
 //! The routing state of one node.
-ghost use Rattle.std.specs.Prelude.{◌≡◌, ◌<◌, ◌≤◌, ℕ, [], ◌∷◌, Some, true, IfOk, OnOk, OnErr, length, slice_get, option_map};
+ghost use Rattle.std.specs.Prelude.{◌≡◌, ◌↔◌, ◌<◌, ◌≤◌, ℕ, [], ◌∷◌, Some, true, IsTrue, IfOk, OnOk, OnErr, length, slice_get, option_map};
 ghost use Rattle.topology.specs.Lists.{has};
 ghost use Rattle.topology.specs.Net.{Net, neighbours, relation};
-ghost use Rattle.path_vector.specs.History.{History, change, Accepts, owns};
+ghost use Rattle.path_vector.specs.History.{History, HasScope, Accepts, change, owns};
 ghost use Rattle.path_vector.specs.Selection.{Route, candidate, best, choices, path_of};
 ghost use Rattle.path_vector.specs.Offers.{offered_route, exported, may_tell};
 ghost use Rattle.path_vector.specs.Standing.{StandsFor};
+ghost use Rattle.path_vector.specs.Kept.{IsOfNeighbour};
+ghost use Rattle.path_vector.specs.Order.{IsOrder};
 ghost use Rattle.path_vector.specs.Taken.{Takes, IsTaken};
 ghost use Rattle.path_vector.specs.Answers.{Shows, GoesFirst, Copies, behind};
 
 use crate::neighbours::{self, Neighbour};
-use crate::{Cause, Learned, Policy};
+use crate::{Cause, Learned, Policy, order};
 use std::alloc::Global;
 use topology::{NoMemory, NodeId, Path, PrefixId, Relation, Scope, Topology};
 
@@ -62,7 +64,7 @@ impl<P: Policy + Copy> RouteState<P> {
     ) -> Result<RouteState<P>, NoMemory>
         ensures { IfOk result (λ state. StandsFor policy topology.now node state []) }
     {
-        // the nodes of a topology are valid
+        // what a topology keeps of its net is said of its nodes
         let _nodes = topology.nodes();
         Ok(RouteState {
             alloc,
@@ -81,6 +83,25 @@ impl<P: Policy + Copy> RouteState<P> {
         self.policy
     }
 
+    /// Whether an entry may follow the entries so far: it has the scope of its cause, and opens
+    /// no session that was named before. An opening of no neighbour may not.
+    pub fn accepts(&self, scope: Scope, cause: &Cause) -> bool
+        ensures { (policy : P) (net : Net) (u : ℕ) (past : History) →
+            StandsFor policy net u self.now past →
+            IsOfNeighbour net u cause.now → IsTrue result ↔ Accepts past scope cause.now }
+    {
+        if !has_scope(scope, cause) {
+            return false;
+        }
+        match cause {
+            Cause::Up { nbr, session } => match neighbours::find(&self.neighbours, *nbr) {
+                None => false,
+                Some(neighbour) => neighbour.highest < *session,
+            },
+            _ => true,
+        }
+    }
+
     /// Takes one more entry of the log. An entry that does not fit the entries before it leaves
     /// a state of which nothing is promised.
     pub fn apply(&mut self, scope: Scope, cause: &Cause) -> Result<(), NoMemory>
@@ -95,9 +116,24 @@ impl<P: Policy + Copy> RouteState<P> {
         Ok(())
     }
 
+    /// An equal state.
+    pub fn copy(&self) -> Result<RouteState<P>, NoMemory>
+        ensures { IfOk result (λ copy. (policy : P) (net : Net) (u : ℕ) (h : History) →
+            StandsFor policy net u self.now h → StandsFor policy net u copy h) }
+    {
+        Ok(RouteState {
+            alloc: self.alloc,
+            policy: self.policy,
+            alone: self.alone.copy()?,
+            owned: Vec::from_slice(self.alloc, &self.owned)?,
+            neighbours: neighbours::copy_of(&self.neighbours)?,
+        })
+    }
+
     /// Whether the node originates a prefix.
     pub fn owns(&self, prefix: PrefixId) -> bool
-        ensures { (policy : P) (net : Net) (u : ℕ) (h : History) → StandsFor policy net u self.now h →
+        ensures { (policy : P) (net : Net) (u : ℕ) (h : History) →
+            StandsFor policy net u self.now h →
             prefix < length net.prefixes → result ≡ owns h prefix }
     {
         self.owned.get(prefix.place() as usize) == Some(&true)
@@ -105,7 +141,8 @@ impl<P: Policy + Copy> RouteState<P> {
 
     /// The candidate of a neighbour, without the own node.
     pub fn candidate(&self, prefix: PrefixId, nbr: NodeId) -> Option<&[NodeId]>
-        ensures { (policy : P) (net : Net) (u : ℕ) (h : History) → StandsFor policy net u self.now h →
+        ensures { (policy : P) (net : Net) (u : ℕ) (h : History) →
+            StandsFor policy net u self.now h →
             prefix < length net.prefixes → has (neighbours net u) nbr ≡ true →
             behind u (option_map (λ nodes. nodes.now) result) ≡ candidate u h prefix nbr }
     {
@@ -115,10 +152,13 @@ impl<P: Policy + Copy> RouteState<P> {
 
     /// The best route of a prefix: the own one, else the first candidate by the policy's rank.
     pub fn best(&self, prefix: PrefixId) -> Best<'_>
-        ensures best { (policy : P) (net : Net) (u : ℕ) (h : History) → StandsFor policy net u self.now h →
+        ensures best { (policy : P) (net : Net) (u : ℕ) (h : History) →
+            StandsFor policy net u self.now h →
             prefix < length net.prefixes → Shows u result (best (P.rules policy) net u h prefix) }
-        ensures first { (policy : P) (net : Net) (u : ℕ) (h : History) → StandsFor policy net u self.now h →
-            GoesFirst (P.rules policy).before (choices net u h prefix) (best (P.rules policy) net u h prefix) }
+        ensures first { (policy : P) (net : Net) (u : ℕ) (h : History) →
+            StandsFor policy net u self.now h →
+            GoesFirst (P.rules policy).before (choices net u h prefix)
+            (best (P.rules policy) net u h prefix) }
     {
         let Some(taken) = self.taken(prefix) else {
             return Best::None;
@@ -126,11 +166,23 @@ impl<P: Policy + Copy> RouteState<P> {
         shown(taken.via, taken.path)
     }
 
+    /// The neighbours: those with a candidate for the prefix by the policy's rank, then the
+    /// others, ascending.
+    pub fn order(&self, prefix: PrefixId) -> Result<Vec<NodeId>, NoMemory>
+        ensures { IfOk result (λ order. (policy : P) (net : Net) (u : ℕ) (h : History) →
+            StandsFor policy net u self.now h → prefix < length net.prefixes →
+            IsOrder (P.rules policy).before net u h prefix order.items) }
+    {
+        Ok(order::order(self.alloc, &self.policy, &self.neighbours, prefix)?)
+    }
+
     /// The path of the best route, from the own node on.
     pub fn best_path(&self, prefix: PrefixId) -> Option<&Path>
-        ensures { (policy : P) (net : Net) (u : ℕ) (h : History) → StandsFor policy net u self.now h →
+        ensures { (policy : P) (net : Net) (u : ℕ) (h : History) →
+            StandsFor policy net u self.now h →
             prefix < length net.prefixes →
-            option_map (λ path. path.now) result ≡ path_of u (best (P.rules policy) net u h prefix) }
+            option_map (λ path. path.now) result
+            ≡ path_of u (best (P.rules policy) net u h prefix) }
     {
         let Some(taken) = self.taken(prefix) else {
             return None;
@@ -173,9 +225,11 @@ impl<P: Policy + Copy> RouteState<P> {
 
     /// The path that the node offers a neighbour, from the own node on.
     pub fn offer_path(&self, prefix: PrefixId, nbr: NodeId) -> Option<&Path>
-        ensures { (policy : P) (net : Net) (u : ℕ) (h : History) → StandsFor policy net u self.now h →
+        ensures { (policy : P) (net : Net) (u : ℕ) (h : History) →
+            StandsFor policy net u self.now h →
             prefix < length net.prefixes → has (neighbours net u) nbr ≡ true →
-            option_map (λ path. path.now) result ≡ path_of u (offered_route (P.rules policy) net u h prefix nbr) }
+            option_map (λ path. path.now) result
+            ≡ path_of u (offered_route (P.rules policy) net u h prefix nbr) }
     {
         let Some(taken) = self.taken(prefix) else {
             return None;
@@ -188,9 +242,11 @@ impl<P: Policy + Copy> RouteState<P> {
 
     /// The path that the node offered a neighbour while this was its best route.
     pub fn offered_path<'a>(&self, chosen: &'a Chosen, nbr: NodeId) -> Option<&'a Path>
-        ensures { (policy : P) (net : Net) (u : ℕ) (h : History) (route : Route) → StandsFor policy net u self.now h →
+        ensures { (policy : P) (net : Net) (u : ℕ) (h : History) (route : Route) →
+            StandsFor policy net u self.now h →
             Copies net u chosen.now route → has (neighbours net u) nbr ≡ true →
-            option_map (λ path. path.now) result ≡ path_of u (exported (P.rules policy) net u nbr route) }
+            option_map (λ path. path.now) result
+            ≡ path_of u (exported (P.rules policy) net u nbr route) }
     {
         if !self.tells(chosen.learned?, self.relation_to(nbr)) {
             return None;
@@ -208,7 +264,8 @@ impl<P: Policy + Copy> RouteState<P> {
 
     // What a neighbour is to the node.
     fn relation_to(&self, nbr: NodeId) -> Option<Relation>
-        ensures { (policy : P) (net : Net) (u : ℕ) (h : History) → StandsFor policy net u self.now h →
+        ensures { (policy : P) (net : Net) (u : ℕ) (h : History) →
+            StandsFor policy net u self.now h →
             has (neighbours net u) nbr ≡ true → result ≡ relation net u nbr }
     {
         Some(neighbours::find(&self.neighbours, nbr)?.relation)
@@ -216,8 +273,10 @@ impl<P: Policy + Copy> RouteState<P> {
 
     // The best route of a prefix.
     fn taken(&self, prefix: PrefixId) -> Option<Taken<'_>>
-        ensures { (policy : P) (net : Net) (u : ℕ) (h : History) → StandsFor policy net u self.now h →
-            prefix < length net.prefixes → IsTaken net u result (best (P.rules policy) net u h prefix) }
+        ensures { (policy : P) (net : Net) (u : ℕ) (h : History) →
+            StandsFor policy net u self.now h →
+            prefix < length net.prefixes →
+            IsTaken net u result (best (P.rules policy) net u h prefix) }
     {
         if self.owns(prefix) {
             return Some(Taken {
@@ -257,10 +316,27 @@ fn shown<'a>(via: Option<NodeId>, path: &'a Path) -> Best<'a>
     }
 }
 
+// Whether an entry has the scope of its cause.
+fn has_scope(scope: Scope, cause: &Cause) -> bool
+    ensures { IsTrue result ↔ HasScope scope cause.now }
+{
+    let one = match cause {
+        Cause::Originate => true,
+        Cause::Withdraw => true,
+        Cause::Recv { .. } => true,
+        _ => false,
+    };
+    match scope {
+        Scope::One(_) => one,
+        Scope::All => !one,
+    }
+}
+
 // An origin entry sets whether the node originates its prefix.
 fn mark(owned: &mut Vec<bool>, scope: &Scope, cause: &Cause)
     ensures places { length owned.new.items ≡ length owned.old.items }
-    ensures owns { (past : History) (p : ℕ) → Accepts past scope.now cause.now → p < length owned.old.items →
+    ensures owns { (past : History) (p : ℕ) → Accepts past scope.now cause.now →
+        p < length owned.old.items →
         slice_get owned.old.items p ≡ Some (owns past p) →
         slice_get owned.new.items p ≡ Some (owns (change scope.now cause.now ∷ past) p) }
 {

@@ -1,5 +1,5 @@
 -- What an event comes to.
-use Rattle.std.proofs.Common.{ℕ, ◌<◌, length, Bool, true, false, cond, Some, None, List, [], ◌∷◌, ◌++◌, ◌≡◌, refl, sym, ◌∙◌, ap, subst, fold}
+use Rattle.std.proofs.Common.{ℕ, ◌<◌, length, true, false, List, [], ◌∷◌, ◌++◌, ◌≡◌, refl, sym, ap, subst}
 use Rattle.std.specs.Prelude.{if◌then◌else◌}
 use Rattle.std.proofs.lemmas.List.Sums.{fold-append}
 use Rattle.topology.specs.declared.items.Item.{Item}
@@ -18,7 +18,7 @@ use Rattle.chronicle.specs.Facts.{Chronicle, Took}
 use Rattle.chronicle.specs.Logs.{log_of}
 use Rattle.chronicle.specs.Channels.{channel}
 use Rattle.chronicle.specs.Steps.{write, take_item}
-use Rattle.chronicle.specs.Run.{Step, Idle, Goes, only_session, delivered, step, after, chronicle_of, run}
+use Rattle.chronicle.specs.Run.{Idle, Goes, only_session, delivered, step, after, chronicle_of, run}
 use Rattle.world_core.specs.declared.outcomes.Effect.{Effect}
 use Rattle.world_core.specs.declared.outcomes.Outcome.TheVariants as outcome
 use Rattle.world_core.specs.declared.sites.Site.{Site}

@@ -1,13 +1,12 @@
 -- A world in which nothing has happened.
-use Rattle.std.proofs.Common.{ℕ, zero, suc, ◌+◌, ◌<◌, Some, List, [], ◌∷◌, ◌++◌, ◌≡◌, ◌⊎◌, inl, inr, ⊎_elim, refl, sym, ◌∙◌, ap, subst, arith, length, length-append, slice_get, get_or}
-use Rattle.std.proofs.lemmas.Option.{get_or_from_slice_get}
+use Rattle.std.proofs.Common.{ℕ, zero, suc, Some, List, [], ◌∷◌, ◌++◌, ◌≡◌, ◌⊎◌, inl, inr, ⊎_elim, refl, sym, ◌∙◌, ap, subst, length, slice_get}
 use Rattle.topology.specs.Net.{Net, neighbours}
 use Rattle.path_vector.specs.Rules.{Rules}
 use Rattle.path_vector.specs.Standing.{StandsFor}
 use Rattle.chronicle.specs.Sending.{outbox}
 use Rattle.world_core.specs.declared.sites.Channel.{Channel}
 use Rattle.world_core.specs.declared.sites.Site.{Site}
-use Rattle.world_core.specs.Matching.{IsChannel, IsSite}
+use Rattle.world_core.specs.Matching.{IsSite}
 use Rattle.world_core.proofs.Told.{same_some}
 
 -- a place of a list with one more at its end is one of the list, or the end

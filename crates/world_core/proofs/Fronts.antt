@@ -1,5 +1,5 @@
 -- The front item of a channel leaves it.
-use Rattle.std.proofs.Common.{ℕ, ◌<◌, Option, Some, None, IfSome, IfNone, List, [], ◌∷◌, ◌++◌, ◌≡◌, refl, sym, ◌∙◌, ap, subst, arith, drop, length, get_or, set, slice_get}
+use Rattle.std.proofs.Common.{ℕ, Option, Some, None, IfSome, IfNone, List, [], ◌∷◌, ◌++◌, ◌≡◌, refl, sym, ◌∙◌, ap, subst, arith, drop, length, get_or, set, slice_get}
 use Rattle.std.specs.Option.{option_to_list}
 use Rattle.std.specs.List.{AllByRecursion}
 use Rattle.std.proofs.lemmas.Option.{slice_get_within, slice_get_read}

@@ -1,22 +1,18 @@
 -- An entry, and what it tells, keep what is kept equal to what is read of the run.
-use Rattle.std.proofs.Common.{ℕ, zero, suc, ◌+◌, ◌<◌, ◌≤◌, Bool, true, false, cond, not, ◌==◌, ◌&&◌, ◌||◌, Option, Some, None, List, [], ◌∷◌, ◌++◌, ◌≡◌, ◌≢◌, refl, sym, ◌∙◌, ap, subst, arith, map, length, length-append, slice_get, add-one}
+use Rattle.std.proofs.Common.{ℕ, suc, ◌+◌, ◌<◌, true, false, ◌==◌, Option, Some, List, [], ◌∷◌, ◌++◌, ◌≡◌, refl, sym, ◌∙◌, ap, subst, length, length-append, add-one}
 use Rattle.std.specs.Prelude.{if◌then◌else◌}
-use Rattle.std.specs.List.{AllByRecursion, list_any}
-use Rattle.std.proofs.lemmas.Option.{slice_get_within, slice_get-get_or}
-use Rattle.std.proofs.lemmas.Bool.Decides.{nat_tests}
+use Rattle.std.specs.List.{AllByRecursion}
+use Rattle.std.proofs.lemmas.Option.{slice_get_within}
 use Rattle.topology.specs.declared.names.Scope.TheVariants.{One}
-use Rattle.topology.specs.declared.items.Item.{Item}
-use Rattle.topology.specs.declared.items.Item.TheVariants.{Update as Message}
 use Rattle.topology.specs.Lists.{has, same_path}
 use Rattle.topology.specs.Paths.{differ}
 use Rattle.topology.specs.Net.{Net, neighbours}
 use Rattle.topology.proofs.Places.{has_placed}
 use Rattle.path_vector.specs.declared.causes.Cause.{Cause}
-use Rattle.path_vector.specs.declared.state.RouteState.{RouteState}
 use Rattle.path_vector.specs.Rules.{Rules}
 use Rattle.path_vector.specs.History.{Change, History, change, held}
-use Rattle.path_vector.specs.Selection.{Route, best, path_of}
-use Rattle.path_vector.specs.Offers.{offer, offered_route, exported}
+use Rattle.path_vector.specs.Selection.{best, path_of}
+use Rattle.path_vector.specs.Offers.{offer, exported}
 use Rattle.path_vector.specs.Standing.{StandsFor}
 use Rattle.chronicle.specs.Facts.{Chronicle}
 use Rattle.chronicle.specs.Logs.{log_of}

@@ -1,5 +1,5 @@
 -- The neighbours of a node are different nodes.
-use Rattle.std.proofs.Common.{ℕ, ◌≤◌, Bool, true, false, cond, not, ◌==◌, ◌&&◌, ◌||◌, Option, Some, None, IsSome, IsNone, Result, Ok, Err, IsOk, List, [], ◌∷◌, ◌≡◌, refl, sym, ◌∙◌, ap, subst, arith, filter, true≢false, nat_cmp, slice_get, is_some, find, option_map}
+use Rattle.std.proofs.Common.{ℕ, ◌≤◌, Bool, true, false, cond, ◌==◌, ◌&&◌, ◌||◌, Option, Some, None, IsSome, IsNone, Result, Ok, Err, IsOk, List, [], ◌∷◌, ◌≡◌, refl, sym, ◌∙◌, ap, subst, arith, filter, true≢false, nat_cmp, slice_get, is_some, find, option_map}
 use Rattle.std.specs.List.{list_any, AllByRecursion}
 use Rattle.std.specs.List.Sorted.{IsBinarySearchResult}
 use Rattle.std.proofs.lemmas.List.Sorted.{searched}

@@ -1,14 +1,13 @@
 -- The site and the channel that an event touches, and those that it leaves.
-use Rattle.std.proofs.Common.{ℕ, zero, suc, ◌+◌, ◌<◌, ◌≤◌, Bool, true, false, cond, not, ◌==◌, ◌&&◌, ◌||◌, Some, None, List, [], ◌∷◌, ◌++◌, ◌≡◌, ◌≢◌, refl, sym, ◌∙◌, ap, subst, arith, length, length-set, get_or, set, slice_get, ⊎_elim}
-use Rattle.std.specs.Prelude.{if◌then◌else◌}
-use Rattle.std.specs.List.{AllByRecursion, list_any}
+use Rattle.std.proofs.Common.{ℕ, zero, suc, ◌<◌, true, false, ◌==◌, ◌&&◌, Some, List, [], ◌∷◌, ◌≡◌, ◌≢◌, refl, sym, ◌∙◌, ap, subst, arith, length, length-set, get_or, set, slice_get, ⊎_elim}
+use Rattle.std.specs.List.{AllByRecursion}
 use Rattle.std.proofs.lemmas.Bool.{cases_eq}
 use Rattle.std.proofs.lemmas.Bool.Decides.{nat_tests}
 use Rattle.std.proofs.lemmas.Option.{slice_get_within, slice_get_read}
 use Rattle.topology.specs.declared.items.Item.{Item}
 use Rattle.topology.specs.Lists.{has, ascending}
 use Rattle.topology.specs.Paths.{differ}
-use Rattle.topology.specs.Net.{Net, IsValid, neighbours}
+use Rattle.topology.specs.Net.{Net, neighbours}
 use Rattle.topology.proofs.Ascending.{differ-ascending}
 use Rattle.topology.proofs.Places.{has_placed}
 use Rattle.path_vector.specs.Rules.{Rules}
@@ -16,14 +15,13 @@ use Rattle.path_vector.specs.Standing.{StandsFor}
 use Rattle.chronicle.specs.Facts.{Chronicle, Took}
 use Rattle.chronicle.specs.Logs.{log_of}
 use Rattle.chronicle.specs.Channels.{channel, tail}
-use Rattle.chronicle.specs.Sending.{outbox}
 use Rattle.chronicle.specs.Run.{only_session}
 use Rattle.chronicle.proofs.Blocks.{same_number}
 use Rattle.world_core.specs.declared.sites.Channel.{Channel}
 use Rattle.world_core.specs.declared.sites.Site.{Site}
 use Rattle.world_core.specs.Matching.{IsPlaced, IsRouteChange, IsChannel, IsSite, Matches}
 use Rattle.world_core.specs.Happening.{HasPlaces}
-use Rattle.world_core.proofs.Told.{slice_get-set_same, slice_get-set_other, same_some, some_at}
+use Rattle.world_core.proofs.Told.{slice_get-set_same, slice_get-set_other, same_some}
 use Rattle.world_core.proofs.Near.{neighbours_differ}
 
 -- a number stands at one place of a list of different numbers

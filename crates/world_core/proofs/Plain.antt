@@ -1,5 +1,5 @@
 -- Logs of routes alone: one session with each neighbour, and an entry changes offers of its prefix only.
-use Rattle.std.proofs.Common.{ℕ, zero, suc, ◌+◌, ◌<◌, ◌≤◌, Bool, true, false, cond, not, ◌==◌, ◌&&◌, Option, Some, None, List, [], ◌∷◌, ◌++◌, ◌≡◌, refl, sym, ◌∙◌, ap, arith, map, filter, fold, length, option_and_then, option_map, is_some}
+use Rattle.std.proofs.Common.{ℕ, zero, suc, ◌+◌, ◌<◌, ◌≤◌, Bool, true, false, not, ◌==◌, ◌&&◌, Option, Some, None, List, [], ◌∷◌, ◌≡◌, refl, ◌∙◌, ap, arith, map, filter, fold, length, option_and_then, is_some}
 use Rattle.std.specs.Prelude.{if◌then◌else◌}
 use Rattle.std.specs.List.{AllByRecursion, range_with_len}
 use Rattle.std.proofs.lemmas.Bool.Decides.{nat_tests}
@@ -8,11 +8,10 @@ use Rattle.topology.specs.Lists.{same_nodes, same_path}
 use Rattle.topology.specs.Net.{Net, neighbours, places, file_preference}
 use Rattle.path_vector.specs.declared.causes.Cause.{Cause}
 use Rattle.path_vector.specs.declared.causes.Cause.TheVariants.{Originate, Withdraw, Recv, Down, Up, Ready, Prefer}
-use Rattle.path_vector.specs.declared.policy.Ranked.{Ranked}
 use Rattle.path_vector.specs.Rules.{Rules}
-use Rattle.path_vector.specs.History.{Change, History, change, HasScope, Accepts, Opens, held, held_by, opened, opened_by, ready, owns, preference, preference_by, heard}
-use Rattle.path_vector.specs.Selection.{Choice, beyond, candidate, choice, consider, first, best, best_by}
-use Rattle.path_vector.specs.Offers.{offered_route, exported, offer, offered, changed}
+use Rattle.path_vector.specs.History.{Change, History, change, Accepts, Opens, held, held_by, opened, opened_by, ready, owns, preference, preference_by}
+use Rattle.path_vector.specs.Selection.{Choice, beyond, choice, consider, best, best_by}
+use Rattle.path_vector.specs.Offers.{offered_route, offer, offered, changed}
 use Rattle.chronicle.specs.Sending.{Update, update_of, news}
 use Rattle.chronicle.specs.Run.{only_session}
 use Rattle.world_core.specs.Matching.{IsOfRoutes, IsRouteChange}

@@ -1,5 +1,5 @@
 -- What an entry, and what it tells, show.
-use Rattle.std.proofs.Common.{ℕ, suc, ◌+◌, ◌<◌, Bool, true, false, cond, Option, Some, None, List, [], ◌∷◌, ◌++◌, ◌≡◌, refl, sym, ◌∙◌, ap, map, flat_map, length, append_assoc}
+use Rattle.std.proofs.Common.{ℕ, suc, ◌<◌, true, false, Option, Some, List, [], ◌∷◌, ◌++◌, ◌≡◌, refl, sym, ◌∙◌, ap, flat_map, length, append_assoc}
 use Rattle.std.specs.Prelude.{if◌then◌else◌}
 use Rattle.std.specs.List.{AllByRecursion}
 use Rattle.std.proofs.lemmas.List.{append-nil}
@@ -12,7 +12,7 @@ use Rattle.path_vector.specs.History.{change, held}
 use Rattle.path_vector.specs.Selection.{best}
 use Rattle.chronicle.specs.Facts.{Fact, Chronicle, Log, Sent, Took, happen}
 use Rattle.chronicle.specs.Logs.{log_of}
-use Rattle.chronicle.specs.Sending.{Update, news, outbox, numbered}
+use Rattle.chronicle.specs.Sending.{Update, outbox, numbered}
 use Rattle.chronicle.specs.Steps.{sends, sends_in, spread, told, write}
 use Rattle.chronicle.specs.Run.{only_session}
 use Rattle.chronicle.proofs.Blocks.{IsQueued, spread_queued}

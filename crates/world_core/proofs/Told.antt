@@ -1,15 +1,13 @@
 -- Telling one neighbour more.
-use Rattle.std.proofs.Common.{ℕ, zero, suc, ◌+◌, ◌<◌, ◌≤◌, ◌==◌, true, Some, None, List, [], ◌∷◌, ◌++◌, ◌≡◌, ◌≢◌, refl, sym, ◌∙◌, ap, arith, length, length-set, length-append, set, take, drop, get_or, slice_get, flat_map, append_assoc, subst, ⊎_elim}
+use Rattle.std.proofs.Common.{ℕ, zero, suc, ◌+◌, ◌<◌, Some, List, [], ◌∷◌, ◌++◌, ◌≡◌, ◌≢◌, refl, sym, ◌∙◌, ap, arith, length, length-set, set, take, get_or, slice_get, flat_map, append_assoc, ⊎_elim}
 use Rattle.std.proofs.lemmas.Bool.{cases_eq}
-use Rattle.std.proofs.lemmas.Bool.Decides.{nat_tests}
 use Rattle.std.proofs.lemmas.List.{append-nil, take_more}
 use Rattle.std.proofs.lemmas.List.Concat.{flat_map-append}
-use Rattle.std.proofs.lemmas.Option.{slice_get-get_or, get_or_from_slice_get}
-use Rattle.topology.specs.Lists.{has}
+use Rattle.std.proofs.lemmas.Option.{get_or_from_slice_get}
 use Rattle.chronicle.specs.Sending.{Update}
 use Rattle.world_core.specs.declared.outcomes.Effect.{Effect}
 use Rattle.world_core.specs.declared.sites.Channel.{Channel}
-use Rattle.world_core.specs.Telling.{Grows, Grown, Spreads, queued}
+use Rattle.world_core.specs.Telling.{Grows, Spreads, queued}
 
 pub slice_get-set_same : {A : Type 0} (xs : List A) (i : ℕ) (x : A) → i < length xs → slice_get (set xs i x) i ≡ Some x
 slice_get-set_same [] i x l = absurd (omega arith)

@@ -1,5 +1,5 @@
 -- What the facts of a run show to a user.
-use Rattle.std.specs.Prelude.{ℕ, suc, Bool, ◌≡◌, List, [], ◌∷◌, ◌++◌, length, if◌then◌else◌}
+use Rattle.std.specs.Prelude.{suc, ◌≡◌, List, [], ◌∷◌, ◌++◌, length, if◌then◌else◌}
 use Rattle.chronicle.specs.Facts.{Fact, Chronicle, Log, Sent, Took}
 use Rattle.chronicle.specs.Logs.{log_of}
 use Rattle.chronicle.specs.Run.{Step, Idle, Goes}

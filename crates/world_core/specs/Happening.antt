@@ -28,6 +28,7 @@ abbrev pub heard_by : ℕ → Item → Change
 heard_by v (Update prefix seq path) = change (One prefix) (Recv v only_session seq path)
 
 -- the sites are as the run has them after the event, and the outcome tells what it did
-pub record Happens {P : Type 0} (policy : P) (rules : Rules) (net : Net) (past : Chronicle) (event : Event) (sites : List (Site P)) (outcome : Outcome) : Type 0 where
+pub record Happens {P : Type 0} (policy : P) (rules : Rules) (net : Net) (past : Chronicle)
+    (event : Event) (sites : List (Site P)) (outcome : Outcome) : Type 0 where
   pub matches : Matches policy rules net (after rules net past event) sites
   pub tells : Tells past (step rules net past event) outcome

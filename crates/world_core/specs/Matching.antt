@@ -7,7 +7,6 @@ use Rattle.topology.specs.Lists.{ascending}
 use Rattle.topology.specs.Net.{Net, IsValid, neighbours}
 use Rattle.path_vector.specs.declared.causes.Cause.{Cause}
 use Rattle.path_vector.specs.declared.causes.Cause.TheVariants.{Originate, Withdraw, Recv}
-use Rattle.path_vector.specs.declared.state.RouteState.{RouteState}
 use Rattle.path_vector.specs.Rules.{Rules}
 use Rattle.path_vector.specs.History.{Change, HasScope}
 use Rattle.path_vector.specs.Standing.{StandsFor}
@@ -41,7 +40,8 @@ pub record IsChannel (rules : Rules) (net : Net) (past : Chronicle) (u w : ℕ) 
   pub placed : AllByRecursion (IsPlaced net) (channel u w past)
 
 -- what is kept of node u
-pub record IsSite {P : Type 0} (policy : P) (rules : Rules) (net : Net) (past : Chronicle) (u : ℕ) (site : Site P) : Type 0 where
+pub record IsSite {P : Type 0} (policy : P) (rules : Rules) (net : Net) (past : Chronicle)
+    (u : ℕ) (site : Site P) : Type 0 where
   pub routes : StandsFor policy net u site.routes (log_of u past)
   pub entries : site.entries ≡ length (log_of u past)
   pub plain : AllByRecursion IsRouteChange (log_of u past)
@@ -50,7 +50,8 @@ pub record IsSite {P : Type 0} (policy : P) (rules : Rules) (net : Net) (past : 
       → IsChannel rules net past u w kept
 
 -- the nodes stand ascending, each as the run has it
-pub record Matches {P : Type 0} (policy : P) (rules : Rules) (net : Net) (past : Chronicle) (sites : List (Site P)) : Type 0 where
+pub record Matches {P : Type 0} (policy : P) (rules : Rules) (net : Net) (past : Chronicle)
+    (sites : List (Site P)) : Type 0 where
   pub valid : IsValid net
   pub count : length sites ≡ length (ascending net.nodes)
   pub each : (i u : ℕ) (site : Site P) → slice_get (ascending net.nodes) i ≡ Some u → slice_get sites i ≡ Some site

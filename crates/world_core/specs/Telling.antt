@@ -33,11 +33,13 @@ update_to rules net u h p route w = update_from p (path_of u (exported rules net
 -- the channels of the neighbours below place i have grown by the updates, the others are as they were
 pub record Grown (updates : ℕ → List Update) (near : List ℕ) (i : ℕ) (old new : List Channel) : Type 0 where
   pub width : length new ≡ length old
-  pub told : (j w : ℕ) (a b : Channel) → j < i → slice_get near j ≡ Some w → slice_get old j ≡ Some a → slice_get new j ≡ Some b → Grows (updates w) a b
+  pub told : (j w : ℕ) (a b : Channel) → j < i → slice_get near j ≡ Some w
+      → slice_get old j ≡ Some a → slice_get new j ≡ Some b → Grows (updates w) a b
   pub rest : (j : ℕ) → i ≤ j → slice_get new j ≡ slice_get old j
 
 -- the neighbours below place i have been told, and that is shown
-pub record Spreads (u : ℕ) (updates : ℕ → List Update) (near : List ℕ) (i : ℕ) (old new : List Channel) (shown all : List Effect) : Type 0 where
+pub record Spreads (u : ℕ) (updates : ℕ → List Update) (near : List ℕ) (i : ℕ)
+    (old new : List Channel) (shown all : List Effect) : Type 0 where
   pub channels : Grown updates near i old new
   pub effects : all ≡ shown ++ flat_map (λ w. queued u w (updates w)) (take i near)
 

@@ -2,11 +2,14 @@
 #![tactic(auto)]
 
 pub mod outcomes;
-pub mod sending;
-pub mod sites;
-pub mod steps;
+mod sending;
+mod sites;
+mod steps;
 pub mod world;
 
 pub use chronicle::Event;
 pub use outcomes::{Effect, Effects, Outcome, Stop};
 pub use world::World;
+
+#[cfg(test)]
+mod tests;

@@ -99,7 +99,8 @@ impl<P: Policy + Copy> Site<P> {
         ensures site { OnOk result ((policy : P) (net : Net) (past : Chronicle) →
             IsSite policy (P.rules policy) net past node self.old → IsRouteChange (change (One prefix) cause.now) →
             prefix < length net.prefixes → near.now ≡ neighbours net node →
-            IsSite policy (P.rules policy) net (write (P.rules policy) net node (change (One prefix) cause.now) past) node self.new) }
+            IsSite policy (P.rules policy) net
+            (write (P.rules policy) net node (change (One prefix) cause.now) past) node self.new) }
         ensures effects { OnOk result ((policy : P) (net : Net) (past first : Chronicle) →
             IsSite policy (P.rules policy) net past node self.old → IsRouteChange (change (One prefix) cause.now) →
             prefix < length net.prefixes → near.now ≡ neighbours net node → Since first effects.old.items past →

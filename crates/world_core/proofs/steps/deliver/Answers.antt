@@ -1,16 +1,11 @@
-use Rattle.std.proofs.Common.{◌≡◌, ◌++◌, [], ◌∷◌, ◌∙◌, refl, sym, subst, ap}
-use Rattle.std.proofs.lemmas.List.{append-nil}
-use Rattle.topology.specs.declared.items.Item.TheVariants.{Update}
+use Rattle.std.proofs.Common.{◌∷◌, ◌∙◌, refl, ap}
 use Rattle.topology.specs.declared.names.Scope.TheVariants.{One}
 use Rattle.topology.specs.declared.status.Reason.TheVariants.{EmptyChannel}
-use Rattle.path_vector.specs.declared.causes.Cause.TheVariants as cause
 use Rattle.path_vector.specs.History.{change}
 use Rattle.chronicle.specs.declared.events.Event.TheVariants.{Deliver}
 use Rattle.chronicle.specs.Facts.{Took}
-use Rattle.chronicle.specs.Channels.{channel}
 use Rattle.chronicle.specs.Steps.{write}
 use Rattle.chronicle.specs.Run.{Goes, only_session}
-use Rattle.world_core.specs.Effects.{effects}
 use Rattle.world_core.proofs.Near.{linked_nodes, is_ranked}
 use Rattle.world_core.proofs.Coming.{idle, did, deliver_idle, deliver_goes, take_is, heard_routes, heard_placed}
 use Rattle.world_core.proofs.steps.deliver.Goals as goal

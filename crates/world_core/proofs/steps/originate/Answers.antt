@@ -1,4 +1,4 @@
-use Rattle.std.proofs.Common.{◌≡◌, ◌++◌, [], ◌∙◌, true, false, refl, sym, subst, ap}
+use Rattle.std.proofs.Common.{◌≡◌, ◌∙◌, true, false, sym}
 use Rattle.std.proofs.lemmas.List.{append-nil}
 use Rattle.topology.specs.declared.names.Scope.TheVariants.{One}
 use Rattle.topology.specs.declared.status.Reason.TheVariants.{AlreadyOrigin}

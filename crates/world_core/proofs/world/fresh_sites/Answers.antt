@@ -1,7 +1,7 @@
 use Rattle.std.proofs.Common.{◌≡◌, ◌+◌, ◌∙◌, ap, refl, arith, length}
 use Rattle.std.proofs.lemmas.List.{length_push}
 use Rattle.std.proofs.lemmas.Option.{slice_get_read}
-use Rattle.world_core.proofs.Fresh.{AllFresh, fresh_push}
+use Rattle.world_core.proofs.Fresh.{fresh_push}
 use Rattle.world_core.proofs.world.fresh_sites.Goals as goal
 
 pub loop-node-preserved : goal.loop-node-preserved

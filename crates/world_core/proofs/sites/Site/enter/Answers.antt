@@ -1,7 +1,6 @@
-use Rattle.std.proofs.Common.{◌≡◌, ◌+◌, ◌∷◌, ◌++◌, [], ◌∙◌, refl, sym, ap, arith, add-one, suc, flat_map, take, length}
+use Rattle.std.proofs.Common.{◌∷◌, ◌++◌, [], ◌∙◌, ap, arith, add-one, suc, flat_map, take, length}
 use Rattle.std.proofs.lemmas.List.{take_all}
 use Rattle.topology.specs.declared.names.Scope.TheVariants.{One}
-use Rattle.topology.specs.Net.{neighbours}
 use Rattle.path_vector.specs.History.{change}
 use Rattle.path_vector.specs.Selection.{best}
 use Rattle.chronicle.specs.Logs.{log_of}

@@ -1,6 +1,5 @@
 use Rattle.std.proofs.Common.{◌≡◌, ◌+◌, ◌∙◌, refl, length, arith, ap}
 use Rattle.std.proofs.lemmas.List.{length_push}
-use Rattle.topology.specs.Net.{neighbours}
 use Rattle.world_core.specs.declared.sites.Channel.{Channel}
 use Rattle.world_core.proofs.Fresh.{unused_push, unused_site}
 use Rattle.world_core.proofs.sites.Site.new.Goals as goal

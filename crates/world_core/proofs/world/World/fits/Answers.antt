@@ -1,4 +1,3 @@
-use Rattle.std.proofs.Common.{◌≡◌, ◌∙◌, sym, refl}
 use Rattle.world_core.proofs.Near.{related}
 use Rattle.world_core.proofs.world.World.fits.Goals as goal
 

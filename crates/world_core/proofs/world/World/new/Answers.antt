@@ -1,5 +1,3 @@
-use Rattle.std.proofs.Common.{ap, sym, subst, ◌∙◌}
-use Rattle.world_core.specs.Matching.{Matches}
 use Rattle.world_core.proofs.Coming.{run-none}
 use Rattle.world_core.proofs.world.World.new.Goals as goal
 

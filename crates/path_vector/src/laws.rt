@@ -1,0 +1,53 @@
+//! Laws of what is read of the entries of a node.
+ghost use Rattle.std.specs.Prelude.{ℕ, ◌<◌, ◌≡◌, [], ◌∷◌, None, false, IfSome};
+ghost use Rattle.topology.specs.declared.names.Scope.TheVariants.{All};
+ghost use Rattle.topology.specs.Net.{Net};
+ghost use Rattle.path_vector.specs.declared.causes.Cause.TheVariants.{Up};
+ghost use Rattle.path_vector.specs.Rules.{Rules};
+ghost use Rattle.path_vector.specs.History.{Change, History, Scoped, change, concerns, concerning, held, highest, ready};
+ghost use Rattle.path_vector.specs.Selection.{candidate, best, path_of};
+ghost use Rattle.path_vector.specs.Offers.{offer, changed};
+ghost use Rattle.path_vector.specs.Simple.{BringsPaths, IsPathFrom};
+
+/// What is read of a prefix depends only on the entries that concern it.
+#[tactic(auto, using(crate::proofs::Local::candidate_local, crate::proofs::Local::best_local, crate::proofs::Local::offer_local, crate::proofs::Local::ready_local))]
+pub fn prefixes_are_apart()
+    ensures candidate { (u p v : ℕ) (h : History) → Scoped h →
+        candidate u (concerning p h) p v ≡ candidate u h p v }
+    ensures best { (rules : Rules) (net : Net) (u p : ℕ) (h : History) → Scoped h →
+        best rules net u (concerning p h) p ≡ best rules net u h p }
+    ensures offer { (rules : Rules) (net : Net) (u p w : ℕ) (h : History) → Scoped h →
+        offer rules net u (concerning p h) p w ≡ offer rules net u h p w }
+    ensures ready { (p w : ℕ) (h : History) → Scoped h → ready (concerning p h) w ≡ ready h w }
+{}
+
+/// An entry of another prefix changes no offer.
+#[tactic(auto, using(crate::proofs::Changes::other_prefix))]
+pub fn other_prefixes_change_nothing()
+    ensures { (rules : Rules) (net : Net) (u : ℕ) (h : History) (k : Change) (w p : ℕ) →
+        Scoped (k ∷ h) →
+        concerns p k.scope ≡ false → changed rules net u h k w p ≡ false }
+{}
+
+/// Opening a session, above all that were named and where none is held, changes no offer.
+#[tactic(auto, using(crate::proofs::Opening::opening_changes_nothing))]
+pub fn opening_changes_nothing()
+    ensures { (rules : Rules) (net : Net) (u : ℕ) (h : History) (w s x p : ℕ) → held h w ≡ None →
+        highest h w < s →
+        changed rules net u h (change All (Up w s)) x p ≡ false }
+{}
+
+/// A node offers nothing at the start.
+#[tactic(auto, using(crate::proofs::Changes::offer_start))]
+pub fn nothing_is_offered_at_the_start()
+    ensures { (rules : Rules) (net : Net) (u p w : ℕ) → offer rules net u [] p w ≡ None }
+{}
+
+/// The paths of a best route and of an offer begin with the own node and repeat none.
+#[tactic(auto, using(crate::proofs::Simple::best_path, crate::proofs::Simple::offer_path))]
+pub fn paths_begin_with_the_own_node()
+    ensures best { (rules : Rules) (net : Net) (u : ℕ) (h : History) (p : ℕ) → BringsPaths h →
+        IfSome (path_of u (best rules net u h p)) (IsPathFrom u) }
+    ensures offer { (rules : Rules) (net : Net) (u : ℕ) (h : History) (p w : ℕ) → BringsPaths h →
+        IfSome (offer rules net u h p w) (IsPathFrom u) }
+{}

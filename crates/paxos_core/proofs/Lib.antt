@@ -1,0 +1,12 @@
+pub mod Ballots
+pub mod History
+pub mod Promises
+pub mod Proposals
+pub mod Decisions
+pub mod Quorums
+pub mod Refusing
+pub mod Posting
+pub mod Tallies
+pub mod Following
+pub mod Unread
+pub mod Standing

@@ -1,0 +1,26 @@
+-- What an acceptor keeps of a chronicle.
+use Rattle.std.specs.Prelude.{ℕ, Option, ◌≡◌, ◌≢◌}
+use Rattle.topology.specs.declared.ballots.Ballot.{Ballot}
+use Rattle.paxos_core.specs.Facts.{Pair, Message, Prepare, Accept, Fact, Heard, Chronicle}
+use Rattle.paxos_core.specs.Readings.{promised, accepted}
+
+-- the promised ballot, and the accepted pair
+pub record Accepting (V : Type 0) : Type 0 where
+  pub promised : Option Ballot
+  pub accepted : Option (Pair V)
+
+-- it is the acceptor of u after these facts
+pub record StandsFor {V : Type 0} (kept : Accepting V) (past : Chronicle V) (u : ℕ) : Type 0 where
+  pub promised : kept.promised ≡ promised past u
+  pub accepted : kept.accepted ≡ accepted past u
+
+-- w heard the message: it is none that an acceptor reads, or w is not u
+abbrev pub PassesBy : {V : Type 0} → ℕ → ℕ → Message V → Type 0
+PassesBy u w (Prepare b) = w ≢ u
+PassesBy u w (Accept b v) = w ≢ u
+PassesBy u w other = Unit {0}
+
+-- the acceptor of u reads nothing of this fact
+abbrev pub Unread : {V : Type 0} → ℕ → Fact V → Type 0
+Unread u (Heard w from m) = PassesBy u w m
+Unread u _ = Unit {0}

@@ -1,0 +1,49 @@
+-- What the calls of an acceptor answer.
+use Rattle.std.specs.Prelude.{ℕ, Option, Some, None, ◌∷◌, ◌≡◌}
+use Rattle.topology.specs.declared.ballots.Ballot.{Ballot}
+use Rattle.paxos_core.specs.declared.acceptor.Prepared.{Prepared}
+use Rattle.paxos_core.specs.declared.acceptor.Prepared.TheVariants.{Promise, Refused}
+use Rattle.paxos_core.specs.declared.acceptor.Took.{Took}
+use Rattle.paxos_core.specs.declared.acceptor.Took.TheVariants as took
+use Rattle.paxos_core.specs.Facts.{Heard, Fact, Prepare, Accept, Chronicle}
+use Rattle.paxos_core.specs.Answers.{Refusal, Promised, Duplicate, refusal}
+use Rattle.paxos_core.specs.Accepting.{Accepting, StandsFor}
+
+-- the answer to a Prepare tells whether it is refused
+abbrev pub SaysPrepared : Prepared → Option Refusal → Type 0
+SaysPrepared Promise why = why ≡ None
+SaysPrepared (Refused c) why = why ≡ Some (Promised c)
+
+-- the answer to an Accept tells whether it is refused
+abbrev pub SaysTook : Took → Option Refusal → Type 0
+SaysTook took.Accepted why = why ≡ None
+SaysTook (took.Refused c) why = why ≡ Some (Promised c)
+SaysTook took.Again why = why ≡ Some Duplicate
+
+-- after a message that is taken the acceptor stands for one more fact, after one that is refused it
+-- is as it was
+abbrev pub GoesOn : {V : Type 0} → Option Refusal → (old new : Accepting V) → Chronicle V → ℕ →
+    Fact V → Type 0
+GoesOn None old new past u f = StandsFor new (f ∷ past) u
+GoesOn (Some why) old new past u f = new ≡ old
+
+-- the acceptor of u answers the Prepare of b as it must, and goes on
+pub record AnswersPrepare {V : Type 0} (said : Prepared) (old new : Accepting V)
+    (past : Chronicle V) (u from : ℕ) (b : Ballot) : Type 0 where
+  pub answer : SaysPrepared said (refusal past u from (Prepare b))
+  pub state : GoesOn (refusal past u from (Prepare b)) old new past u (Heard u from (Prepare b))
+
+-- the acceptor of u answers the Accept of b as it must, and goes on
+pub record AnswersAccept {V : Type 0} (said : Took) (old new : Accepting V)
+    (past : Chronicle V) (u from : ℕ) (b : Ballot) (v : V) : Type 0 where
+  pub answer : SaysTook said (refusal past u from (Accept b v))
+  pub state : GoesOn (refusal past u from (Accept b v)) old new past u (Heard u from (Accept b v))
+
+-- what is kept: as before where the message is refused, else the new one
+abbrev pub unless_refused : {V : Type 0} → Option Refusal → (old new : Accepting V) → Accepting V
+unless_refused None old new = new
+unless_refused (Some why) old new = old
+
+-- what is kept after an Accept that is taken
+abbrev pub accepting : {V : Type 0} → Ballot → V → Accepting V
+accepting b v = record { promised = Some b; accepted = Some (b, v) }

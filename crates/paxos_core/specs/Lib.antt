@@ -1,0 +1,9 @@
+pub mod Facts
+pub mod Readings
+pub mod Rules
+pub mod Chosen
+pub mod Answers
+pub mod Accepting
+pub mod Tallying
+pub mod AcceptorCalls
+pub mod ProposerCalls
