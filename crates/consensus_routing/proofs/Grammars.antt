@@ -1,11 +1,10 @@
 -- Lines read one after the other: what the first of them tells, and that a text is read in one way.
 use Rattle.std.proofs.Common.{◌≡◌, ℕ, zero, suc, ◌+◌, ◌<◌, ◌≤◌, false, List, [], ◌∷◌, ◌++◌, length, drop, append_assoc, sym, ap, subst, ◌∙◌, arith}
-use Rattle.std.specs.Prelude.{Option, Some, None, option_map, IsTrue}
+use Rattle.std.specs.Prelude.{Option, Some, None, IsTrue}
 use Rattle.std.proofs.lemmas.Bool.{both_ways}
 use Rattle.std.proofs.lemmas.List.{drop_at, drop_all, length_push, length-drop, length-append, drop-drop}
 use Rattle.consensus_routing.specs.declared.directives.Line.{Line}
-use Rattle.consensus_routing.specs.declared.words.Cut.{Cut}
-use Rattle.consensus_routing.specs.Cutting.{joined, Cuts}
+use Rattle.consensus_routing.specs.Cutting.{joined}
 use Rattle.consensus_routing.specs.Spelling.{lines_of, Spells}
 use Rattle.consensus_routing.specs.Grammar.{allowed, Reads, FirstBad}
 use Rattle.consensus_routing.proofs.Cuts.{Lacks, lines_of-cut, lines_of-whole}
@@ -30,8 +29,8 @@ pub record Continues (earlier : List Line) (rest whole : List (List ℕ)) : Type
 pub continues_at_start : (whole : List (List ℕ)) → Continues [] whole whole
 continues_at_start whole = record { reads = λ all h. h; fails = λ n h. (let e : 0 + n ≡ n = omega arith in rw e h) }
 
-pub continues_more : {earlier : List Line} {line : Line} {text : List ℕ} {texts whole : List (List ℕ)} → Continues earlier (text ∷ texts) whole → Spells text line → IsTrue (allowed earlier line) → Continues (line ∷ earlier) texts whole
-continues_more {earlier} {line} h spelled may = record {
+pub continues_more : (earlier : List Line) (line : Line) (text : List ℕ) (texts whole : List (List ℕ)) → Continues earlier (text ∷ texts) whole → Spells text line → IsTrue (allowed earlier line) → Continues (line ∷ earlier) texts whole
+continues_more earlier line text texts whole h spelled may = record {
   reads = λ all r. h.reads all (line, spelled, may, r);
   fails = λ n f. (let e : suc (length earlier) + n ≡ length earlier + suc n = omega arith in rw e (h.fails (suc n) (line, spelled, may, f)));
 }
@@ -52,25 +51,21 @@ no_bad_line earlier (text ∷ texts) all (suc n) h k =
     no_bad_line (h.0 ∷ earlier) texts all n h.3 (rw (← same) at k.3)
 
 -- the line at a place is the first bad one, where no line that is allowed is its text
-pub bad_here : {earlier : List Line} {text : List ℕ} {texts whole : List (List ℕ)} → Continues earlier (text ∷ texts) whole → ((line : Line) → Spells text line → allowed earlier line ≡ false) → FirstBad [] whole (length earlier)
-bad_here {earlier} h none = let e : length earlier + 0 ≡ length earlier = omega arith in rw e at (h.fails 0 none)
+pub bad_here : (earlier : List Line) (text : List ℕ) (texts whole : List (List ℕ)) → Continues earlier (text ∷ texts) whole → ((line : Line) → Spells text line → allowed earlier line ≡ false) → FirstBad [] whole (length earlier)
+bad_here earlier text texts whole h none = let e : length earlier + 0 ≡ length earlier = omega arith in rw e at (h.fails 0 none)
 
 -- where the one line of the text is not allowed, none is
-pub only_line : {text : List ℕ} {line other : Line} (earlier : List Line) → Spells text line → allowed earlier line ≡ false → Spells text other → allowed earlier other ≡ false
-only_line {text} {line} {other} earlier h bad k = ap (allowed earlier) (one_line text other line k h) ∙ bad
+pub only_line : (earlier : List Line) (text : List ℕ) (line other : Line) → Spells text line → allowed earlier line ≡ false → Spells text other → allowed earlier other ≡ false
+only_line earlier text line other h bad k = ap (allowed earlier) (one_line text other line k h) ∙ bad
 
-pub front_within : {mark : ℕ} {bytes : List ℕ} {cut : Cut} → Cuts mark bytes cut → length cut.front.now ≤ length bytes
-front_within {mark} {bytes} {cut} h = go (option_map (λ r. r.now) cut.rest) h.whole
-  where
-    go : (rest : Option (List ℕ)) → bytes ≡ joined mark cut.front.now rest → length cut.front.now ≤ length bytes
-    go None e = omega (arith, ap length e)
-    go (Some rest) e = omega (arith, ap length e, length-append cut.front.now (mark ∷ rest))
+pub front_within : (mark : ℕ) (bytes front : List ℕ) (rest : Option (List ℕ)) → bytes ≡ joined mark front rest → length front ≤ length bytes
+front_within mark bytes front None e = omega (arith, ap length e)
+front_within mark bytes front (Some rest) e = omega (arith, ap length e, length-append front (mark ∷ rest))
 
 -- the line that is cut at a place of the text is the first of those that remain
-pub line_here : {earlier : List Line} {bytes : List ℕ} {cut : Cut} {whole : List (List ℕ)} (text : List ℕ) (place : ℕ) → place < length text → bytes ≡ drop place text → Cuts 10 bytes cut → Continues earlier (lines_of (drop place text)) whole → Continues earlier (cut.front.now ∷ lines_of (drop (place + (length cut.front.now + 1)) text)) whole
-line_here {earlier} {bytes} {cut} {whole} text place within b h k =
-    let front = cut.front.now in
+pub line_here : (earlier : List Line) (text bytes front : List ℕ) (place : ℕ) (rest : Option (List ℕ)) (whole : List (List ℕ)) → place < length text → bytes ≡ drop place text → Lacks 10 front → bytes ≡ joined 10 front rest → Continues earlier (lines_of (drop place text)) whole → Continues earlier (front ∷ lines_of (drop (place + (length front + 1)) text)) whole
+line_here earlier text bytes front place rest whole within b h e k =
     let some : 0 < length (drop place text) = omega (arith, length-drop place text) in
-    let first = next_line (drop place text) front (option_map (λ r. r.now) cut.rest) some h.unmarked (sym b ∙ h.whole) in
+    let first = next_line (drop place text) front rest some h (sym b ∙ e) in
     let next = drop-drop (length front + 1) place text in
     subst (λ texts. Continues earlier texts whole) (first ∙ ap (λ bs. front ∷ lines_of bs) next) k
