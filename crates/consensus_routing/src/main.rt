@@ -14,7 +14,7 @@ mod words;
 use route_io::{StdSink, StdSource};
 use std::process::ExitCode;
 use std::{env, io};
-use topology::Status;
+use topology::{BadKind, LimitKind, Status};
 
 // The words after the program's name. Words that are no text are those of no form.
 fn words_of(rt: &HostRuntime) -> Result<Vec<String>, Status> {
@@ -32,6 +32,22 @@ fn words_of(rt: &HostRuntime) -> Result<Vec<String>, Status> {
     Ok(words)
 }
 
+// Says on standard error why the program ends before its time. Whether that can be written changes
+// nothing, so the answer is left.
+fn tell(rt: &HostRuntime, status: Status) {
+    let _told = match status {
+        Status::Done => return,
+        Status::Usage => rt.eprintln("usage: consensus_routing replay"),
+        Status::NoMemory => rt.eprintln("no memory"),
+        Status::BadSchedule(line, BadKind::NotBuilt) => eprintln!(rt;
+            "bad schedule: line {line}: not built"
+        ),
+        Status::Limit(LimitKind::Bytes, number) => eprintln!(rt; "limit: bytes {number}"),
+        Status::ReadFault => rt.eprintln("read fault"),
+        Status::WriteFault => rt.eprintln("write fault"),
+    };
+}
+
 fn main(rt: HostRuntime) -> ExitCode {
     let status = match words_of(&rt) {
         Err(status) => status,
@@ -41,5 +57,6 @@ fn main(rt: HostRuntime) -> ExitCode {
             run::run(rt.alloc(), &words, &mut source, &mut sink)
         }
     };
+    tell(&rt, status);
     ExitCode::from(status.code())
 }
