@@ -1,0 +1,9 @@
+pub mod Entries
+pub mod Sending
+pub mod Fits
+pub mod Going
+pub mod Sessions
+pub mod Rows
+pub mod Standing
+pub mod Offered
+pub mod Telling

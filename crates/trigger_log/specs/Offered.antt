@@ -1,0 +1,48 @@
+-- The best routes of the prefixes of a scope, as they are kept while an entry is made.
+use Rattle.std.specs.Prelude.{ℕ, ◌≡◌, ◌<◌, Bool, not, Option, None, List, [], ◌∷◌, length, map, filter, if◌then◌else◌}
+use Rattle.std.specs.List.{AllByRecursion}
+use Rattle.topology.specs.declared.names.Scope.{Scope}
+use Rattle.topology.specs.declared.names.Scope.TheVariants.{One, All}
+use Rattle.topology.specs.Lists.{same_path}
+use Rattle.topology.specs.Net.{Net, places}
+use Rattle.path_vector.specs.Rules.{Rules}
+use Rattle.path_vector.specs.History.{History}
+use Rattle.path_vector.specs.Selection.{best}
+use Rattle.path_vector.specs.Offers.{offer}
+use Rattle.path_vector.specs.Answers.{Copies}
+use Rattle.trigger_log.specs.declared.offers.Offer.{Offer}
+use Rattle.trigger_log.specs.Entries.{Entry, Update, reads}
+use Rattle.trigger_log.specs.Sending.{update_of}
+
+-- the prefix of the scope, if it is one, is in the network
+abbrev pub IsPlaced : Net → Scope → Type 0
+IsPlaced net (One p) = p < length net.prefixes
+IsPlaced net All = Unit {0}
+
+-- the places of the prefixes of the scope, in file order
+abbrev pub places_of : Net → Scope → List ℕ
+places_of net (One p) = p ∷ []
+places_of net All = places net
+
+-- the prefixes of these routes
+abbrev pub prefixes_of : List Offer → List ℕ
+prefixes_of offers = map (λ (o : Offer). o.prefix) offers
+
+-- each of the routes is the best one of its prefix after these entries
+abbrev pub AreChosen : Rules → Net → ℕ → History → List Offer → Type 0
+AreChosen rules net u h offers =
+    AllByRecursion (λ (o : Offer). Copies net u o.chosen (best rules net u h o.prefix)) offers
+
+-- the path that w knows of before k: nothing, where it knows nothing
+abbrev pub known_path : Rules → Net → ℕ → List Entry → Bool → ℕ → ℕ → Option (List ℕ)
+known_path rules net u h knows w p = if knows then offer rules net u (reads h) p w else None
+
+-- w is offered another path of p after k than it knows of
+abbrev pub differs : Rules → Net → ℕ → List Entry → Entry → Bool → ℕ → ℕ → Bool
+differs rules net u h k knows w p =
+    not (same_path (offer rules net u (k.read ∷ reads h) p w) (known_path rules net u h knows w p))
+
+-- the updates of k to w for these prefixes
+abbrev pub updates_over : Rules → Net → ℕ → List Entry → Entry → Bool → ℕ → List ℕ → List Update
+updates_over rules net u h k knows w prefixes =
+    map (update_of rules net u h k w) (filter (differs rules net u h k knows w) prefixes)

@@ -1,0 +1,101 @@
+//! Laws of logs. A call of a law brings what it says into the caller's proof.
+ghost use Rattle.std.specs.Prelude.{ℕ, suc, ◌<◌, ◌≤◌, ◌≡◌, ◌≢◌, not, List, [], ◌∷◌, Option, Some, None, true, false, map, filter, length};
+ghost use Rattle.std.specs.List.{range_with_len};
+ghost use Rattle.std.specs.List.Sorted.{IsStrictlyIncreasing};
+ghost use Rattle.topology.specs.declared.names.Trigger.{Trigger};
+ghost use Rattle.topology.specs.declared.names.Scope.{Scope};
+ghost use Rattle.topology.specs.declared.names.Scope.TheVariants.{All};
+ghost use Rattle.topology.specs.declared.items.Sent.{Sent};
+ghost use Rattle.topology.specs.Lists.{has, same_path, Among};
+ghost use Rattle.topology.specs.Net.{Net, IsValid, neighbours, places};
+ghost use Rattle.path_vector.specs.declared.causes.Cause.{Cause};
+ghost use Rattle.path_vector.specs.declared.causes.Cause.TheVariants.{Up};
+ghost use Rattle.path_vector.specs.Rules.{Rules};
+ghost use Rattle.path_vector.specs.History.{Accepts, held, last, opened, ready};
+ghost use Rattle.path_vector.specs.Offers.{offer, changed};
+ghost use Rattle.trigger_log.specs.Entries.{Entry, Update, entry, reads, inbox, closing, close};
+ghost use Rattle.trigger_log.specs.Sending.{news, outbox, said, Lists, sent_by, sent_of, sent_count, is_sent_in, Rises};
+ghost use Rattle.trigger_log.specs.Fits.{Fits, CauseFits};
+ghost use Rattle.trigger_log.specs.Sessions.{ever};
+
+/// What fits a log is accepted by its routes.
+pub fn what_fits_is_accepted()
+    ensures { (h : List Entry) (scope : Scope) (cause : Cause) → Fits h → CauseFits h scope cause →
+        Accepts (reads h) scope cause }
+{}
+
+/// The session that is held is the newest one.
+pub fn the_held_session_is_the_newest()
+    ensures newest { (h : List Entry) (w s : ℕ) → held (reads h) w ≡ Some s → s ≡ last (reads h) w }
+    ensures from_one { (h : List Entry) (w : ℕ) → Fits h → 1 ≤ last (reads h) w }
+{}
+
+/// A session that was closed is never held again.
+pub fn a_closed_session_stays_closed()
+    ensures { (h : List Entry) (w s : ℕ) (triggers : List Trigger) → Fits h →
+        closing h w s ≡ Some triggers → held (reads h) w ≢ Some s }
+{}
+
+/// In a session that was never held nothing was said, and it was not closed.
+pub fn a_session_is_fresh_until_it_is_held()
+    ensures above { (h : List Entry) (w s : ℕ) → Fits h → last (reads h) w < s → has (ever h w) s ≡ false }
+    ensures outbox { (rules : Rules) (net : Net) (u : ℕ) (h : List Entry) (w s : ℕ) → Fits h →
+        has (ever h w) s ≡ false → outbox rules net u h w s ≡ [] }
+    ensures inbox { (h : List Entry) (w s : ℕ) → Fits h → has (ever h w) s ≡ false → inbox h w s ≡ [] }
+    ensures close { (h : List Entry) (w s : ℕ) → Fits h → has (ever h w) s ≡ false → close h w s ≡ None }
+    ensures closing { (h : List Entry) (w s : ℕ) → Fits h → has (ever h w) s ≡ false → closing h w s ≡ None }
+{}
+
+/// Nothing is sent in a session that the other end has not opened.
+pub fn an_unready_session_says_nothing()
+    ensures { (rules : Rules) (net : Net) (u : ℕ) (h : List Entry) (w s : ℕ) → Fits h →
+        held (reads h) w ≡ Some s → opened (reads h) w s ≡ false → outbox rules net u h w s ≡ [] }
+{}
+
+/// An opening sends no update.
+pub fn an_opening_says_nothing()
+    ensures { (rules : Rules) (net : Net) (u : ℕ) (h : List Entry) (triggers : List Trigger) (w s x : ℕ) →
+        Fits h → held (reads h) w ≡ None → last (reads h) w < s →
+        news rules net u h (entry triggers All (Up w s)) x ≡ [] }
+{}
+
+/// What was said last of a prefix in a ready session is what is offered.
+pub fn what_was_said_is_offered()
+    ensures { (rules : Rules) (net : Net) (u : ℕ) (h : List Entry) (w s p : ℕ) → Fits h →
+        has (places net) p ≡ true → ready (reads h) w ≡ Some s →
+        said p (outbox rules net u h w s) ≡ offer rules net u (reads h) p w }
+{}
+
+/// An update of a prefix goes out exactly where the offer differs from what was said last in its
+/// session.
+pub fn an_update_goes_out_where_the_offer_differs()
+    ensures { (rules : Rules) (net : Net) (u : ℕ) (h : List Entry) (k : Entry) (w s p : ℕ) → Fits (k ∷ h) →
+        has (places net) p ≡ true → ready (k.read ∷ reads h) w ≡ Some s →
+        changed rules net u (reads h) k.read w p
+        ≡ not (same_path (offer rules net u (k.read ∷ reads h) p w) (said p (outbox rules net u h w s))) }
+{}
+
+/// Each trigger of an item is listed by an entry.
+pub fn items_list_what_entries_list()
+    ensures updates { (rules : Rules) (net : Net) (u : ℕ) (h : List Entry) (w s : ℕ) (x : Update) (t : Trigger) →
+        Among x (outbox rules net u h w s) → Among t x.triggers → Lists h t }
+    ensures close { (h : List Entry) (w s : ℕ) (triggers : List Trigger) (t : Trigger) →
+        close h w s ≡ Some triggers → Among t triggers → Lists h t }
+{}
+
+/// The items of a session are numbered from 1 without gaps, its close last.
+pub fn numbers_run_from_one()
+    ensures { (rules : Rules) (net : Net) (u : ℕ) (h : List Entry) (w s : ℕ) → IsValid net → Fits h →
+        has (neighbours net u) w ≡ true →
+        map (λ (item : Sent). item.seq) (filter (is_sent_in w s) (sent_of rules net u h))
+        ≡ range_with_len 1 (sent_count rules net u h w s) }
+{}
+
+/// The items of an entry stand by neighbour, ascending, and those of a neighbour by the places of
+/// their prefixes.
+pub fn items_stand_in_order()
+    ensures neighbours { (rules : Rules) (net : Net) (u : ℕ) (h : List Entry) (k : Entry) → IsValid net →
+        Rises (map (λ (item : Sent). item.to) (sent_by rules net u h k)) }
+    ensures prefixes { (rules : Rules) (net : Net) (u : ℕ) (h : List Entry) (k : Entry) (w : ℕ) →
+        IsStrictlyIncreasing (map (λ (x : Update). x.prefix) (news rules net u h k w)) }
+{}

@@ -1,0 +1,18 @@
+//! The log of a node: what it entered, for which triggers, and what each entry sent.
+#![tactic(auto)]
+
+pub mod entries;
+pub mod laws;
+pub mod log;
+mod offers;
+pub mod outgoing;
+pub mod sessions;
+mod telling;
+
+pub use entries::{Entry, SentItems};
+pub use log::NodeLog;
+pub use outgoing::Outgoing;
+pub use sessions::SessionMark;
+
+#[cfg(test)]
+mod tests;

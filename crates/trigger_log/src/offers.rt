@@ -1,0 +1,54 @@
+//! What a node may tell its neighbours before and after an entry.
+ghost use Rattle.std.specs.Prelude.{ℕ, ◌≡◌, ◌<◌, length, IfOk};
+ghost use Rattle.topology.specs.Net.{Net};
+ghost use Rattle.path_vector.specs.Selection.{best};
+ghost use Rattle.path_vector.specs.Answers.{Copies};
+ghost use Rattle.path_vector.specs.History.{History};
+ghost use Rattle.path_vector.specs.Standing.{StandsFor};
+ghost use Rattle.trigger_log.specs.Offered.{AreChosen, prefixes_of, places_of, IsPlaced};
+
+use path_vector::{Chosen, Policy, RouteState};
+use std::alloc::Global;
+use topology::{NoMemory, PrefixId, Scope, Topology};
+
+/// The best route of a prefix.
+#[derive(Drop)]
+pub struct Offer {
+    pub prefix: PrefixId,
+    pub chosen: Chosen,
+}
+
+// The best route of one prefix.
+fn offer_of<P: Policy + Copy>(routes: &RouteState<P>, prefix: PrefixId) -> Result<Offer, NoMemory>
+    ensures prefix { IfOk result (λ offer. offer.prefix ≡ prefix) }
+    ensures chosen { IfOk result (λ offer. (policy : P) (net : Net) (u : ℕ) (h : History) →
+        StandsFor policy net u routes.now h → prefix < length net.prefixes →
+        Copies net u offer.chosen (best (P.rules policy) net u h prefix)) }
+{
+    let chosen = routes.chosen(prefix)?;
+    Ok(Offer { prefix, chosen })
+}
+
+/// The best routes of the prefixes of a scope, in file order.
+pub fn offers_of<P: Policy + Copy>(
+    alloc: Global,
+    routes: &RouteState<P>,
+    topology: &Topology,
+    scope: Scope,
+) -> Result<Vec<Offer>, NoMemory>
+    ensures covers { IfOk result (λ offers. prefixes_of offers.items ≡ places_of topology.now scope) }
+    ensures chosen { IfOk result (λ offers. (policy : P) (u : ℕ) (h : History) →
+        StandsFor policy topology.now u routes.now h → IsPlaced topology.now scope →
+        AreChosen (P.rules policy) topology.now u h offers.items) }
+{
+    let mut offers = Vec::new(alloc);
+    match scope {
+        Scope::One(prefix) => offers.push(offer_of(routes, prefix)?)?,
+        Scope::All => {
+            for place in 0..topology.prefix_count() {
+                offers.push(offer_of(routes, PrefixId::new(place))?)?;
+            }
+        }
+    }
+    Ok(offers)
+}

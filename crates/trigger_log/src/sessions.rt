@@ -1,0 +1,133 @@
+//! The sessions that a node ever held.
+ghost use Rattle.std.specs.Prelude.{ℕ, ◌≡◌, ◌<◌, List, [], ◌∷◌, ◌++◌, Some, None, false, true, length, map, slice_get, slice_set, is_none, ◌&&◌, if◌then◌else◌, IfOk, IfSome, IfNone, OnOk};
+ghost use Rattle.trigger_log.specs.declared.sessions.SessionMark.{SessionMark};
+ghost use Rattle.trigger_log.specs.Rows.{HasRows, EndsWith, joined};
+
+use std::alloc::Global;
+use topology::{NoMemory, NodeId, Session, Trigger};
+
+/// A session that the node holds or held with a neighbour.
+#[derive(Clone, Copy, Debug, PartialEq, Eq)]
+pub struct SessionMark {
+    pub nbr: NodeId,
+    pub session: Session,
+    /// The other end has opened it too.
+    pub opened: bool,
+    /// How many items the node has sent in it, its `close` included.
+    pub sent: u32,
+    /// How many updates it has received in it.
+    pub received: u32,
+    /// The trigger of the entry that ended it.
+    pub down: Option<Trigger>,
+}
+
+impl SessionMark {
+    /// The session that is held: none where it is ended.
+    pub fn held(&self) -> Option<Session>
+        ensures { result ≡ (if is_none self.now.down then Some self.now.session else None) }
+    {
+        match self.down {
+            None => Some(self.session),
+            Some(_) => None,
+        }
+    }
+
+    /// It is held, and the other end has opened it too.
+    pub fn is_ready(&self) -> bool
+        ensures { result ≡ (is_none self.now.down && self.now.opened) }
+    {
+        self.down.is_none() && self.opened
+    }
+
+    // A session in which nothing was said.
+    fn fresh(nbr: NodeId, session: Session, opened: bool) -> SessionMark
+        ensures { result ≡ record { nbr = nbr; session = session; opened = opened; sent = 0; received = 0; down = None } }
+    {
+        SessionMark {
+            nbr,
+            session,
+            opened,
+            sent: 0,
+            received: 0,
+            down: None,
+        }
+    }
+}
+
+/// The sessions of a node: a row for each neighbour, by its place, one row after the other in one
+/// list. `newest` has the place of the last mark of each row.
+#[derive(Drop)]
+pub struct Sessions {
+    marks: Vec<SessionMark>,
+    newest: Vec<usize>,
+}
+
+impl Sessions {
+    /// One row for each neighbour, with the session that both ends hold from the start.
+    pub fn new(alloc: Global, near: &[NodeId]) -> Result<Sessions, NoMemory>
+        ensures { IfOk result (λ sessions. HasRows (map (λ w. record { nbr = w; session = 1; opened = true; sent = 0; received = 0; down = None } ∷ []) near.now) sessions) }
+    {
+        let mut marks = Vec::with_capacity(alloc, near.len())?;
+        let mut newest = Vec::with_capacity(alloc, near.len())?;
+        for nbr in near {
+            newest.push(marks.len())?;
+            marks.push(SessionMark::fresh(*nbr, Session::new(1), true))?;
+        }
+        Ok(Sessions { marks, newest })
+    }
+
+    /// All marks: by neighbour, then by session.
+    pub fn marks(&self) -> &[SessionMark]
+        ensures { (rows : List (List SessionMark)) → HasRows rows self.now → result.now ≡ joined rows }
+    {
+        &self.marks
+    }
+
+    /// The last mark of the row at this place.
+    pub fn newest(&self, place: usize) -> Option<&SessionMark>
+        ensures some { IfSome result (λ mark. (rows : List (List SessionMark)) (row : List SessionMark) → HasRows rows self.now →
+            slice_get rows place ≡ Some row → EndsWith row mark.now) }
+        ensures none { IfNone result ((rows : List (List SessionMark)) → HasRows rows self.now → slice_get rows place ≡ None) }
+    {
+        self.marks.get(*self.newest.get(place)?)
+    }
+
+    /// Puts this mark in the place of the last one of the row.
+    pub fn put(&mut self, place: usize, mark: SessionMark)
+        ensures { (rows : List (List SessionMark)) (older : List SessionMark) (last : SessionMark) →
+            HasRows rows self.old → slice_get rows place ≡ Some (older ++ last ∷ []) →
+            HasRows (slice_set rows place (older ++ mark ∷ [])) self.new }
+    {
+        if let Some(last) = self.newest.get(place) {
+            let last = *last;
+            if last < self.marks.len() {
+                self.marks[last] = mark;
+            }
+        }
+    }
+
+    /// Adds a session to the end of the row, in which nothing was said.
+    pub fn open(&mut self, place: usize, nbr: NodeId, session: Session) -> Result<(), NoMemory>
+        ensures { OnOk result ((rows : List (List SessionMark)) (row : List SessionMark) →
+            HasRows rows self.old → slice_get rows place ≡ Some row →
+            HasRows (slice_set rows place (row ++ record { nbr = nbr; session = session; opened = false; sent = 0; received = 0; down = None } ∷ [])) self.new) }
+    {
+        let Some(last) = self.newest.get(place) else {
+            return Ok(());
+        };
+        let behind = *last + 1;
+        self.marks
+            .insert(behind, SessionMark::fresh(nbr, session, false))?;
+        for later in place..self.newest.len() {
+            self.newest[later] += 1;
+        }
+        Ok(())
+    }
+
+    /// The mark of a session. None where it was never held.
+    pub fn find(&self, nbr: NodeId, session: Session) -> Option<&SessionMark> {
+        self.marks
+            .iter()
+            .find(|mark| mark.nbr == nbr && mark.session == session)
+    }
+}
