@@ -1,6 +1,6 @@
 -- What is on its way over a link.
 use Rattle.std.specs.Prelude.{ℕ, Bool, ◌==◌, ◌&&◌, List, [], ◌∷◌, ◌++◌, if◌then◌else◌}
-use Rattle.topology.specs.declared.items.Item.{Item}
+use Rattle.trigger_log.specs.Going.{Item}
 use Rattle.chronicle.specs.Facts.{Fact, Chronicle, Log, Sent, Took}
 
 -- the list without its first item

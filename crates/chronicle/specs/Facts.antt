@@ -1,12 +1,12 @@
 -- What happened, as one list of facts. The newest fact is the head of the list.
 use Rattle.std.specs.Prelude.{ℕ, Bool, List, [], ◌∷◌}
-use Rattle.topology.specs.declared.items.Item.{Item}
-use Rattle.path_vector.specs.History.{Change}
+use Rattle.trigger_log.specs.Entries.{Entry}
+use Rattle.trigger_log.specs.Going.{Item}
 
 -- a node entered something into its log; a node sent an item in a session, and it was queued or
 -- lost; a node took an item that another had sent in a session
 pub data Fact : Type 0 where
-  Log : (node : ℕ) → (entry : Change) → Fact
+  Log : (node : ℕ) → (entry : Entry) → Fact
   Sent : (from to session : ℕ) → (item : Item) → (queued : Bool) → Fact
   Took : (from to session : ℕ) → (item : Item) → Fact
 

@@ -1,6 +1,6 @@
 pub mod Facts
 pub mod Logs
 pub mod Channels
-pub mod Sending
+pub mod Messages
 pub mod Steps
 pub mod Run

@@ -1,13 +1,14 @@
 -- The run of a list of events.
 use Rattle.std.specs.Prelude.{ℕ, Bool, true, false, Option, Some, None, List, [], ◌∷◌, fold, if◌then◌else◌}
-use Rattle.topology.specs.declared.items.Item.{Item}
 use Rattle.topology.specs.declared.names.Scope.TheVariants.{One}
 use Rattle.topology.specs.declared.status.Reason.{Reason}
 use Rattle.topology.specs.declared.status.Reason.TheVariants.{AlreadyOrigin, NotOrigin, EmptyChannel}
 use Rattle.topology.specs.Net.{Net}
 use Rattle.path_vector.specs.declared.causes.Cause.TheVariants as cause
 use Rattle.path_vector.specs.Rules.{Rules}
-use Rattle.path_vector.specs.History.{change, owns}
+use Rattle.path_vector.specs.History.{owns}
+use Rattle.trigger_log.specs.Entries.{reads, local}
+use Rattle.trigger_log.specs.Going.{Item}
 use Rattle.chronicle.specs.declared.events.Event.{Event}
 use Rattle.chronicle.specs.declared.events.Event.TheVariants.{Originate, Withdraw, Deliver}
 use Rattle.chronicle.specs.Facts.{Chronicle}
@@ -32,9 +33,11 @@ delivered rules net past v u (x ∷ rest) = Goes (take_item rules net v u only_s
 -- what an event does
 unfoldable pub step : Rules → Net → Chronicle → Event → Step
 step rules net past (Originate u p) =
-    if owns (log_of u past) p then Idle AlreadyOrigin else Goes (write rules net u (change (One p) cause.Originate) past)
+    if owns (reads (log_of u past)) p then Idle AlreadyOrigin
+    else Goes (write rules net u (local u (log_of u past) (One p) cause.Originate) past)
 step rules net past (Withdraw u p) =
-    if owns (log_of u past) p then Goes (write rules net u (change (One p) cause.Withdraw) past) else Idle NotOrigin
+    if owns (reads (log_of u past)) p then Goes (write rules net u (local u (log_of u past) (One p) cause.Withdraw) past)
+    else Idle NotOrigin
 step rules net past (Deliver v u) = delivered rules net past v u (channel v u past)
 
 -- the chronicle that a step leaves: an idle event adds nothing

@@ -1,0 +1,28 @@
+-- What a node sent and took in a session.
+use Rattle.std.specs.Prelude.{ℕ, Bool, ◌==◌, ◌&&◌, List, [], ◌∷◌, ◌++◌, if◌then◌else◌}
+use Rattle.trigger_log.specs.Going.{Item}
+use Rattle.chronicle.specs.Facts.{Fact, Chronicle, Sent, Took}
+
+-- it goes from a to b in session s
+abbrev pub goes : ℕ → ℕ → ℕ → ℕ → ℕ → ℕ → Bool
+goes a b s from to session = from == a && (to == b && session == s)
+
+-- what is sent goes to the end
+abbrev pub sent_by : ℕ → ℕ → ℕ → Fact → List Item → List Item
+sent_by a b s (Sent from to session item queued) before = if goes a b s from to session then before ++ item ∷ [] else before
+sent_by a b s other before = before
+
+-- all items that a sent to b in session s, lost ones too, the oldest first
+abbrev pub sent : ℕ → ℕ → ℕ → Chronicle → List Item
+sent a b s [] = []
+sent a b s (f ∷ past) = sent_by a b s f (sent a b s past)
+
+-- what is taken goes to the end
+abbrev pub took_by : ℕ → ℕ → ℕ → Fact → List Item → List Item
+took_by a b s (Took from to session item) before = if goes a b s from to session then before ++ item ∷ [] else before
+took_by a b s other before = before
+
+-- all items that b took of a in session s, the oldest first
+abbrev pub took : ℕ → ℕ → ℕ → Chronicle → List Item
+took a b s [] = []
+took a b s (f ∷ past) = took_by a b s f (took a b s past)
