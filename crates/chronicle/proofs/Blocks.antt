@@ -1,172 +1,198 @@
 -- What a node's entry, and what it sends then, changes of each reading.
-use Rattle.std.proofs.Common.{ℕ, suc, Bool, true, false, cond, not, ◌==◌, ◌&&◌, ◌||◌, Option, Some, None, List, [], ◌∷◌, ◌++◌, ◌≡◌, ◌≢◌, refl, sym, ◌∙◌, ap, subst, arith, map, flat_map, length, append_assoc}
+use Rattle.std.proofs.Common.{ℕ, suc, Bool, true, false, cond, ◌==◌, ◌&&◌, Option, Some, None, List, [], ◌∷◌, ◌++◌, ◌≡◌, refl, sym, ◌∙◌, ap, subst, arith, map, flat_map, append_assoc}
 use Rattle.std.specs.Prelude.{if◌then◌else◌}
-use Rattle.std.specs.List.{AllByRecursion, list_any}
+use Rattle.std.specs.List.{AllByRecursion}
 use Rattle.std.proofs.lemmas.List.{append-nil}
 use Rattle.std.proofs.lemmas.Bool.Decides.{nat_tests}
-use Rattle.topology.specs.declared.items.Item.{Item}
 use Rattle.topology.specs.Lists.{has}
 use Rattle.topology.specs.Paths.{differ}
 use Rattle.topology.specs.Net.{Net, neighbours}
 use Rattle.path_vector.specs.Rules.{Rules}
-use Rattle.path_vector.specs.History.{Change, History, held}
+use Rattle.path_vector.specs.History.{held}
+use Rattle.trigger_log.specs.Entries.{Entry, reads, is_session}
+use Rattle.trigger_log.specs.Going.{Item, Going, going_to, going_in, spread, told, going_by, items_to, items_in}
 use Rattle.chronicle.specs.Facts.{Fact, Log, Sent, Took, Chronicle, happen}
 use Rattle.chronicle.specs.Logs.{log_of}
 use Rattle.chronicle.specs.Channels.{channel}
-use Rattle.chronicle.specs.Steps.{sends, sends_in, spread, told, write}
+use Rattle.chronicle.specs.Messages.{sent, took}
+use Rattle.chronicle.specs.Steps.{sends, write}
 
 pub same_number : (u : ℕ) → (u == u) ≡ true
 same_number u = grind (arith, nat_tests)
 
--- ---- what is sent is sent, and queued
+-- ---- what is sent changes no log and nothing that was taken, and goes to the ends of the rest
 
--- an item that is queued
-abbrev pub IsQueued : Fact → Type 0
-IsQueued (Sent from to session item queued) = queued ≡ true
-IsQueued other = ⊥
+log_sends : (v u : ℕ) (past : Chronicle) (gs : List Going) → log_of v (happen past (sends u gs)) ≡ log_of v past
+log_sends v u past [] = refl
+log_sends v u past (g ∷ gs) = log_sends v u (Sent u g.to g.session g.item true ∷ past) gs
 
-all_append : {A : Type 0} (P : A → Type 0) (xs ys : List A) → AllByRecursion P xs → AllByRecursion P ys → AllByRecursion P (xs ++ ys)
-all_append P [] ys a b = b
-all_append P (x ∷ xs) ys a b = (a.0, all_append P xs ys a.1 b)
+took_sends : (a b s u : ℕ) (past : Chronicle) (gs : List Going) → took a b s (happen past (sends u gs)) ≡ took a b s past
+took_sends a b s u past [] = refl
+took_sends a b s u past (g ∷ gs) = took_sends a b s u (Sent u g.to g.session g.item true ∷ past) gs
 
-all_each : {A B : Type 0} (P : B → Type 0) (f : A → List B) (xs : List A) → ((x : A) → AllByRecursion P (f x)) → AllByRecursion P (flat_map f xs)
-all_each P f [] each = tt
-all_each P f (x ∷ xs) each = all_append P (f x) (flat_map f xs) (each x) (all_each P f xs each)
+nothing_more : (c : Bool) (xs : List Item) → xs ≡ xs ++ cond c [] []
+nothing_more true xs = sym (append-nil xs)
+nothing_more false xs = sym (append-nil xs)
 
-sends_queued : (u w s : ℕ) (items : List Item) → AllByRecursion IsQueued (sends u w s items)
-sends_queued u w s [] = tt
-sends_queued u w s (item ∷ items) = (refl, sends_queued u w s items)
+one_more : (c t : Bool) (xs : List Item) (x : Item) (ys : List Item) → cond (c && t) (xs ++ x ∷ []) xs ++ cond c ys [] ≡ xs ++ cond c (cond t (x ∷ ys) ys) []
+one_more true true xs x ys = append_assoc xs (x ∷ []) ys
+one_more true false xs x ys = refl
+one_more false t xs x ys = refl
 
-sends_in_queued : (u w : ℕ) (items : ℕ → List Item) (session : Option ℕ) → AllByRecursion IsQueued (sends_in u w items session)
-sends_in_queued u w items None = tt
-sends_in_queued u w items (Some s) = sends_queued u w s (items s)
+queued_more : (c t : Bool) (xs : List Item) (x : Item) (ys : List Item) → cond ((c && t) && true) (xs ++ x ∷ []) xs ++ cond c ys [] ≡ xs ++ cond c (cond t (x ∷ ys) ys) []
+queued_more true true xs x ys = append_assoc xs (x ∷ []) ys
+queued_more true false xs x ys = refl
+queued_more false t xs x ys = refl
 
-pub spread_queued : (net : Net) (u : ℕ) (session : ℕ → Option ℕ) (items : ℕ → ℕ → List Item) → AllByRecursion IsQueued (spread net u session items)
-unfolding spread
-spread_queued net u session items = all_each IsQueued (λ w. sends_in u w (items w) (session w)) (neighbours net u) (λ w. sends_in_queued u w (items w) (session w))
+channel_sends : (a b u : ℕ) (past : Chronicle) (gs : List Going) → channel a b (happen past (sends u gs)) ≡ channel a b past ++ (if u == a then items_to b gs else [])
+channel_sends a b u past [] = nothing_more (u == a) (channel a b past)
+channel_sends a b u past (g ∷ gs) =
+    channel_sends a b u (Sent u g.to g.session g.item true ∷ past) gs
+    ∙ queued_more (u == a) (g.to == b) (channel a b past) g.item (items_to b gs)
 
--- ---- logs
+sent_sends : (a b s u : ℕ) (past : Chronicle) (gs : List Going) → sent a b s (happen past (sends u gs)) ≡ sent a b s past ++ (if u == a then items_in b s gs else [])
+sent_sends a b s u past [] = nothing_more (u == a) (sent a b s past)
+sent_sends a b s u past (g ∷ gs) =
+    sent_sends a b s u (Sent u g.to g.session g.item true ∷ past) gs
+    ∙ one_more (u == a) (g.to == b && g.session == s) (sent a b s past) g.item (items_in b s gs)
 
--- what is sent changes no log
-pub log_sent : (v : ℕ) (past : Chronicle) (fs : List Fact) → AllByRecursion IsQueued fs → log_of v (happen past fs) ≡ log_of v past
-log_sent v past [] a = refl
-log_sent v past (Log node entry ∷ fs) a = absurd a.0
-log_sent v past (Took from to session item ∷ fs) a = absurd a.0
-log_sent v past (Sent from to session item queued ∷ fs) a = log_sent v (Sent from to session item queued ∷ past) fs a.1
+-- ---- what is spread reaches each neighbour in the session that is held with it
 
--- a write adds its entry to the log of its node, and to no other
-pub log_write : (rules : Rules) (net : Net) (u : ℕ) (k : Change) (past : Chronicle) (v : ℕ)
-    → log_of v (write rules net u k past) ≡ (if u == v then k ∷ log_of v past else log_of v past)
-unfolding write
-log_write rules net u k past v =
-    log_sent v (Log u k ∷ past) (spread net u (held (k ∷ log_of u past)) (told rules net u (log_of u past) k)) (spread_queued net u (held (k ∷ log_of u past)) (told rules net u (log_of u past) k))
+-- the items of a session: those for it, where it is the one
+abbrev pub in_session : (ℕ → List Item) → Option ℕ → ℕ → List Item
+in_session items session s = if is_session session s then items s else []
 
-pub log_own : (rules : Rules) (net : Net) (u : ℕ) (k : Change) (past : Chronicle) → log_of u (write rules net u k past) ≡ k ∷ log_of u past
-log_own rules net u k past = log_write rules net u k past u ∙ ap (λ b. if b then k ∷ log_of u past else log_of u past) (same_number u)
+-- the items of the session, whichever it is
+abbrev pub in_any : (ℕ → List Item) → Option ℕ → List Item
+in_any items None = []
+in_any items (Some s) = items s
 
-pub log_other : (rules : Rules) (net : Net) (u : ℕ) (k : Change) (past : Chronicle) (v : ℕ) → (u == v) ≡ false → log_of v (write rules net u k past) ≡ log_of v past
-log_other rules net u k past v e = log_write rules net u k past v ∙ ap (λ b. if b then k ∷ log_of v past else log_of v past) e
-
--- ---- channels
-
--- the items that are sent from a to b
-abbrev pub adds : ℕ → ℕ → List Fact → List Item
-adds a b [] = []
-adds a b (Sent from to session item queued ∷ fs) = if from == a && to == b then item ∷ adds a b fs else adds a b fs
-adds a b (Log node entry ∷ fs) = adds a b fs
-adds a b (Took from to session item ∷ fs) = adds a b fs
-
--- what is sent goes to the end of its channel
-pub channel_sent : (a b : ℕ) (past : Chronicle) (fs : List Fact) → AllByRecursion IsQueued fs → channel a b (happen past fs) ≡ channel a b past ++ adds a b fs
-channel_sent a b past [] q = sym (append-nil (channel a b past))
-channel_sent a b past (Log node entry ∷ fs) q = absurd q.0
-channel_sent a b past (Took from to session item ∷ fs) q = absurd q.0
-channel_sent a b past (Sent from to session item queued ∷ fs) q =
-    channel_sent a b (Sent from to session item queued ∷ past) fs q.1 ∙ rw q.0
-    (elim (from == a && to == b) as (λ t. cond (t && true) (channel a b past ++ item ∷ []) (channel a b past) ++ adds a b fs ≡ channel a b past ++ cond t (item ∷ adds a b fs) (adds a b fs)) [
-      | true ↦ append_assoc (channel a b past) (item ∷ []) (adds a b fs)
-      | false ↦ refl
-    ])
-
-adds_append : (a b : ℕ) (fs gs : List Fact) → adds a b (fs ++ gs) ≡ adds a b fs ++ adds a b gs
-adds_append a b [] gs = refl
-adds_append a b (Log node entry ∷ fs) gs = adds_append a b fs gs
-adds_append a b (Took from to session item ∷ fs) gs = adds_append a b fs gs
-adds_append a b (Sent from to session item queued ∷ fs) gs =
-    elim (from == a && to == b) as (λ t. cond t (item ∷ adds a b (fs ++ gs)) (adds a b (fs ++ gs)) ≡ cond t (item ∷ adds a b fs) (adds a b fs) ++ adds a b gs) [
-      | true ↦ ap (λ r. item ∷ r) (adds_append a b fs gs)
-      | false ↦ adds_append a b fs gs
+in_append : (w s : ℕ) (gs hs : List Going) → items_in w s (gs ++ hs) ≡ items_in w s gs ++ items_in w s hs
+in_append w s [] hs = refl
+in_append w s (g ∷ gs) hs =
+    elim (g.to == w && g.session == s) as (λ t. cond t (g.item ∷ items_in w s (gs ++ hs)) (items_in w s (gs ++ hs)) ≡ cond t (g.item ∷ items_in w s gs) (items_in w s gs) ++ items_in w s hs) [
+      | true ↦ ap (λ r. g.item ∷ r) (in_append w s gs hs)
+      | false ↦ in_append w s gs hs
     ]
 
--- what is sent to one neighbour
-adds_sends : (a b u w s : ℕ) (items : List Item) → adds a b (sends u w s items) ≡ (if u == a && w == b then items else [])
-adds_sends a b u w s [] = elim (u == a && w == b) as (λ t. ◌≡◌ {A = List Item} [] (cond t [] [])) [ true ↦ refl | false ↦ refl ]
-adds_sends a b u w s (item ∷ items) =
-    rw (adds_sends a b u w s items)
-    (elim (u == a && w == b) as (λ t. cond t (item ∷ cond t items []) (cond t items []) ≡ cond t (item ∷ items) []) [ true ↦ refl | false ↦ refl ])
+to_append : (w : ℕ) (gs hs : List Going) → items_to w (gs ++ hs) ≡ items_to w gs ++ items_to w hs
+to_append w [] hs = refl
+to_append w (g ∷ gs) hs =
+    elim (g.to == w) as (λ t. cond t (g.item ∷ items_to w (gs ++ hs)) (items_to w (gs ++ hs)) ≡ cond t (g.item ∷ items_to w gs) (items_to w gs) ++ items_to w hs) [
+      | true ↦ ap (λ r. g.item ∷ r) (to_append w gs hs)
+      | false ↦ to_append w gs hs
+    ]
 
-adds_off : (a b u w : ℕ) (items : ℕ → List Item) (session : Option ℕ) → (u == a && w == b) ≡ false → adds a b (sends_in u w items session) ≡ []
-adds_off a b u w items None e = refl
-adds_off a b u w items (Some s) e = adds_sends a b u w s (items s) ∙ rw e refl
+in_going : (w s v t : ℕ) (items : List Item) → items_in w s (going_to v t items) ≡ (if v == w && t == s then items else [])
+in_going w s v t [] = elim (v == w && t == s) as (λ b. ◌≡◌ {A = List Item} [] (cond b [] [])) [ true ↦ refl | false ↦ refl ]
+in_going w s v t (x ∷ xs) =
+    rw (in_going w s v t xs)
+    (elim (v == w && t == s) as (λ b. cond b (x ∷ cond b xs []) (cond b xs []) ≡ cond b (x ∷ xs) []) [ true ↦ refl | false ↦ refl ])
 
--- one neighbour after the other
-adds_none : (a b : ℕ) (f : ℕ → List Fact) (ws : List ℕ) → ((w : ℕ) → adds a b (f w) ≡ []) → adds a b (flat_map f ws) ≡ []
-adds_none a b f [] off = refl
-adds_none a b f (w ∷ ws) off = adds_append a b (f w) (flat_map f ws) ∙ rw (off w, adds_none a b f ws off) refl
+to_going : (w v t : ℕ) (items : List Item) → items_to w (going_to v t items) ≡ (if v == w then items else [])
+to_going w v t [] = elim (v == w) as (λ b. ◌≡◌ {A = List Item} [] (cond b [] [])) [ true ↦ refl | false ↦ refl ]
+to_going w v t (x ∷ xs) =
+    rw (to_going w v t xs)
+    (elim (v == w) as (λ b. cond b (x ∷ cond b xs []) (cond b xs []) ≡ cond b (x ∷ xs) []) [ true ↦ refl | false ↦ refl ])
 
-adds_others : (a b : ℕ) (f : ℕ → List Fact) (ws : List ℕ) → has ws b ≡ false → ((w : ℕ) → (w == b) ≡ false → adds a b (f w) ≡ []) → adds a b (flat_map f ws) ≡ []
-adds_others a b f [] none off = refl
-adds_others a b f (w ∷ ws) none off =
-    adds_append a b (f w) (flat_map f ws)
-    ∙ rw (off w (grind (arith, nat_tests)), adds_others a b f ws (grind (arith, nat_tests)) off) refl
+-- what goes to another neighbour
+in_off : (w s v : ℕ) (items : ℕ → List Item) (session : Option ℕ) → (v == w) ≡ false → items_in w s (going_in v items session) ≡ []
+in_off w s v items None e = refl
+in_off w s v items (Some t) e = in_going w s v t (items t) ∙ rw e refl
 
-adds_each : (a b : ℕ) (f : ℕ → List Fact) (ws : List ℕ) → differ ws ≡ true → has ws b ≡ true → ((w : ℕ) → (w == b) ≡ false → adds a b (f w) ≡ []) → adds a b (flat_map f ws) ≡ adds a b (f b)
-adds_each a b f [] d m off = absurd (cc m)
-adds_each a b f (w ∷ ws) d m off =
-    (elim (w == b) as (λ t. (w == b) ≡ t → adds a b (f w ++ flat_map f ws) ≡ adds a b (f b)) [
-      | true ↦ λ e.
-          let same : w ≡ b = grind (arith, nat_tests) in
-          let none : has ws b ≡ false = subst (λ y. has ws y ≡ false) same (grind (arith, nat_tests)) in
-          adds_append a b (f w) (flat_map f ws) ∙ (rw (adds_others a b f ws none off) (append-nil (adds a b (f w)) ∙ ap (λ y. adds a b (f y)) same))
-      | false ↦ λ e.
-          adds_append a b (f w) (flat_map f ws)
-          ∙ rw (off w e) (adds_each a b f ws (grind (arith, nat_tests)) (grind (arith, nat_tests)) off)
-    ]) refl
+to_off : (w v : ℕ) (items : ℕ → List Item) (session : Option ℕ) → (v == w) ≡ false → items_to w (going_in v items session) ≡ []
+to_off w v items None e = refl
+to_off w v items (Some t) e = to_going w v t (items t) ∙ rw e refl
 
--- what u spreads reaches each neighbour in the session that is held with it
-adds_own : (u w s : ℕ) (items : ℕ → List Item) (session : Option ℕ) → session ≡ Some s → adds u w (sends_in u w items session) ≡ items s
-adds_own u w s items None e = absurd (cc e)
-adds_own u w s items (Some t) e =
-    let same : t ≡ s = grind (arith, e) in
-    adds_sends u w u w t (items t) ∙ rw (same_number u, same_number w) (ap items same)
+in_own : (w s : ℕ) (items : ℕ → List Item) (session : Option ℕ) → items_in w s (going_in w items session) ≡ in_session items session s
+in_own w s items None = refl
+in_own w s items (Some t) =
+    in_going w s w t (items t) ∙ rw (same_number w)
+    ((elim (t == s) as (λ b. (t == s) ≡ b → cond b (items t) [] ≡ cond b (items s) []) [
+      | true ↦ λ e. let same : t ≡ s = grind (arith, nat_tests) in ap items same
+      | false ↦ λ e. refl
+    ]) refl)
 
-adds_spread : (net : Net) (u : ℕ) (session : ℕ → Option ℕ) (items : ℕ → ℕ → List Item) (w s : ℕ) → differ (neighbours net u) ≡ true → has (neighbours net u) w ≡ true → session w ≡ Some s
-    → adds u w (spread net u session items) ≡ items w s
-unfolding spread
-adds_spread net u session items w s d m e =
-    adds_each u w (λ x. sends_in u x (items x) (session x)) (neighbours net u) d m (λ x off. adds_off u w u x (items x) (session x) (rw (same_number u) off))
-    ∙ adds_own u w s (items w) (session w) e
+to_own : (w : ℕ) (items : ℕ → List Item) (session : Option ℕ) → items_to w (going_in w items session) ≡ in_any items session
+to_own w items None = refl
+to_own w items (Some t) = to_going w w t (items t) ∙ rw (same_number w) refl
 
--- and it spreads nothing on the channels of others
-spread_other : (net : Net) (u : ℕ) (session : ℕ → Option ℕ) (items : ℕ → ℕ → List Item) (a b : ℕ) → (u == a) ≡ false → adds a b (spread net u session items) ≡ []
-unfolding spread
-spread_other net u session items a b e = adds_none a b (λ x. sends_in u x (items x) (session x)) (neighbours net u) (λ x. adds_off a b u x (items x) (session x) (rw e refl))
+-- a reading of one neighbour, over all of them one after the other
+module _ (read : List Going → List Item) (none : read [] ≡ []) (more : (gs hs : List Going) → read (gs ++ hs) ≡ read gs ++ read hs) (w : ℕ) (f : ℕ → List Going)
+    (off : (v : ℕ) → (v == w) ≡ false → read (f v) ≡ []) where
+  others : (ws : List ℕ) → has ws w ≡ false → read (flat_map f ws) ≡ []
+  others [] off_list = none
+  others (v ∷ vs) off_list = more (f v) (flat_map f vs) ∙ rw (off v (grind (arith, nat_tests)), others vs (grind (arith, nat_tests))) refl
 
--- a write adds what is told to the channel of each neighbour
-pub channel_own : (rules : Rules) (net : Net) (u : ℕ) (k : Change) (past : Chronicle) (w s : ℕ) → differ (neighbours net u) ≡ true → has (neighbours net u) w ≡ true → held (k ∷ log_of u past) w ≡ Some s
-    → channel u w (write rules net u k past) ≡ channel u w past ++ told rules net u (log_of u past) k w s
-unfolding write
-channel_own rules net u k past w s d m e =
-    let session = held (k ∷ log_of u past) in
-    let items = told rules net u (log_of u past) k in
-    channel_sent u w (Log u k ∷ past) (spread net u session items) (spread_queued net u session items)
-    ∙ ap (λ more. channel u w past ++ more) (adds_spread net u session items w s d m e)
+  each : (ws : List ℕ) → differ ws ≡ true → has ws w ≡ true → read (flat_map f ws) ≡ read (f w)
+  each [] d m = absurd (cc m)
+  each (v ∷ vs) d m =
+      (elim (v == w) as (λ t. (v == w) ≡ t → read (f v ++ flat_map f vs) ≡ read (f w)) [
+        | true ↦ λ e.
+            let same : v ≡ w = grind (arith, nat_tests) in
+            let gone : has vs w ≡ false = subst (λ y. has vs y ≡ false) same (grind (arith, nat_tests)) in
+            more (f v) (flat_map f vs) ∙ (rw (others vs gone) (append-nil (read (f v)) ∙ ap (λ y. read (f y)) same))
+        | false ↦ λ e.
+            more (f v) (flat_map f vs) ∙ rw (off v e) (each vs (grind (arith, nat_tests)) (grind (arith, nat_tests)))
+      ]) refl
 
--- the channels of other nodes stay
-pub channel_other : (rules : Rules) (net : Net) (u : ℕ) (k : Change) (past : Chronicle) (a b : ℕ) → (u == a) ≡ false → channel a b (write rules net u k past) ≡ channel a b past
-unfolding write
-channel_other rules net u k past a b e =
-    let session = held (k ∷ log_of u past) in
-    let items = told rules net u (log_of u past) k in
-    channel_sent a b (Log u k ∷ past) (spread net u session items) (spread_queued net u session items)
-    ∙ (ap (λ more. channel a b past ++ more) (spread_other net u session items a b e) ∙ append-nil (channel a b past))
+module _ (net : Net) (u : ℕ) (session : ℕ → Option ℕ) (items : ℕ → ℕ → List Item) (w : ℕ) where
+  pub in_spread : (s : ℕ) → differ (neighbours net u) ≡ true → has (neighbours net u) w ≡ true → items_in w s (spread net u session items) ≡ in_session (items w) (session w) s
+  unfolding spread
+  in_spread s d m =
+      each (items_in w s) refl (in_append w s) w (λ v. going_in v (items v) (session v)) (λ v off. in_off w s v (items v) (session v) off) (neighbours net u) d m
+      ∙ in_own w s (items w) (session w)
+
+  pub to_spread : differ (neighbours net u) ≡ true → has (neighbours net u) w ≡ true → items_to w (spread net u session items) ≡ in_any (items w) (session w)
+  unfolding spread
+  to_spread d m =
+      each (items_to w) refl (to_append w) w (λ v. going_in v (items v) (session v)) (λ v off. to_off w v (items v) (session v) off) (neighbours net u) d m
+      ∙ to_own w (items w) (session w)
+
+  pub to_stranger : has (neighbours net u) w ≡ false → items_to w (spread net u session items) ≡ []
+  unfolding spread
+  to_stranger out_of = others (items_to w) refl (to_append w) w (λ v. going_in v (items v) (session v)) (λ v off. to_off w v (items v) (session v) off) (neighbours net u) out_of
+
+  pub in_stranger : (s : ℕ) → has (neighbours net u) w ≡ false → items_in w s (spread net u session items) ≡ []
+  unfolding spread
+  in_stranger s out_of = others (items_in w s) refl (in_append w s) w (λ v. going_in v (items v) (session v)) (λ v off. in_off w s v (items v) (session v) off) (neighbours net u) out_of
+
+-- ---- what a write changes
+
+module _ (rules : Rules) (net : Net) (u : ℕ) (k : Entry) (past : Chronicle) where
+  abbrev out : List Going
+  out = going_by rules net u (log_of u past) k
+
+  -- it adds its entry to the log of its node, and to no other
+  pub log_write : (v : ℕ) → log_of v (write rules net u k past) ≡ (if u == v then k ∷ log_of v past else log_of v past)
+  unfolding write
+  log_write v = log_sends v u (Log u k ∷ past) out
+
+  pub log_own : log_of u (write rules net u k past) ≡ k ∷ log_of u past
+  log_own = log_write u ∙ ap (λ b. if b then k ∷ log_of u past else log_of u past) (same_number u)
+
+  pub log_other : (v : ℕ) → (u == v) ≡ false → log_of v (write rules net u k past) ≡ log_of v past
+  log_other v e = log_write v ∙ ap (λ b. if b then k ∷ log_of v past else log_of v past) e
+
+  pub took_write : (a b s : ℕ) → took a b s (write rules net u k past) ≡ took a b s past
+  unfolding write
+  took_write a b s = took_sends a b s u (Log u k ∷ past) out
+
+  -- what goes out goes to the ends of the channels of its node
+  pub channel_own : (w : ℕ) → channel u w (write rules net u k past) ≡ channel u w past ++ items_to w out
+  unfolding write
+  channel_own w = channel_sends u w u (Log u k ∷ past) out ∙ ap (λ b. channel u w past ++ (if b then items_to w out else [])) (same_number u)
+
+  pub channel_other : (a b : ℕ) → (u == a) ≡ false → channel a b (write rules net u k past) ≡ channel a b past
+  unfolding write
+  channel_other a b e =
+      channel_sends a b u (Log u k ∷ past) out ∙ (ap (λ t. channel a b past ++ (if t then items_to b out else [])) e ∙ append-nil (channel a b past))
+
+  pub sent_own : (w s : ℕ) → sent u w s (write rules net u k past) ≡ sent u w s past ++ items_in w s out
+  unfolding write
+  sent_own w s = sent_sends u w s u (Log u k ∷ past) out ∙ ap (λ b. sent u w s past ++ (if b then items_in w s out else [])) (same_number u)
+
+  pub sent_other : (a b s : ℕ) → (u == a) ≡ false → sent a b s (write rules net u k past) ≡ sent a b s past
+  unfolding write
+  sent_other a b s e =
+      sent_sends a b s u (Log u k ∷ past) out ∙ (ap (λ t. sent a b s past ++ (if t then items_in b s out else [])) e ∙ append-nil (sent a b s past))

@@ -4,10 +4,11 @@ use Rattle.topology.specs.Lists.{ascending}
 use Rattle.topology.specs.Net.{neighbours, relation, file_preference, places}
 use Rattle.path_vector.specs.Selection.{beyond, choices, best}
 use Rattle.path_vector.specs.Offers.{offered_route, offered, changed}
-use Rattle.chronicle.specs.Sending.{news, outbox}
-use Rattle.chronicle.specs.Steps.{spread, write, take_item}
+use Rattle.trigger_log.specs.Sending.{news, outbox, sent_by, sent_of}
+use Rattle.trigger_log.specs.Going.{spread, going_by}
+use Rattle.chronicle.specs.Steps.{write, take_item}
 use Rattle.chronicle.specs.Run.{step, after, run}
 
 unfoldable pub all : ℕ
-unfolding ascending neighbours relation file_preference places beyond choices best offered_route offered changed news outbox spread write take_item step after run
+unfolding ascending neighbours relation file_preference places beyond choices best offered_route offered changed news outbox sent_by sent_of spread going_by write take_item step after run
 all = 0

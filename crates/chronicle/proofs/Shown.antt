@@ -1,5 +1,5 @@
 -- What an example shows of a run.
-use Rattle.std.specs.Prelude.{ℕ, List, [], ◌∷◌, Option, Some, None, map}
+use Rattle.std.specs.Prelude.{ℕ, List, [], ◌∷◌, ◌++◌, reverse, Option, Some, None, map}
 use Rattle.topology.specs.declared.links.Link.{Link}
 use Rattle.topology.specs.declared.links.Relation.{Relation}
 use Rattle.topology.specs.declared.prefixes.Prefix.{Prefix}
@@ -8,6 +8,11 @@ use Rattle.topology.specs.Lists.{ascending}
 use Rattle.topology.specs.Net.{Net}
 use Rattle.path_vector.specs.GaoRexford.{gao_rexford}
 use Rattle.path_vector.specs.Selection.{best, path_of}
+use Rattle.topology.specs.declared.names.Trigger.{Trigger}
+use Rattle.topology.specs.declared.items.Sent.{Sent}
+use Rattle.trigger_log.specs.Entries.{Entry, Update, reads}
+use Rattle.trigger_log.specs.Sending.{sent_by}
+use Rattle.trigger_log.specs.Going.{Item, News}
 use Rattle.chronicle.specs.declared.events.Event.{Event}
 use Rattle.chronicle.specs.Facts.{Chronicle}
 use Rattle.chronicle.specs.Logs.{log_of}
@@ -15,7 +20,7 @@ use Rattle.chronicle.specs.Run.{Step, Idle, Goes, step, run}
 
 -- the best path of each node, ascending
 abbrev pub routes : Net → ℕ → List Event → List (Option (List ℕ))
-routes net p events = map (λ u. path_of u (best gao_rexford net u (log_of u (run gao_rexford net events)) p)) (ascending net.nodes)
+routes net p events = map (λ u. path_of u (best gao_rexford net u (reads (log_of u (run gao_rexford net events))) p)) (ascending net.nodes)
 
 abbrev pub reason_of : Step → Option Reason
 reason_of (Idle reason) = Some reason
@@ -31,3 +36,27 @@ a_link a b relation = record { a = a; b = b; relation = relation }
 -- a network with one prefix and no consolidators
 abbrev pub network : List ℕ → List Link → Net
 network nodes links = record { nodes = nodes; consolidators = []; links = links; preferences = []; prefixes = record { bits = 167772160; len = 8 } ∷ [] }
+
+-- the trigger with this counter of this node
+abbrev pub a_trigger : ℕ → ℕ → List Trigger
+a_trigger node count = record { node = node; count = count } ∷ []
+
+-- an update of the one prefix
+abbrev pub an_update : ℕ → List Trigger → Option (List ℕ) → Item
+an_update number triggers path = News number (record { prefix = 0; triggers = triggers; path = path })
+
+-- what each entry of a node lists, the oldest first
+abbrev pub listed : Net → ℕ → List Event → List (List Sent)
+listed net u events = lists_of (log_of u (run gao_rexford net events))
+  where
+    lists_of : List Entry → List (List Sent)
+    lists_of [] = []
+    lists_of (k ∷ h) = lists_of h ++ sent_by gao_rexford net u h k ∷ []
+
+-- an item in the one session
+abbrev pub to : ℕ → ℕ → Sent
+to w n = record { to = w; session = 1; seq = n }
+
+-- the entries of a node, the oldest first
+abbrev pub entries : Net → ℕ → List Event → List Entry
+entries net u events = reverse (log_of u (run gao_rexford net events))

@@ -1,5 +1,5 @@
 -- What goes out on the sessions of a node.
-use Rattle.std.specs.Prelude.{ℕ, suc, Option, Some, None, List, [], ◌∷◌, map, flat_map}
+use Rattle.std.specs.Prelude.{ℕ, suc, ◌==◌, ◌&&◌, Option, Some, None, List, [], ◌∷◌, map, flat_map, if◌then◌else◌}
 use Rattle.topology.specs.declared.items.Item.{Item as Message}
 use Rattle.topology.specs.declared.items.Item.TheVariants as message
 use Rattle.topology.specs.Net.{Net, neighbours}
@@ -53,3 +53,13 @@ item_of (message.Update prefix seq trigger path) =
 -- an outgoing message, as definitions see it
 abbrev pub going_of : Outgoing → Going
 going_of out = record { to = out.to; session = out.session; item = item_of out.item }
+
+-- the items of those that go to w
+abbrev pub items_to : ℕ → List Going → List Item
+items_to w [] = []
+items_to w (g ∷ gs) = if g.to == w then g.item ∷ items_to w gs else items_to w gs
+
+-- the items of those that go to w in session s
+abbrev pub items_in : ℕ → ℕ → List Going → List Item
+items_in w s [] = []
+items_in w s (g ∷ gs) = if g.to == w && g.session == s then g.item ∷ items_in w s gs else items_in w s gs
