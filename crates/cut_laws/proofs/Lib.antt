@@ -1,0 +1,6 @@
+mod Numbering
+mod Listing
+mod Sound
+mod Writing
+mod Taking
+mod Running

@@ -9,6 +9,7 @@ ghost use Rattle.cut_laws.specs.Joined.{Joined, FrontFits};
 
 /// What a node said in a session is what its log sends, what it heard is what its log received, and
 /// each entry fits those before it.
+#[tactic(auto, using(crate::proofs::Running::alone))]
 pub fn a_node_says_what_its_log_sends()
     ensures { (rules : Rules) (net : Net) (events : List Event) (u : ℕ) → IsValid net →
         Alone rules net (run rules net events) u }
@@ -21,6 +22,7 @@ pub fn a_link_keeps_the_order()
 {}
 
 /// The front item of a channel is the next one that its receiver may enter.
+#[tactic(auto, using(crate::proofs::Running::front_fits))]
 pub fn the_front_item_is_the_next()
     ensures { (rules : Rules) (net : Net) (events : List Event) (v u : ℕ) → IsValid net →
         FrontFits net (run rules net events) v u }
