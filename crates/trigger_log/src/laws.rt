@@ -19,18 +19,21 @@ ghost use Rattle.trigger_log.specs.Fits.{Fits, CauseFits};
 ghost use Rattle.trigger_log.specs.Sessions.{ever};
 
 /// What fits a log is accepted by its routes.
+#[tactic(auto, using(crate::proofs::Holding::accepted))]
 pub fn what_fits_is_accepted()
     ensures { (h : List Entry) (scope : Scope) (cause : Cause) → Fits h → CauseFits h scope cause →
         Accepts (reads h) scope cause }
 {}
 
 /// The session that is held is the newest one.
+#[tactic(auto, using(crate::proofs::Holding::held_is_last, crate::proofs::Holding::last_from_one))]
 pub fn the_held_session_is_the_newest()
     ensures newest { (h : List Entry) (w s : ℕ) → held (reads h) w ≡ Some s → s ≡ last (reads h) w }
     ensures from_one { (h : List Entry) (w : ℕ) → Fits h → 1 ≤ last (reads h) w }
 {}
 
 /// A session that was closed is never held again.
+#[tactic(auto, using(crate::proofs::Holding::stays_closed))]
 pub fn a_closed_session_stays_closed()
     ensures { (h : List Entry) (w s : ℕ) (triggers : List Trigger) → Fits h →
         closing h w s ≡ Some triggers → held (reads h) w ≢ Some s }
