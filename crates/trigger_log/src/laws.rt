@@ -40,6 +40,7 @@ pub fn a_closed_session_stays_closed()
 {}
 
 /// In a session that was never held nothing was said, and it was not closed.
+#[tactic(auto, using(crate::proofs::Fresh::ever_above, crate::proofs::Fresh::fresh_outbox, crate::proofs::Fresh::fresh_inbox, crate::proofs::Fresh::fresh_close, crate::proofs::Fresh::fresh_closing))]
 pub fn a_session_is_fresh_until_it_is_held()
     ensures above { (h : List Entry) (w s : ℕ) → Fits h → last (reads h) w < s → has (ever h w) s ≡ false }
     ensures outbox { (rules : Rules) (net : Net) (u : ℕ) (h : List Entry) (w s : ℕ) → Fits h →
