@@ -1,3 +1,5 @@
 pub mod Holding
 pub mod Closings
 pub mod Fresh
+pub mod Silence
+pub mod Saying

@@ -51,12 +51,14 @@ pub fn a_session_is_fresh_until_it_is_held()
 {}
 
 /// Nothing is sent in a session that the other end has not opened.
+#[tactic(auto, using(crate::proofs::Silence::unready_says_nothing))]
 pub fn an_unready_session_says_nothing()
     ensures { (rules : Rules) (net : Net) (u : ℕ) (h : List Entry) (w s : ℕ) → Fits h →
         held (reads h) w ≡ Some s → opened (reads h) w s ≡ false → outbox rules net u h w s ≡ [] }
 {}
 
 /// An opening sends no update.
+#[tactic(auto, using(crate::proofs::Silence::opening_says_nothing))]
 pub fn an_opening_says_nothing()
     ensures { (rules : Rules) (net : Net) (u : ℕ) (h : List Entry) (triggers : List Trigger) (w s x : ℕ) →
         Fits h → held (reads h) w ≡ None → last (reads h) w < s →
@@ -64,6 +66,7 @@ pub fn an_opening_says_nothing()
 {}
 
 /// What was said last of a prefix in a ready session is what is offered.
+#[tactic(auto, using(crate::proofs::Saying::said_is_offered))]
 pub fn what_was_said_is_offered()
     ensures { (rules : Rules) (net : Net) (u : ℕ) (h : List Entry) (w s p : ℕ) → Fits h →
         has (places net) p ≡ true → ready (reads h) w ≡ Some s →
@@ -72,6 +75,7 @@ pub fn what_was_said_is_offered()
 
 /// An update of a prefix goes out exactly where the offer differs from what was said last in its
 /// session.
+#[tactic(auto, using(crate::proofs::Saying::changed_where_it_differs))]
 pub fn an_update_goes_out_where_the_offer_differs()
     ensures { (rules : Rules) (net : Net) (u : ℕ) (h : List Entry) (k : Entry) (w s p : ℕ) → Fits (k ∷ h) →
         has (places net) p ≡ true → ready (k.read ∷ reads h) w ≡ Some s →
