@@ -3,3 +3,5 @@ pub mod Closings
 pub mod Fresh
 pub mod Silence
 pub mod Saying
+pub mod Listed
+pub mod InOrder

@@ -84,6 +84,7 @@ pub fn an_update_goes_out_where_the_offer_differs()
 {}
 
 /// Each trigger of an item is listed by an entry.
+#[tactic(auto, using(crate::proofs::Listed::outbox_listed, crate::proofs::Listed::close_listed))]
 pub fn items_list_what_entries_list()
     ensures updates { (rules : Rules) (net : Net) (u : ℕ) (h : List Entry) (w s : ℕ) (x : Update) (t : Trigger) →
         Among x (outbox rules net u h w s) → Among t x.triggers → Lists h t }
@@ -101,6 +102,7 @@ pub fn numbers_run_from_one()
 
 /// The items of an entry stand by neighbour, ascending, and those of a neighbour by the places of
 /// their prefixes.
+#[tactic(auto, using(crate::proofs::InOrder::sent_in_order, crate::proofs::InOrder::news_in_order))]
 pub fn items_stand_in_order()
     ensures neighbours { (rules : Rules) (net : Net) (u : ℕ) (h : List Entry) (k : Entry) → IsValid net →
         Rises (map (λ (item : Sent). item.to) (sent_by rules net u h k)) }
