@@ -5,3 +5,4 @@ pub mod Silence
 pub mod Saying
 pub mod Listed
 pub mod InOrder
+pub mod Numbering

@@ -93,6 +93,7 @@ pub fn items_list_what_entries_list()
 {}
 
 /// The items of a session are numbered from 1 without gaps, its close last.
+#[tactic(auto, using(crate::proofs::Numbering::numbered_from_one))]
 pub fn numbers_run_from_one()
     ensures { (rules : Rules) (net : Net) (u : ℕ) (h : List Entry) (w s : ℕ) → IsValid net → Fits h →
         has (neighbours net u) w ≡ true →
