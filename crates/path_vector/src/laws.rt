@@ -1,10 +1,11 @@
 //! Laws of what is read of the entries of a node.
-ghost use Rattle.std.specs.Prelude.{ℕ, ◌<◌, ◌≡◌, [], ◌∷◌, None, false, IfSome};
+ghost use Rattle.std.specs.Prelude.{ℕ, ◌<◌, ◌≡◌, ◌≢◌, [], ◌∷◌, ◌++◌, Some, None, false, IfSome};
 ghost use Rattle.topology.specs.declared.names.Scope.TheVariants.{All};
 ghost use Rattle.topology.specs.Net.{Net};
-ghost use Rattle.path_vector.specs.declared.causes.Cause.TheVariants.{Up};
+ghost use Rattle.path_vector.specs.declared.causes.Cause.TheVariants.{Up, Down};
 ghost use Rattle.path_vector.specs.Rules.{Rules};
 ghost use Rattle.path_vector.specs.History.{Change, History, Scoped, change, concerns, concerning, held, highest, ready};
+ghost use Rattle.path_vector.specs.Parts.{Accepted, IsPart};
 ghost use Rattle.path_vector.specs.Selection.{candidate, best, path_of};
 ghost use Rattle.path_vector.specs.Offers.{offer, changed};
 ghost use Rattle.path_vector.specs.Simple.{BringsPaths, IsPathFrom};
@@ -50,4 +51,17 @@ pub fn paths_begin_with_the_own_node()
         IfSome (path_of u (best rules net u h p)) (IsPathFrom u) }
     ensures offer { (rules : Rules) (net : Net) (u : ℕ) (h : History) (p w : ℕ) → BringsPaths h →
         IfSome (offer rules net u h p w) (IsPathFrom u) }
+{}
+
+/// Any part of a log, in the order of the log, may be a log too.
+#[tactic(auto, using(crate::proofs::Parts::part_accepted))]
+pub fn a_part_of_a_log_is_accepted()
+    ensures { (part whole : History) → IsPart part whole → Accepted whole → Accepted part }
+{}
+
+/// A session that was closed is never held again.
+#[tactic(auto, using(crate::proofs::Parts::stays_closed))]
+pub fn a_closed_session_stays_closed()
+    ensures { (newer past : History) (w s : ℕ) → Accepted (newer ++ change All (Down w s) ∷ past) →
+        held (newer ++ change All (Down w s) ∷ past) w ≢ Some s }
 {}
