@@ -1,11 +1,10 @@
 -- What of a log holds of its parts, and which session is never held again.
-use Rattle.std.proofs.Common.{ℕ, ◌<◌, ◌≤◌, max, Bool, true, false, cond, ◌==◌, Option, Some, None, [], ◌∷◌, ◌++◌, ◌≡◌, ◌≢◌, inl, inr, ⊎_elim, refl, sym, subst, arith}
+use Rattle.std.proofs.Common.{ℕ, ◌<◌, ◌≤◌, max, Bool, true, false, cond, ◌==◌, Some, None, [], ◌∷◌, ◌++◌, ◌≡◌, ◌≢◌, ⊎_elim, refl, sym, subst, arith}
 use Rattle.std.proofs.lemmas.Bool.Decides.{nat_tests}
-use Rattle.topology.specs.declared.names.Scope.{Scope}
 use Rattle.topology.specs.declared.names.Scope.TheVariants.{All}
 use Rattle.path_vector.specs.declared.causes.Cause.{Cause}
 use Rattle.path_vector.specs.declared.causes.Cause.TheVariants.{Originate, Withdraw, Recv, Down, Up, Ready, Prefer}
-use Rattle.path_vector.specs.History.{Change, History, Accepts, Opens, change, held, held_by, highest, highest_by}
+use Rattle.path_vector.specs.History.{History, Opens, change, held, held_by, highest, highest_by}
 use Rattle.path_vector.specs.Parts.{Accepted, IsPart}
 use Rattle.path_vector.proofs.Opening.{least}
 use Rattle.path_vector.proofs.Remembering.{grows}
