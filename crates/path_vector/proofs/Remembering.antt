@@ -1,5 +1,5 @@
 -- What an entry changes in what is kept of a neighbour.
-use Rattle.std.proofs.Common.{◌≡◌, ◌≢◌, ℕ, suc, zero, ◌<◌, max, Bool, true, false, cond, ◌&&◌, ◌==◌, List, [], ◌∷◌, length, set, replicate, slice_get, refl, sym, ap, ◌∙◌, subst, arith, Option, Some, None, option_map, option_and_then}
+use Rattle.std.proofs.Common.{◌≡◌, ◌≢◌, ℕ, suc, zero, ◌<◌, ◌≤◌, max, Bool, true, false, cond, ◌&&◌, ◌==◌, List, [], ◌∷◌, length, set, replicate, slice_get, refl, sym, ap, ◌∙◌, subst, arith, Option, Some, None, option_map, option_and_then}
 use Rattle.std.specs.Prelude.{if◌then◌else◌}
 use Rattle.std.proofs.lemmas.Bool.Decides.{nat_tests}
 use Rattle.topology.specs.declared.names.Scope.{Scope}
@@ -48,6 +48,10 @@ less v s top (Down w t) h = (elim (w == v) as (λ b. cond b (max top t) top < s 
 less v s top (Up w t) h = (elim (w == v) as (λ b. cond b (max top t) top < s → top < s) [ true ↦ λ h. omega arith | false ↦ λ h. h ]) h
 less v s top (Ready w t) h = (elim (w == v) as (λ b. cond b (max top t) top < s → top < s) [ true ↦ λ h. omega arith | false ↦ λ h. h ]) h
 less v s top (Prefer w x) h = h
+
+-- no entry lowers the highest session
+pub grows : (v top : ℕ) (cause : Cause) → top ≤ highest_by cause v top
+grows v top cause = let below = less v (suc (highest_by cause v top)) top cause (omega arith) in omega arith
 
 pub unheard : (h : History) (p v s : ℕ) → highest h v < s → heard h p v s ≡ None
 unheard [] p v s above = refl

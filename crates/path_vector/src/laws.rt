@@ -1,13 +1,15 @@
 //! Laws of what is read of the entries of a node.
-ghost use Rattle.std.specs.Prelude.{ℕ, ◌<◌, ◌≡◌, [], ◌∷◌, None, false, IfSome};
+ghost use Rattle.std.specs.Prelude.{ℕ, ◌<◌, ◌≡◌, ◌≢◌, [], ◌∷◌, ◌++◌, Some, None, true, false, IfSome};
 ghost use Rattle.topology.specs.declared.names.Scope.TheVariants.{All};
+ghost use Rattle.topology.specs.Lists.{has};
 ghost use Rattle.topology.specs.Net.{Net};
-ghost use Rattle.path_vector.specs.declared.causes.Cause.TheVariants.{Up};
+ghost use Rattle.path_vector.specs.declared.causes.Cause.TheVariants.{Up, Down};
 ghost use Rattle.path_vector.specs.Rules.{Rules};
-ghost use Rattle.path_vector.specs.History.{Change, History, Scoped, change, concerns, concerning, held, highest, ready};
+ghost use Rattle.path_vector.specs.History.{Change, History, Scoped, change, concerns, concerning, held, highest, opened, ready};
+ghost use Rattle.path_vector.specs.Parts.{Accepted, IsPart};
 ghost use Rattle.path_vector.specs.Selection.{candidate, best, path_of};
 ghost use Rattle.path_vector.specs.Offers.{offer, changed};
-ghost use Rattle.path_vector.specs.Simple.{BringsPaths, IsPathFrom};
+ghost use Rattle.path_vector.specs.Simple.{AreIn, BringsPaths, BringsPathsIn, IsPathFrom};
 
 /// What is read of a prefix depends only on the entries that concern it.
 #[tactic(auto, using(crate::proofs::Local::candidate_local, crate::proofs::Local::best_local, crate::proofs::Local::offer_local, crate::proofs::Local::ready_local))]
@@ -50,4 +52,36 @@ pub fn paths_begin_with_the_own_node()
         IfSome (path_of u (best rules net u h p)) (IsPathFrom u) }
     ensures offer { (rules : Rules) (net : Net) (u : ℕ) (h : History) (p w : ℕ) → BringsPaths h →
         IfSome (offer rules net u h p w) (IsPathFrom u) }
+{}
+
+/// Any part of a log, in the order of the log, may be a log too.
+#[tactic(auto, using(crate::proofs::Parts::part_accepted))]
+pub fn a_part_of_a_log_is_accepted()
+    ensures { (part whole : History) → IsPart part whole → Accepted whole → Accepted part }
+{}
+
+/// A session that was closed is never held again.
+#[tactic(auto, using(crate::proofs::Parts::stays_closed))]
+pub fn a_closed_session_stays_closed()
+    ensures { (newer past : History) (w s : ℕ) → Accepted (newer ++ change All (Down w s) ∷ past) →
+        held (newer ++ change All (Down w s) ∷ past) w ≢ Some s }
+{}
+
+/// A node is ready to send in the held session alone, and is so once the other end has opened it.
+#[tactic(auto, using(crate::proofs::Readiness::ready_is_held, crate::proofs::Readiness::opened_is_ready))]
+pub fn readiness_needs_the_held_session()
+    ensures held { (h : History) (w s : ℕ) → ready h w ≡ Some s → held h w ≡ Some s }
+    ensures opened { (h : History) (w s : ℕ) → held h w ≡ Some s → opened h w s ≡ true →
+        ready h w ≡ Some s }
+{}
+
+/// Where each received path has nodes of the network only, so have those of routes and offers.
+#[tactic(auto, using(crate::proofs::Simple::best_in, crate::proofs::Simple::offer_in))]
+pub fn paths_stay_in_the_network()
+    ensures best { (rules : Rules) (net : Net) (u : ℕ) (h : History) (p : ℕ) →
+        has net.nodes u ≡ true → BringsPathsIn net h →
+        IfSome (path_of u (best rules net u h p)) (AreIn net) }
+    ensures offer { (rules : Rules) (net : Net) (u : ℕ) (h : History) (p w : ℕ) →
+        has net.nodes u ≡ true → BringsPathsIn net h →
+        IfSome (offer rules net u h p w) (AreIn net) }
 {}

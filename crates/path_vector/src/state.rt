@@ -2,7 +2,7 @@
 ghost use Rattle.std.specs.Prelude.{◌≡◌, ◌↔◌, ◌<◌, ◌≤◌, ℕ, [], ◌∷◌, Some, true, IsTrue, IfOk, OnOk, OnErr, length, slice_get, option_map};
 ghost use Rattle.topology.specs.Lists.{has};
 ghost use Rattle.topology.specs.Net.{Net, neighbours, relation};
-ghost use Rattle.path_vector.specs.History.{History, HasScope, Accepts, change, owns};
+ghost use Rattle.path_vector.specs.History.{History, HasScope, Accepts, change, held, owns};
 ghost use Rattle.path_vector.specs.Selection.{Route, candidate, best, choices, path_of};
 ghost use Rattle.path_vector.specs.Offers.{offered_route, exported, may_tell};
 ghost use Rattle.path_vector.specs.Standing.{StandsFor};
@@ -14,7 +14,7 @@ ghost use Rattle.path_vector.specs.Answers.{Shows, GoesFirst, Copies, behind};
 use crate::neighbours::{self, Neighbour};
 use crate::{Cause, Learned, Policy, order};
 use std::alloc::Global;
-use topology::{NoMemory, NodeId, Path, PrefixId, Relation, Scope, Topology};
+use topology::{NoMemory, NodeId, Path, PrefixId, Relation, Scope, Session, Topology};
 
 /// The best route of a node to a prefix.
 #[derive(Clone, Copy, Debug)]
@@ -81,6 +81,16 @@ impl<P: Policy + Copy> RouteState<P> {
             StandsFor policy net u self.now h → result ≡ policy }
     {
         self.policy
+    }
+
+    /// The session that the node holds with a neighbour. None is also answered for a node that
+    /// is no neighbour.
+    pub fn held(&self, nbr: NodeId) -> Option<Session>
+        ensures { (policy : P) (net : Net) (u : ℕ) (h : History) →
+            StandsFor policy net u self.now h →
+            has (neighbours net u) nbr ≡ true → result ≡ held h nbr }
+    {
+        neighbours::find(&self.neighbours, nbr)?.held
     }
 
     /// Whether an entry may follow the entries so far: it has the scope of its cause, and opens

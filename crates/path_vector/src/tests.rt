@@ -67,6 +67,7 @@ fn goes_by_its_peer(rt: &impl Abort, state: &RouteState<GaoRexford>, chosen: &Ch
         _ => assert!(rt; false),
     }
     assert!(rt; state.offered_path(chosen, NodeId::new(1)).is_none());
+    assert_eq!(rt; state.held(NodeId::new(1)), Some(Session::new(1)));
 }
 
 // A copy tries the peer first.
