@@ -1,6 +1,5 @@
 //! The lines of a text.
-ghost use Rattle.std.specs.Prelude.{ℕ, ◌≡◌, ◌↔◌, ◌+◌, ◌-◌, ◌<◌, ◌≤◌, ◌^◌, ◌==◌, List, [], ◌∷◌, length, take, IsSome, IfSome, IfNone};
-ghost use Rattle.std.specs.List.{position_or_len};
+ghost use Rattle.std.specs.Prelude.{ℕ, ◌≡◌, ◌↔◌, ◌+◌, ◌-◌, ◌<◌, ◌≤◌, ◌^◌, ◌==◌, List, [], ◌∷◌, length, take, position, IsSome, IfSome, IfNone};
 ghost use Rattle.text_lines.specs.Lines.{lines_of, left_of, line_at};
 
 use std::marker::Model;
@@ -33,14 +32,11 @@ impl<'a> Model for Lines<'a> {
     ghost invariant = { λ lines. StandsAt lines.text.now lines.at lines.given };
 }
 
-// How many bytes stand before the first mark, or in all where there is none.
-fn length_before(mark: u8, bytes: &[u8]) -> usize
-    ensures { result ≡ position_or_len (λ b. b == mark) bytes.now }
+// The place of the first mark.
+fn first(mark: u8, bytes: &[u8]) -> Option<usize>
+    ensures { result ≡ position (λ b. b == mark) bytes.now }
 {
-    bytes
-        .iter()
-        .position(|byte| *byte == mark)
-        .unwrap_or(bytes.len())
+    bytes.iter().position(|byte| *byte == mark)
 }
 
 // How many bytes are left of a line.
@@ -48,7 +44,7 @@ fn left_length(line: &[u8]) -> usize
     ensures within { result ≤ length line.now }
     ensures left { take result line.now ≡ left_of line.now }
 {
-    let length = length_before(b'#', line);
+    let length = first(b'#', line).unwrap_or(line.len());
     if length > 0 && line[length - 1] == b'\r' {
         return length - 1;
     }
@@ -86,7 +82,7 @@ impl<'a> Lines<'a> {
         }
         let start = self.at;
         let (_, rest) = self.text.split_at(start);
-        let length = length_before(b'\n', rest);
+        let length = first(b'\n', rest).unwrap_or(rest.len());
         let (whole, _) = rest.split_at(length);
         let end = start + left_length(whole);
         self.at = self.text.len().min(start + length + 1);

@@ -1,6 +1,5 @@
 //! The words of a line.
-ghost use Rattle.std.specs.Prelude.{ℕ, ◌≡◌, ◌≤◌, not, List, [], ◌∷◌, length, slice_range, IfSome, IfNone};
-ghost use Rattle.std.specs.List.{position_or_len};
+ghost use Rattle.std.specs.Prelude.{ℕ, ◌≡◌, ◌≤◌, not, List, [], ◌∷◌, length, position, slice_range, IfSome, IfNone};
 ghost use Rattle.text_lines.specs.Words.{separates};
 
 use crate::lines::Line;
@@ -22,6 +21,7 @@ pub struct Tokens<'a> {
 }
 
 impl<'a> Model for Tokens<'a> {
+    ghost use Rattle.std.specs.Prelude.{◌≤◌, length};
     ghost use Rattle.text_lines.specs.Readings.{Cutting};
 
     ghost Value = { Cutting };
@@ -38,24 +38,18 @@ fn separates(byte: u8) -> bool
     byte == b' ' || byte == b'\t'
 }
 
-// How many separators stand before the first other byte.
-fn separators_length(bytes: &[u8]) -> usize
-    ensures { result ≡ position_or_len (λ b. not (separates b)) bytes.now }
+// The place of the first separator.
+fn first_separator(bytes: &[u8]) -> Option<usize>
+    ensures { result ≡ position separates bytes.now }
 {
-    bytes
-        .iter()
-        .position(|byte| !separates(*byte))
-        .unwrap_or(bytes.len())
+    bytes.iter().position(|byte| separates(*byte))
 }
 
-// How many bytes stand before the first separator.
-fn word_length(bytes: &[u8]) -> usize
-    ensures { result ≡ position_or_len separates bytes.now }
+// The place of the first byte of a word.
+fn first_of_word(bytes: &[u8]) -> Option<usize>
+    ensures { result ≡ position (λ b. not (separates b)) bytes.now }
 {
-    bytes
-        .iter()
-        .position(|byte| separates(*byte))
-        .unwrap_or(bytes.len())
+    bytes.iter().position(|byte| !separates(*byte))
 }
 
 impl<'a> Tokens<'a> {
@@ -86,13 +80,12 @@ impl<'a> Tokens<'a> {
     {
         let (line, _) = self.text.split_at(self.end);
         let (_, rest) = line.split_at(self.from);
-        let skipped = separators_length(rest);
-        if skipped == rest.len() {
+        let Some(skipped) = first_of_word(rest) else {
             return None;
-        }
+        };
         let (_, rest) = rest.split_at(skipped);
         let start = self.from + skipped;
-        let end = start + word_length(rest);
+        let end = start + first_separator(rest).unwrap_or(rest.len());
         self.from = end;
         Some(Token { start, end })
     }
