@@ -1,11 +1,13 @@
 -- A text is its first line, and then the lines of what stands behind the newline.
 use Rattle.std.proofs.Common.{◌≡◌, ℕ, ◌+◌, ◌-◌, ◌<◌, ◌≤◌, ◌^◌, ◌==◌, min, true, false, List, [], ◌∷◌, ◌++◌, length, take, drop, get_or, refl, sym, ap, ◌∙◌, inl, inr, arith}
+use Rattle.std.specs.Prelude.{Option, position, unwrap_or, slice_range}
 use Rattle.std.specs.List.{position_or_len, before_first, after_first, onto_first}
 use Rattle.std.proofs.lemmas.Bool.{cases_Bool, cond-true, cond-false}
 use Rattle.std.proofs.lemmas.List.{drop_more, drop-drop, drop_all, drop_min, length-drop, length-take-le, take_more, get_or-take, take-take}
 use Rattle.text_lines.specs.Lines.{lines_of, left_of, line_at, start_of, size_of}
 use Rattle.text_lines.specs.Places.{StandsAt}
-use Rattle.text_lines.proofs.Firsts.{parts_here, parts_behind, first_within}
+use Rattle.text_lines.specs.Readings.{Reading, IsNextLine}
+use Rattle.text_lines.proofs.Firsts.{parts_here, parts_behind, first_within, first_or_length}
 
 first_line_here : (b : ℕ) (bs : List ℕ) → (b == 10) ≡ true → lines_of (b ∷ bs) ≡ before_first (λ b. b == 10) (b ∷ bs) ∷ lines_of (after_first (λ b. b == 10) (b ∷ bs))
 first_line_here b bs e =
@@ -80,3 +82,21 @@ none_left text at given stands end = stands.left ∙ ap lines_of (drop_all at te
 
 pub none_more : (lines : List (List ℕ)) (given : ℕ) → drop given lines ≡ [] → given < length lines → ⊥
 none_more lines given e h = omega (arith, length-drop given lines, ap length e)
+
+-- the same, of what a search for the newline found
+pub found_line : (text rest : List ℕ) (at given n : ℕ) (found : Option ℕ) → StandsAt text at given → at < length text → rest ≡ drop at text → found ≡ position (λ b. b == 10) rest → n ≡ unwrap_or found (length rest) → Next text at given n
+found_line text rest at given n found stands more e f g =
+    next_line text at given n stands more (first_or_length (λ b. b == 10) rest found n f g ∙ ap (position_or_len (λ b. b == 10)) e)
+
+-- the span of what is left of the next line
+pub next_span : (text whole : List ℕ) (at given n k : ℕ) → StandsAt text at given → at < length text → Next text at given n → whole ≡ take n (drop at text) → k ≤ length whole → take k whole ≡ left_of whole → IsNextLine record { text = text; given = given } record { number = given + 1; start = at; end = at + k }
+next_span text whole at given n k stands more is e within left =
+    let long : length whole ≡ n = ap length e ∙ length-take-le n (drop at text) (omega (arith, length-drop at text, is.within)) in
+    let part : slice_range text at (at + k) ≡ take k whole = ap (λ m. take m (drop at text)) (let q : at + k - at ≡ k = omega arith in q) ∙ sym (take-take k n (drop at text) (omega arith)) ∙ ap (take k) (sym e) in
+    record {
+      number = refl;
+      start = sym (stands.start more);
+      ordered = omega arith;
+      inside = omega (arith, is.within);
+      bytes = part ∙ left ∙ ap left_of (e ∙ sym is.line);
+    }

@@ -19,6 +19,21 @@ found_or_length p xs =
 pub first_or_length : (p : ℕ → Bool) (xs : List ℕ) (found : Option ℕ) (n : ℕ) → found ≡ position p xs → n ≡ unwrap_or found (length xs) → n ≡ position_or_len p xs
 first_or_length p xs found n e f = f ∙ ap (λ o. unwrap_or o (length xs)) e ∙ found_or_length p xs
 
+-- a search that found a place, and one that found none
+pub found_first : (p : ℕ → Bool) (xs : List ℕ) (i : ℕ) → position p xs ≡ Some i → (i ≡ position_or_len p xs) × (i < length xs)
+found_first p xs i e =
+    elim (cases_lt (position_or_len p xs) (length xs)) [
+      | inl h ↦ (let f = cond-true (ltb (position_or_len p xs) (length xs)) (Some (position_or_len p xs)) None (lt-ltb _ _ h) in let same : i ≡ position_or_len p xs = cc in (same, omega arith))
+      | inr h ↦ (let f = cond-false (ltb (position_or_len p xs) (length xs)) (Some (position_or_len p xs)) None (le-ltb _ _ h) in absurd (let q : ⊥ = cc in q))
+    ]
+
+pub found_none : (p : ℕ → Bool) (xs : List ℕ) → position p xs ≡ None → position_or_len p xs ≡ length xs
+found_none p xs e =
+    elim (cases_lt (position_or_len p xs) (length xs)) [
+      | inl h ↦ (let f = cond-true (ltb (position_or_len p xs) (length xs)) (Some (position_or_len p xs)) None (lt-ltb _ _ h) in absurd (let q : ⊥ = cc in q))
+      | inr h ↦ omega (arith, first_within p xs)
+    ]
+
 pub first_here : (p : ℕ → Bool) (x : ℕ) (xs : List ℕ) → p x ≡ true → position_or_len p (x ∷ xs) ≡ 0
 first_here p x xs e = cond-false (not (p x)) (1 + position_or_len p xs) 0 (not_from_true (p x) e)
 
