@@ -35,7 +35,7 @@ line_from text at h =
     let e = drop_more text at 0 h in
     rw e (first_line (get_or text at 0) (drop (at + 1) text))
 
-size_of-push : (lines : List (List ℕ)) (line : List ℕ) → size_of (lines ++ line ∷ []) ≡ size_of lines + (length line + 1)
+pub size_of-push : (lines : List (List ℕ)) (line : List ℕ) → size_of (lines ++ line ∷ []) ≡ size_of lines + (length line + 1)
 size_of-push [] line = omega arith
 size_of-push (first ∷ lines) line = let e = size_of-push lines line in omega arith
 
@@ -54,10 +54,10 @@ next_of lines given line others e =
     let more = drop_more lines given [] within in
     (within, cc, cc)
 
-pub next_line : (text : List ℕ) (at given n : ℕ) → StandsAt text at given → at < length text → n ≡ position_or_len (λ b. b == 10) (drop at text) → Next text at given n
-next_line text at given n stands more first =
+pub next_line : (text : List ℕ) (at given n : ℕ) → drop given (lines_of text) ≡ lines_of (drop at text) → at < length text → n ≡ position_or_len (λ b. b == 10) (drop at text) → Next text at given n
+next_line text at given n left more first =
     let from = line_from text at more in
-    let e : drop given (lines_of text) ≡ take n (drop at text) ∷ lines_of (drop (n + 1) (drop at text)) = stands.left ∙ rw (← first) at from in
+    let e : drop given (lines_of text) ≡ take n (drop at text) ∷ lines_of (drop (n + 1) (drop at text)) = left ∙ rw (← first) at from in
     let is = next_of (lines_of text) given (take n (drop at text)) (lines_of (drop (n + 1) (drop at text))) e in
     let fits = first_within (λ b. b == 10) (drop at text) in
     record { exists = is.0; line = is.1; left = drop_more (lines_of text) given [] is.0; others = is.2; within = omega (arith, length-drop at text) }
@@ -86,7 +86,7 @@ none_more lines given e h = omega (arith, length-drop given lines, ap length e)
 -- the same, of what a search for the newline found
 pub found_line : (text rest : List ℕ) (at given n : ℕ) (found : Option ℕ) → StandsAt text at given → at < length text → rest ≡ drop at text → found ≡ position (λ b. b == 10) rest → n ≡ unwrap_or found (length rest) → Next text at given n
 found_line text rest at given n found stands more e f g =
-    next_line text at given n stands more (first_or_length (λ b. b == 10) rest found n f g ∙ ap (position_or_len (λ b. b == 10)) e)
+    next_line text at given n stands.left more (first_or_length (λ b. b == 10) rest found n f g ∙ ap (position_or_len (λ b. b == 10)) e)
 
 -- the span of what is left of the next line
 pub next_span : (text whole : List ℕ) (at given n k : ℕ) → StandsAt text at given → at < length text → Next text at given n → whole ≡ take n (drop at text) → k ≤ length whole → take k whole ≡ left_of whole → IsNextLine record { text = text; given = given } record { number = given + 1; start = at; end = at + k }
@@ -98,5 +98,6 @@ next_span text whole at given n k stands more is e within left =
       start = sym (stands.start more);
       ordered = omega arith;
       inside = omega (arith, is.within);
+      within = omega (arith, ap length (e ∙ sym is.line));
       bytes = part ∙ left ∙ ap left_of (e ∙ sym is.line);
     }

@@ -10,9 +10,9 @@ use Rattle.text_lines.specs.Words.{separates, has_bytes, words_of}
 use Rattle.text_lines.specs.Readings.{Cutting, words_left, IsWithin}
 use Rattle.text_lines.proofs.Firsts.{first_here, first_behind, first_within, first_or_length, found_first, found_none, parts_here, parts_behind}
 
-pub words_of-separator : (b : ℕ) (bs : List ℕ) → separates b ≡ true → words_of (b ∷ bs) ≡ words_of bs
+pub words_of_separator : (b : ℕ) (bs : List ℕ) → separates b ≡ true → words_of (b ∷ bs) ≡ words_of bs
 unfolding words_of
-words_of-separator b bs e = ap (filter has_bytes) (cond-true (separates b) ([] ∷ slice_split separates bs) (onto_first b (slice_split separates bs)) e)
+words_of_separator b bs e = ap (filter has_bytes) (cond-true (separates b) ([] ∷ slice_split separates bs) (onto_first b (slice_split separates bs)) e)
 
 -- the parts between separators: the first, and the others
 record Parts (bs : List ℕ) : Type 0 where
@@ -29,7 +29,7 @@ parts (b ∷ bs) =
       | inl e ↦ record {
         others = slice_split separates bs;
         split = cond-true (separates b) ([] ∷ slice_split separates bs) (onto_first b (slice_split separates bs)) e ∙ sym (ap (λ w. w ∷ slice_split separates bs) (parts_here separates b bs e).0);
-        words = sym (words_of-separator b bs e) ∙ sym (ap (λ n. words_of (drop n (b ∷ bs))) (first_here separates b bs e));
+        words = sym (words_of_separator b bs e) ∙ sym (ap (λ n. words_of (drop n (b ∷ bs))) (first_here separates b bs e));
       }
       | inr e ↦ record {
         others = more.others;
@@ -52,7 +52,7 @@ words_behind : (bs : List ℕ) → words_of bs ≡ words_of (drop (position_or_l
 words_behind [] = refl
 words_behind (b ∷ bs) =
     elim (cases_Bool (separates b)) [
-      | inl e ↦ words_of-separator b bs e ∙ words_behind bs ∙ sym (ap (λ n. words_of (drop n (b ∷ bs))) (first_behind (λ b. not (separates b)) b bs (not_from_true (separates b) e)))
+      | inl e ↦ words_of_separator b bs e ∙ words_behind bs ∙ sym (ap (λ n. words_of (drop n (b ∷ bs))) (first_behind (λ b. not (separates b)) b bs (not_from_true (separates b) e)))
       | inr e ↦ sym (ap (λ n. words_of (drop n (b ∷ bs))) (first_here (λ b. not (separates b)) b bs (not_from_false (separates b) e)))
     ]
 

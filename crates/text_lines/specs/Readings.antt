@@ -14,12 +14,13 @@ pub record Reading : Type 0 where
 abbrev pub lines_left : Reading → List (List ℕ)
 lines_left reading = drop reading.given (lines_of reading.text)
 
--- the span is what is left of the next line
+-- the span is what is left of the next line, from where it begins
 pub record IsNextLine (reading : Reading) (line : Line) : Type 0 where
   pub number : line.number ≡ reading.given + 1
   pub start : line.start ≡ start_of reading.text reading.given
   pub ordered : line.start ≤ line.end
   pub inside : line.end ≤ length reading.text
+  pub within : line.end ≤ line.start + length (line_at reading.text reading.given)
   pub bytes : slice_range reading.text line.start line.end ≡ left_of (line_at reading.text reading.given)
 
 -- a text, and the part of it that is still to be cut into words

@@ -2,6 +2,7 @@
 //! memory.
 #![tactic(auto)]
 
+pub mod laws;
 pub mod lines;
 pub mod numbers;
 pub mod words;
