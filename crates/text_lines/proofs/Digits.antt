@@ -60,4 +60,3 @@ digit_more word i number within digit digits value =
     let range : IsInRange 48 57 (get_or word i 0) = (grind (arith, nat_tests)) in
     let one = digit_value_digit (get_or word i 0) range in
     (digits_more 10 word i within digits (omega arith), rw (digits_value_more 10 word i within) (omega arith))
-

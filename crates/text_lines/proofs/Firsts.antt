@@ -47,6 +47,6 @@ parts_here p x xs e = (ap (λ n. take n (x ∷ xs)) (first_here p x xs e), ap (�
 -- the parts of a list that begins with another byte
 pub parts_behind : (p : ℕ → Bool) (x : ℕ) (xs : List ℕ) → p x ≡ false → (before_first p (x ∷ xs) ≡ x ∷ before_first p xs) × (after_first p (x ∷ xs) ≡ after_first p xs)
 parts_behind p x xs e = (
-      ap (λ n. take n (x ∷ xs)) (first_behind p x xs e),
-      ap (λ n. drop (n + 1) (x ∷ xs)) (first_behind p x xs e) ∙ ap (λ n. drop n (x ∷ xs)) (let k : suc (position_or_len p xs) + 1 ≡ suc (position_or_len p xs + 1) = omega arith in k),
-    )
+  ap (λ n. take n (x ∷ xs)) (first_behind p x xs e),
+  ap (λ n. drop (n + 1) (x ∷ xs)) (first_behind p x xs e) ∙ ap (λ n. drop n (x ∷ xs)) (let k : suc (position_or_len p xs) + 1 ≡ suc (position_or_len p xs + 1) = omega arith in k),
+)

@@ -32,7 +32,7 @@ begins text (suc k) h =
     let long : length (line_at text k) ≡ n = ap length is.line ∙ length-take-le n (drop s text) (first_within (λ b. b == 10) (drop s text)) in
     let here : start_of text (suc k) ≡ s + (n + 1) = ap (start_of text) (let q : suc k ≡ k + 1 = omega arith in q) ∙ next_start_of text k (omega arith) ∙ ap (λ m. s + (m + 1)) long in
     let left : drop (suc k) (lines_of text) ≡ lines_of (drop (start_of text (suc k)) text) =
-        ap (λ j. drop j (lines_of text)) (let q : suc k ≡ k + 1 = omega arith in q) ∙ is.others ∙ ap lines_of (drop-drop (n + 1) s text) ∙ ap (λ j. lines_of (drop j text)) (sym here) in
+    ap (λ j. drop j (lines_of text)) (let q : suc k ≡ k + 1 = omega arith in q) ∙ is.others ∙ ap lines_of (drop-drop (n + 1) s text) ∙ ap (λ j. lines_of (drop j text)) (sym here) in
     let some : 0 < length (lines_of (drop (start_of text (suc k)) text)) = omega (arith, ap length left, length-drop (suc k) (lines_of text)) in
     record { left = left; below = omega (arith, some_text (drop (start_of text (suc k)) text) some, length-drop (start_of text (suc k)) text) }
 

@@ -18,7 +18,7 @@ pub fn lines_stand_in_order()
         → start_of text k + length (line_at text k) ≤ length text }
     ensures there { (text : List ℕ) (k : ℕ) → k < length (lines_of text)
         → let start = start_of text k in
-            slice_range text start (start + length (line_at text k)) ≡ line_at text k }
+        slice_range text start (start + length (line_at text k)) ≡ line_at text k }
 {}
 
 /// A text is cut behind each newline, of which the last may be left out, and no line has one.
