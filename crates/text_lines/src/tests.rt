@@ -7,6 +7,63 @@ use crate::laws::lines_stand_in_order;
 use crate::{Line, Lines, Tokens, read_number};
 use std::process::Abort;
 
+// Texts, and what is left of each of their lines.
+const LINES: [(&[u8], &[&[u8]]); 18] = [
+    (b"", &[]),
+    (b"\n", &[b""]),
+    (b"a", &[b"a"]),
+    (b"a\n", &[b"a"]),
+    (b"a\nb", &[b"a", b"b"]),
+    (b"\n\na\n\n", &[b"", b"", b"a", b""]),
+    (b"# all\nb", &[b"", b"b"]),
+    (b"a #x # y\nb#\n#", &[b"a ", b"b", b""]),
+    (b"a\r", &[b"a"]),
+    (b"a\r\nb\r\n", &[b"a", b"b"]),
+    (b"a\r\r\nb", &[b"a\r", b"b"]),
+    (b"a\r#x", &[b"a"]),
+    (b"a\r #x", &[b"a\r "]),
+    (b"a#x\r\nb", &[b"a", b"b"]),
+    (b"\r", &[b""]),
+    (b"\r\n\r\r", &[b"", b"\r"]),
+    (b"a\rb \n", &[b"a\rb "]),
+    (b"\xc3\xa9\xff\x80\n\xff\r", &[b"\xc3\xa9\xff\x80", b"\xff"]),
+];
+
+// Lines and their words.
+const WORDS: [(&[u8], &[&[u8]]); 9] = [
+    (b"", &[]),
+    (b" \t ", &[]),
+    (b"a", &[b"a"]),
+    (b"ab c", &[b"ab", b"c"]),
+    (b"a\tb", &[b"a", b"b"]),
+    (b"\t a \t\t bc  ", &[b"a", b"bc"]),
+    (b"a\r b", &[b"a\r", b"b"]),
+    (b"a\x0bb\x00 c", &[b"a\x0bb\x00", b"c"]),
+    (b"\xff\x80 \xa0", &[b"\xff\x80", b"\xa0"]),
+];
+
+// Words, the largest number that is wanted, and the number that they are.
+const NUMBERS: [(&[u8], u32, Option<u32>); 18] = [
+    (b"0", u32::MAX, Some(0)),
+    (b"00", u32::MAX, None),
+    (b"01", u32::MAX, None),
+    (b"7", u32::MAX, Some(7)),
+    (b"10", u32::MAX, Some(10)),
+    (b"4294967295", u32::MAX, Some(4_294_967_295)),
+    (b"4294967296", u32::MAX, None),
+    (b"99999999999999999999999999", u32::MAX, None),
+    (b"", u32::MAX, None),
+    (b"+1", u32::MAX, None),
+    (b"-1", u32::MAX, None),
+    (b"1a", u32::MAX, None),
+    (b"1 ", u32::MAX, None),
+    (b"\xb2", u32::MAX, None),
+    (b"0", 0, Some(0)),
+    (b"1", 0, None),
+    (b"255", 255, Some(255)),
+    (b"256", 255, None),
+];
+
 // How many words the line has.
 fn words_in(text: &[u8], line: Line) -> usize
     requires ordered { line.start ≤ line.end }
@@ -68,27 +125,7 @@ fn check_words(rt: &impl Abort, text: &[u8], want: &[&[u8]]) {
 
 #[test]
 fn cuts_lines(rt: HostRuntime) {
-    let cases: [(&[u8], &[&[u8]]); 18] = [
-        (b"", &[]),
-        (b"\n", &[b""]),
-        (b"a", &[b"a"]),
-        (b"a\n", &[b"a"]),
-        (b"a\nb", &[b"a", b"b"]),
-        (b"\n\na\n\n", &[b"", b"", b"a", b""]),
-        (b"# all\nb", &[b"", b"b"]),
-        (b"a #x # y\nb#\n#", &[b"a ", b"b", b""]),
-        (b"a\r", &[b"a"]),
-        (b"a\r\nb\r\n", &[b"a", b"b"]),
-        (b"a\r\r\nb", &[b"a\r", b"b"]),
-        (b"a\r#x", &[b"a"]),
-        (b"a\r #x", &[b"a\r "]),
-        (b"a#x\r\nb", &[b"a", b"b"]),
-        (b"\r", &[b""]),
-        (b"\r\n\r\r", &[b"", b"\r"]),
-        (b"a\rb \n", &[b"a\rb "]),
-        (b"\xc3\xa9\xff\x80\n\xff\r", &[b"\xc3\xa9\xff\x80", b"\xff"]),
-    ];
-    for (text, want) in cases {
+    for (text, want) in LINES {
         check_lines(&rt, text, want);
     }
     let text: &[u8] = b"one two # three\r\n\n\tfour\r\n five #";
@@ -103,41 +140,10 @@ fn cuts_lines(rt: HostRuntime) {
 
 #[test]
 fn cuts_words_and_reads_numbers(rt: HostRuntime) {
-    let cases: [(&[u8], &[&[u8]]); 9] = [
-        (b"", &[]),
-        (b" \t ", &[]),
-        (b"a", &[b"a"]),
-        (b"ab c", &[b"ab", b"c"]),
-        (b"a\tb", &[b"a", b"b"]),
-        (b"\t a \t\t bc  ", &[b"a", b"bc"]),
-        (b"a\r b", &[b"a\r", b"b"]),
-        (b"a\x0bb\x00 c", &[b"a\x0bb\x00", b"c"]),
-        (b"\xff\x80 \xa0", &[b"\xff\x80", b"\xa0"]),
-    ];
-    for (text, want) in cases {
+    for (text, want) in WORDS {
         check_words(&rt, text, want);
     }
-    let numbers: [(&[u8], u32, Option<u32>); 18] = [
-        (b"0", u32::MAX, Some(0)),
-        (b"00", u32::MAX, None),
-        (b"01", u32::MAX, None),
-        (b"7", u32::MAX, Some(7)),
-        (b"10", u32::MAX, Some(10)),
-        (b"4294967295", u32::MAX, Some(4_294_967_295)),
-        (b"4294967296", u32::MAX, None),
-        (b"99999999999999999999999999", u32::MAX, None),
-        (b"", u32::MAX, None),
-        (b"+1", u32::MAX, None),
-        (b"-1", u32::MAX, None),
-        (b"1a", u32::MAX, None),
-        (b"1 ", u32::MAX, None),
-        (b"\xb2", u32::MAX, None),
-        (b"0", 0, Some(0)),
-        (b"1", 0, None),
-        (b"255", 255, Some(255)),
-        (b"256", 255, None),
-    ];
-    for (word, max, want) in numbers {
+    for (word, max, want) in NUMBERS {
         assert_eq!(rt; read_number(word, max), want, "of {word:?} up to {max}");
     }
 }
