@@ -1,12 +1,12 @@
 -- A text is its first line, and then the lines of what stands behind the newline.
-use Rattle.std.proofs.Common.{◌≡◌, ℕ, ◌+◌, ◌-◌, ◌<◌, ◌≤◌, ◌^◌, ◌==◌, min, true, false, List, [], ◌∷◌, ◌++◌, length, take, drop, get_or, refl, sym, ap, ◌∙◌, inl, inr, arith}
+use Rattle.std.proofs.Common.{◌≡◌, ℕ, ◌+◌, ◌-◌, ◌<◌, ◌≤◌, ◌==◌, min, true, false, List, [], ◌∷◌, ◌++◌, length, take, drop, get_or, refl, sym, ap, ◌∙◌, inl, inr, arith}
 use Rattle.std.specs.Prelude.{Option, position, unwrap_or, slice_range}
 use Rattle.std.specs.List.{position_or_len, before_first, after_first, onto_first}
 use Rattle.std.proofs.lemmas.Bool.{cases_Bool, cond-true, cond-false}
-use Rattle.std.proofs.lemmas.List.{drop_more, drop-drop, drop_all, drop_min, length-drop, length-take-le, take_more, get_or-take, take-take}
-use Rattle.text_lines.specs.Lines.{lines_of, left_of, line_at, start_of, size_of}
+use Rattle.std.proofs.lemmas.List.{drop_more, drop-drop, drop_all, drop_min, length-drop, length-take-le, take_more, take-take}
+use Rattle.text_lines.specs.Lines.{lines_of, left_of, line_at, size_of}
 use Rattle.text_lines.specs.Places.{StandsAt}
-use Rattle.text_lines.specs.Readings.{Reading, IsNextLine}
+use Rattle.text_lines.specs.Readings.{IsNextLine}
 use Rattle.text_lines.proofs.Firsts.{parts_here, parts_behind, first_within, first_or_length}
 
 first_line_here : (b : ℕ) (bs : List ℕ) → (b == 10) ≡ true → lines_of (b ∷ bs) ≡ before_first (λ b. b == 10) (b ∷ bs) ∷ lines_of (after_first (λ b. b == 10) (b ∷ bs))

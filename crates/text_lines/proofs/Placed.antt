@@ -1,14 +1,14 @@
 -- Where lines begin, what they have, and how a text of lines is cut.
-use Rattle.std.proofs.Common.{◌≡◌, ℕ, zero, suc, ◌+◌, ◌-◌, ◌<◌, ◌≤◌, ◌==◌, false, cond, List, [], ◌∷◌, ◌++◌, length, take, drop, get_or, refl, sym, ap, ◌∙◌, inl, inr, arith}
+use Rattle.std.proofs.Common.{◌≡◌, ℕ, zero, suc, ◌+◌, ◌-◌, ◌<◌, ◌≤◌, ◌==◌, false, List, [], ◌∷◌, ◌++◌, length, take, drop, refl, sym, ap, ◌∙◌, inl, inr, arith}
 use Rattle.std.specs.Prelude.{slice_range}
 use Rattle.std.specs.List.{position_or_len, list_any, onto_first, All}
 use Rattle.std.proofs.lemmas.Bool.{cases_Bool, cond-true, cond-false, or_parts, or_from}
-use Rattle.std.proofs.lemmas.List.{drop-drop, drop_all, length-drop, length-take-le, take_more, take-append-drop}
+use Rattle.std.proofs.lemmas.List.{drop-drop, length-drop, length-take-le, take_more, take-append-drop}
 use Rattle.std.proofs.lemmas.List.Elements.{All-nil, All-cons, All-head, All-tail}
 use Rattle.text_lines.specs.Lines.{lines_of, line_at, start_of, size_of}
 use Rattle.text_lines.specs.Readings.{Reading, lines_left}
-use Rattle.text_lines.proofs.Cutting.{Next, next_line, size_of-push}
-use Rattle.text_lines.proofs.Firsts.{first_here, first_within}
+use Rattle.text_lines.proofs.Cutting.{next_line, size_of-push}
+use Rattle.text_lines.proofs.Firsts.{first_within}
 
 -- the text from where a line begins has that line and those behind it
 record Begins (text : List ℕ) (k : ℕ) : Type 0 where

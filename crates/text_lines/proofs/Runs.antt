@@ -2,12 +2,11 @@
 use Rattle.std.proofs.Common.{◌≡◌, ℕ, suc, ◌+◌, ◌-◌, ◌<◌, ◌≤◌, true, false, not, List, [], ◌∷◌, length, take, drop, get_or, refl, sym, ap, ◌∙◌, inl, inr, arith}
 use Rattle.std.specs.Prelude.{Option, Some, None, position, unwrap_or, slice_range, filter}
 use Rattle.std.specs.List.{position_or_len, before_first, onto_first, slice_split}
-use Rattle.std.proofs.lemmas.Bool.{cases_Bool, cond-true, cond-false, not-true, not_from_true, not_from_false, false≢true}
-use Rattle.std.proofs.lemmas.List.{drop_more, drop-drop, drop_all, length-drop, length-take, take-take}
+use Rattle.std.proofs.lemmas.Bool.{cases_Bool, cond-true, cond-false, not-true, not_from_true, not_from_false}
+use Rattle.std.proofs.lemmas.List.{drop_more, drop-drop, drop_all, length-drop, take-take}
 use Rattle.std.proofs.lemmas.List.Sums.{passes_at_first}
 use Rattle.std.proofs.lemmas.Slice.{between_is}
 use Rattle.text_lines.specs.Words.{separates, has_bytes, words_of}
-use Rattle.text_lines.specs.Readings.{Cutting, words_left, IsWithin}
 use Rattle.text_lines.proofs.Firsts.{first_here, first_behind, first_within, first_or_length, found_first, found_none, parts_here, parts_behind}
 
 pub words_of_separator : (b : ℕ) (bs : List ℕ) → separates b ≡ true → words_of (b ∷ bs) ≡ words_of bs

@@ -1,11 +1,13 @@
 //! Lines, words and numbers that were cut by hand, and a caller that goes over a whole text.
-ghost use Rattle.std.specs.Prelude.{◌≡◌, ◌+◌, ◌-◌, ◌≤◌, ◌<◌, ◌^◌, length, slice_range, sum_by};
+ghost use Rattle.std.specs.Prelude.{◌≡◌, ◌+◌, ◌-◌, ◌≤◌, ◌<◌, ◌^◌, length, map, slice_range, sum_by, IfOk};
 ghost use Rattle.text_lines.specs.Lines.{lines_of, left_of};
 ghost use Rattle.text_lines.specs.Words.{words_of};
 
 use crate::laws::lines_stand_in_order;
-use crate::{Line, Lines, Tokens, read_number};
+use crate::{Line, Lines, Token, Tokens, read_number};
+use std::alloc::{AllocError, Global};
 use std::process::Abort;
+use std::test::Fail;
 
 // Texts, and what is left of each of their lines.
 const LINES: [(&[u8], &[&[u8]]); 18] = [
@@ -93,6 +95,22 @@ fn words_in_all(text: &[u8]) -> usize
     count
 }
 
+// The words of the line, as spans of the text.
+fn tokens_of(alloc: Global, text: &[u8], line: Line) -> Result<Vec<Token>, AllocError>
+    requires ordered { line.start ≤ line.end }
+    requires inside { line.end ≤ length text.now }
+    ensures { IfOk result
+        (λ tokens. map (λ token. slice_range text.now token.start token.end) tokens.items
+        ≡ words_of (slice_range text.now line.start line.end)) }
+{
+    let mut tokens = Vec::new(alloc);
+    let mut rest = Tokens::new(text, line);
+    while let Some(token) = rest.next() {
+        tokens.push(token)?;
+    }
+    Ok(tokens)
+}
+
 fn check_lines(rt: &impl Abort, text: &[u8], want: &[&[u8]]) {
     assert!(rt; text.len() < 1000);
     let mut lines = Lines::new(text);
@@ -105,22 +123,22 @@ fn check_lines(rt: &impl Abort, text: &[u8], want: &[&[u8]]) {
     assert!(rt; lines.next().is_none(), "more lines in {text:?}");
 }
 
-fn check_words(rt: &impl Abort, text: &[u8], want: &[&[u8]]) {
+fn check_words(rt: &impl Abort, alloc: Global, text: &[u8], want: &[&[u8]]) -> Result<(), Fail> {
     let line = Line {
         number: 1,
         start: 0,
         end: text.len(),
     };
-    let mut tokens = Tokens::new(text, line);
-    for word in want {
-        let token = tokens.next().expect(rt, "a word is missing");
+    let tokens = tokens_of(alloc, text, line)?;
+    assert_eq!(rt; tokens.len(), want.len(), "words in {text:?}");
+    for (token, word) in tokens.iter().zip(want) {
         assert_eq!(rt;
             text.get(token.start..token.end),
             Some(*word),
             "in {text:?}"
         );
     }
-    assert!(rt; tokens.next().is_none(), "more words in {text:?}");
+    Ok(())
 }
 
 #[test]
@@ -139,11 +157,12 @@ fn cuts_lines(rt: HostRuntime) {
 }
 
 #[test]
-fn cuts_words_and_reads_numbers(rt: HostRuntime) {
+fn cuts_words_and_reads_numbers(rt: HostRuntime) -> Result<(), Fail> {
     for (text, want) in WORDS {
-        check_words(&rt, text, want);
+        check_words(&rt, rt.alloc(), text, want)?;
     }
     for (word, max, want) in NUMBERS {
         assert_eq!(rt; read_number(word, max), want, "of {word:?} up to {max}");
     }
+    Ok(())
 }

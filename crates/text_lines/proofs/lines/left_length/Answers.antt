@@ -1,5 +1,4 @@
-use Rattle.std.proofs.Common.{◌≡◌, ◌==◌, arith}
-use Rattle.std.specs.List.{position_or_len}
+use Rattle.std.proofs.Common.{◌==◌, arith}
 use Rattle.text_lines.proofs.Firsts.{first_within, first_or_length}
 use Rattle.text_lines.proofs.Leaving.{left_with_return, left_as_it_is}
 use Rattle.text_lines.proofs.lines.left_length.Goals as goal

@@ -1,6 +1,6 @@
 use Rattle.std.proofs.Common.{◌<◌, length, take, refl, ap, ◌∙◌, arith}
 use Rattle.text_lines.specs.Lines.{lines_of}
-use Rattle.text_lines.proofs.Cutting.{Next, found_line, stands_behind, next_span, none_left, none_more}
+use Rattle.text_lines.proofs.Cutting.{found_line, stands_behind, next_span, none_left, none_more}
 use Rattle.text_lines.proofs.lines.Lines.next.Goals as goal
 
 pub returns-then-self-clause-more : goal.returns-then-self-clause-more

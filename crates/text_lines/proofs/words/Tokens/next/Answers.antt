@@ -1,5 +1,4 @@
-use Rattle.std.proofs.Common.{◌+◌, ◌≤◌, length, ap, ◌∙◌, sym, arith}
-use Rattle.std.proofs.lemmas.List.{length-drop, length-take-le}
+use Rattle.std.proofs.Common.{ap, ◌∙◌, sym, arith}
 use Rattle.text_lines.specs.Words.{words_of}
 use Rattle.text_lines.proofs.Runs.{found_word, no_word, rest_of, word_left}
 use Rattle.text_lines.proofs.words.Tokens.next.Goals as goal
