@@ -14,19 +14,19 @@ first_line_here b bs e =
     let parts = parts_here (λ b. b == 10) b bs e in
     cond-true (b == 10) ([] ∷ lines_of bs) (onto_first b (lines_of bs)) e ∙ sym (ap (λ w. w ∷ lines_of (after_first (λ b. b == 10) (b ∷ bs))) parts.0 ∙ ap (λ r. [] ∷ lines_of r) parts.1)
 
-first_line_behind : (b : ℕ) (bs front rest : List ℕ) → (b == 10) ≡ false → onto_first b (lines_of bs) ≡ (b ∷ before_first (λ b. b == 10) bs) ∷ lines_of (after_first (λ b. b == 10) bs) → lines_of (b ∷ bs) ≡ before_first (λ b. b == 10) (b ∷ bs) ∷ lines_of (after_first (λ b. b == 10) (b ∷ bs))
-first_line_behind b bs front rest e h =
+first_line_behind : (b : ℕ) (bs : List ℕ) → (b == 10) ≡ false → onto_first b (lines_of bs) ≡ (b ∷ before_first (λ b. b == 10) bs) ∷ lines_of (after_first (λ b. b == 10) bs) → lines_of (b ∷ bs) ≡ before_first (λ b. b == 10) (b ∷ bs) ∷ lines_of (after_first (λ b. b == 10) (b ∷ bs))
+first_line_behind b bs e h =
     let parts = parts_behind (λ b. b == 10) b bs e in
     cond-false (b == 10) ([] ∷ lines_of bs) (onto_first b (lines_of bs)) e ∙ h
     ∙ sym (ap (λ w. w ∷ lines_of (after_first (λ b. b == 10) (b ∷ bs))) parts.0 ∙ ap (λ r. (b ∷ before_first (λ b. b == 10) bs) ∷ lines_of r) parts.1)
 
 pub first_line : (b : ℕ) (bs : List ℕ) → lines_of (b ∷ bs) ≡ before_first (λ b. b == 10) (b ∷ bs) ∷ lines_of (after_first (λ b. b == 10) (b ∷ bs))
 first_line b [] =
-    elim (cases_Bool (b == 10)) [ inl e ↦ first_line_here b [] e | inr e ↦ first_line_behind b [] [] [] e refl ]
+    elim (cases_Bool (b == 10)) [ inl e ↦ first_line_here b [] e | inr e ↦ first_line_behind b [] e refl ]
 first_line b (c ∷ bs) =
     elim (cases_Bool (b == 10)) [
       | inl e ↦ first_line_here b (c ∷ bs) e
-      | inr e ↦ first_line_behind b (c ∷ bs) [] [] e (ap (onto_first b) (first_line c bs))
+      | inr e ↦ first_line_behind b (c ∷ bs) e (ap (onto_first b) (first_line c bs))
     ]
 
 -- the first line of what is left from a place on
