@@ -1,31 +1,40 @@
 -- What an event comes to.
-use Rattle.std.proofs.Common.{ℕ, ◌<◌, length, true, false, List, [], ◌∷◌, ◌++◌, ◌≡◌, refl, sym, ap, subst}
+use Rattle.std.proofs.Common.{ℕ, true, false, List, [], ◌∷◌, ◌++◌, ◌≡◌, refl, sym, ap, subst}
 use Rattle.std.specs.Prelude.{if◌then◌else◌}
 use Rattle.std.proofs.lemmas.List.Sums.{fold-append}
-use Rattle.topology.specs.declared.items.Item.{Item}
+use Rattle.topology.specs.declared.items.Item.{Item as Message}
 use Rattle.topology.specs.declared.items.Item.TheVariants.{Update}
+use Rattle.topology.specs.declared.names.Trigger.{Trigger}
+use Rattle.topology.specs.declared.names.Scope.{Scope}
 use Rattle.topology.specs.declared.names.Scope.TheVariants.{One}
+use Rattle.topology.specs.Lists.{has}
 use Rattle.topology.specs.declared.status.Reason.{Reason}
 use Rattle.topology.specs.declared.status.Reason.TheVariants.{AlreadyOrigin, NotOrigin, EmptyChannel}
-use Rattle.topology.specs.Net.{Net}
+use Rattle.topology.specs.Net.{Net, neighbours}
 use Rattle.path_vector.specs.declared.causes.Cause.{Cause}
 use Rattle.path_vector.specs.declared.causes.Cause.TheVariants as cause
+use Rattle.path_vector.specs.Kept.{IsOfNeighbour}
 use Rattle.path_vector.specs.Rules.{Rules}
-use Rattle.path_vector.specs.History.{Change, change, owns}
+use Rattle.path_vector.specs.History.{owns}
+use Rattle.trigger_log.specs.Entries.{Entry, entry, reads, local}
+use Rattle.trigger_log.specs.Fits.{CauseFits}
+use Rattle.trigger_log.specs.Going.{Item, item_of}
+use Rattle.trigger_log.specs.Offered.{IsPlaced}
 use Rattle.chronicle.specs.declared.events.Event.{Event}
 use Rattle.chronicle.specs.declared.events.Event.TheVariants.{Originate, Withdraw, Deliver}
 use Rattle.chronicle.specs.Facts.{Chronicle, Took}
 use Rattle.chronicle.specs.Logs.{log_of}
 use Rattle.chronicle.specs.Channels.{channel}
-use Rattle.chronicle.specs.Steps.{write, take_item}
+use Rattle.chronicle.specs.Steps.{heard, write, take_item}
 use Rattle.chronicle.specs.Run.{Idle, Goes, only_session, delivered, step, after, chronicle_of, run}
+use Rattle.cut_laws.specs.Joined.{FrontFits}
 use Rattle.world_core.specs.declared.outcomes.Effect.{Effect}
 use Rattle.world_core.specs.declared.outcomes.Outcome.TheVariants as outcome
 use Rattle.world_core.specs.declared.sites.Site.{Site}
 use Rattle.world_core.specs.Effects.{Tells}
-use Rattle.world_core.specs.Matching.{IsPlaced, IsRouteChange, Matches}
-use Rattle.world_core.specs.Telling.{Since}
-use Rattle.world_core.specs.Happening.{Happens, heard_by}
+use Rattle.world_core.specs.Matching.{Matches}
+use Rattle.world_core.specs.Sending.{Since}
+use Rattle.world_core.specs.Happening.{Happens}
 
 module _ {P : Type 0} (policy : P) (rules : Rules) (net : Net) (past : Chronicle) (event : Event) (sites : List (Site P)) where
   pub idle : (reason : Reason) → step rules net past event ≡ Idle reason → Matches policy rules net past sites → Happens policy rules net past event sites (outcome.Idle reason)
@@ -43,47 +52,38 @@ module _ {P : Type 0} (policy : P) (rules : Rules) (net : Net) (past : Chronicle
   }
 
 module _ (rules : Rules) (net : Net) (past : Chronicle) (u p : ℕ) where
-  pub originate_idle : owns (log_of u past) p ≡ true → step rules net past (Originate u p) ≡ Idle AlreadyOrigin
-  unfolding step
-  originate_idle e = ap (λ t. if t then Idle AlreadyOrigin else Goes (write rules net u (change (One p) cause.Originate) past)) e
+  abbrev pub begins : Entry
+  begins = local u (log_of u past) (One p) cause.Originate
 
-  pub originate_goes : owns (log_of u past) p ≡ false → step rules net past (Originate u p) ≡ Goes (write rules net u (change (One p) cause.Originate) past)
-  unfolding step
-  originate_goes e = ap (λ t. if t then Idle AlreadyOrigin else Goes (write rules net u (change (One p) cause.Originate) past)) e
+  abbrev pub ends : Entry
+  ends = local u (log_of u past) (One p) cause.Withdraw
 
-  pub withdraw_idle : owns (log_of u past) p ≡ false → step rules net past (Withdraw u p) ≡ Idle NotOrigin
+  pub originate_idle : owns (reads (log_of u past)) p ≡ true → step rules net past (Originate u p) ≡ Idle AlreadyOrigin
   unfolding step
-  withdraw_idle e = ap (λ t. if t then Goes (write rules net u (change (One p) cause.Withdraw) past) else Idle NotOrigin) e
+  originate_idle e = ap (λ t. if t then Idle AlreadyOrigin else Goes (write rules net u begins past)) e
 
-  pub withdraw_goes : owns (log_of u past) p ≡ true → step rules net past (Withdraw u p) ≡ Goes (write rules net u (change (One p) cause.Withdraw) past)
+  pub originate_goes : owns (reads (log_of u past)) p ≡ false → step rules net past (Originate u p) ≡ Goes (write rules net u begins past)
   unfolding step
-  withdraw_goes e = ap (λ t. if t then Goes (write rules net u (change (One p) cause.Withdraw) past) else Idle NotOrigin) e
+  originate_goes e = ap (λ t. if t then Idle AlreadyOrigin else Goes (write rules net u begins past)) e
+
+  pub withdraw_idle : owns (reads (log_of u past)) p ≡ false → step rules net past (Withdraw u p) ≡ Idle NotOrigin
+  unfolding step
+  withdraw_idle e = ap (λ t. if t then Goes (write rules net u ends past) else Idle NotOrigin) e
+
+  pub withdraw_goes : owns (reads (log_of u past)) p ≡ true → step rules net past (Withdraw u p) ≡ Goes (write rules net u ends past)
+  unfolding step
+  withdraw_goes e = ap (λ t. if t then Goes (write rules net u ends past) else Idle NotOrigin) e
 
 module _ (rules : Rules) (net : Net) (past : Chronicle) (v u : ℕ) where
   pub deliver_idle : channel v u past ≡ [] → step rules net past (Deliver v u) ≡ Idle EmptyChannel
   unfolding step
   deliver_idle e = ap (delivered rules net past v u) e
 
-  pub deliver_goes : (item : Item) (rest : List Item) → channel v u past ≡ item ∷ rest → step rules net past (Deliver v u) ≡ Goes (take_item rules net v u only_session item past)
-  unfolding step
-  deliver_goes item rest e = ap (delivered rules net past v u) e
-
   -- to take an item is to enter it
-  pub take_is : (item : Item) (k : Change) → k ≡ heard_by v item → take_item rules net v u only_session item past ≡ write rules net u k (Took v u only_session item ∷ past)
-  unfolding take_item
-  take_is (Update p n path) k e = ap (λ k. write rules net u k (Took v u only_session (Update p n path) ∷ past)) (sym e)
-
--- what is heard is of routes, and of a prefix of the network
-pub heard_routes : (v : ℕ) (item : Item) (k : Change) → k ≡ heard_by v item → IsRouteChange k
-heard_routes v (Update p n path) k e = rw e (tt, refl)
-
-pub heard_placed : (net : Net) (v : ℕ) (item : Item) (p : ℕ) (cause : Cause) → change (One p) cause ≡ heard_by v item → IsPlaced net item → p < length net.prefixes
-heard_placed net v (Update q n path) p cause e placed =
-    let same : p ≡ q = scoped p q (ap (λ (k : Change). k.scope) e) in
-    rw same placed
-  where
-    scoped : (p q : ℕ) → One p ≡ One q → p ≡ q
-    scoped p q e = cc
+  pub deliver_goes : (item : Item) (rest : List Item) (k : Entry) → channel v u past ≡ item ∷ rest → k ≡ heard v only_session item
+      → step rules net past (Deliver v u) ≡ Goes (write rules net u k (Took v u only_session item ∷ past))
+  unfolding step take_item
+  deliver_goes item rest k e is = rw is (ap (delivered rules net past v u) e)
 
 -- one more event
 pub run-push : (rules : Rules) (net : Net) (events : List Event) (event : Event) → run rules net (events ++ event ∷ []) ≡ after rules net (run rules net events) event
@@ -93,3 +93,21 @@ run-push rules net events event = fold-append (after rules net) [] events (event
 pub run-none : (rules : Rules) (net : Net) → run rules net [] ≡ []
 unfolding run
 run-none rules net = refl
+
+-- what a node hears is of a neighbour and of a prefix of the network, and fits its log
+pub record MayEnter (net : Net) (u : ℕ) (h : List Entry) (scope : Scope) (cause : Cause) : Type 0 where
+  pub near : IsOfNeighbour net u cause
+  pub placed : IsPlaced net scope
+  pub fits : CauseFits h scope cause
+
+pub heard_enters : (net : Net) (past : Chronicle) (v u : ℕ) (item : Message) (rest : List Item) (t : Trigger) (scope : Scope) (why : Cause)
+    → entry (t ∷ []) scope why ≡ heard v only_session (item_of item) → has (neighbours net u) v ≡ true → FrontFits net past v u → channel v u past ≡ item_of item ∷ rest
+    → MayEnter net u (log_of u past) scope why
+heard_enters net past v u (Update p n trigger path) rest t scope why is near front at =
+    let same_scope : scope ≡ One p = ap (λ (k : Entry). k.read.scope) is in
+    let same_cause : why ≡ cause.Recv v only_session n path = ap (λ (k : Entry). k.read.cause) is in
+    rw (same_scope, same_cause) (record {
+      near = near;
+      placed = front.placed n (record { prefix = p; triggers = trigger ∷ []; path = path }) rest at;
+      fits = front.next n (record { prefix = p; triggers = trigger ∷ []; path = path }) rest at;
+    })

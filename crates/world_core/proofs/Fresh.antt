@@ -1,9 +1,9 @@
 -- A world in which nothing has happened.
-use Rattle.std.proofs.Common.{ℕ, zero, suc, Some, List, [], ◌∷◌, ◌++◌, ◌≡◌, ◌⊎◌, inl, inr, ⊎_elim, refl, sym, ◌∙◌, ap, subst, length, slice_get}
+use Rattle.std.proofs.Common.{ℕ, zero, suc, Some, List, [], ◌∷◌, ◌++◌, ◌≡◌, ◌⊎◌, inl, inr, ⊎_elim, refl, sym, ◌∙◌, ap, subst, length, map, slice_get}
 use Rattle.topology.specs.Net.{Net, neighbours}
 use Rattle.path_vector.specs.Rules.{Rules}
-use Rattle.path_vector.specs.Standing.{StandsFor}
-use Rattle.chronicle.specs.Sending.{outbox}
+use Rattle.trigger_log.specs.Standing.{StandsFor}
+use Rattle.trigger_log.specs.Going.{item_of}
 use Rattle.world_core.specs.declared.sites.Channel.{Channel}
 use Rattle.world_core.specs.declared.sites.Site.{Site}
 use Rattle.world_core.specs.Matching.{IsSite}
@@ -16,10 +16,9 @@ pushed_at [] y (suc i) x e = absurd (cc e)
 pushed_at (z ∷ zs) y zero x e = inl e
 pushed_at (z ∷ zs) y (suc i) x e = ⊎_elim (λ here. inl here) (λ (last : (i ≡ length zs) × (x ≡ y)). inr (ap suc last.0, last.1)) (pushed_at zs y i x e)
 
--- nothing was sent
-pub record IsUnused (kept : Channel) : Type 0 where
-  pub items : kept.items.items ≡ []
-  pub sent : kept.sent ≡ 0
+-- nothing is on its way
+abbrev pub IsUnused : Channel → Type 0
+IsUnused kept = kept.items.items ≡ []
 
 abbrev pub AllUnused : List Channel → Type 0
 AllUnused kept = (i : ℕ) (one : Channel) → slice_get kept i ≡ Some one → IsUnused one
@@ -27,15 +26,12 @@ AllUnused kept = (i : ℕ) (one : Channel) → slice_get kept i ≡ Some one →
 pub unused_push : (kept : List Channel) (more : Channel) → AllUnused kept → IsUnused more → AllUnused (kept ++ more ∷ [])
 unused_push kept more was new i one e = ⊎_elim (λ here. was i one here) (λ (last : (i ≡ length kept) × (one ≡ more)). subst IsUnused (sym last.1) new) (pushed_at kept more i one e)
 
-pub unused_site : {P : Type 0} (policy : P) (rules : Rules) (net : Net) (u : ℕ) (site : Site P) → StandsFor policy net u site.routes [] → site.entries ≡ 0
+pub unused_site : {P : Type 0} (policy : P) (rules : Rules) (net : Net) (u : ℕ) (site : Site P) → StandsFor policy rules net u site.log []
     → length site.outgoing.items ≡ length (neighbours net u) → AllUnused site.outgoing.items → IsSite policy rules net [] u site
-unfolding outbox
-unused_site policy rules net u site stands none width unused = record {
-  routes = stands;
-  entries = none;
-  plain = tt;
+unused_site policy rules net u site stands width unused = record {
+  log = stands;
   width = width;
-  outgoing = λ i w kept near at. record { items = (unused i kept at).items; sent = (unused i kept at).sent; placed = tt };
+  outgoing = λ i w kept near at. ap (map item_of) (unused i kept at);
 }
 
 -- the sites of the first nodes

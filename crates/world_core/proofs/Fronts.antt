@@ -1,9 +1,9 @@
 -- The front item of a channel leaves it.
-use Rattle.std.proofs.Common.{ℕ, Option, Some, None, IfSome, IfNone, List, [], ◌∷◌, ◌++◌, ◌≡◌, refl, sym, ◌∙◌, ap, subst, arith, drop, length, get_or, set, slice_get}
+use Rattle.std.proofs.Common.{ℕ, Option, Some, None, IfSome, IfNone, List, [], ◌∷◌, ◌++◌, ◌≡◌, refl, sym, ◌∙◌, ap, subst, map, arith, drop, length, get_or, set, slice_get}
 use Rattle.std.specs.Option.{option_to_list}
-use Rattle.std.specs.List.{AllByRecursion}
 use Rattle.std.proofs.lemmas.Option.{slice_get_within, slice_get_read}
 use Rattle.topology.specs.declared.items.Item.{Item}
+use Rattle.trigger_log.specs.Going.{item_of}
 use Rattle.topology.specs.Lists.{ascending}
 use Rattle.topology.specs.Net.{Net, neighbours}
 use Rattle.path_vector.specs.Rules.{Rules}
@@ -12,7 +12,7 @@ use Rattle.chronicle.specs.Channels.{channel}
 use Rattle.chronicle.specs.Run.{only_session}
 use Rattle.world_core.specs.declared.sites.Channel.{Channel}
 use Rattle.world_core.specs.declared.sites.Site.{Site}
-use Rattle.world_core.specs.Matching.{IsPlaced, IsSite, Matches}
+use Rattle.world_core.specs.Matching.{IsSite, Matches}
 use Rattle.world_core.proofs.Places.{site_at, matches_at, took_site, took_other, same_site}
 
 -- the channel at this place of the site of this rank lost its front item, where it had one
@@ -23,9 +23,7 @@ pub record Pops {P : Type 0} (net : Net) (sites : List (Site P)) (rank place v u
   pub channel : kept ≡ get_or old.outgoing.items place kept
   pub items : kept.items.items ≡ option_to_list front ++ left.items.items
   pub rest : left.items.items ≡ drop 1 kept.items.items
-  pub sent : left.sent ≡ kept.sent
-  pub routes : new.routes ≡ old.routes
-  pub entries : new.entries ≡ old.entries
+  pub log : new.log ≡ old.log
   pub outgoing : new.outgoing.items ≡ set old.outgoing.items place left
 
 all_rest : (xs : List Item) → xs ≡ drop 1 xs → xs ≡ []
@@ -39,7 +37,7 @@ module _ {P : Type 0} (net : Net) (sites : List (Site P)) (rank place v u : ℕ)
 
   abbrev pub Taken : (P → Rules) → Item → Type 0
   Taken rules item = (policy : P) (past : Chronicle) → Matches policy (rules policy) net past sites →
-      (rest : List Item) × (channel v u past ≡ item ∷ rest) × IsPlaced net item × Matches policy (rules policy) net (Took v u only_session item ∷ past) (set sites rank new)
+      (rest : List _) × (channel v u past ≡ item_of item ∷ rest) × Matches policy (rules policy) net (Took v u only_session (item_of item) ∷ past) (set sites rank new)
 
   pub taken : (rules : P → Rules) (front : Option Item) → Pops net sites rank place v u old new kept left front → IfSome front (Taken rules)
   taken rules None pops = tt
@@ -47,12 +45,11 @@ module _ {P : Type 0} (net : Net) (sites : List (Site P)) (rank place v u : ℕ)
       let here = site_at policy (rules policy) net past sites rank v old was pops.node pops.site in
       let at = kept_at policy (rules policy) past pops here in
       let way = here.outgoing place u kept pops.near at in
-      let is : channel v u past ≡ item ∷ left.items.items = sym way.items ∙ pops.items in (
-        left.items.items,
+      let is : channel v u past ≡ item_of item ∷ map item_of left.items.items = sym way ∙ ap (map item_of) pops.items in (
+        map item_of left.items.items,
         is,
-        (subst (AllByRecursion (IsPlaced net)) is way.placed).0,
-        matches_at policy (rules policy) net past (Took v u only_session item ∷ past) sites rank v new was pops.node
-            (took_site (rules policy) net past v u item policy place old new kept left left.items.items here pops.near at pops.items refl pops.sent pops.routes pops.entries pops.outgoing)
+        matches_at policy (rules policy) net past (Took v u only_session (item_of item) ∷ past) sites rank v new was pops.node
+            (took_site (rules policy) net past v u item policy place old new left was.valid here pops.near is pops.log pops.outgoing)
             (λ a site ne. took_other (rules policy) net past v u item policy a site ne),
       )
 
@@ -65,8 +62,8 @@ module _ {P : Type 0} (net : Net) (sites : List (Site P)) (rank place v u : ℕ)
       let here = site_at policy (rules policy) net past sites rank v old was pops.node pops.site in
       let at = kept_at policy (rules policy) past pops here in
       let way = here.outgoing place u kept pops.near at in (
-        sym way.items ∙ (pops.items ∙ all_rest left.items.items (pops.rest ∙ ap (drop 1) pops.items)),
+        sym way ∙ ap (map item_of) (pops.items ∙ all_rest left.items.items (pops.rest ∙ ap (drop 1) pops.items)),
         matches_at policy (rules policy) net past past sites rank v new was pops.node
-            (same_site policy (rules policy) net past v place u old new kept left here pops.near at pops.items pops.sent pops.routes pops.entries pops.outgoing)
+            (same_site policy (rules policy) net past v place u old new kept left was.valid here pops.near at pops.items pops.log pops.outgoing)
             (λ a site ne kept. kept),
       )

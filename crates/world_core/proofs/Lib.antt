@@ -1,9 +1,9 @@
-pub mod Plain
 pub mod Told
 pub mod Near
-pub mod Keeps
-pub mod Shows
 pub mod Places
-pub mod Coming
+pub mod Sent
 pub mod Fronts
+pub mod Keeps
 pub mod Fresh
+pub mod Shows
+pub mod Coming

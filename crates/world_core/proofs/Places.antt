@@ -1,17 +1,17 @@
 -- The site and the channel that an event touches, and those that it leaves.
-use Rattle.std.proofs.Common.{ℕ, zero, suc, ◌<◌, true, false, ◌==◌, ◌&&◌, Some, List, [], ◌∷◌, ◌≡◌, ◌≢◌, refl, sym, ◌∙◌, ap, subst, arith, length, length-set, get_or, set, slice_get, ⊎_elim}
-use Rattle.std.specs.List.{AllByRecursion}
+use Rattle.std.proofs.Common.{ℕ, zero, suc, ◌<◌, true, false, ◌==◌, ◌&&◌, Some, List, [], ◌∷◌, ◌≡◌, ◌≢◌, refl, sym, ◌∙◌, ap, subst, arith, length, length-set, map, get_or, set, slice_get, ⊎_elim}
 use Rattle.std.proofs.lemmas.Bool.{cases_eq}
 use Rattle.std.proofs.lemmas.Bool.Decides.{nat_tests}
 use Rattle.std.proofs.lemmas.Option.{slice_get_within, slice_get_read}
 use Rattle.topology.specs.declared.items.Item.{Item}
 use Rattle.topology.specs.Lists.{has, ascending}
 use Rattle.topology.specs.Paths.{differ}
-use Rattle.topology.specs.Net.{Net, neighbours}
+use Rattle.topology.specs.Net.{Net, IsValid, neighbours}
 use Rattle.topology.proofs.Ascending.{differ-ascending}
 use Rattle.topology.proofs.Places.{has_placed}
 use Rattle.path_vector.specs.Rules.{Rules}
-use Rattle.path_vector.specs.Standing.{StandsFor}
+use Rattle.trigger_log.specs.Standing.{StandsFor}
+use Rattle.trigger_log.specs.Going.{item_of}
 use Rattle.chronicle.specs.Facts.{Chronicle, Took}
 use Rattle.chronicle.specs.Logs.{log_of}
 use Rattle.chronicle.specs.Channels.{channel, tail}
@@ -19,7 +19,7 @@ use Rattle.chronicle.specs.Run.{only_session}
 use Rattle.chronicle.proofs.Blocks.{same_number}
 use Rattle.world_core.specs.declared.sites.Channel.{Channel}
 use Rattle.world_core.specs.declared.sites.Site.{Site}
-use Rattle.world_core.specs.Matching.{IsPlaced, IsRouteChange, IsChannel, IsSite, Matches}
+use Rattle.world_core.specs.Matching.{IsChannel, IsSite, Matches}
 use Rattle.world_core.specs.Happening.{HasPlaces}
 use Rattle.world_core.proofs.Told.{slice_get-set_same, slice_get-set_other, same_some}
 use Rattle.world_core.proofs.Near.{neighbours_differ}
@@ -92,15 +92,13 @@ matches_at policy rules net past now sites i u new was at changed others = recor
 
 -- one channel of a site has changed as the run has
 module _ {P : Type 0} (policy : P) (rules : Rules) (net : Net) (past now : Chronicle) (v i u : ℕ) (old new : Site P) (left : Channel) where
-  pub site_with : IsSite policy rules net past v old → log_of v now ≡ log_of v past → slice_get (neighbours net v) i ≡ Some u
-      → new.routes ≡ old.routes → new.entries ≡ old.entries → new.outgoing.items ≡ set old.outgoing.items i left
-      → IsChannel rules net now v u left
-      → ((w : ℕ) (kept : Channel) → (u == w) ≡ false → IsChannel rules net past v w kept → IsChannel rules net now v w kept)
+  pub site_with : IsValid net → IsSite policy rules net past v old → log_of v now ≡ log_of v past → slice_get (neighbours net v) i ≡ Some u
+      → new.log ≡ old.log → new.outgoing.items ≡ set old.outgoing.items i left
+      → IsChannel now v u left
+      → ((w : ℕ) (kept : Channel) → (u == w) ≡ false → IsChannel past v w kept → IsChannel now v w kept)
       → IsSite policy rules net now v new
-  site_with was log near routes entries outgoing changed others = record {
-    routes = rw routes (subst (StandsFor policy net v old.routes) (sym log) was.routes);
-    entries = entries ∙ (was.entries ∙ ap length (sym log));
-    plain = subst (AllByRecursion IsRouteChange) (sym log) was.plain;
+  site_with valid was same near log outgoing changed others = record {
+    log = rw log (subst (StandsFor policy rules net v old.log) (sym same) was.log);
     width = ap length outgoing ∙ (length-set old.outgoing.items i left ∙ was.width);
     outgoing = λ j w kept near_w at.
         let here : slice_get (set old.outgoing.items i left) j ≡ Some kept = ap (λ l. slice_get l j) (sym outgoing) ∙ at in
@@ -110,7 +108,7 @@ module _ {P : Type 0} (policy : P) (rules : Rules) (net : Net) (past now : Chron
         let is_u : w ≡ u = same_some w u (sym near_w ∙ (ap (slice_get (neighbours net v)) e ∙ near)) in
         rw (is_left, is_u) changed)
         (λ (ne : j ≢ i). others w kept
-        (other_place (neighbours net v) i j u w (neighbours_differ net v was.routes.valid) near near_w ne)
+        (other_place (neighbours net v) i j u w (neighbours_differ net v valid) near near_w ne)
         (was.outgoing j w kept near_w (sym (slice_get-set_other old.outgoing.items i j left (λ e. ne (sym e))) ∙ here)))
         (cases_eq j i);
   }
@@ -119,58 +117,36 @@ module _ {P : Type 0} (policy : P) (rules : Rules) (net : Net) (past now : Chron
 
 module _ (rules : Rules) (net : Net) (past : Chronicle) (v u : ℕ) (item : Item) where
   abbrev now : Chronicle
-  now = Took v u only_session item ∷ past
+  now = Took v u only_session (item_of item) ∷ past
 
   channel_took : channel v u now ≡ tail (channel v u past)
   channel_took = rw (same_number v, same_number u) refl
 
-  channel_stays : (a b : ℕ) → (v == a && u == b) ≡ false → channel a b now ≡ channel a b past
-  channel_stays a b e = rw e refl
+  kept_channel : (a b : ℕ) (kept : Channel) → (v == a && u == b) ≡ false → IsChannel past a b kept → IsChannel now a b kept
+  kept_channel a b kept e was = was ∙ rw e refl
 
-  kept_channel : (a b : ℕ) (kept : Channel) → (v == a && u == b) ≡ false → IsChannel rules net past a b kept → IsChannel rules net now a b kept
-  kept_channel a b kept e was = record {
-    items = was.items ∙ sym (channel_stays a b e);
-    sent = was.sent;
-    placed = subst (AllByRecursion (IsPlaced net)) (sym (channel_stays a b e)) was.placed;
-  }
-
-  -- the channel without its front item
-  pub front_taken : (kept left : Channel) (rest : List Item) → IsChannel rules net past v u kept → channel v u past ≡ item ∷ rest → left.items.items ≡ rest → left.sent ≡ kept.sent
-      → IsChannel rules net now v u left
-  front_taken kept left rest was is items sent =
-      let after : channel v u now ≡ rest = channel_took ∙ ap tail is in
-      record {
-        items = items ∙ sym after;
-        sent = sent ∙ was.sent;
-        placed = subst (AllByRecursion (IsPlaced net)) (sym after) (subst (AllByRecursion (IsPlaced net)) is was.placed).1;
-      }
-
-  pub took_site : {P : Type 0} (policy : P) (i : ℕ) (old new : Site P) (kept left : Channel) (rest : List Item) → IsSite policy rules net past v old
-      → slice_get (neighbours net v) i ≡ Some u → slice_get old.outgoing.items i ≡ Some kept → kept.items.items ≡ item ∷ rest → left.items.items ≡ rest → left.sent ≡ kept.sent
-      → new.routes ≡ old.routes → new.entries ≡ old.entries → new.outgoing.items ≡ set old.outgoing.items i left
+  pub took_site : {P : Type 0} (policy : P) (i : ℕ) (old new : Site P) (left : Channel) → IsValid net → IsSite policy rules net past v old
+      → slice_get (neighbours net v) i ≡ Some u → channel v u past ≡ item_of item ∷ map item_of left.items.items
+      → new.log ≡ old.log → new.outgoing.items ≡ set old.outgoing.items i left
       → IsSite policy rules net now v new
-  took_site policy i old new kept left rest was near here front items sent routes entries outgoing =
-      let is = was.outgoing i u kept near here in
-      site_with policy rules net past now v i u old new left was refl near routes entries outgoing
-      (front_taken kept left rest is (sym is.items ∙ front) items sent)
+  took_site policy i old new left valid was near front log outgoing =
+      site_with policy rules net past now v i u old new left valid was refl near log outgoing
+      (sym (channel_took ∙ ap tail front))
       (λ w kept ne. kept_channel v w kept (rw (same_number v) ne))
 
   pub took_other : {P : Type 0} (policy : P) (a : ℕ) (site : Site P) → (v == a) ≡ false → IsSite policy rules net past a site → IsSite policy rules net now a site
   took_other policy a site ne was = record {
-    routes = was.routes;
-    entries = was.entries;
-    plain = was.plain;
+    log = was.log;
     width = was.width;
     outgoing = λ i w kept near at. kept_channel a w kept (rw ne refl) (was.outgoing i w kept near at);
   }
 
 -- nothing is taken from an empty channel
-pub same_site : {P : Type 0} (policy : P) (rules : Rules) (net : Net) (past : Chronicle) (v i u : ℕ) (old new : Site P) (kept left : Channel) → IsSite policy rules net past v old
-    → slice_get (neighbours net v) i ≡ Some u → slice_get old.outgoing.items i ≡ Some kept → kept.items.items ≡ left.items.items → left.sent ≡ kept.sent
-    → new.routes ≡ old.routes → new.entries ≡ old.entries → new.outgoing.items ≡ set old.outgoing.items i left
+pub same_site : {P : Type 0} (policy : P) (rules : Rules) (net : Net) (past : Chronicle) (v i u : ℕ) (old new : Site P) (kept left : Channel) → IsValid net → IsSite policy rules net past v old
+    → slice_get (neighbours net v) i ≡ Some u → slice_get old.outgoing.items i ≡ Some kept → kept.items.items ≡ left.items.items
+    → new.log ≡ old.log → new.outgoing.items ≡ set old.outgoing.items i left
     → IsSite policy rules net past v new
-same_site policy rules net past v i u old new kept left was near here items sent routes entries outgoing =
-    let is = was.outgoing i u kept near here in
-    site_with policy rules net past past v i u old new left was refl near routes entries outgoing
-    (record { items = sym items ∙ is.items; sent = sent ∙ is.sent; placed = is.placed })
+same_site policy rules net past v i u old new kept left valid was near here items log outgoing =
+    site_with policy rules net past past v i u old new left valid was refl near log outgoing
+    (ap (map item_of) (sym items) ∙ was.outgoing i u kept near here)
     (λ w kept ne was. was)

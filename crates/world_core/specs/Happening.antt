@@ -1,16 +1,12 @@
 -- What an event leaves of the sites, and what came of it.
 use Rattle.std.specs.Prelude.{ℕ, ◌≡◌, Some, List, length, slice_get}
-use Rattle.topology.specs.declared.items.Item.{Item}
-use Rattle.topology.specs.declared.items.Item.TheVariants.{Update}
-use Rattle.topology.specs.declared.names.Scope.TheVariants.{One}
 use Rattle.topology.specs.Lists.{ascending}
 use Rattle.topology.specs.Net.{Net, IsValid, neighbours}
-use Rattle.path_vector.specs.declared.causes.Cause.TheVariants.{Recv}
 use Rattle.path_vector.specs.Rules.{Rules}
-use Rattle.path_vector.specs.History.{Change, change}
 use Rattle.chronicle.specs.declared.events.Event.{Event}
 use Rattle.chronicle.specs.Facts.{Chronicle}
-use Rattle.chronicle.specs.Run.{only_session, step, after}
+use Rattle.chronicle.specs.Run.{step, after}
+use Rattle.cut_laws.specs.Joined.{FrontFits}
 use Rattle.world_core.specs.declared.outcomes.Outcome.{Outcome}
 use Rattle.world_core.specs.declared.sites.Site.{Site}
 use Rattle.world_core.specs.Effects.{Tells}
@@ -23,9 +19,9 @@ pub record HasPlaces {P : Type 0} (net : Net) (sites : List (Site P)) : Type 0 w
   pub width : (i u : ℕ) (site : Site P) → slice_get (ascending net.nodes) i ≡ Some u → slice_get sites i ≡ Some site
       → length site.outgoing.items ≡ length (neighbours net u)
 
--- the entry of a node that takes an item of v
-abbrev pub heard_by : ℕ → Item → Change
-heard_by v (Update prefix seq path) = change (One prefix) (Recv v only_session seq path)
+-- each node may enter what is in front of each way to it
+abbrev pub FrontsFit : Net → Chronicle → Type 0
+FrontsFit net past = (v u : ℕ) → FrontFits net past v u
 
 -- the sites are as the run has them after the event, and the outcome tells what it did
 pub record Happens {P : Type 0} (policy : P) (rules : Rules) (net : Net) (past : Chronicle)

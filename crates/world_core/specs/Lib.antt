@@ -2,5 +2,5 @@ pub mod View
 pub mod Fits
 pub mod Effects
 pub mod Matching
-pub mod Telling
+pub mod Sending
 pub mod Happening

@@ -1,70 +1,53 @@
-//! What a node tells its neighbours.
-ghost use Rattle.std.specs.Prelude.{◌≡◌, ◌++◌, IfOk, OnOk};
-ghost use Rattle.std.specs.Option.{option_copied};
-ghost use Rattle.topology.specs.Lists.{same_nodes, same_path};
-ghost use Rattle.world_core.specs.Telling.{Grows, update_from, queued};
+//! What goes out is put on its way.
+ghost use Rattle.std.specs.Prelude.{◌≡◌, [], ◌∷◌, ◌++◌, map, length, OnOk};
+ghost use Rattle.trigger_log.specs.Going.{going_of};
+ghost use Rattle.world_core.specs.Sending.{Grown, Rises, queued_by};
+ghost use Rattle.world_core.specs.declared.outcomes.Effect.TheVariants.{Queued};
 
 use crate::outcomes::Effect;
 use crate::sites::Channel;
-use topology::{Item, NoMemory, NodeId, Path, PrefixId};
+use topology::{NoMemory, NodeId};
+use trigger_log::Outgoing;
 
-fn same_slice(a: &[NodeId], b: &[NodeId]) -> bool
-    ensures { result ≡ same_nodes a.now b.now }
-{
-    match a {
-        [] => b.is_empty(),
-        [x, xs @ ..] => match b {
-            [] => false,
-            [y, ys @ ..] => *x == *y && same_slice(xs, ys),
-        },
-    }
-}
-
-fn same(a: Option<&Path>, b: Option<&Path>) -> bool
-    ensures { result ≡ same_path (option_copied a.entry) (option_copied b.entry) }
-{
-    match (a, b) {
-        (None, None) => true,
-        (None, Some(_)) => false,
-        (Some(_), None) => false,
-        (Some(a), Some(b)) => same_slice(a.nodes(), b.nodes()),
-    }
-}
-
-fn copy(path: Option<&Path>) -> Result<Option<Path>, NoMemory>
-    ensures { IfOk result (λ copy. copy ≡ option_copied path.entry) }
-{
-    match path {
-        None => Ok(None),
-        Some(path) => Ok(Some(path.copy()?)),
-    }
-}
-
-/// Puts an update of the prefix on its way, where the neighbour knows another path than it is
-/// offered now.
-pub fn tell(
-    channel: &mut Channel,
-    effects: &mut Vec<Effect>,
+// Puts a message on its way to its neighbour.
+fn put(
     from: NodeId,
-    to: NodeId,
-    prefix: PrefixId,
-    known: Option<&Path>,
-    offered: Option<&Path>,
+    near: &[NodeId],
+    out: Outgoing,
+    channels: &mut Vec<Channel>,
+    effects: &mut Vec<Effect>,
 ) -> Result<(), NoMemory>
-    ensures channel { OnOk result (Grows (update_from prefix (option_copied known.entry)
-        (option_copied offered.entry)) channel.old channel.new) }
-    ensures effects { OnOk result (effects.new.items ≡ effects.old.items ++ queued from to
-        (update_from prefix (option_copied known.entry) (option_copied offered.entry))) }
+    requires width { length channels.old.items ≡ length near.now }
+    ensures channels { OnOk result (Rises near.now →
+        Grown near.now (going_of out ∷ []) channels.old.items channels.new.items) }
+    ensures width { OnOk result (length channels.new.items ≡ length near.now) }
+    ensures effects { OnOk result (effects.new.items ≡ effects.old.items ++ Queued from out.to ∷ []) }
 {
-    if same(offered, known) {
+    effects.push(Effect::Queued { from, to: out.to })?;
+    let Ok(place) = near.binary_search(&out.to) else {
         return Ok(());
-    }
-    let Some(seq) = channel.sent.checked_add(1) else {
-        return Err(NoMemory);
     };
-    let path = copy(offered)?;
-    channel.items.push_back(Item::Update { prefix, seq, path })?;
-    channel.sent = seq;
-    effects.push(Effect::Queued { from, to })?;
+    channels[place].items.push_back(out.item)?;
+    Ok(())
+}
+
+/// Puts each message on its way to its neighbour, in their order. `channels` has one for each
+/// neighbour.
+pub fn send(
+    from: NodeId,
+    near: &[NodeId],
+    list: Vec<Outgoing>,
+    channels: &mut Vec<Channel>,
+    effects: &mut Vec<Effect>,
+) -> Result<(), NoMemory>
+    requires width { length channels.old.items ≡ length near.now }
+    ensures width { OnOk result (length channels.new.items ≡ length near.now) }
+    ensures channels { OnOk result (Rises near.now →
+        Grown near.now (map going_of list.items) channels.old.items channels.new.items) }
+    ensures effects { OnOk result (effects.new.items ≡ effects.old.items ++ queued_by from (map going_of list.items)) }
+{
+    for out in list {
+        put(from, near, out, channels, effects)?;
+    }
     Ok(())
 }

@@ -1,65 +1,35 @@
 //! One node of the world with what it has sent.
-ghost use Rattle.std.specs.Prelude.{◌≡◌, ◌<◌, ℕ, [], IfOk, OnOk, length};
-ghost use Rattle.topology.specs.Net.{Net, neighbours};
-ghost use Rattle.topology.specs.declared.names.Scope.TheVariants.{One};
-ghost use Rattle.path_vector.specs.History.{History, change};
-ghost use Rattle.path_vector.specs.Selection.{Route, best};
-ghost use Rattle.path_vector.specs.Standing.{StandsFor};
-ghost use Rattle.path_vector.specs.Answers.{Copies};
+ghost use Rattle.std.specs.Prelude.{◌≡◌, ℕ, [], ◌∷◌, IfOk, OnOk, length};
+ghost use Rattle.topology.specs.Net.{neighbours};
+ghost use Rattle.path_vector.specs.Kept.{IsOfNeighbour};
+ghost use Rattle.trigger_log.specs.Entries.{entry};
+ghost use Rattle.trigger_log.specs.Fits.{CauseFits};
+ghost use Rattle.trigger_log.specs.Offered.{IsPlaced};
 ghost use Rattle.chronicle.specs.Facts.{Chronicle};
+ghost use Rattle.chronicle.specs.Logs.{log_of};
 ghost use Rattle.chronicle.specs.Steps.{write};
-ghost use Rattle.world_core.specs.Matching.{IsSite, IsRouteChange};
-ghost use Rattle.world_core.specs.Telling.{Spreads, update_to, Since};
+ghost use Rattle.world_core.specs.Matching.{IsSite};
+ghost use Rattle.world_core.specs.Sending.{Since};
 
 use crate::outcomes::Effect;
-use crate::sending::tell;
-use path_vector::{Cause, Chosen, Policy, RouteState};
+use crate::sending::send;
+use path_vector::{Cause, Policy};
 use std::alloc::Global;
 use std::collections::VecDeque;
-use topology::{Item, NoMemory, NodeId, PrefixId, Scope, Topology};
+use topology::{Item, NoMemory, NodeId, Scope, Topology, Trigger};
+use trigger_log::NodeLog;
 
-/// What a node has sent to one neighbour: the items on their way, the oldest first, and how many
-/// updates it has sent so far.
+/// The items on their way to one neighbour, the oldest first.
 #[derive(Drop)]
 pub struct Channel {
     pub items: VecDeque<Item>,
-    pub sent: u32,
 }
 
-/// A node: its routes, the number of its entries, and its channels by the place of the neighbour.
+/// A node: its log, and its channels by the place of the neighbour.
 #[derive(Drop)]
 pub struct Site<P: Policy + Copy> {
-    pub routes: RouteState<P>,
-    pub entries: u32,
+    pub log: NodeLog<P>,
     pub outgoing: Vec<Channel>,
-}
-
-// Tells each neighbour whose offer is another than before. The best route is looked up once for
-// all of them.
-fn tell_all<P: Policy + Copy>(
-    routes: &RouteState<P>,
-    before: &Chosen,
-    after: &Chosen,
-    node: NodeId,
-    near: &[NodeId],
-    prefix: PrefixId,
-    outgoing: &mut Vec<Channel>,
-    effects: &mut Vec<Effect>,
-) -> Result<(), NoMemory>
-    requires width { length outgoing.old.items ≡ length near.now }
-    ensures { OnOk result ((policy : P) (net : Net) (h : History) (route : Route) →
-        StandsFor policy net node routes.now h → Copies net node before.now route →
-        Copies net node after.now (best (P.rules policy) net node h prefix) → near.now ≡ neighbours net node →
-        Spreads node (update_to (P.rules policy) net node h prefix route) near.now (length near.now)
-        outgoing.old.items outgoing.new.items effects.old.items effects.new.items) }
-{
-    for i in 0..near.len() {
-        let to = near[i];
-        let known = routes.offered_path(before, to);
-        let offered = routes.offered_path(after, to);
-        tell(&mut outgoing[i], effects, node, to, prefix, known, offered)?;
-    }
-    Ok(())
 }
 
 impl<P: Policy + Copy> Site<P> {
@@ -76,54 +46,45 @@ impl<P: Policy + Copy> Site<P> {
         for _ in topology.neighbours(node) {
             outgoing.push(Channel {
                 items: VecDeque::new(alloc),
-                sent: 0,
             })?;
         }
         Ok(Site {
-            routes: RouteState::new(alloc, topology, node, policy)?,
-            entries: 0,
+            log: NodeLog::new(alloc, topology, node, policy)?,
             outgoing,
         })
     }
 
-    /// The node enters a cause of routes into its log, and tells its neighbours what it changes.
+    /// The node makes an entry, which fits its log, and what that says goes on its way.
     pub fn enter(
         &mut self,
+        topology: &Topology,
         node: NodeId,
-        near: &[NodeId],
-        prefix: PrefixId,
-        cause: &Cause,
+        trigger: Trigger,
+        scope: Scope,
+        cause: Cause,
         effects: &mut Vec<Effect>,
     ) -> Result<(), NoMemory>
-        requires width { length self.old.outgoing.items ≡ length near.now }
-        ensures site { OnOk result ((policy : P) (net : Net) (past : Chronicle) →
-            IsSite policy (P.rules policy) net past node self.old → IsRouteChange (change (One prefix) cause.now) →
-            prefix < length net.prefixes → near.now ≡ neighbours net node →
-            IsSite policy (P.rules policy) net
-            (write (P.rules policy) net node (change (One prefix) cause.now) past) node self.new) }
-        ensures effects { OnOk result ((policy : P) (net : Net) (past first : Chronicle) →
-            IsSite policy (P.rules policy) net past node self.old → IsRouteChange (change (One prefix) cause.now) →
-            prefix < length net.prefixes → near.now ≡ neighbours net node → Since first effects.old.items past →
-            Since first effects.new.items (write (P.rules policy) net node (change (One prefix) cause.now) past)) }
+        requires width { length self.old.outgoing.items ≡ length (neighbours topology.now node) }
+        ensures site { OnOk result ((policy : P) (past : Chronicle) →
+            IsSite policy (P.rules policy) topology.now past node self.old → IsOfNeighbour topology.now node cause →
+            IsPlaced topology.now scope → CauseFits (log_of node past) scope cause →
+            IsSite policy (P.rules policy) topology.now
+            (write (P.rules policy) topology.now node (entry (trigger ∷ []) scope cause) past) node self.new) }
+        ensures effects { OnOk result ((policy : P) (past first : Chronicle) →
+            IsSite policy (P.rules policy) topology.now past node self.old → IsOfNeighbour topology.now node cause →
+            IsPlaced topology.now scope → CauseFits (log_of node past) scope cause →
+            Since first effects.old.items past →
+            Since first effects.new.items (write (P.rules policy) topology.now node (entry (trigger ∷ []) scope cause) past)) }
     {
-        let before = self.routes.chosen(prefix)?;
-        self.routes.apply(Scope::One(prefix), cause)?;
-        let Some(entries) = self.entries.checked_add(1) else {
-            return Err(NoMemory);
-        };
-        self.entries = entries;
+        let list = self.log.enter(topology, trigger, scope, cause)?;
         effects.push(Effect::Logged {
             node,
-            index: entries,
+            index: self.log.len(),
         })?;
-        let after = self.routes.chosen(prefix)?;
-        tell_all(
-            &self.routes,
-            &before,
-            &after,
+        send(
             node,
-            near,
-            prefix,
+            topology.neighbours(node),
+            list,
             &mut self.outgoing,
             effects,
         )?;

@@ -70,23 +70,28 @@ fn after(
     Ok(world)
 }
 
+// Two idle events, then node 1 begins to originate.
+fn begin(rt: &impl Abort, world: World<GaoRexford>) -> Result<World<GaoRexford>, Fail> {
+    let world = after(rt, world, deliver(1, 2), &[], Some(Reason::EmptyChannel))?;
+    let world = after(rt, world, withdraw(1), &[], Some(Reason::NotOrigin))?;
+    let begun = [logged(1, 1), queued(1, 2)];
+    after(rt, world, originate(1), &begun, None)
+}
+
+// Node 2 hears of it and tells both neighbours.
+fn tell(rt: &impl Abort, world: World<GaoRexford>) -> Result<World<GaoRexford>, Fail> {
+    let world = after(rt, world, originate(1), &[], Some(Reason::AlreadyOrigin))?;
+    let told = [logged(2, 1), queued(2, 1), queued(2, 3)];
+    after(rt, world, deliver(1, 2), &told, None)
+}
+
 #[test]
 fn a_line_of_three(rt: HostRuntime) -> Result<(), Fail> {
-    let alloc = rt.alloc();
-    let topology = Rc::new(alloc, line(alloc)?)?;
-    let world = World::new(alloc, topology, GaoRexford)?;
-    let world = after(&rt, world, deliver(1, 2), &[], Some(Reason::EmptyChannel))?;
-    let world = after(&rt, world, withdraw(1), &[], Some(Reason::NotOrigin))?;
-    let begun = [logged(1, 1), queued(1, 2)];
-    let world = after(&rt, world, originate(1), &begun, None)?;
-    let world = after(&rt, world, originate(1), &[], Some(Reason::AlreadyOrigin))?;
-    let told = [logged(2, 1), queued(2, 1), queued(2, 3)];
-    let world = after(&rt, world, deliver(1, 2), &told, None)?;
-    let world = after(&rt, world, deliver(2, 1), &[logged(1, 2)], None)?;
-    let ended = [logged(1, 3), queued(1, 2)];
-    let world = after(&rt, world, withdraw(1), &ended, None)?;
-    assert_eq!(rt; world.events().len(), 7);
+    let topology = Rc::new(rt.alloc(), line(rt.alloc())?)?;
+    let world = World::new(rt.alloc(), topology, GaoRexford)?;
+    let world = tell(&rt, begin(&rt, world)?)?;
+    assert_eq!(rt; world.events().len(), 5);
     assert!(rt; !world.fits(&deliver(1, 3)));
-    assert!(rt; world.routes(NodeId::new(4)).is_none());
+    assert!(rt; world.log(NodeId::new(4)).is_none());
     Ok(())
 }

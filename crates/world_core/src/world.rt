@@ -1,7 +1,7 @@
 //! The world: all nodes and channels.
 ghost use Rattle.std.specs.Prelude.{◌≡◌, [], ◌∷◌, ◌++◌, ◌&&◌, false, nat_lt, length, IsTrue, IsNone, IfOk, IfSome, ◌↔◌};
 ghost use Rattle.topology.specs.Lists.{has};
-ghost use Rattle.path_vector.specs.Standing.{StandsFor};
+ghost use Rattle.trigger_log.specs.Standing.{StandsFor};
 ghost use Rattle.chronicle.specs.Logs.{log_of};
 ghost use Rattle.chronicle.specs.Run.{run, step};
 ghost use Rattle.world_core.specs.Fits.{fits};
@@ -12,11 +12,12 @@ use crate::outcomes::{Outcome, Stop};
 use crate::sites::Site;
 use crate::steps::happen;
 use chronicle::Event;
-use path_vector::{Policy, RouteState};
+use path_vector::Policy;
 use std::alloc::Global;
 use std::marker::Model;
 use std::rc::Rc;
 use topology::{NoMemory, NodeId, PrefixId, Topology};
+use trigger_log::NodeLog;
 
 /// All nodes and channels of a network, and the events so far.
 #[derive(Drop)]
@@ -102,14 +103,14 @@ impl<P: Policy + Copy> World<P> {
         }
     }
 
-    /// The routes of a node. None exactly where there is no such node.
-    pub fn routes(&self, id: NodeId) -> Option<&RouteState<P>>
-        ensures some { IfSome result (λ routes. StandsFor self.now.policy self.now.net id routes.now
+    /// The log of a node. None exactly where there is no such node.
+    pub fn log(&self, id: NodeId) -> Option<&NodeLog<P>>
+        ensures some { IfSome result (λ log. StandsFor self.now.policy (P.rules self.now.policy) self.now.net id log.now
             (log_of id (run (P.rules self.now.policy) self.now.net self.now.events))) }
         ensures none { IsNone result ↔ (has self.now.net.nodes id ≡ false) }
     {
         let rank = self.topology.rank_of(id)?;
-        Some(&self.sites[rank].routes)
+        Some(&self.sites[rank].log)
     }
 
     /// The world after one more event, and what came of it. The cost is that of what the event
@@ -128,6 +129,7 @@ impl<P: Policy + Copy> World<P> {
             mut sites,
             mut events,
         } = self;
+        cut_laws::laws::the_front_item_is_the_next();
         let outcome = happen(alloc, &topology, &mut sites, &event)?;
         let Ok(()) = events.push(event) else {
             return Err(Stop::NoMemory);

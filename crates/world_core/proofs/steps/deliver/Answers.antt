@@ -1,17 +1,18 @@
-use Rattle.std.proofs.Common.{◌∷◌, ◌∙◌, refl, ap}
-use Rattle.topology.specs.declared.names.Scope.TheVariants.{One}
+use Rattle.std.proofs.Common.{[], ◌∷◌, ◌∙◌, refl}
 use Rattle.topology.specs.declared.status.Reason.TheVariants.{EmptyChannel}
-use Rattle.path_vector.specs.History.{change}
+use Rattle.trigger_log.specs.Entries.{entry}
+use Rattle.trigger_log.specs.Going.{item_of}
 use Rattle.chronicle.specs.declared.events.Event.TheVariants.{Deliver}
 use Rattle.chronicle.specs.Facts.{Took}
 use Rattle.chronicle.specs.Steps.{write}
-use Rattle.chronicle.specs.Run.{Goes, only_session}
-use Rattle.world_core.proofs.Near.{linked_nodes, is_ranked}
-use Rattle.world_core.proofs.Coming.{idle, did, deliver_idle, deliver_goes, take_is, heard_routes, heard_placed}
+use Rattle.chronicle.specs.Run.{only_session}
+use Rattle.topology.proofs.Neighbours.{neighbours_mutual}
+use Rattle.world_core.proofs.Near.{linked_nodes, linked_near, is_ranked}
+use Rattle.world_core.proofs.Coming.{idle, did, deliver_idle, deliver_goes, heard_enters}
 use Rattle.world_core.proofs.steps.deliver.Goals as goal
 
 pub returns-in_default : goal.returns-in_default
-returns-in_default g c policy past was =
+returns-in_default g c policy past was fronts =
     let rules = g.P.Policy.rules policy in
     let net = c.args.topology.now in
     let left = c.in_default.ensures.none policy past was in
@@ -23,21 +24,20 @@ unwrap-rank-requires g c =
     is_ranked net.nodes c.args.to c.rank_of.result c.rank_of.ensures.none.0 (linked_nodes net.nodes net.links c.args.from c.args.to c.requires.places.valid.links_join c.requires.linked).1
 
 pub returns : goal.returns
-returns g c policy past was =
+returns g c policy past was fronts =
     let rules = g.P.Policy.rules policy in
     let net = c.args.topology.now in
     let from = c.args.from in
     let to = c.args.to in
-    let item = c.in-Some.item in
-    let p = c.heard-prefix.result.0 in
-    let why = c.heard-prefix.result.1 in
+    let item = item_of c.in-Some.item in
+    let heard = c.heard-trigger.result in
     let front = c.in-Some.ensures.some policy past was in
-    let route = heard_routes from item (change (One p) why) c.heard-prefix.ensures in
-    let below = heard_placed net from item p why c.heard-prefix.ensures front.2 in
+    let linked_so = neighbours_mutual net to from c.requires.places.valid ∙ linked_near net from to c.requires.places.valid c.requires.linked in
+    let may = heard_enters net past from to c.in-Some.item front.0 heard.0 heard.1 heard.2 c.heard-trigger.ensures linked_so (fronts from to) front.1 in
     let took = Took from to only_session item ∷ past in
-    let now = write rules net to (change (One p) why) took in
-    let since = c.in_ok-enter_at.ensures.effects policy took past front.3 route below (rw c.new-effects.ensures.items refl) in
-    did policy rules net past (Deliver from to) c.enter_at.new.sites.items now c.new.result
-    (deliver_goes rules net past from to item front.0 front.1 ∙ ap Goes (take_is rules net past from to item (change (One p) why) c.heard-prefix.ensures))
-    (c.in_ok-enter_at.ensures.sites policy took front.3 route below)
+    let k = entry (heard.0 ∷ []) heard.1 heard.2 in
+    let since = c.in_ok-enter_at.ensures.effects policy took past front.2 may.near may.placed may.fits (rw c.new-effects.ensures.items refl) in
+    did policy rules net past (Deliver from to) c.enter_at.new.sites.items (write rules net to k took) c.new.result
+    (deliver_goes rules net past from to item front.0 k front.1 c.heard-trigger.ensures)
+    (c.in_ok-enter_at.ensures.sites policy took front.2 may.near may.placed may.fits)
     (rw c.new.ensures since)

@@ -42,12 +42,12 @@ returns-clause-places g c =
     let inside = inside_places net sites c.unwrap-rank.result c.args.from c.requires.places at in
     let here = slice_get_read sites (length sites) c.unwrap-rank.result old refl inside c.index_mut.ensures.value in
     places_kept net sites c.unwrap-rank.result c.args.from old _ c.requires.places at here
-    (length-set old.outgoing.items c.unwrap-place.result (record { items = c.pop_front.new.self; sent = c.index_mut-2.result.now.sent }))
+    (length-set old.outgoing.items c.unwrap-place.result (record { items = c.pop_front.new.self }))
 
 pub returns-clause-some : goal.returns-clause-some
 returns-clause-some g c =
     taken c.args.topology.now c.args.sites.now.items c.unwrap-rank.result c.unwrap-place.result c.args.from c.args.to c.index_mut.result.now _ c.index_mut-2.result.now
-    (record { items = c.pop_front.new.self; sent = c.index_mut-2.result.now.sent }) g.P.Policy.rules c.pop_front.result
+    (record { items = c.pop_front.new.self }) g.P.Policy.rules c.pop_front.result
     (record {
       node = rw c.unwrap-rank.ensures at c.rank_of.ensures.some;
       near = search_place c.args.topology.now c.args.from c.args.to c.unwrap-place.result c.binary_search.result c.unwrap-place.ensures (rw c.neighbours.ensures.neighbours at c.binary_search.ensures.position);
@@ -55,16 +55,14 @@ returns-clause-some g c =
       channel = c.index_mut-2.ensures.value;
       items = c.pop_front.ensures.items;
       rest = c.pop_front.ensures.rest;
-      sent = refl;
-      routes = refl;
-      entries = refl;
+      log = refl;
       outgoing = refl;
     })
 
 pub returns-clause-none : goal.returns-clause-none
 returns-clause-none g c =
     nothing_taken c.args.topology.now c.args.sites.now.items c.unwrap-rank.result c.unwrap-place.result c.args.from c.args.to c.index_mut.result.now _ c.index_mut-2.result.now
-    (record { items = c.pop_front.new.self; sent = c.index_mut-2.result.now.sent }) g.P.Policy.rules c.pop_front.result
+    (record { items = c.pop_front.new.self }) g.P.Policy.rules c.pop_front.result
     (record {
       node = rw c.unwrap-rank.ensures at c.rank_of.ensures.some;
       near = search_place c.args.topology.now c.args.from c.args.to c.unwrap-place.result c.binary_search.result c.unwrap-place.ensures (rw c.neighbours.ensures.neighbours at c.binary_search.ensures.position);
@@ -72,8 +70,6 @@ returns-clause-none g c =
       channel = c.index_mut-2.ensures.value;
       items = c.pop_front.ensures.items;
       rest = c.pop_front.ensures.rest;
-      sent = refl;
-      routes = refl;
-      entries = refl;
+      log = refl;
       outgoing = refl;
     })

@@ -1,15 +1,18 @@
-use Rattle.std.proofs.Common.{◌≡◌, ◌∙◌, true, false, sym}
+use Rattle.std.proofs.Common.{◌≡◌, ◌∙◌, true, false, sym, ap, [], ◌∷◌, subst}
 use Rattle.std.proofs.lemmas.List.{append-nil}
 use Rattle.topology.specs.declared.names.Scope.TheVariants.{One}
 use Rattle.topology.specs.declared.status.Reason.TheVariants.{NotOrigin}
 use Rattle.path_vector.specs.declared.causes.Cause.TheVariants as cause
-use Rattle.path_vector.specs.History.{owns, change}
+use Rattle.path_vector.specs.History.{owns}
+use Rattle.trigger_log.specs.Entries.{entry, reads}
 use Rattle.chronicle.specs.declared.events.Event.TheVariants.{Withdraw}
 use Rattle.chronicle.specs.Logs.{log_of}
 use Rattle.chronicle.specs.Steps.{write}
 use Rattle.world_core.specs.Effects.{effects}
+use Rattle.world_core.specs.Matching.{Matches}
+use Rattle.world_core.specs.Sending.{Since}
 use Rattle.world_core.proofs.Places.{site_at}
-use Rattle.world_core.proofs.Coming.{idle, did, withdraw_idle, withdraw_goes}
+use Rattle.world_core.proofs.Coming.{idle, did, withdraw_idle, withdraw_goes, ends}
 use Rattle.world_core.proofs.steps.withdraw.Goals as goal
 
 pub returns-then-not-owns : goal.returns-then-not-owns
@@ -20,7 +23,8 @@ returns-then-not-owns g c policy past was below =
     let node = c.args.node in
     let at = rw c.unwrap-rank.ensures at c.rank_of.ensures.some in
     let here = site_at policy rules net past sites c.unwrap-rank.result node c.index.result.now was at c.index.ensures in
-    let own : owns (log_of node past) c.args.prefix ≡ false = sym (c.owns.ensures policy net node (log_of node past) here.routes below) ∙ c.if-not-owns.true in
+    let routes = c.live.ensures policy net node (log_of node past) here.log in
+    let own : owns (reads (log_of node past)) c.args.prefix ≡ false = sym (c.owns.ensures policy net node (reads (log_of node past)) routes below) ∙ c.if-not-owns.true in
     idle policy rules net past (Withdraw node c.args.prefix) sites NotOrigin (withdraw_idle rules net past node c.args.prefix own) was
 
 pub returns : goal.returns
@@ -32,9 +36,13 @@ returns g c policy past was below =
     let p = c.args.prefix in
     let at = rw c.unwrap-rank.ensures at c.rank_of.ensures.some in
     let here = site_at policy rules net past sites c.unwrap-rank.result node c.index.result.now was at c.index.ensures in
-    let own : owns (log_of node past) p ≡ true = sym (c.owns.ensures policy net node (log_of node past) here.routes below) ∙ c.if-not-owns.false in
-    let now = write rules net node (change (One p) cause.Withdraw) past in
-    let since = c.in_ok-enter_at.ensures.effects policy past past was (tt, tt) below (rw c.new-effects.ensures.items (append-nil (effects past))) in
+    let routes = c.live.ensures policy net node (log_of node past) here.log in
+    let own : owns (reads (log_of node past)) p ≡ true = sym (c.owns.ensures policy net node (reads (log_of node past)) routes below) ∙ c.if-not-owns.false in
+    let again = site_at policy rules net past sites c.unwrap-rank.result node c.index-2.result.now was at c.index-2.ensures in
+    let next = c.next_trigger-trigger.ensures policy net node (log_of node past) again.log in
+    let same = ap (λ t. entry (t ∷ []) (One p) cause.Withdraw) next in
+    let now = write rules net node (ends rules net past node p) past in
+    let since = c.in_ok-enter_at.ensures.effects policy past past was tt below own (rw c.new-effects.ensures.items (append-nil (effects past))) in
     did policy rules net past (Withdraw node p) c.enter_at.new.sites.items now c.new.result (withdraw_goes rules net past node p own)
-    (c.in_ok-enter_at.ensures.sites policy past was (tt, tt) below)
-    (rw c.new.ensures since)
+    (subst (λ k. Matches policy rules net (write rules net node k past) c.enter_at.new.sites.items) same (c.in_ok-enter_at.ensures.sites policy past was tt below own))
+    (rw c.new.ensures (subst (λ k. Since past c.enter_at.new.effects.items (write rules net node k past)) same since))

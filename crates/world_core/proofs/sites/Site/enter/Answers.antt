@@ -1,43 +1,37 @@
-use Rattle.std.proofs.Common.{◌∷◌, ◌++◌, [], ◌∙◌, ap, arith, add-one, suc, flat_map, take, length}
-use Rattle.std.proofs.lemmas.List.{take_all}
-use Rattle.topology.specs.declared.names.Scope.TheVariants.{One}
-use Rattle.path_vector.specs.History.{change}
-use Rattle.path_vector.specs.Selection.{best}
+use Rattle.std.proofs.Common.{[], ◌∷◌, ◌++◌, ◌∙◌, ap, map, length}
+use Rattle.trigger_log.specs.Entries.{entry}
+use Rattle.trigger_log.specs.Going.{going_of}
 use Rattle.chronicle.specs.Logs.{log_of}
-use Rattle.world_core.specs.declared.outcomes.Effect.TheVariants.{Logged}
-use Rattle.world_core.specs.Telling.{queued, update_to}
-use Rattle.world_core.proofs.Plain.{accepted}
+use Rattle.world_core.specs.Sending.{queued_by}
+use Rattle.topology.proofs.Neighbours.{rises-neighbours}
 use Rattle.world_core.proofs.Keeps.{entered}
 use Rattle.world_core.proofs.Shows.{since_write}
 use Rattle.world_core.proofs.sites.Site.enter.Goals as goal
 
 pub returns-clause-site : goal.returns-clause-site
-returns-clause-site g c policy net past was route below near =
+returns-clause-site g c policy past was near placed fits =
     let rules = g.P.Policy.rules policy in
+    let net = c.args.topology.now in
     let node = c.args.node in
-    let p = c.args.prefix in
-    let cause = c.args.cause.now in
     let h = log_of node past in
-    let stands = c.in_ok-apply.ensures.ok policy net node h was.routes (accepted h p cause route) in
-    let spreads = c.in_ok-tell_all.ensures policy net (change (One p) cause ∷ h) (best rules net node h p) stands
-    (c.in_ok-before.ensures policy net node h was.routes below) (c.in_ok-after.ensures policy net node (change (One p) cause ∷ h) stands below) near in
-    entered rules net past node p cause policy c.args.self.now (record { routes = c.apply.new.self; entries = c.in-Some.entries; outgoing = c.tell_all.new.outgoing })
-    was route below stands c.in-Some.ensures.1 (rw near at spreads.channels)
+    let k = entry (c.args.trigger ∷ []) c.args.scope c.args.cause in
+    entered rules net past node k policy c.args.self.now (record { log = c.enter.new.self; outgoing = c.send.new.channels }) (map going_of c.in_ok-list.list.items)
+    was
+    (c.in_ok-list.ensures.log policy node h was.log near placed fits)
+    (c.in_ok-list.ensures.outgoing policy node h was.log near placed fits)
+    (c.in_ok-send.ensures.width ∙ ap length c.neighbours.ensures.neighbours)
+    ((rw c.neighbours.ensures.neighbours at c.in_ok-send.ensures.channels) (rises-neighbours net node was.log.routes.valid))
 
 pub returns-clause-effects : goal.returns-clause-effects
-returns-clause-effects g c policy net past first was route below near since =
+returns-clause-effects g c policy past first was near placed fits since =
     let rules = g.P.Policy.rules policy in
+    let net = c.args.topology.now in
     let node = c.args.node in
-    let p = c.args.prefix in
-    let cause = c.args.cause.now in
     let h = log_of node past in
-    let stands = c.in_ok-apply.ensures.ok policy net node h was.routes (accepted h p cause route) in
-    let spreads = c.in_ok-tell_all.ensures policy net (change (One p) cause ∷ h) (best rules net node h p) stands
-    (c.in_ok-before.ensures policy net node h was.routes below) (c.in_ok-after.ensures policy net node (change (One p) cause ∷ h) stands below) near in
-    let sent = flat_map (λ w. queued node w (update_to rules net node (change (One p) cause ∷ h) p (best rules net node h p) w)) in
-    since_write rules net past node p cause (route, was.plain) below first c.args.effects.now.items c.tell_all.new.effects.items c.in-Some.entries
-    (c.in-Some.ensures.1 ∙ (add-one c.args.self.now.entries ∙ ap suc was.entries))
-    (spreads.effects
-    ∙ (ap (λ l. l ++ sent (take (length c.args.near.now) c.args.near.now)) c.in_ok-push.ensures.items
-    ∙ ap (λ l. (c.args.effects.now.items ++ Logged node c.in-Some.entries ∷ []) ++ sent l) (take_all (length c.args.near.now) c.args.near.now (omega arith) ∙ near)))
+    let k = entry (c.args.trigger ∷ []) c.args.scope c.args.cause in
+    let stands = c.in_ok-list.ensures.log policy node h was.log near placed fits in
+    since_write rules net past node k first c.args.effects.now.items c.send.new.effects.items c.len.result (map going_of c.in_ok-list.list.items)
+    (c.len.ensures policy net node (k ∷ h) stands)
+    (c.in_ok-list.ensures.outgoing policy node h was.log near placed fits)
+    (c.in_ok-send.ensures.effects ∙ ap (λ l. l ++ queued_by node (map going_of c.in_ok-list.list.items)) c.in_ok-push.ensures.items)
     since
