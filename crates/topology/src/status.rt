@@ -17,13 +17,90 @@ pub enum Reason {
 pub enum LimitKind {
     /// The bytes of a schedule.
     Bytes,
+    /// The events of a run, idle ones among them.
+    Events,
+    /// The triggers of all nodes.
+    Triggers,
+    /// The entries of one node.
+    Entries,
+    /// The items that the entries of one node list.
+    Updates,
+}
+
+impl LimitKind {
+    ghost use Rattle.topology.specs.Words.{limit_words};
+
+    /// The word for it in the line that says how a run ended.
+    pub fn words(self) -> &'static str
+        ensures { result.now ≡ limit_words self }
+    {
+        match self {
+            LimitKind::Bytes => "bytes",
+            LimitKind::Events => "events",
+            LimitKind::Triggers => "triggers",
+            LimitKind::Entries => "entries",
+            LimitKind::Updates => "updates",
+        }
+    }
 }
 
 /// What is wrong with a line of a schedule.
 #[derive(Clone, Copy, Debug, PartialEq, Eq)]
 pub enum BadKind {
-    /// The line is none of those that are built.
+    /// A word begins no line, or is none of those that may stand at its place.
+    UnknownWord,
+    /// The line is one that is not built yet.
     NotBuilt,
+    /// The line stands on the wrong side of `begin`, or is a second `begin`.
+    NotHere,
+    /// No such line has this number of words.
+    WrongCount,
+    /// A number is misspelled or out of its range.
+    BadNumber,
+    /// A prefix is misspelled or has bits beyond its length.
+    BadPrefix,
+    /// A node is not declared.
+    UnknownNode,
+    /// A prefix is not declared.
+    UnknownPrefix,
+    /// The two ends are the same node.
+    SelfLink,
+    /// The two nodes have no link.
+    NoLink,
+    /// The node is declared already.
+    DuplicateNode,
+    /// The two nodes have a link already.
+    DuplicateLink,
+    /// The prefix is declared already.
+    DuplicatePrefix,
+    /// There are as many of them as there may be.
+    TooMany,
+}
+
+impl BadKind {
+    ghost use Rattle.topology.specs.Words.{bad_words};
+
+    /// The words for it in the line that says how a run ended.
+    pub fn words(self) -> &'static str
+        ensures { result.now ≡ bad_words self }
+    {
+        match self {
+            BadKind::UnknownWord => "unknown word",
+            BadKind::NotBuilt => "not built",
+            BadKind::NotHere => "not here",
+            BadKind::WrongCount => "wrong count",
+            BadKind::BadNumber => "bad number",
+            BadKind::BadPrefix => "bad prefix",
+            BadKind::UnknownNode => "unknown node",
+            BadKind::UnknownPrefix => "unknown prefix",
+            BadKind::SelfLink => "self link",
+            BadKind::NoLink => "no link",
+            BadKind::DuplicateNode => "duplicate node",
+            BadKind::DuplicateLink => "duplicate link",
+            BadKind::DuplicatePrefix => "duplicate prefix",
+            BadKind::TooMany => "too many",
+        }
+    }
 }
 
 /// How a run ended.
