@@ -6,6 +6,7 @@ pub mod Lines
 pub mod Grammars
 pub mod Names
 pub mod Steps
+pub mod Logs
 pub mod Fitting
 pub mod Unique
 pub mod Ending

@@ -6,7 +6,7 @@ use Rattle.topology.specs.Lists.{has}
 use Rattle.topology.specs.Net.{Net, linked, has_prefix, same_prefix}
 use Rattle.topology.specs.Building.{nothing, with_node, with_link, with_prefix, node_refusal, link_refusal, prefix_refusal}
 use Rattle.consensus_routing.specs.declared.directives.Line.{Line}
-use Rattle.consensus_routing.specs.declared.directives.Line.TheVariants.{Node, Link, Prefix, Begin, Originate, Withdraw, Deliver, ShowRib}
+use Rattle.consensus_routing.specs.declared.directives.Line.TheVariants.{Node, Link, Prefix, Begin, Originate, Withdraw, Deliver, ShowRib, ShowLog}
 use Rattle.consensus_routing.specs.declared.directives.Directive.{Directive}
 use Rattle.consensus_routing.specs.declared.directives.Directive.TheVariants as directive
 use Rattle.consensus_routing.specs.declared.directives.Numbered.{Numbered}
@@ -44,6 +44,7 @@ allowed earlier (Originate node p) = begun earlier && (has (net_of earlier).node
 allowed earlier (Withdraw node p) = begun earlier && (has (net_of earlier).nodes node && has_prefix (net_of earlier) p)
 allowed earlier (Deliver from to) = begun earlier && linked (net_of earlier) from to
 allowed earlier ShowRib = begun earlier
+allowed earlier ShowLog = begun earlier
 
 -- the place of the prefix in file order, from 0
 abbrev pub place_in : Range → List Range → ℕ
@@ -56,6 +57,7 @@ directed net (Originate node p) = directive.Originate node (place_in p net.prefi
 directed net (Withdraw node p) = directive.Withdraw node (place_in p net.prefixes) ∷ []
 directed net (Deliver from to) = directive.Deliver from to ∷ []
 directed net ShowRib = directive.ShowRib ∷ []
+directed net ShowLog = directive.ShowLog ∷ []
 directed net other = []
 
 -- the directives of the lines, the oldest first, each with the number of its line

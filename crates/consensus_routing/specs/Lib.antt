@@ -4,6 +4,7 @@ pub mod Reading
 pub mod Grammar
 pub mod Standing
 pub mod Ends
+pub mod LogText
 pub mod Text
 pub mod Headline
 pub mod Plain

@@ -4,7 +4,7 @@ use Rattle.std.specs.Fmt.{decimal}
 use Rattle.topology.specs.declared.prefixes.Prefix.{Prefix as Range}
 use Rattle.topology.specs.Net.{IsPrefix}
 use Rattle.consensus_routing.specs.declared.directives.Line.{Line}
-use Rattle.consensus_routing.specs.declared.directives.Line.TheVariants.{Node, Link, Prefix, Begin, Originate, Withdraw, Deliver, ShowRib}
+use Rattle.consensus_routing.specs.declared.directives.Line.TheVariants.{Node, Link, Prefix, Begin, Originate, Withdraw, Deliver, ShowRib, ShowLog}
 
 -- b in front of the first part
 abbrev pub grow : ℕ → List (List ℕ) → List (List ℕ)
@@ -38,6 +38,7 @@ line_words (Originate node p) = codes "originate" ∷ decimal node ∷ prefix_te
 line_words (Withdraw node p) = codes "withdraw" ∷ decimal node ∷ prefix_text p ∷ []
 line_words (Deliver from to) = codes "deliver" ∷ decimal from ∷ decimal to ∷ []
 line_words ShowRib = codes "show" ∷ codes "rib" ∷ []
+line_words ShowLog = codes "show" ∷ codes "log" ∷ []
 
 -- the number of a node is from 1 to 65535
 abbrev pub IsNumber : ℕ → Type 0
@@ -57,6 +58,7 @@ InRange (Originate node p) = IsNumber node × IsRange p
 InRange (Withdraw node p) = IsNumber node × IsRange p
 InRange (Deliver from to) = IsNumber from × IsNumber to
 InRange ShowRib = Unit {0}
+InRange ShowLog = Unit {0}
 
 -- these bytes are the spelling of the line
 pub record Spells (bytes : List ℕ) (line : Line) : Type 0 where

@@ -7,7 +7,7 @@ use Rattle.topology.specs.Lists.{has}
 use Rattle.topology.specs.Net.{Net, linked, has_prefix}
 use Rattle.topology.specs.Building.{node_refusal, link_refusal, prefix_refusal}
 use Rattle.consensus_routing.specs.declared.directives.Line.{Line}
-use Rattle.consensus_routing.specs.declared.directives.Line.TheVariants.{Node, Link, Prefix, Originate, Withdraw, Deliver, ShowRib}
+use Rattle.consensus_routing.specs.declared.directives.Line.TheVariants.{Node, Link, Prefix, Originate, Withdraw, Deliver, ShowRib, ShowLog}
 use Rattle.consensus_routing.specs.declared.directives.Directive.{Directive}
 use Rattle.consensus_routing.specs.declared.directives.Numbered.{Numbered}
 use Rattle.consensus_routing.specs.declared.directives.Schedule.{Schedule}
@@ -34,6 +34,7 @@ directs net (Originate node p) = knows net node p
 directs net (Withdraw node p) = knows net node p
 directs net (Deliver from to) = linked net from to
 directs net ShowRib = true
+directs net ShowLog = true
 directs net other = false
 
 -- the schedule, and whether begin was there, are those of the lines

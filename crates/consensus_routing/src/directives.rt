@@ -13,6 +13,7 @@ pub enum Line {
     Withdraw { node: NodeId, prefix: Prefix },
     Deliver { from: NodeId, to: NodeId },
     ShowRib,
+    ShowLog,
 }
 
 /// A line after `begin`, its names looked up in the network.
@@ -22,6 +23,7 @@ pub enum Directive {
     Withdraw { node: NodeId, prefix: PrefixId },
     Deliver { from: NodeId, to: NodeId },
     ShowRib,
+    ShowLog,
 }
 
 /// A directive and the number of its line, from 1.

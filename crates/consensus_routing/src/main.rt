@@ -2,6 +2,7 @@
 #![tactic(auto)]
 
 mod directives;
+mod log_text;
 mod parse;
 mod reading;
 mod replay;
@@ -14,7 +15,7 @@ mod words;
 use route_io::{StdSink, StdSource};
 use std::process::ExitCode;
 use std::{env, io};
-use topology::{BadKind, LimitKind, Status};
+use topology::Status;
 
 // The words after the program's name. Words that are no text are those of no form.
 fn words_of(rt: &HostRuntime) -> Result<Vec<String>, Status> {
@@ -39,10 +40,14 @@ fn tell(rt: &HostRuntime, status: Status) {
         Status::Done => return,
         Status::Usage => rt.eprintln("usage: consensus_routing replay"),
         Status::NoMemory => rt.eprintln("no memory"),
-        Status::BadSchedule(line, BadKind::NotBuilt) => eprintln!(rt;
-            "bad schedule: line {line}: not built"
-        ),
-        Status::Limit(LimitKind::Bytes, number) => eprintln!(rt; "limit: bytes {number}"),
+        Status::BadSchedule(line, kind) => {
+            let words = kind.words();
+            eprintln!(rt; "bad schedule: line {line}: {words}")
+        }
+        Status::Limit(kind, number) => {
+            let words = kind.words();
+            eprintln!(rt; "limit: {words} {number}")
+        }
         Status::ReadFault => rt.eprintln("read fault"),
         Status::WriteFault => rt.eprintln("write fault"),
     };

@@ -108,6 +108,7 @@ fn look_up(topology: &Topology, line: &Line) -> Option<Directive>
             })
         }
         Line::ShowRib => Some(Directive::ShowRib),
+        Line::ShowLog => Some(Directive::ShowLog),
         _ => None,
     }
 }

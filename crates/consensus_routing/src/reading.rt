@@ -140,10 +140,13 @@ fn show_line(words: &[u8]) -> Option<Line>
     ensures some { IfSome result (Says (codes "show" ∷ words_of words.now)) }
     ensures none { IfNone result (SaysNone (codes "show" ∷ words_of words.now)) }
 {
-    if words != b"rib".as_slice() {
+    if words == b"rib".as_slice() {
+        return Some(Line::ShowRib);
+    }
+    if words != b"log".as_slice() {
         return None;
     }
-    Some(Line::ShowRib)
+    Some(Line::ShowLog)
 }
 
 // The line of a keyword and the words behind it.

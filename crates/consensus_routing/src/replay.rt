@@ -3,11 +3,12 @@ ghost use Rattle.std.specs.Prelude.{◌≡◌, [], IfOk};
 ghost use Rattle.std.specs.String.{string_bytes};
 ghost use Rattle.path_vector.specs.GaoRexford.{gao_rexford};
 ghost use Rattle.chronicle.specs.Run.{run};
-ghost use Rattle.consensus_routing.specs.Text.{event_of, said, text};
+ghost use Rattle.consensus_routing.specs.Text.{event_of, said, shown, text};
 ghost use Rattle.consensus_routing.specs.Running.{Fitting, AllFitting, Advances, Runs};
 ghost use Rattle.consensus_routing.specs.Headline.{Headline, side, replay_form};
 
 use crate::directives::{Directive, Numbered, Schedule};
+use crate::log_text::logs;
 use crate::parse::{ParseEnd, parse};
 use crate::text::{event_line, routes};
 use path_vector::{GaoRexford, Policy};
@@ -45,6 +46,22 @@ fn event_of(directive: &Directive) -> Option<Event>
             to: *to,
         }),
         Directive::ShowRib => None,
+        Directive::ShowLog => None,
+    }
+}
+
+// What a directive shows that makes no event.
+fn show<P: Policy + Copy>(
+    alloc: Global,
+    world: &World<P>,
+    directive: &Directive,
+) -> Result<String, NoMemory>
+    ensures { IfOk result (λ text. string_bytes text
+        ≡ shown (P.rules world.now.policy) world.now.net (run (P.rules world.now.policy) world.now.net world.now.events) directive.now) }
+{
+    match directive {
+        Directive::ShowLog => logs(alloc, world),
+        _ => routes(alloc, world),
     }
 }
 
@@ -60,7 +77,7 @@ fn advance<P: Policy + Copy>(
         ≡ said (P.rules world.policy) world.net (run (P.rules world.policy) world.net world.events) numbered.now) }
 {
     let Some(event) = event_of(&numbered.directive) else {
-        let text = routes(alloc, &world)?;
+        let text = show(alloc, &world, &numbered.directive)?;
         return Ok((world, text));
     };
     let Ok((world, outcome)) = world.step(event) else {

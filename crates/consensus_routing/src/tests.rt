@@ -19,6 +19,12 @@ const ANNOUNCED_TEXT: &str =
 
 const FIRST_ROUTES: &str = "rib 1 10.0.0.0/8: 1\nrib 2 10.0.0.0/8: 2 1\nrib 3 10.0.0.0/8: 3 2 1\n";
 
+const TOLD: &str =
+    "originate 1 10.0.0.0/8\ndeliver 1 2\ndeliver 2 1\ndeliver 2 3\ndeliver 3 2\nshow log\n";
+
+const TOLD_TEXT: &str =
+    "log 1 1: 1.1 10.0.0.0/8 originate > 2/1/1\nlog 1 2: 1.1 10.0.0.0/8 recv 2/1/1 2-1\nlog 2 1: 1.1 10.0.0.0/8 recv 1/1/1 1 > 1/1/1 > 3/1/1\nlog 2 2: 1.1 10.0.0.0/8 recv 3/1/1 3-2-1\nlog 3 1: 1.1 10.0.0.0/8 recv 2/1/1 2-1 > 2/1/1\n";
+
 const IDLE: &str =
     "deliver 3 2\nwithdraw 1 10.0.0.0/8\noriginate 1 10.0.0.0/8\noriginate 1 10.0.0.0/8\nshow rib\n";
 
@@ -57,7 +63,8 @@ fn runs_files_and_names_each_fault(rt: HostRuntime) -> Result<(), Fail> {
     let alloc = rt.alloc();
     let announced = file_of(alloc, LINE, ANNOUNCED)?;
     let idle = file_of(alloc, LINE, IDLE)?;
-    let cases: [(&[&str], &str, &[u64], &[u64], Status, &str); 9] = [
+    let told = file_of(alloc, LINE, TOLD)?;
+    let cases: [(&[&str], &str, &[u64], &[u64], Status, &str); 10] = [
         (&["replay"], "", &[], &[], Status::Done, ""),
         (
             &["replay"],
@@ -74,6 +81,14 @@ fn runs_files_and_names_each_fault(rt: HostRuntime) -> Result<(), Fail> {
             &[],
             Status::Done,
             IDLE_TEXT,
+        ),
+        (
+            &["replay"],
+            told.as_str(),
+            &[],
+            &[],
+            Status::Done,
+            TOLD_TEXT,
         ),
         (
             &["replay", "now"],
@@ -151,7 +166,7 @@ fn names_the_first_bad_line(rt: HostRuntime) -> Result<(), Fail> {
         "deliver 1 3",
         "deliver 1 4",
         "show",
-        "show log",
+        "show logs",
         "show rib 1",
         "snap 1",
         "",

@@ -72,7 +72,7 @@ fn node_routes<P: Policy + Copy>(
     ensures { OnOk result (string_bytes out.new ≡ string_bytes out.old
         ++ node_text (P.rules world.now.policy) world.now.net (run (P.rules world.now.policy) world.now.net world.now.events) node) }
 {
-    let Some(routes) = world.routes(node) else {
+    let Some(log) = world.log(node) else {
         return Err(NoMemory);
     };
     for place in 0..world.topology().prefix_count() {
@@ -80,7 +80,7 @@ fn node_routes<P: Policy + Copy>(
         let Some(prefix) = world.topology().prefix(id) else {
             return Err(NoMemory);
         };
-        route_line(out, node, &prefix, &routes.best(id))?;
+        route_line(out, node, &prefix, &log.live().best(id))?;
     }
     Ok(())
 }
@@ -103,8 +103,9 @@ fn route_line(
     Ok(())
 }
 
+/// Writes a prefix.
 #[tactic(auto, unfolding(crate::specs::Spelling::prefix_text))]
-fn prefix_words(out: &mut String, prefix: &Prefix) -> Result<(), AllocError>
+pub fn prefix_words(out: &mut String, prefix: &Prefix) -> Result<(), AllocError>
     ensures { OnOk result (string_bytes out.new ≡ string_bytes out.old ++ prefix_text prefix.now) }
 {
     let a = prefix.bits / 16_777_216 % 256;

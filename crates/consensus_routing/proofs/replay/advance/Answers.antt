@@ -26,4 +26,4 @@ returns-clause-text g c =
     let past = run rules world.net world.events in
     let made : event_of c.args.numbered.now.directive ≡ Some c.in-Some.event = sym c.event_of.ensures ∙ c.in-Some.is in
     c.in_ok-text-2.ensures past (step rules world.net past c.in-Some.event) c.in-Ok.ensures.outcome
-    ∙ ap (said_for rules world.net past c.args.numbered.now.line) (sym made)
+    ∙ ap (said_for rules world.net past c.args.numbered.now) (sym made)

@@ -2,6 +2,7 @@ use Rattle.std.proofs.Common.{◌≡◌, ◌++◌, take}
 use Rattle.std.specs.List.{flat_map, enumerate_from}
 use Rattle.std.specs.String.{string_bytes}
 use Rattle.path_vector.specs.Selection.{best, path_of}
+use Rattle.trigger_log.specs.Entries.{reads}
 use Rattle.chronicle.specs.Logs.{log_of}
 use Rattle.chronicle.specs.Run.{run}
 use Rattle.consensus_routing.specs.Text.{rib_line}
@@ -14,4 +15,4 @@ invariant-loop-place g l =
     let net = l.world.net in
     let past = run rules net l.world.events in
     string_bytes l.out ≡ string_bytes l.initial.out
-    ++ flat_map (λ p. rib_line l.node p.1 (path_of l.node (best rules net l.node (log_of l.node past) p.0))) (enumerate_from 0 (take l.place net.prefixes))
+    ++ flat_map (λ p. rib_line l.node p.1 (path_of l.node (best rules net l.node (reads (log_of l.node past)) p.0))) (enumerate_from 0 (take l.place net.prefixes))
