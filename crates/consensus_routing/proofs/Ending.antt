@@ -2,6 +2,7 @@
 use Rattle.std.proofs.Common.{◌≡◌, ℕ, suc, ◌+◌, ◌<◌, ◌≤◌, ◌⊎◌, inl, inr, Option, Some, None, IfSome, List, [], ◌∷◌, length, Result, Ok, Err, refl, sym, ap, ◌∙◌, subst, arith}
 use Rattle.topology.specs.declared.status.Status.{Status}
 use Rattle.topology.specs.declared.status.Status.TheVariants.{Done, Usage, NoMemory, BadSchedule, Limit, ReadFault, WriteFault}
+use Rattle.topology.specs.declared.status.BadKind.{BadKind}
 use Rattle.topology.specs.declared.status.BadKind.TheVariants.{NotBuilt}
 use Rattle.path_vector.specs.GaoRexford.{gao_rexford}
 use Rattle.consensus_routing.specs.declared.directives.Line.{Line}
@@ -19,8 +20,11 @@ pub known : (told : Option (List ℕ)) (items : List ℕ) → IfSome told (λ by
 known None items h bytes e = absurd (cc e)
 known (Some b) items h bytes e = let same : b ≡ bytes = cc in h ∙ same
 
-same_line : (m n : ℕ) → BadSchedule m NotBuilt ≡ BadSchedule n NotBuilt → m ≡ n
-same_line m n e = cc
+same_line : (m n : ℕ) (k : BadKind) → BadSchedule m NotBuilt ≡ BadSchedule n k → m ≡ n
+same_line m n k e = cc
+
+same_kind : (m n : ℕ) (k : BadKind) → BadSchedule m NotBuilt ≡ BadSchedule n k → k ≡ NotBuilt
+same_kind m n k e = cc
 
 -- the file is refused by a line
 pub ends_bad : (source source' sink : Side) (bytes : List ℕ) (line : ℕ) → ((told : List ℕ) → source.told ≡ Some told → bytes ≡ told)
@@ -31,8 +35,8 @@ ends_bad source source' sink bytes line read short bad later = record {
   done = λ e. absurd (cc e);
   front = λ told t. inl refl;
   silent = λ _. refl;
-  bad_schedule = λ n e told t. subst (IsFirstBad told) (same_line line n e) (subst (λ b. IsFirstBad b line) (read told t) bad);
-  limit = λ n e. absurd (cc e);
+  bad_schedule = λ n k e. (same_kind line n k e, λ told t. subst (IsFirstBad told) (same_line line n k e) (subst (λ b. IsFirstBad b line) (read told t) bad));
+  limit = λ k n e. absurd (cc e);
   read_fault = λ e. absurd (cc e);
   write_fault = λ e. absurd (cc e);
   cut_off = λ e. absurd (cc e);
@@ -61,8 +65,8 @@ module _ (source source' sink sink' : Side) (bytes : List ℕ) (lines : List Lin
     done = λ e told t. (lines, text gao_rexford (net_of lines) [] (directives_of lines), (told_reads told t, refl), runs.whole);
     front = λ told t. inr (lines, text gao_rexford (net_of lines) [] (directives_of lines), runs.front.0, (told_reads told t, refl), runs.front.1, runs.front.2);
     silent = λ e. absurd (cc e);
-    bad_schedule = λ n e. absurd (cc e);
-    limit = λ n e. absurd (cc e);
+    bad_schedule = λ n k e. absurd (cc e);
+    limit = λ k n e. absurd (cc e);
     read_fault = λ e. absurd (cc e);
     write_fault = λ e. absurd (cc e);
     cut_off = λ e. absurd (cc e);
@@ -77,8 +81,8 @@ module _ (source source' sink sink' : Side) (bytes : List ℕ) (lines : List Lin
     done = λ e. absurd (cc e);
     front = λ told t. inr (lines, text gao_rexford (net_of lines) [] (directives_of lines), runs.front.0, (told_reads told t, refl), runs.front.1, runs.front.2);
     silent = λ e. absurd (cc e);
-    bad_schedule = λ n e. absurd (cc e);
-    limit = λ n e. absurd (cc e);
+    bad_schedule = λ n k e. absurd (cc e);
+    limit = λ k n e. absurd (cc e);
     read_fault = λ e. absurd (cc e);
     write_fault = λ e. absurd (cc e);
     cut_off = λ e. absurd (cc e);
@@ -93,8 +97,8 @@ module _ (source source' sink sink' : Side) (bytes : List ℕ) (lines : List Lin
     done = λ e. absurd (cc e);
     front = λ told t. inr (lines, text gao_rexford (net_of lines) [] (directives_of lines), runs.front.0, (told_reads told t, refl), runs.front.1, runs.front.2);
     silent = λ e. absurd (cc e);
-    bad_schedule = λ n e. absurd (cc e);
-    limit = λ n e. absurd (cc e);
+    bad_schedule = λ n k e. absurd (cc e);
+    limit = λ k n e. absurd (cc e);
     read_fault = λ e. absurd (cc e);
     write_fault = λ e. runs.fault refl;
     cut_off = λ e told t. (lines, text gao_rexford (net_of lines) [] (directives_of lines), (told_reads told t, refl), runs.cut_off refl);

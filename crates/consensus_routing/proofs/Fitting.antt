@@ -8,7 +8,7 @@ use Rattle.topology.specs.Net.{Net, linked, has_prefix, same_prefix}
 use Rattle.topology.specs.Building.{node_refusal, link_refusal, prefix_refusal}
 use Rattle.topology.proofs.Tests.{and_left, and_right, and_both, not_true}
 use Rattle.consensus_routing.specs.declared.directives.Line.{Line}
-use Rattle.consensus_routing.specs.declared.directives.Line.TheVariants.{Node, Link, Prefix, Begin, Originate, Withdraw, Deliver, ShowRib}
+use Rattle.consensus_routing.specs.declared.directives.Line.TheVariants.{Node, Link, Prefix, Begin, Originate, Withdraw, Deliver, ShowRib, ShowLog}
 use Rattle.consensus_routing.specs.declared.directives.Numbered.{Numbered}
 use Rattle.consensus_routing.specs.declared.directives.Schedule.{Schedule}
 use Rattle.consensus_routing.specs.Grammar.{net_of, begun, allowed, place_in, directives_of, Reads, IsFile}
@@ -71,6 +71,8 @@ keeps e (Deliver u v) a s =
       none = λ f. absurd (true≢false (sym (and_left (begun e) _ a) ∙ f));
     }
 keeps e ShowRib a s =
+    record { fit = one_more (net_of e) (directives_of e) _ s.fit tt; none = λ f. absurd (true≢false (sym a ∙ f)) }
+keeps e ShowLog a s =
     record { fit = one_more (net_of e) (directives_of e) _ s.fit tt; none = λ f. absurd (true≢false (sym a ∙ f)) }
 
 sound : (earlier : List Line) (texts : List (List ℕ)) (all : List Line) → Reads earlier texts all → Sound earlier → Sound all

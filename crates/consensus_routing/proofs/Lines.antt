@@ -4,7 +4,7 @@ use Rattle.std.specs.Prelude.{codes, ◌⊎◌, Option, Some, None}
 use Rattle.std.specs.Fmt.{decimal}
 use Rattle.topology.specs.declared.prefixes.Prefix.{Prefix as Range}
 use Rattle.consensus_routing.specs.declared.directives.Line.{Line}
-use Rattle.consensus_routing.specs.declared.directives.Line.TheVariants.{Node, Link, Prefix, Begin, Originate, Withdraw, Deliver, ShowRib}
+use Rattle.consensus_routing.specs.declared.directives.Line.TheVariants.{Node, Link, Prefix, Begin, Originate, Withdraw, Deliver, ShowRib, ShowLog}
 use Rattle.consensus_routing.specs.declared.reading.Keyword.{Keyword}
 use Rattle.consensus_routing.specs.declared.reading.Keyword.TheVariants as keyword
 use Rattle.consensus_routing.specs.Spelling.{words_of, line_words, prefix_text, IsNumber, IsRange, Spells}
@@ -56,8 +56,9 @@ pub withdraw_parts : (ws : List (List ℕ)) (line : Line) → Says (codes "withd
 withdraw_parts ws (Withdraw node p) h = let q = said keyword.Withdraw ws (Withdraw node p) h in (node, p, q.0, q.1, q.2)
 withdraw_parts ws other h = absurd (said keyword.Withdraw ws other h)
 
-pub show_parts : (ws : List (List ℕ)) (line : Line) → Says (codes "show" ∷ ws) line → ws ≡ codes "rib" ∷ []
-show_parts ws ShowRib h = said keyword.Show ws ShowRib h
+pub show_parts : (ws : List (List ℕ)) (line : Line) → Says (codes "show" ∷ ws) line → (ws ≡ codes "rib" ∷ []) ⊎ (ws ≡ codes "log" ∷ [])
+show_parts ws ShowRib h = inl (said keyword.Show ws ShowRib h)
+show_parts ws ShowLog h = inr (said keyword.Show ws ShowLog h)
 show_parts ws other h = absurd (said keyword.Show ws other h)
 
 pub begin_parts : (ws : List (List ℕ)) (line : Line) → Says (codes "begin" ∷ ws) line → ws ≡ []
@@ -88,7 +89,7 @@ alone keyword.Prefix line h = let p = prefix_parts [] line h in absurd (let q : 
 alone keyword.Originate line h = let p = originate_parts [] line h in absurd (let q : 0 ≡ 2 = ap length p.4 in omega arith)
 alone keyword.Withdraw line h = let p = withdraw_parts [] line h in absurd (let q : 0 ≡ 2 = ap length p.4 in omega arith)
 alone keyword.Deliver line h = let p = deliver_parts [] line h in absurd (let q : 0 ≡ 2 = ap length p.4 in omega arith)
-alone keyword.Show line h = let p = show_parts [] line h in absurd (let q : 0 ≡ 1 = ap length p in omega arith)
+alone keyword.Show line h = let p = show_parts [] line h in absurd (elim p [ inl e ↦ (let q : 0 ≡ 1 = ap length e in omega arith) | inr e ↦ (let q : 0 ≡ 1 = ap length e in omega arith) ])
 
 -- each line begins with a keyword
 abbrev pub keyword_in : Line → Keyword
@@ -100,6 +101,7 @@ keyword_in (Originate node p) = keyword.Originate
 keyword_in (Withdraw node p) = keyword.Withdraw
 keyword_in (Deliver from to) = keyword.Deliver
 keyword_in ShowRib = keyword.Show
+keyword_in ShowLog = keyword.Show
 
 pub begins_with : (line : Line) → line_words line ≡ keyword_text (keyword_in line) ∷ behind (line_words line)
 begins_with (Node id false) = refl

@@ -4,7 +4,7 @@ use Rattle.std.specs.Prelude.{codes, Option, Some, None}
 use Rattle.std.specs.Fmt.{decimal}
 use Rattle.std.proofs.lemmas.Bool.{false≢true, eq-eqb}
 use Rattle.consensus_routing.specs.declared.directives.Line.{Line}
-use Rattle.consensus_routing.specs.declared.directives.Line.TheVariants.{Node, Link, Prefix, Begin, Originate, Withdraw, Deliver, ShowRib}
+use Rattle.consensus_routing.specs.declared.directives.Line.TheVariants.{Node, Link, Prefix, Begin, Originate, Withdraw, Deliver, ShowRib, ShowLog}
 use Rattle.consensus_routing.specs.Cutting.{joined}
 use Rattle.consensus_routing.specs.Spelling.{grow, words_of, line_words, prefix_text, IsNumber, IsRange, InRange, Spells}
 use Rattle.consensus_routing.specs.declared.reading.Keyword.{Keyword}
@@ -74,6 +74,7 @@ Said keyword.Originate ws (Originate node p) = IsNumber node × IsRange p × (ws
 Said keyword.Withdraw ws (Withdraw node p) = IsNumber node × IsRange p × (ws ≡ decimal node ∷ prefix_text p ∷ [])
 Said keyword.Deliver ws (Deliver from to) = IsNumber from × IsNumber to × (ws ≡ decimal from ∷ decimal to ∷ [])
 Said keyword.Show ws ShowRib = ws ≡ codes "rib" ∷ []
+Said keyword.Show ws ShowLog = ws ≡ codes "log" ∷ []
 Said k ws other = ⊥
 
 pub said : (k : Keyword) (ws : List (List ℕ)) (line : Line) → Says (keyword_text k ∷ ws) line → Said k ws line
@@ -86,6 +87,7 @@ said keyword.Originate ws (Originate node p) h = (h.in_range.0, h.in_range.1, ap
 said keyword.Withdraw ws (Withdraw node p) h = (h.in_range.0, h.in_range.1, ap behind h.spelled)
 said keyword.Deliver ws (Deliver from to) h = (h.in_range.0, h.in_range.1, ap behind h.spelled)
 said keyword.Show ws ShowRib h = ap behind h.spelled
+said keyword.Show ws ShowLog h = ap behind h.spelled
 said k ws (Node id false) h = other_letter (keyword_text k ∷ ws) (line_words (Node id false)) refl h.spelled
 said k ws (Node id true) h = other_letter (keyword_text k ∷ ws) (line_words (Node id true)) refl h.spelled
 said k ws other h = other_letter (keyword_text k ∷ ws) (line_words other) refl h.spelled
@@ -121,6 +123,9 @@ same_line (Deliver a b) (Deliver c d) h k e =
     let second = same_node b d h.1 k.1 (ap (word_at 2) e) in
     cc
 same_line ShowRib ShowRib h k e = refl
+same_line ShowLog ShowLog h k e = refl
+same_line ShowRib ShowLog h k e = other_letter (behind (line_words ShowRib)) (behind (line_words ShowLog)) refl (ap behind e)
+same_line ShowLog ShowRib h k e = other_letter (behind (line_words ShowLog)) (behind (line_words ShowRib)) refl (ap behind e)
 same_line (Node a false) m h k e = other_letter (line_words (Node a false)) (line_words m) refl e
 same_line (Node a true) m h k e = other_letter (line_words (Node a true)) (line_words m) refl e
 same_line l (Node a false) h k e = other_letter (line_words l) (line_words (Node a false)) refl e

@@ -4,7 +4,9 @@ use Rattle.std.specs.Io.KnownBytes.{Appends}
 use Rattle.topology.specs.Lists.{Begins}
 use Rattle.topology.specs.declared.status.Status.{Status}
 use Rattle.topology.specs.declared.status.Status.TheVariants.{Done, Usage, NoMemory, BadSchedule, Limit, ReadFault, WriteFault}
+use Rattle.topology.specs.declared.status.BadKind.{BadKind}
 use Rattle.topology.specs.declared.status.BadKind.TheVariants.{NotBuilt}
+use Rattle.topology.specs.declared.status.LimitKind.{LimitKind}
 use Rattle.topology.specs.declared.status.LimitKind.TheVariants.{Bytes}
 use Rattle.route_io.specs.Causes.{Rose, AppendsFront}
 use Rattle.path_vector.specs.GaoRexford.{gao_rexford}
@@ -59,10 +61,12 @@ pub record Headline (words : List (List ℕ)) (source source' sink sink' : Side)
   pub front : (bytes : List ℕ) → source.told ≡ Some bytes → WroteFront bytes sink.told sink'.told
   -- and nothing was written where nothing was run
   pub silent : ends_early status ≡ true → sink'.told ≡ sink.told
-  -- BadSchedule: the line is the first outside the grammar
-  pub bad_schedule : (line : ℕ) → status ≡ BadSchedule line NotBuilt → (bytes : List ℕ) → source.told ≡ Some bytes → IsFirstBad bytes line
+  -- BadSchedule: the line is the first outside the grammar. All such lines are of one kind so far
+  pub bad_schedule : (line : ℕ) (kind : BadKind) → status ≡ BadSchedule line kind
+      → (kind ≡ NotBuilt) × ((bytes : List ℕ) → source.told ≡ Some bytes → IsFirstBad bytes line)
   -- Limit: the file has more bytes than a schedule may have
-  pub limit : (number : ℕ) → status ≡ Limit Bytes number → (number ≡ most_bytes) × ((bytes : List ℕ) → source.told ≡ Some bytes → most_bytes < length bytes)
+  pub limit : (kind : LimitKind) (number : ℕ) → status ≡ Limit kind number
+      → (kind ≡ Bytes) × (number ≡ most_bytes) × ((bytes : List ℕ) → source.told ≡ Some bytes → most_bytes < length bytes)
   -- ReadFault, WriteFault: the count of that side rose
   pub read_fault : status ≡ ReadFault → Rose source.faults source'.faults
   pub write_fault : status ≡ WriteFault → Rose sink.faults sink'.faults
