@@ -42,13 +42,12 @@ pub fn offers_of<P: Policy + Copy>(
         AreChosen (P.rules policy) topology.now u h offers.items) }
 {
     let mut offers = Vec::new(alloc);
-    match scope {
-        Scope::One(prefix) => offers.push(offer_of(routes, prefix)?)?,
-        Scope::All => {
-            for place in 0..topology.prefix_count() {
-                offers.push(offer_of(routes, PrefixId::new(place))?)?;
-            }
-        }
+    if let Scope::One(prefix) = scope {
+        offers.push(offer_of(routes, prefix)?)?;
+        return Ok(offers);
+    }
+    for place in 0..topology.prefix_count() {
+        offers.push(offer_of(routes, PrefixId::new(place))?)?;
     }
     Ok(offers)
 }
