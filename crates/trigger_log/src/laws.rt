@@ -19,24 +19,28 @@ ghost use Rattle.trigger_log.specs.Fits.{Fits, CauseFits};
 ghost use Rattle.trigger_log.specs.Sessions.{ever};
 
 /// What fits a log is accepted by its routes.
+#[tactic(auto, using(crate::proofs::Holding::accepted))]
 pub fn what_fits_is_accepted()
     ensures { (h : List Entry) (scope : Scope) (cause : Cause) → Fits h → CauseFits h scope cause →
         Accepts (reads h) scope cause }
 {}
 
 /// The session that is held is the newest one.
+#[tactic(auto, using(crate::proofs::Holding::held_is_last, crate::proofs::Holding::last_from_one))]
 pub fn the_held_session_is_the_newest()
     ensures newest { (h : List Entry) (w s : ℕ) → held (reads h) w ≡ Some s → s ≡ last (reads h) w }
     ensures from_one { (h : List Entry) (w : ℕ) → Fits h → 1 ≤ last (reads h) w }
 {}
 
 /// A session that was closed is never held again.
+#[tactic(auto, using(crate::proofs::Holding::stays_closed))]
 pub fn a_closed_session_stays_closed()
     ensures { (h : List Entry) (w s : ℕ) (triggers : List Trigger) → Fits h →
         closing h w s ≡ Some triggers → held (reads h) w ≢ Some s }
 {}
 
 /// In a session that was never held nothing was said, and it was not closed.
+#[tactic(auto, using(crate::proofs::Fresh::ever_above, crate::proofs::Fresh::fresh_outbox, crate::proofs::Fresh::fresh_inbox, crate::proofs::Fresh::fresh_close, crate::proofs::Fresh::fresh_closing))]
 pub fn a_session_is_fresh_until_it_is_held()
     ensures above { (h : List Entry) (w s : ℕ) → Fits h → last (reads h) w < s → has (ever h w) s ≡ false }
     ensures outbox { (rules : Rules) (net : Net) (u : ℕ) (h : List Entry) (w s : ℕ) → Fits h →
@@ -47,12 +51,14 @@ pub fn a_session_is_fresh_until_it_is_held()
 {}
 
 /// Nothing is sent in a session that the other end has not opened.
+#[tactic(auto, using(crate::proofs::Silence::unready_says_nothing))]
 pub fn an_unready_session_says_nothing()
     ensures { (rules : Rules) (net : Net) (u : ℕ) (h : List Entry) (w s : ℕ) → Fits h →
         held (reads h) w ≡ Some s → opened (reads h) w s ≡ false → outbox rules net u h w s ≡ [] }
 {}
 
 /// An opening sends no update.
+#[tactic(auto, using(crate::proofs::Silence::opening_says_nothing))]
 pub fn an_opening_says_nothing()
     ensures { (rules : Rules) (net : Net) (u : ℕ) (h : List Entry) (triggers : List Trigger) (w s x : ℕ) →
         Fits h → held (reads h) w ≡ None → last (reads h) w < s →
@@ -60,6 +66,7 @@ pub fn an_opening_says_nothing()
 {}
 
 /// What was said last of a prefix in a ready session is what is offered.
+#[tactic(auto, using(crate::proofs::Saying::said_is_offered))]
 pub fn what_was_said_is_offered()
     ensures { (rules : Rules) (net : Net) (u : ℕ) (h : List Entry) (w s p : ℕ) → Fits h →
         has (places net) p ≡ true → ready (reads h) w ≡ Some s →
@@ -68,6 +75,7 @@ pub fn what_was_said_is_offered()
 
 /// An update of a prefix goes out exactly where the offer differs from what was said last in its
 /// session.
+#[tactic(auto, using(crate::proofs::Saying::changed_where_it_differs))]
 pub fn an_update_goes_out_where_the_offer_differs()
     ensures { (rules : Rules) (net : Net) (u : ℕ) (h : List Entry) (k : Entry) (w s p : ℕ) → Fits (k ∷ h) →
         has (places net) p ≡ true → ready (k.read ∷ reads h) w ≡ Some s →
@@ -76,6 +84,7 @@ pub fn an_update_goes_out_where_the_offer_differs()
 {}
 
 /// Each trigger of an item is listed by an entry.
+#[tactic(auto, using(crate::proofs::Listed::outbox_listed, crate::proofs::Listed::close_listed))]
 pub fn items_list_what_entries_list()
     ensures updates { (rules : Rules) (net : Net) (u : ℕ) (h : List Entry) (w s : ℕ) (x : Update) (t : Trigger) →
         Among x (outbox rules net u h w s) → Among t x.triggers → Lists h t }
@@ -84,6 +93,7 @@ pub fn items_list_what_entries_list()
 {}
 
 /// The items of a session are numbered from 1 without gaps, its close last.
+#[tactic(auto, using(crate::proofs::Numbering::numbered_from_one))]
 pub fn numbers_run_from_one()
     ensures { (rules : Rules) (net : Net) (u : ℕ) (h : List Entry) (w s : ℕ) → IsValid net → Fits h →
         has (neighbours net u) w ≡ true →
@@ -93,6 +103,7 @@ pub fn numbers_run_from_one()
 
 /// The items of an entry stand by neighbour, ascending, and those of a neighbour by the places of
 /// their prefixes.
+#[tactic(auto, using(crate::proofs::InOrder::sent_in_order, crate::proofs::InOrder::news_in_order))]
 pub fn items_stand_in_order()
     ensures neighbours { (rules : Rules) (net : Net) (u : ℕ) (h : List Entry) (k : Entry) → IsValid net →
         Rises (map (λ (item : Sent). item.to) (sent_by rules net u h k)) }
