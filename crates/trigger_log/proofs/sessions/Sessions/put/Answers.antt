@@ -1,0 +1,11 @@
+use Rattle.trigger_log.proofs.Rows.{puts, newest_at, none_at}
+use Rattle.trigger_log.proofs.sessions.Sessions.put.Goals as goal
+
+pub returns-then-last-len : goal.returns-then-last-len
+returns-then-last-len c = ?
+
+pub returns-else-last-len : goal.returns-else-last-len
+returns-else-last-len c = ?
+
+pub returns-in_default : goal.returns-in_default
+returns-in_default c = ?
