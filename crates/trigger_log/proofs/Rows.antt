@@ -1,7 +1,9 @@
 -- Rows of marks that are kept as one list.
-use Rattle.std.proofs.Common.{◌≡◌, ℕ, zero, suc, ◌+◌, ◌-◌, ◌<◌, ◌≤◌, List, [], ◌∷◌, ◌++◌, length, length-append, append_assoc, get_or, set, slice_get, take, drop, refl, sym, ap, ◌∙◌, subst, arith, Option, Some, None, ◌⊎◌, inl, inr}
+use Rattle.std.proofs.Common.{◌≡◌, ℕ, zero, suc, ◌+◌, ◌-◌, ◌<◌, ◌≤◌, List, [], ◌∷◌, ◌++◌, length, length-append, append_assoc, get_or, set, slice_get, take, drop, refl, sym, ap, ◌∙◌, subst, arith, Option, Some, None, ◌⊎◌, inl, inr, ⊎_elim, ltb}
+use Rattle.std.proofs.lemmas.Bool.Decides.{nat_tests}
+use Rattle.std.proofs.lemmas.Option.{slice_get_read, slice_get_past}
 use Rattle.std.specs.List.{AllByRecursion, insert}
-use Rattle.std.specs.Prelude.{flat_map}
+use Rattle.std.specs.Prelude.{flat_map, is_some, IfSome, IfNone}
 use Rattle.topology.specs.Lists.{Among}
 use Rattle.trigger_log.specs.declared.sessions.SessionMark.{SessionMark}
 use Rattle.trigger_log.specs.declared.sessions.Sessions.{Sessions}
@@ -128,14 +130,14 @@ pub newest_at : (rows : List Marks) (place : ℕ) (row : Marks) (sessions : Sess
 newest_at rows place row sessions has at =
     let a = around rows place row has.filled at in
     let end = last_of row a.filled in
-    let long : length row ≡ length end.1 + 1 = ap length end.2 ∙ length-append end.1 (end.0 ∷ []) in
-    let now : joined rows ≡ a.front ++ ((end.1 ++ end.0 ∷ []) ++ a.back) = a.joined_now ∙ ap (λ x. a.front ++ (x ++ a.back)) end.2 in
+    let long : length row ≡ length end.1.0 + 1 = ap length end.1.1 ∙ length-append end.1.0 (end.0 ∷ []) in
+    let now : joined rows ≡ a.front ++ ((end.1.0 ++ end.0 ∷ []) ++ a.back) = a.joined_now ∙ ap (λ x. a.front ++ (x ++ a.back)) end.1.1 in
     record {
       last = 0 + length a.front + length row - 1;
       mark = end.0;
       placed = rw has.newest (a.last_at 0);
-      stands = rw (has.marks, now) (end_at a.front end.1 end.0 a.back (0 + length a.front + length row - 1) (omega arith));
-      ends = (end.1, end.2);
+      stands = rw (has.marks, now) (end_at a.front end.1.0 end.0 a.back (0 + length a.front + length row - 1) (omega arith));
+      ends = end.1;
     }
 
 pub none_at : (rows : List Marks) (n place : ℕ) → slice_get (last_places n rows) place ≡ None → slice_get rows place ≡ None
@@ -177,3 +179,41 @@ opens rows place row mark at old new has is placed marks newest =
       newest = newest ∙ (ap (shifted place) has.newest ∙ sym (more_places 0 rows place row (row ++ mark ∷ []) has.filled is longer));
       filled = filled_set rows place (row ++ mark ∷ []) has.filled (filled_end row mark);
     }
+
+-- what `get` answers
+
+pub placed : {A : Type 0} (xs : List A) (i : ℕ) (x : A) → i < length xs → x ≡ get_or xs i x → slice_get xs i ≡ Some x
+placed xs i x h e = slice_get_read xs (length xs) i x refl h e
+
+pub got : {B : Type 0} (read : B → SessionMark) (r : Option B) (xs : Marks) (i : ℕ) (P : B → Type 0) → is_some r ≡ ltb i (length xs) → IfSome r (λ x. read x ≡ get_or xs i (read x))
+    → ((x : B) → slice_get xs i ≡ Some (read x) → P x) → IfSome r P
+got read None xs i P s e f = tt
+got read (Some x) xs i P s e f = let h : i < length xs = grind (arith, nat_tests) in f x (placed xs i (read x) h e)
+
+pub missed : {B : Type 0} (r : Option B) (xs : Marks) (i : ℕ) (Q : Type 0) → is_some r ≡ ltb i (length xs) → (slice_get xs i ≡ None → Q) → IfNone r Q
+missed None xs i Q s f = let h : length xs ≤ i = grind (arith, nat_tests) in f (slice_get_past xs i h)
+missed (Some x) xs i Q s f = tt
+
+-- where there is no place, there is no row
+pub no_place : (rows : List Marks) (place : ℕ) (sessions : Sessions) → HasRows rows sessions → length sessions.newest.items ≤ place → slice_get rows place ≡ None
+no_place rows place sessions has h = none_at rows 0 place (rw (← has.newest) (slice_get_past sessions.newest.items place h))
+
+-- at the place of a row there is a mark
+pub no_mark : (rows : List Marks) (place last : ℕ) (sessions : Sessions) → HasRows rows sessions → slice_get sessions.newest.items place ≡ Some last → slice_get sessions.marks.items last ≡ None
+    → slice_get rows place ≡ None
+no_mark rows place last sessions has at none = ⊎_elim
+    (λ (e : slice_get rows place ≡ None). e)
+    (λ (w : (row : Marks) × (slice_get rows place ≡ Some row)).
+    let n = newest_at rows place w.0 sessions has w.1 in
+    let same : last ≡ n.last = some_is last n.last (sym at ∙ n.placed) in
+    absurd (cc (sym none ∙ (ap (slice_get sessions.marks.items) same ∙ n.stands))))
+    (row_at rows place)
+
+-- it is the last one of the row
+pub newest_ends : (rows : List Marks) (place last : ℕ) (row : Marks) (mark : SessionMark) (sessions : Sessions) → HasRows rows sessions → slice_get rows place ≡ Some row
+    → slice_get sessions.newest.items place ≡ Some last → slice_get sessions.marks.items last ≡ Some mark → EndsWith row mark
+newest_ends rows place last row mark sessions has is at stands =
+    let n = newest_at rows place row sessions has is in
+    let same : last ≡ n.last = some_is last n.last (sym at ∙ n.placed) in
+    let here : mark ≡ n.mark = some_is mark n.mark (sym stands ∙ (ap (slice_get sessions.marks.items) same ∙ n.stands)) in
+    subst (EndsWith row) (sym here) n.ends
