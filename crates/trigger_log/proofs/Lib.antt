@@ -6,5 +6,9 @@ pub mod Saying
 pub mod Listed
 pub mod InOrder
 pub mod Numbering
+pub mod Rows
+pub mod Shifted
 pub mod Offering
 pub mod Updating
+pub mod Newest
+pub mod Turned
