@@ -11,4 +11,3 @@ pub mod Shifted
 pub mod Offering
 pub mod Updating
 pub mod Newest
-pub mod Turned

@@ -15,7 +15,7 @@ ghost use Rattle.trigger_log.specs.Telling.{Tells, update_going};
 
 use crate::offers::Offer;
 use crate::outgoing::Outgoing;
-use path_vector::{Policy, RouteState};
+use path_vector::{Cause, Policy, RouteState};
 use topology::{Item, NoMemory, NodeId, Path, PrefixId, Sent, Session, Trigger};
 
 fn same_slice(a: &[NodeId], b: &[NodeId]) -> bool
@@ -60,10 +60,11 @@ pub struct Listener {
     pub knows: bool,
 }
 
-/// The trigger of an entry, and the best routes of its prefixes before and after it.
+/// The trigger and the cause of an entry, and the best routes of its prefixes before and after it.
 #[derive(Drop)]
 pub struct Turn<'a> {
     pub trigger: Trigger,
+    pub cause: &'a Cause,
     pub before: &'a [Offer],
     pub after: &'a [Offer],
 }
