@@ -56,7 +56,7 @@ pub record Enters {P : Type 0} (policy : P) (rules : Rules) (net : Net) (u : ℕ
     (routes : RouteState P) (turn : Turn) : Type 0 where
   pub stands : RoutesStandFor policy net u routes (k.read ∷ reads h)
   pub fitting : Fits (k ∷ h)
-  pub lists : k.triggers ≡ turn.trigger ∷ []
+  pub lists : k.triggers ≡ turn.trigger.now ∷ []
   pub cause : k.read.cause ≡ turn.cause.now
   pub placed : IsPlaced net k.read.scope
   pub covers : prefixes_of turn.after.now ≡ places_of net k.read.scope

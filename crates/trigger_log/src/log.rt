@@ -46,6 +46,13 @@ fn copy_of(alloc: Global, near: &[NodeId]) -> Result<Vec<NodeId>, NoMemory>
     Ok(Vec::from_slice(alloc, near)?)
 }
 
+// An equal scope.
+fn copied(scope: &Scope) -> Scope
+    ensures { result ≡ scope.now }
+{
+    *scope
+}
+
 // The next number.
 fn next(number: u32) -> Result<u32, NoMemory>
     ensures { IfOk result (λ next. next ≡ suc number) }
@@ -145,11 +152,11 @@ impl<P: Policy + Copy> NodeLog<P> {
             map going_of outgoing.items ≡ going_by (P.rules policy) topology.now u h (entry (trigger ∷ []) scope cause)) }
     {
         let before = offers_of(self.alloc, &self.routes, topology, &scope)?;
-        self.routes.apply(scope, &cause)?;
+        self.routes.apply(copied(&scope), &cause)?;
         let after = offers_of(self.alloc, &self.routes, topology, &scope)?;
-        mark(&mut self.sessions, &self.near, trigger, &cause)?;
+        mark(&mut self.sessions, &self.near, &trigger, &cause)?;
         let turn = Turn {
-            trigger,
+            trigger: &trigger,
             cause: &cause,
             before: &before,
             after: &after,

@@ -43,11 +43,11 @@ pub fn place_of(near: &[NodeId], nbr: NodeId) -> Option<usize>
 }
 
 // The newest mark of the neighbour that the entry names, after it.
-fn turned(mark: &SessionMark, trigger: Trigger, cause: &Cause) -> Result<SessionMark, NoMemory>
+fn turned(mark: &SessionMark, trigger: &Trigger, cause: &Cause) -> Result<SessionMark, NoMemory>
     ensures { IfOk result (λ turned. (h : List Entry) (scope : Scope) (w n : ℕ) →
-        Fits (entry (trigger ∷ []) scope cause.now ∷ h) → names cause.now ≡ Some w →
+        Fits (entry (trigger.now ∷ []) scope cause.now ∷ h) → names cause.now ≡ Some w →
         Says h w (last (reads h) w) n mark.now →
-        Says (entry (trigger ∷ []) scope cause.now ∷ h) w (last (reads h) w) n turned) }
+        Says (entry (trigger.now ∷ []) scope cause.now ∷ h) w (last (reads h) w) n turned) }
 {
     match cause {
         Cause::Recv { .. } => match mark.received.checked_add(1) {
@@ -55,7 +55,7 @@ fn turned(mark: &SessionMark, trigger: Trigger, cause: &Cause) -> Result<Session
             Some(received) => Ok(SessionMark { received, ..*mark }),
         },
         Cause::Down { .. } => Ok(SessionMark {
-            down: Some(trigger),
+            down: Some(*trigger),
             ..*mark
         }),
         Cause::Ready { .. } => Ok(SessionMark {
@@ -70,14 +70,14 @@ fn turned(mark: &SessionMark, trigger: Trigger, cause: &Cause) -> Result<Session
 pub fn mark(
     sessions: &mut Sessions,
     near: &[NodeId],
-    trigger: Trigger,
+    trigger: &Trigger,
     cause: &Cause,
 ) -> Result<(), NoMemory>
     ensures { OnOk result ((rules : Rules) (net : Net) (u : ℕ) (h : List Entry) (scope : Scope)
         (rows : List (List SessionMark)) → IsValid net → near.now ≡ neighbours net u →
-        Fits (entry (trigger ∷ []) scope cause.now ∷ h) → IsOfNeighbour net u cause.now →
+        Fits (entry (trigger.now ∷ []) scope cause.now ∷ h) → IsOfNeighbour net u cause.now →
         HasRows rows sessions.old → AreRows rules net u h rows →
-        Marked rules net u h (entry (trigger ∷ []) scope cause.now) sessions.new) }
+        Marked rules net u h (entry (trigger.now ∷ []) scope cause.now) sessions.new) }
 {
     let Some(nbr) = named(cause) else {
         return Ok(());

@@ -63,7 +63,7 @@ pub struct Listener {
 /// The trigger and the cause of an entry, and the best routes of its prefixes before and after it.
 #[derive(Drop)]
 pub struct Turn<'a> {
-    pub trigger: Trigger,
+    pub trigger: &'a Trigger,
     pub cause: &'a Cause,
     pub before: &'a [Offer],
     pub after: &'a [Offer],
@@ -92,7 +92,7 @@ fn say(
     listener: &Listener,
     count: u32,
     prefix: PrefixId,
-    trigger: Trigger,
+    trigger: &Trigger,
     path: Option<&Path>,
     sent: &mut Vec<Sent>,
     outgoing: &mut Vec<Outgoing>,
@@ -101,7 +101,7 @@ fn say(
     ensures sent { IfOk result (λ seq. sent.new.items
         ≡ sent.old.items ++ record { to = listener.now.nbr; session = listener.now.session; seq = seq } ∷ []) }
     ensures outgoing { IfOk result (λ seq. map going_of outgoing.new.items
-        ≡ map going_of outgoing.old.items ++ update_going listener.now seq (record { prefix = prefix; triggers = trigger ∷ []; path = option_copied path.entry }) ∷ []) }
+        ≡ map going_of outgoing.old.items ++ update_going listener.now seq (record { prefix = prefix; triggers = trigger.now ∷ []; path = option_copied path.entry }) ∷ []) }
 {
     let Some(seq) = count.checked_add(1) else {
         return Err(NoMemory);
@@ -118,7 +118,7 @@ fn say(
         item: Item::Update {
             prefix,
             seq,
-            trigger,
+            trigger: *trigger,
             path,
         },
     })?;
@@ -136,7 +136,7 @@ pub fn tell<P: Policy + Copy>(
 ) -> Result<u32, NoMemory>
     requires same_prefixes { prefixes_of turn.now.before.now ≡ prefixes_of turn.now.after.now }
     ensures { IfOk result (λ count. (policy : P) (net : Net) (u : ℕ) (h : List Entry) (k : Entry) →
-        StandsFor policy net u routes.now (k.read ∷ reads h) → k.triggers ≡ turn.now.trigger ∷ [] →
+        StandsFor policy net u routes.now (k.read ∷ reads h) → k.triggers ≡ turn.now.trigger.now ∷ [] →
         AreChosen (P.rules policy) net u (reads h) turn.now.before.now →
         AreChosen (P.rules policy) net u (k.read ∷ reads h) turn.now.after.now →
         has (neighbours net u) listener.now.nbr ≡ true →

@@ -53,7 +53,7 @@ loop-i-preserved g c = λ policy net u h k stands lists before after near.
     c.args.sent.now.items c.loop-i.sent.items c.say.new.sent.items c.args.outgoing.now.items c.loop-i.outgoing.items c.say.new.outgoing.items c.loop-i.count c.in_ok-count.count
     c.in_ok-count.ensures.count c.in_ok-count.ensures.sent
     (c.in_ok-count.ensures.outgoing ∙ ap (λ (x : Update). map going_of c.loop-i.outgoing.items ++ update_going l c.in_ok-count.count x ∷ [])
-    (same_update (slice_index_or turn.after.now i o).prefix o.prefix (turn.trigger ∷ []) k.triggers (option_copied c.offered_path-offered.result) (offer rules net u (k.read ∷ reads h) o.prefix l.nbr)
+    (same_update (slice_index_or turn.after.now i o).prefix o.prefix (turn.trigger.now ∷ []) k.triggers (option_copied c.offered_path-offered.result) (offer rules net u (k.read ∷ reads h) o.prefix l.nbr)
     (ap (λ (x : Offer). x.prefix) (sym c.index-turn-i.is)) (sym lists) offered))
     (c.loop-i.invariant policy net u h k stands lists before after near) in
     subst (λ list. Tells l list c.args.sent.now.items c.say.new.sent.items c.args.outgoing.now.items c.say.new.outgoing.items c.in_ok-count.count)
