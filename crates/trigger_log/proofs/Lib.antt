@@ -11,3 +11,5 @@ pub mod Shifted
 pub mod Offering
 pub mod Updating
 pub mod Newest
+pub mod Zips
+pub mod Turned
