@@ -13,3 +13,4 @@ pub mod Updating
 pub mod Newest
 pub mod Zips
 pub mod Turned
+pub mod Placed

@@ -21,7 +21,7 @@ use Rattle.trigger_log.specs.Entries.{Entry, reads, entry, inbox, received_by, c
 use Rattle.trigger_log.specs.Sending.{sent_count}
 use Rattle.trigger_log.specs.Fits.{CauseFits, Fits}
 use Rattle.trigger_log.specs.Sessions.{ever, opens_by, IsMark, AreMarks, AreRows}
-use Rattle.trigger_log.specs.Rows.{HasRows}
+use Rattle.trigger_log.specs.Rows.{HasRows, EndsWith}
 use Rattle.trigger_log.specs.Marked.{Says, AreMarked, Marked}
 use Rattle.trigger_log.proofs.Holding.{fits_recv, fits_down, fits_up, fits_ready, held_is_last}
 use Rattle.trigger_log.proofs.Closings.{closing_above, closing_other, count_above}
@@ -184,3 +184,145 @@ module _ (trigger : Trigger) (scope : Scope) (h : List Entry) (w n : ℕ) (mark 
   turned_ready v t cause is f by was =
       subst (λ c. Fits (after c) → names c ≡ Some w → Says (after c) w newest n (record mark { opened = true })) (sym is)
       (λ f by. ready_says v t f (named_is v w by) was) f by
+
+-- ---- rows
+
+module _ (rules : Rules) (net : Net) (u : ℕ) (h : List Entry) (k : Entry) (fits : Fits (k ∷ h)) where
+  -- a mark of the entries before, after k
+  abbrev Before : ℕ → ℕ → SessionMark → Type 0
+  Before w s mark = IsMark rules net u h w s mark
+
+  abbrev After : ℕ → ℕ → SessionMark → Type 0
+  After w s mark = Says (k ∷ h) w s (sent_count rules net u h w s) mark
+
+  says : (w s : ℕ) (mark : SessionMark) → Before w s mark → Says h w s (sent_count rules net u h w s) mark
+  says w s mark was = record { nbr = was.nbr; session = was.session; is_opened = was.is_opened; sent = was.sent; received = was.received; down = was.down }
+
+  spared_row : (w : ℕ) (row : List SessionMark) → opens_by k.read.cause w ≡ [] → (names k.read.cause ≡ Some w → ⊥) → AreMarks rules net u h w row → AreMarked rules net u h k w row
+  spared_row w row none other was =
+      subst (λ l. AllZip (After w) l row) (sym (ap (λ l. ever h w ++ l) none ∙ append-nil (ever h w)))
+      (zip_map (Before w) (After w) (λ s mark is. says_spared k h w s (sent_count rules net u h w s) mark fits (λ e f. other e) (says w s mark is)) (ever h w) row was)
+
+  opens_none : (cause : Cause) (w : ℕ) → (names cause ≡ Some w → ⊥) → opens_by cause w ≡ []
+  opens_none Originate w other = refl
+  opens_none Withdraw w other = refl
+  opens_none (Recv v t seq path) w other = refl
+  opens_none (Down v t) w other = refl
+  opens_none (Ready v t) w other = refl
+  opens_none (Prefer v x) w other = refl
+  opens_none (Up v t) w other =
+      (elim (v == w) as (λ b. (v == w) ≡ b → cond b (t ∷ []) [] ≡ []) [ true ↦ λ e. absurd (other (some v w (grind (arith, nat_tests)))) | false ↦ λ e. refl ]) refl
+
+  pub other_row : (w : ℕ) (row : List SessionMark) → (names k.read.cause ≡ Some w → ⊥) → AreMarks rules net u h w row → AreMarked rules net u h k w row
+  other_row w row other was = spared_row w row (opens_none k.read.cause w other) other was
+
+  -- the last mark of a row as it was, and the row with another
+  pub turned_row : (w : ℕ) (older : List SessionMark) (mark new : SessionMark) → opens_by k.read.cause w ≡ [] → AreMarks rules net u h w (older ++ mark ∷ [])
+      → (Says h w (last (reads h) w) (sent_count rules net u h w (last (reads h) w)) mark → Says (k ∷ h) w (last (reads h) w) (sent_count rules net u h w (last (reads h) w)) new)
+      → AreMarked rules net u h k w (older ++ new ∷ [])
+  turned_row w older mark new none was turn =
+      let ends = ends_ever h w fits.1 in
+      let parts = zip_end (Before w) ends.older older (last (reads h) w) mark (subst (λ l. AllZip (Before w) l (older ++ mark ∷ [])) ends.is was) in
+      subst (λ l. AllZip (After w) l (older ++ new ∷ [])) (sym (ap (λ l. ever h w ++ l) none ∙ (append-nil (ever h w) ∙ ends.is)))
+      (zip_push (After w) ends.older older (last (reads h) w) new
+      (zip_each (λ s. s < last (reads h) w) (Before w) (After w)
+      (λ s m below is. says_spared k h w s (sent_count rules net u h w s) m fits (λ e (f : s ≡ last (reads h) w). omega arith) (says w s m is))
+      ends.older older ends.below parts.0)
+      (turn (says w (last (reads h) w) mark parts.1)))
+
+-- a session more, in which nothing was said
+module _ (rules : Rules) (net : Net) (u : ℕ) (h : List Entry) (triggers : List Trigger) (w s : ℕ) (fits : Fits (entry triggers All (Up w s) ∷ h)) where
+  abbrev opening : Entry
+  opening = entry triggers All (Up w s)
+
+  abbrev fresh : SessionMark
+  fresh = record { nbr = w; session = s; opened = false; sent = 0; received = 0; down = None }
+
+  fresh_says : Says (opening ∷ h) w s (sent_count rules net u h w s) fresh
+  fresh_says =
+      let above = fits.0.1 in
+      record {
+        nbr = refl;
+        session = refl;
+        is_opened = sym (opened_above h w s fits.1 above);
+        sent = sym (count_above rules net u h w s fits.1 above);
+        received = sym (ap length (append-nil (inbox h w s) ∙ fresh_inbox h w s fits.1 (ever_above h w s fits.1 above)));
+        down = sym (closing_above h w s fits.1 above);
+      }
+
+  opened_row : (row : List SessionMark) → AreMarks rules net u h w row → AreMarked rules net u h opening w (row ++ fresh ∷ [])
+  opened_row row was =
+      let test : (w == w) ≡ true = grind (arith, nat_tests) in
+      subst (λ l. AllZip (λ t mark. Says (opening ∷ h) w t (sent_count rules net u h w t) mark) l (row ++ fresh ∷ [])) (sym (ap (λ b. ever h w ++ cond b (s ∷ []) []) test))
+      (zip_push (λ t mark. Says (opening ∷ h) w t (sent_count rules net u h w t) mark) (ever h w) row s fresh
+      (zip_map (IsMark rules net u h w) (λ t mark. Says (opening ∷ h) w t (sent_count rules net u h w t) mark)
+      (λ t mark is. says_same opening h w t (sent_count rules net u h w t) mark refl refl refl (says rules net u h opening fits w t mark is)) (ever h w) row was)
+      fresh_says)
+
+-- ---- all rows
+
+module _ (rules : Rules) (net : Net) (u : ℕ) (h : List Entry) (rows : List (List SessionMark)) (valid : IsValid net) (were : AreRows rules net u h rows) where
+  -- an entry that names no neighbour
+  pub marked_none : (trigger : Trigger) (scope : Scope) (cause : Cause) (sessions : Sessions) → Fits (entry (trigger ∷ []) scope cause ∷ h) → names cause ≡ None → HasRows rows sessions
+      → Marked rules net u h (entry (trigger ∷ []) scope cause) sessions
+  marked_none trigger scope cause sessions fits by has = record {
+    rows = rows;
+    kept = has;
+    each = zip_map (AreMarks rules net u h) (AreMarked rules net u h (entry (trigger ∷ []) scope cause))
+        (λ w row was. other_row rules net u h (entry (trigger ∷ []) scope cause) fits w row (λ e. absurd (cc (by, e))) was) (neighbours net u) rows were;
+  }
+
+  set_row : (k : Entry) (fits : Fits (k ∷ h)) (v i : ℕ) (row : List SessionMark) → names k.read.cause ≡ Some v → slice_get (neighbours net u) i ≡ Some v → AreMarked rules net u h k v row
+      → AllZip (AreMarked rules net u h k) (neighbours net u) (set rows i row)
+  set_row k fits v i row by at here =
+      zip_set (AreMarks rules net u h) (AreMarked rules net u h k) v
+      (λ w old other was. other_row rules net u h k fits w old (λ e. let same : v ≡ w = same_Some v w (sym by ∙ e) in absurd (grind (arith, nat_tests))) was)
+      (neighbours net u) rows i row (differ-neighbours net u valid) at here were
+
+  -- the row at a place
+  pub row_of : (v i : ℕ) → slice_get (neighbours net u) i ≡ Some v → (row : List SessionMark) × (slice_get rows i ≡ Some row) × AreMarks rules net u h v row
+  row_of v i at = zip_at (AreMarks rules net u h) (neighbours net u) rows i v were at
+
+  up_fits : (triggers : List Trigger) (scope : Scope) (v s : ℕ) → Fits (entry triggers scope (Up v s) ∷ h) → scope ≡ All
+  up_fits triggers (One p) v s f = absurd f.0
+  up_fits triggers All v s f = refl
+
+  pub marked_up : (trigger : Trigger) (scope : Scope) (cause : Cause) (v s i : ℕ) (sessions : Sessions) → Fits (entry (trigger ∷ []) scope cause ∷ h) → cause ≡ Up v s → slice_get (neighbours net u) i ≡ Some v
+      → ((row : List SessionMark) → slice_get rows i ≡ Some row → HasRows (set rows i (row ++ record { nbr = v; session = s; opened = false; sent = 0; received = 0; down = None } ∷ [])) sessions)
+      → Marked rules net u h (entry (trigger ∷ []) scope cause) sessions
+  marked_up trigger scope cause v s i sessions fits is at opened =
+      let is_all : scope ≡ All = up_fits (trigger ∷ []) scope v s (subst (λ c. Fits (entry (trigger ∷ []) scope c ∷ h)) is fits) in
+      let k = entry (trigger ∷ []) All (Up v s) in
+      let up : Fits (k ∷ h) = subst (λ x. Fits (entry (trigger ∷ []) x (Up v s) ∷ h)) is_all (subst (λ c. Fits (entry (trigger ∷ []) scope c ∷ h)) is fits) in
+      let found = row_of v i at in
+      let row = found.0 ++ fresh rules net u h (trigger ∷ []) v s up ∷ [] in
+      let marked : Marked rules net u h k sessions = record {
+        rows = set rows i row;
+        kept = opened found.0 found.1;
+        each = set_row k up v i row refl at (opened_row rules net u h (trigger ∷ []) v s up found.0 found.2);
+      } in
+      subst (λ x. Marked rules net u h (entry (trigger ∷ []) x cause) sessions) (sym is_all) (subst (λ c. Marked rules net u h (entry (trigger ∷ []) All c) sessions) (sym is) marked)
+
+  not_up : (cause : Cause) (w : ℕ) → ((v s : ℕ) → cause ≡ Up v s → ⊥) → opens_by cause w ≡ []
+  not_up Originate w other = refl
+  not_up Withdraw w other = refl
+  not_up (Recv v t seq path) w other = refl
+  not_up (Down v t) w other = refl
+  not_up (Ready v t) w other = refl
+  not_up (Prefer v x) w other = refl
+  not_up (Up v t) w other = absurd (other v t refl)
+
+  pub marked_turned : (k : Entry) (v i : ℕ) (mark new : SessionMark) (sessions : Sessions) → Fits (k ∷ h) → ((v s : ℕ) → k.read.cause ≡ Up v s → ⊥) → names k.read.cause ≡ Some v
+      → slice_get (neighbours net u) i ≡ Some v → ((row : List SessionMark) → slice_get rows i ≡ Some row → EndsWith row mark)
+      → ((n : ℕ) → Says h v (last (reads h) v) n mark → Says (k ∷ h) v (last (reads h) v) n new)
+      → ((older : List SessionMark) → slice_get rows i ≡ Some (older ++ mark ∷ []) → HasRows (set rows i (older ++ new ∷ [])) sessions)
+      → Marked rules net u h k sessions
+  marked_turned k v i mark new sessions fits other by at ends turn put =
+      let found = row_of v i at in
+      let end = ends found.0 found.1 in
+      record {
+        rows = set rows i (end.0 ++ new ∷ []);
+        kept = put end.0 (found.1 ∙ ap (λ r. Some r) end.1);
+        each = set_row k fits v i (end.0 ++ new ∷ []) by at
+            (turned_row rules net u h k fits v end.0 mark new (not_up k.read.cause v other) (subst (AreMarks rules net u h v) end.1 found.2) (turn (sent_count rules net u h v (last (reads h) v))));
+      }

@@ -34,9 +34,9 @@ fn named(cause: &Cause) -> Option<NodeId>
 
 /// The place of a neighbour.
 pub fn place_of(near: &[NodeId], nbr: NodeId) -> Option<usize>
-    ensures some { (net : Net) (u : ℕ) → near.now ≡ neighbours net u →
+    ensures some { (net : Net) (u : ℕ) → IsValid net → near.now ≡ neighbours net u →
         IfSome result (λ place. slice_get (neighbours net u) place ≡ Some nbr) }
-    ensures none { (net : Net) (u : ℕ) → near.now ≡ neighbours net u →
+    ensures none { (net : Net) (u : ℕ) → IsValid net → near.now ≡ neighbours net u →
         IfNone result (has (neighbours net u) nbr ≡ false) }
 {
     near.binary_search(&nbr).ok()
