@@ -14,3 +14,4 @@ pub mod Newest
 pub mod Zips
 pub mod Turned
 pub mod Placed
+pub mod Speaking
