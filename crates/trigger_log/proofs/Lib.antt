@@ -15,3 +15,4 @@ pub mod Zips
 pub mod Turned
 pub mod Placed
 pub mod Speaking
+pub mod Rounds
