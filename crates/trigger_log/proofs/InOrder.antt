@@ -1,6 +1,5 @@
 -- The items of an entry stand in order.
-use Rattle.std.proofs.Common.{ℕ, suc, ◌<◌, ◌≤◌, ◌+◌, Bool, true, false, cond, Option, Some, None, List, [], ◌∷◌, ◌++◌, length, get_or, ◌≡◌, refl, sym, subst, arith, filter, map, flat_map}
-use Rattle.std.specs.Prelude.{if◌then◌else◌}
+use Rattle.std.proofs.Common.{ℕ, suc, ◌<◌, ◌≤◌, ◌+◌, true, false, cond, Option, Some, None, List, [], ◌∷◌, ◌++◌, length, ◌≡◌, refl, sym, subst, arith, filter, map, flat_map}
 use Rattle.std.specs.List.{AllByRecursion, range_with_len}
 use Rattle.std.specs.List.Sorted.{IsStrictlyIncreasing}
 use Rattle.std.proofs.lemmas.List.FromFn.{length-range_with_len, get_or-range_with_len}
@@ -39,7 +38,7 @@ news_in_order rules net u h k w =
 -- ---- neighbours
 
 -- those that the items go to
-abbrev pub receivers : List Sent → List ℕ
+abbrev receivers : List Sent → List ℕ
 receivers items = map (λ (item : Sent). item.to) items
 
 -- all items go to w

@@ -1,5 +1,5 @@
 -- Each trigger of an item is listed by an entry.
-use Rattle.std.proofs.Common.{ℕ, Bool, true, false, cond, ◌&&◌, Option, Some, None, List, [], ◌∷◌, ◌++◌, ◌≡◌, ◌⊎◌, inl, inr, ⊎_elim, sym, subst, filter, map}
+use Rattle.std.proofs.Common.{ℕ, true, false, cond, ◌&&◌, Some, List, [], ◌∷◌, ◌++◌, ◌≡◌, ◌⊎◌, inl, inr, ⊎_elim, sym, subst, filter, map}
 use Rattle.topology.specs.declared.names.Trigger.{Trigger}
 use Rattle.topology.specs.Lists.{Among}
 use Rattle.topology.specs.Net.{Net, places}

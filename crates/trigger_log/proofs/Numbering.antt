@@ -1,7 +1,7 @@
 -- The items of a session are numbered from one, its close last.
-use Rattle.std.proofs.Common.{ℕ, zero, suc, not, ◌<◌, ◌≤◌, ◌+◌, Bool, true, false, cond, ◌==◌, ◌&&◌, ◌||◌, Option, Some, None, List, [], ◌∷◌, ◌++◌, length, ◌≡◌, ◌≢◌, refl, sym, ◌∙◌, ap, subst, arith, filter, map, flat_map}
+use Rattle.std.proofs.Common.{ℕ, zero, suc, not, ◌+◌, Bool, true, false, cond, ◌==◌, ◌&&◌, Option, Some, None, List, [], ◌∷◌, ◌++◌, length, ◌≡◌, refl, sym, ◌∙◌, ap, subst, arith, filter, map, flat_map}
 use Rattle.std.specs.Prelude.{if◌then◌else◌}
-use Rattle.std.specs.List.{AllByRecursion, range_with_len}
+use Rattle.std.specs.List.{range_with_len}
 use Rattle.std.proofs.lemmas.Bool.Decides.{nat_tests}
 use Rattle.std.proofs.lemmas.List.{append-nil}
 use Rattle.std.proofs.lemmas.List.Elements.{filter-append}
@@ -14,9 +14,9 @@ use Rattle.topology.proofs.Neighbours.{differ-neighbours}
 use Rattle.path_vector.specs.Rules.{Rules}
 use Rattle.path_vector.specs.History.{held, opened, ready}
 use Rattle.trigger_log.specs.Entries.{Entry, Update, reads, closes, close, is_session}
-use Rattle.trigger_log.specs.Sending.{news, outbox, one_where, sent_count, next_number, sent_from, updates_sent, close_sent, sent_to, sent_by, sent_of, is_sent_in}
+use Rattle.trigger_log.specs.Sending.{news, outbox, sent_count, next_number, sent_from, updates_sent, close_sent, sent_to, sent_by, sent_of, is_sent_in}
 use Rattle.trigger_log.specs.Fits.{Fits}
-use Rattle.trigger_log.proofs.Closings.{is_session_of, session_is, not_close, close_other, outbox_held, outbox_other, held_not_closed, held_count, count_held}
+use Rattle.trigger_log.proofs.Closings.{is_session_of, session_is, not_close, close_other, outbox_other, held_not_closed, held_count, count_held}
 use Rattle.trigger_log.proofs.Silence.{ready_held}
 use Rattle.trigger_log.proofs.InOrder.{AllTo, all_to}
 

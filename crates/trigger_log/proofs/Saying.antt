@@ -1,5 +1,5 @@
 -- What is said is what is offered.
-use Rattle.std.proofs.Common.{ℕ, Bool, true, false, cond, not, ◌==◌, ◌&&◌, ◌||◌, Option, Some, None, List, [], ◌∷◌, ◌++◌, ◌≡◌, ◌⊎◌, inl, inr, ⊎_elim, refl, sym, ◌∙◌, ap, subst, arith, is_some, unwrap_or, filter, map}
+use Rattle.std.proofs.Common.{ℕ, Bool, true, false, cond, not, ◌==◌, ◌&&◌, ◌||◌, Option, Some, None, List, [], ◌∷◌, ◌++◌, ◌≡◌, ◌⊎◌, inl, inr, ⊎_elim, refl, sym, ◌∙◌, ap, subst, arith, is_some, filter, map}
 use Rattle.std.specs.Prelude.{if◌then◌else◌}
 use Rattle.std.specs.Option.{option_or}
 use Rattle.std.proofs.lemmas.Bool.Decides.{nat_tests}
@@ -30,7 +30,7 @@ or_none : {A : Type 0} (a : Option A) → option_or a None ≡ a
 or_none None = refl
 or_none (Some x) = refl
 
-pub last_append : (p : ℕ) (xs ys : List Update) → last_said p (xs ++ ys) ≡ option_or (last_said p ys) (last_said p xs)
+last_append : (p : ℕ) (xs ys : List Update) → last_said p (xs ++ ys) ≡ option_or (last_said p ys) (last_said p xs)
 last_append p [] ys = sym (or_none (last_said p ys))
 last_append p (x ∷ xs) ys = rw (last_append p xs ys) (or_or (last_said p ys) (last_said p xs) (if x.prefix == p then Some x.path else None))
 
@@ -135,7 +135,7 @@ unfolding changed
 change_is rules net u h k w s p r e = not_changed (ready (k.read ∷ reads h) w) s (offer rules net u (k.read ∷ reads h) p w) (offered rules net u (reads h) p w) r e
 
 -- before an entry after which w is ready, what was said is what w knew
-pub said_before : (rules : Rules) (net : Net) (u : ℕ) (k : Entry) (h : List Entry) (w s p : ℕ) → Fits (k ∷ h) → ready (k.read ∷ reads h) w ≡ Some s
+said_before : (rules : Rules) (net : Net) (u : ℕ) (k : Entry) (h : List Entry) (w s p : ℕ) → Fits (k ∷ h) → ready (k.read ∷ reads h) w ≡ Some s
     → (ready (reads h) w ≡ Some s → said p (outbox rules net u h w s) ≡ offer rules net u (reads h) p w)
     → said p (outbox rules net u h w s) ≡ offered rules net u (reads h) p w
 said_before rules net u k h w s p f r ih =

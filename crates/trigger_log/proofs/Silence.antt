@@ -1,5 +1,5 @@
 -- Where a node says nothing: by an opening, and in a session that the other end has not opened.
-use Rattle.std.proofs.Common.{ℕ, ◌<◌, ◌≤◌, Bool, true, false, cond, ◌==◌, ◌&&◌, Option, Some, None, List, [], ◌∷◌, ◌++◌, ◌≡◌, ◌⊎◌, inl, inr, ⊎_elim, refl, ap, subst, arith, option_and_then, filter, map}
+use Rattle.std.proofs.Common.{ℕ, ◌<◌, Bool, true, false, cond, ◌==◌, Option, Some, None, List, [], ◌∷◌, ◌≡◌, ◌⊎◌, inl, inr, ⊎_elim, refl, ap, subst, arith, option_and_then, filter, map}
 use Rattle.std.specs.Prelude.{if◌then◌else◌}
 use Rattle.std.proofs.lemmas.Bool.Decides.{nat_tests}
 use Rattle.topology.specs.declared.names.Trigger.{Trigger}
@@ -9,7 +9,7 @@ use Rattle.topology.specs.Net.{Net, places}
 use Rattle.path_vector.specs.declared.causes.Cause.{Cause}
 use Rattle.path_vector.specs.declared.causes.Cause.TheVariants.{Originate, Withdraw, Recv, Down, Up, Ready, Prefer}
 use Rattle.path_vector.specs.Rules.{Rules}
-use Rattle.path_vector.specs.History.{change, held, held_by, last, opened, opened_by, ready}
+use Rattle.path_vector.specs.History.{held, held_by, last, opened, opened_by, ready}
 use Rattle.path_vector.specs.Offers.{changed}
 use Rattle.path_vector.proofs.Opening.{opening_changes_nothing, unopened}
 use Rattle.trigger_log.specs.Entries.{Entry, Update, reads, entry, is_session}
@@ -23,7 +23,7 @@ filter_none test [] none = refl
 filter_none test (x ∷ xs) none = rw (none x) (filter_none test xs none)
 
 -- an entry that changes no offer sends nothing
-pub no_news : (rules : Rules) (net : Net) (u : ℕ) (h : List Entry) (k : Entry) (w : ℕ) → ((p : ℕ) → changed rules net u (reads h) k.read w p ≡ false) → news rules net u h k w ≡ []
+no_news : (rules : Rules) (net : Net) (u : ℕ) (h : List Entry) (k : Entry) (w : ℕ) → ((p : ℕ) → changed rules net u (reads h) k.read w p ≡ false) → news rules net u h k w ≡ []
 unfolding news
 no_news rules net u h k w none = ap (map (update_of rules net u h k w)) (filter_none (changed rules net u (reads h) k.read w) (places net) none)
 
@@ -50,7 +50,7 @@ pub not_opened : (s : ℕ) (o : ℕ → Bool) (a : Option ℕ) → a ≡ Some s 
 not_opened s o a e f = rw (e, f) refl
 
 -- no news where w is not ready after the entry
-pub unready_news : (rules : Rules) (net : Net) (u : ℕ) (h : List Entry) (k : Entry) (w : ℕ) → ready (k.read ∷ reads h) w ≡ None → news rules net u h k w ≡ []
+unready_news : (rules : Rules) (net : Net) (u : ℕ) (h : List Entry) (k : Entry) (w : ℕ) → ready (k.read ∷ reads h) w ≡ None → news rules net u h k w ≡ []
 unfolding changed
 unready_news rules net u h k w e = no_news rules net u h k w (λ p. rw e refl)
 
