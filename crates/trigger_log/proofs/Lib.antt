@@ -16,3 +16,6 @@ pub mod Turned
 pub mod Placed
 pub mod Speaking
 pub mod Rounds
+pub mod Finding
+pub mod AllMarks
+pub mod Entering

@@ -1,10 +1,10 @@
 -- Rows of marks that are kept as one list.
-use Rattle.std.proofs.Common.{◌≡◌, ℕ, zero, suc, ◌+◌, ◌-◌, ◌<◌, ◌≤◌, List, [], ◌∷◌, ◌++◌, length, length-append, append_assoc, get_or, set, slice_get, take, drop, refl, sym, ap, ◌∙◌, subst, arith, Option, Some, None, ◌⊎◌, inl, inr, ⊎_elim, ltb}
+use Rattle.std.proofs.Common.{◌≡◌, true, ℕ, zero, suc, ◌+◌, ◌-◌, ◌<◌, ◌≤◌, List, [], ◌∷◌, ◌++◌, length, length-append, append_assoc, get_or, set, slice_get, map, take, refl, sym, ap, ◌∙◌, subst, arith, Option, Some, None, ◌⊎◌, inl, inr, ⊎_elim, ltb}
 use Rattle.std.proofs.lemmas.Bool.Decides.{nat_tests}
+use Rattle.std.proofs.lemmas.List.{take_more}
 use Rattle.std.proofs.lemmas.Option.{slice_get_read, slice_get_past}
 use Rattle.std.specs.List.{AllByRecursion, insert}
-use Rattle.std.specs.Prelude.{flat_map, is_some, IfSome, IfNone}
-use Rattle.topology.specs.Lists.{Among}
+use Rattle.std.specs.Prelude.{is_some, IfSome, IfNone}
 use Rattle.trigger_log.specs.declared.sessions.SessionMark.{SessionMark}
 use Rattle.trigger_log.specs.declared.sessions.Sessions.{Sessions}
 use Rattle.trigger_log.specs.Rows.{joined, last_places, shifted, HasRows, EndsWith}
@@ -217,3 +217,27 @@ newest_ends rows place last row mark sessions has is at stands =
     let same : last ≡ n.last = some_is last n.last (sym at ∙ n.placed) in
     let here : mark ≡ n.mark = some_is mark n.mark (sym stands ∙ (ap (slice_get sessions.marks.items) same ∙ n.stands)) in
     subst (EndsWith row) (sym here) n.ends
+
+-- ---- each neighbour with the session from the start
+
+abbrev pub first : ℕ → Marks
+first w = record { nbr = w; session = 1; opened = true; sent = 0; received = 0; down = None } ∷ []
+
+pub taken_more : (near : List ℕ) (i x : ℕ) → i < length near → x ≡ get_or near i x → take (i + 1) near ≡ take i near ++ x ∷ []
+taken_more near i x h is = take_more near i x h ∙ ap (λ y. take i near ++ y ∷ []) (sym is)
+
+pub firsts_joined : (xs : List ℕ) (x : ℕ) → joined (map first (xs ++ x ∷ [])) ≡ joined (map first xs) ++ first x
+firsts_joined [] x = refl
+firsts_joined (y ∷ xs) x = ap (λ l. first y ++ l) (firsts_joined xs x)
+
+pub firsts_length : (xs : List ℕ) → length (joined (map first xs)) ≡ length xs
+firsts_length [] = refl
+firsts_length (x ∷ xs) = ap suc (firsts_length xs)
+
+pub firsts_places : (n m : ℕ) (xs : List ℕ) (x : ℕ) → m ≡ n + length xs → last_places n (map first (xs ++ x ∷ [])) ≡ last_places n (map first xs) ++ m ∷ []
+firsts_places n m [] x e = ap (λ k. k ∷ []) (omega arith)
+firsts_places n m (y ∷ xs) x e = ap (λ l. (n + 1 - 1) ∷ l) (firsts_places (n + 1) m xs x (omega arith))
+
+pub firsts_filled : (xs : List ℕ) → Filled (map first xs)
+firsts_filled [] = tt
+firsts_filled (x ∷ xs) = (omega arith, firsts_filled xs)

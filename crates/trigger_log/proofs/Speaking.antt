@@ -27,7 +27,7 @@ use Rattle.trigger_log.specs.Telling.{Tells}
 use Rattle.trigger_log.specs.Marked.{Says, Spoken, ends_with, readies}
 use Rattle.trigger_log.proofs.Holding.{accepted, fits_up, fits_down, fits_ready, held_is_last}
 use Rattle.trigger_log.proofs.Closings.{count_held, count_other, count_down, close_count, held_count, not_close}
-use Rattle.trigger_log.proofs.Silence.{ready_in, ready_held, not_opened, opened_above, unready_news}
+use Rattle.trigger_log.proofs.Silence.{ready_in, ready_held, not_opened, opened_above}
 use Rattle.trigger_log.proofs.Newest.{held_until}
 
 same_number : (v w : ℕ) → (v == w) ≡ true → v ≡ w
@@ -142,6 +142,16 @@ module _ (rules : Rules) (net : Net) (u : ℕ) (h : List Entry) (k : Entry) (w s
       (filter_same (differs rules net u h k (is_some (ready (reads h) w)) w) moved moves (places_of net k.read.scope) ∙ passing k.read.scope refl placed)
 
 -- ---- the three cases
+
+filter_none : (f : ℕ → Bool) (xs : List ℕ) → ((p : ℕ) → f p ≡ false) → filter f xs ≡ []
+filter_none f [] none = refl
+filter_none f (x ∷ xs) none = rw (none x) (filter_none f xs none)
+
+-- no news where w is not ready after the entry
+unready_news : (rules : Rules) (net : Net) (u : ℕ) (h : List Entry) (k : Entry) (w : ℕ) → ready (k.read ∷ reads h) w ≡ None → news rules net u h k w ≡ []
+unfolding news changed
+unready_news rules net u h k w e =
+    ap (map (update_of rules net u h k w)) (filter_none (changed rules net u (reads h) k.read w) (places net) (λ p. rw e refl))
 
 not_closed : (cause : Cause) (w t : ℕ) → ends_with cause w ≡ false → closes cause w t ≡ false
 not_closed Originate w t e = refl

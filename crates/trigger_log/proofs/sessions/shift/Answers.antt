@@ -1,4 +1,4 @@
-use Rattle.std.proofs.Common.{◌≡◌, ℕ, suc, ◌+◌, ◌-◌, ◌<◌, length, get_or, sym, ap, ◌∙◌, arith, length-set}
+use Rattle.std.proofs.Common.{◌≡◌, ℕ, suc, ◌+◌, ◌-◌, length, get_or, sym, ap, ◌∙◌, arith}
 use Rattle.trigger_log.proofs.Shifted.{shifted_none, shifted_all, shifted_more, shifted_by, shifted_length}
 use Rattle.trigger_log.proofs.sessions.shift.Goals as goal
 

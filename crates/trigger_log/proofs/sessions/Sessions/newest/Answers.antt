@@ -1,5 +1,3 @@
-use Rattle.std.proofs.Common.{◌≡◌, ℕ, ◌≤◌, ◌<◌, length, slice_get, get_or, Some, None, ◌∙◌, ap, arith, List}
-use Rattle.trigger_log.specs.Rows.{HasRows, EndsWith}
 use Rattle.trigger_log.proofs.Rows.{placed, got, missed, no_place, no_mark, newest_ends}
 use Rattle.trigger_log.proofs.sessions.Sessions.newest.Goals as goal
 

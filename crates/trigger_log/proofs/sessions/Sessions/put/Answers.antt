@@ -1,4 +1,4 @@
-use Rattle.std.proofs.Common.{◌≡◌, ℕ, ◌≤◌, ◌<◌, length, slice_get, get_or, Some, None, ◌∙◌, ap, arith, List, refl, sym}
+use Rattle.std.proofs.Common.{◌≤◌, length, ◌∙◌, arith, refl, sym}
 use Rattle.std.proofs.lemmas.Option.{slice_get_past}
 use Rattle.trigger_log.proofs.Rows.{placed, puts, no_place, no_mark}
 use Rattle.trigger_log.proofs.sessions.Sessions.put.Goals as goal
