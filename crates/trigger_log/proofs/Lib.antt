@@ -19,3 +19,4 @@ pub mod Rounds
 pub mod Finding
 pub mod AllMarks
 pub mod Entering
+pub mod Reading

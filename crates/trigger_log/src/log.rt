@@ -1,9 +1,10 @@
 //! The log of a node.
-ghost use Rattle.std.specs.Prelude.{ℕ, suc, ◌≡◌, ◌<◌, ◌≤◌, ◌⊎◌, ◌↔◌, ◌-◌, [], ◌∷◌, true, List, length, map, slice_get, is_some, Some, IsTrue, IsNone, IfOk, IfSome, OnOk, if◌then◌else◌};
+ghost use Rattle.std.specs.Prelude.{ℕ, suc, ◌≡◌, ◌<◌, ◌≤◌, ◌⊎◌, ◌↔◌, ◌-◌, [], ◌∷◌, true, List, length, map, slice_get, is_some, Some, None, false, IsTrue, IsNone, IfOk, IfSome, IfNone, OnOk, if◌then◌else◌};
 ghost use Rattle.std.specs.List.{AllZip};
 ghost use Rattle.topology.specs.Lists.{has};
 ghost use Rattle.topology.specs.Net.{Net, neighbours};
-ghost use Rattle.path_vector.specs.History.{held, ready};
+ghost use Rattle.path_vector.specs.History.{held, last, ready};
+ghost use Rattle.topology.specs.declared.names.Scope.TheVariants.{One, All};
 ghost use Rattle.path_vector.specs.Kept.{IsOfNeighbour};
 ghost use Rattle.path_vector.specs.Standing.{StandsFor as RoutesStandFor};
 ghost use Rattle.trigger_log.specs.Entries.{Entry as Logged, entry, reads, inbox, is_local, next_trigger};
@@ -12,6 +13,7 @@ ghost use Rattle.trigger_log.specs.Going.{going_of, going_by};
 ghost use Rattle.trigger_log.specs.Fits.{CauseFits};
 ghost use Rattle.trigger_log.specs.Sessions.{AreAllMarks};
 ghost use Rattle.trigger_log.specs.Offered.{IsPlaced};
+ghost use Rattle.trigger_log.specs.Marked.{Says};
 ghost use Rattle.trigger_log.specs.Standing.{Step, steps, Shows, StandsFor};
 
 use crate::entries::{Entry, SentItems};
@@ -296,7 +298,11 @@ impl<P: Policy + Copy> NodeLog<P> {
     }
 
     // Whether an entry of one prefix may follow.
-    fn fits_one(&self, prefix: PrefixId, cause: &Cause) -> bool {
+    fn fits_one(&self, prefix: PrefixId, cause: &Cause) -> bool
+        ensures { (policy : P) (net : Net) (u : ℕ) (h : List Logged) →
+            StandsFor policy (P.rules policy) net u self.now h → IsOfNeighbour net u cause.now →
+            prefix < length net.prefixes → IsTrue result ↔ CauseFits h (One prefix) cause.now }
+    {
         match cause {
             Cause::Originate => !self.routes.owns(prefix),
             Cause::Withdraw => self.routes.owns(prefix),
@@ -305,39 +311,61 @@ impl<P: Policy + Copy> NodeLog<P> {
                 session,
                 seq,
                 ..
-            } => self.held(*from) == Some(*session) && self.is_next(*from, *seq),
+            } => self.holds(*from, *session) && self.is_next(*from, *session, *seq),
             _ => false,
         }
     }
 
     // Whether an entry of all prefixes may follow.
-    fn fits_all(&self, cause: &Cause) -> bool {
+    fn fits_all(&self, cause: &Cause) -> bool
+        ensures { (policy : P) (net : Net) (u : ℕ) (h : List Logged) →
+            StandsFor policy (P.rules policy) net u self.now h → IsOfNeighbour net u cause.now →
+            IsTrue result ↔ CauseFits h All cause.now }
+    {
         match cause {
-            Cause::Down { nbr, session } => self.held(*nbr) == Some(*session),
+            Cause::Down { nbr, session } => self.holds(*nbr, *session),
             Cause::Up { nbr, session } => self.may_open(*nbr, *session),
-            Cause::Ready { nbr, session } => {
-                self.held(*nbr) == Some(*session) && !self.ready(*nbr)
-            }
+            Cause::Ready { nbr, session } => self.holds(*nbr, *session) && !self.ready(*nbr),
             Cause::Prefer { .. } => true,
             _ => false,
         }
     }
 
     // The newest session with a neighbour.
-    fn newest(&self, nbr: NodeId) -> Option<&SessionMark> {
+    fn newest(&self, nbr: NodeId) -> Option<&SessionMark>
+        ensures some { IfSome result (λ mark. (policy : P) (net : Net) (u : ℕ) (h : List Logged) →
+            StandsFor policy (P.rules policy) net u self.now h →
+            Says h nbr (last (reads h) nbr) (sent_count (P.rules policy) net u h nbr (last (reads h) nbr)) mark.now) }
+        ensures none { IfNone result ((policy : P) (net : Net) (u : ℕ) (h : List Logged) →
+            StandsFor policy (P.rules policy) net u self.now h → has (neighbours net u) nbr ≡ false) }
+    {
         self.sessions.newest(place_of(&self.near, nbr)?)
     }
 
-    // Whether the next update of the neighbour has this number.
-    fn is_next(&self, nbr: NodeId, seq: u32) -> bool {
-        match self.newest(nbr) {
-            None => false,
-            Some(mark) => mark.received.checked_add(1) == Some(seq),
-        }
+    // Whether the session is held with the neighbour.
+    fn holds(&self, nbr: NodeId, session: Session) -> bool
+        ensures { (policy : P) (net : Net) (u : ℕ) (h : List Logged) →
+            StandsFor policy (P.rules policy) net u self.now h → has (neighbours net u) nbr ≡ true →
+            IsTrue result ↔ (held (reads h) nbr ≡ Some session) }
+    {
+        self.held(nbr) == Some(session)
+    }
+
+    // Whether the next update of the neighbour in the session has this number.
+    fn is_next(&self, nbr: NodeId, session: Session, seq: u32) -> bool
+        ensures { (policy : P) (net : Net) (u : ℕ) (h : List Logged) →
+            StandsFor policy (P.rules policy) net u self.now h → has (neighbours net u) nbr ≡ true →
+            IsTrue result ↔ (seq ≡ suc (length (inbox h nbr session))) }
+    {
+        self.received(nbr, session).checked_add(1) == Some(seq)
     }
 
     // Whether no session is held with the neighbour, and all so far are below this one.
-    fn may_open(&self, nbr: NodeId, session: Session) -> bool {
+    fn may_open(&self, nbr: NodeId, session: Session) -> bool
+        ensures { (policy : P) (net : Net) (u : ℕ) (h : List Logged) →
+            StandsFor policy (P.rules policy) net u self.now h → has (neighbours net u) nbr ≡ true →
+            IsTrue result ↔ ((held (reads h) nbr ≡ None) × (last (reads h) nbr < session)) }
+    {
         match self.newest(nbr) {
             None => false,
             Some(mark) => mark.down.is_some() && mark.session < session,

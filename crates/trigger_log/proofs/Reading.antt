@@ -1,0 +1,62 @@
+-- What is read of a log.
+use Rattle.std.proofs.Common.{ℕ, zero, suc, ◌+◌, ◌<◌, ◌≤◌, Bool, true, false, ◌&&◌, Option, Some, None, List, [], ◌∷◌, ◌++◌, ◌≡◌, refl, sym, ◌∙◌, ap, subst, arith, length, slice_get}
+use Rattle.std.specs.Prelude.{if◌then◌else◌, IfSome, IfNone, is_some, is_none, ◌⊎◌}
+use Rattle.std.specs.List.{AllZip}
+use Rattle.topology.specs.Net.{Net, neighbours}
+use Rattle.path_vector.specs.Rules.{Rules}
+use Rattle.path_vector.specs.History.{last, held, ready}
+use Rattle.trigger_log.specs.declared.sessions.SessionMark.{SessionMark}
+use Rattle.trigger_log.specs.Entries.{Entry, reads, inbox}
+use Rattle.trigger_log.specs.Sending.{sent_count}
+use Rattle.trigger_log.specs.Fits.{Fits}
+use Rattle.trigger_log.specs.Sessions.{ever, IsMark, AreMarks, AreRows}
+use Rattle.trigger_log.specs.Rows.{EndsWith}
+use Rattle.trigger_log.specs.Marked.{Says}
+use Rattle.topology.specs.Lists.{has}
+use Rattle.trigger_log.proofs.Fresh.{fresh_outbox, fresh_close}
+use Rattle.trigger_log.proofs.Newest.{ends_ever}
+use Rattle.trigger_log.proofs.Speaking.{held_mark, ready_mark}
+use Rattle.trigger_log.proofs.Zips.{zip_at, zip_end}
+
+pub if_some : {A : Type 0} (P Q : A → Type 0) (r : Option A) → ((x : A) → P x → Q x) → IfSome r P → IfSome r Q
+if_some P Q None step has = tt
+if_some P Q (Some x) step has = step x has
+
+pub if_none : {A : Type 0} (P Q : Type 0) (r : Option A) → (P → Q) → IfNone r P → IfNone r Q
+if_none P Q None step has = step has
+if_none P Q (Some x) step has = tt
+
+module _ (rules : Rules) (net : Net) (u : ℕ) (h : List Entry) (rows : List (List SessionMark)) (fits : Fits h) (were : AreRows rules net u h rows) where
+  -- the newest mark of a neighbour
+  pub newest_mark : (w i : ℕ) (mark : SessionMark) → slice_get (neighbours net u) i ≡ Some w → ((row : List SessionMark) → slice_get rows i ≡ Some row → EndsWith row mark)
+      → Says h w (last (reads h) w) (sent_count rules net u h w (last (reads h) w)) mark
+  newest_mark w i mark at ends =
+      let found = zip_at (AreMarks rules net u h) (neighbours net u) rows i w were at in
+      let end = ends found.0 found.1 in
+      let all = ends_ever h w fits in
+      let is = (zip_end (IsMark rules net u h w) all.older end.0 (last (reads h) w) mark
+      (subst (λ l. AllZip (IsMark rules net u h w) l (end.0 ++ mark ∷ [])) all.is (subst (AllZip (IsMark rules net u h w) (ever h w)) end.1 found.2))).1 in
+      record { nbr = is.nbr; session = is.session; is_opened = is.is_opened; sent = is.sent; received = is.received; down = is.down }
+
+  -- each neighbour has a row
+  pub has_row : (w i : ℕ) → slice_get (neighbours net u) i ≡ Some w → slice_get rows i ≡ None → ⊥
+  has_row w i at none = let found = zip_at (AreMarks rules net u h) (neighbours net u) rows i w were at in absurd (cc (found.1, none))
+
+pub held_shown : (h : List Entry) (w n : ℕ) (mark : SessionMark) → Fits h → Says h w (last (reads h) w) n mark → (if is_none mark.down then Some mark.session else None) ≡ held (reads h) w
+held_shown h w n mark fits says =
+    ap (λ s. if is_none mark.down then Some s else None) says.session ∙ sym (held_mark h w n mark fits says)
+
+some_if : (b : Bool) (s : ℕ) → is_some (if b then Some s else None) ≡ b
+some_if true s = refl
+some_if false s = refl
+
+pub ready_shown : (h : List Entry) (w n : ℕ) (mark : SessionMark) → Fits h → Says h w (last (reads h) w) n mark → (is_none mark.down && mark.opened) ≡ is_some (ready (reads h) w)
+ready_shown h w n mark fits says =
+    sym (some_if (is_none mark.down && mark.opened) (last (reads h) w)) ∙ ap is_some (sym (ready_mark h w n mark fits says))
+
+-- nothing was sent in a session that was never held
+pub fresh_count : (rules : Rules) (net : Net) (u : ℕ) (h : List Entry) (w s : ℕ) → Fits h → has (ever h w) s ≡ false → sent_count rules net u h w s ≡ 0
+fresh_count rules net u h w s fits never =
+    let none = fresh_outbox rules net u h w s fits never in
+    let open_still = fresh_close h w s fits never in
+    rw (none, open_still) refl
