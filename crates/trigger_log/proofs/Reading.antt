@@ -1,6 +1,9 @@
 -- What is read of a log.
-use Rattle.std.proofs.Common.{ℕ, zero, suc, ◌+◌, ◌<◌, ◌≤◌, Bool, true, false, ◌&&◌, Option, Some, None, List, [], ◌∷◌, ◌++◌, ◌≡◌, refl, sym, ◌∙◌, ap, subst, arith, length, slice_get}
-use Rattle.std.specs.Prelude.{if◌then◌else◌, IfSome, IfNone, is_some, is_none, ◌⊎◌}
+use Rattle.std.proofs.Common.{ℕ, zero, suc, ◌+◌, ◌<◌, ◌≤◌, Bool, true, false, ◌&&◌, not, ◌-◌, Option, Some, None, IsNone, List, [], ◌∷◌, ◌++◌, ◌≡◌, ◌⊎◌, inr, ⊎_elim, refl, sym, ◌∙◌, ap, subst, arith, length, length-append, slice_get, slice_index_or, nat_cmp, nat_lt, is_lt}
+use Rattle.std.specs.Prelude.{if◌then◌else◌, IfSome, IfNone, IsTrue, is_some, is_none}
+use Rattle.std.proofs.lemmas.Option.{same_Some, slice_get_read}
+use Rattle.std.proofs.lemmas.Bool.Decides.{nat_tests}
+use Rattle.trigger_log.specs.Standing.{Step, steps}
 use Rattle.std.specs.List.{AllZip}
 use Rattle.topology.specs.Net.{Net, neighbours}
 use Rattle.path_vector.specs.Rules.{Rules}
@@ -60,3 +63,45 @@ fresh_count rules net u h w s fits never =
     let none = fresh_outbox rules net u h w s fits never in
     let open_still = fresh_close h w s fits never in
     rw (none, open_still) refl
+
+none_some : {A : Type 0} (o : Option A) → is_none o ≡ not (is_some o)
+none_some None = refl
+none_some (Some x) = refl
+
+-- no session is held with a neighbour whose newest is closed
+pub held_not : (h : List Entry) (w n : ℕ) (mark : SessionMark) → Fits h → Says h w (last (reads h) w) n mark → is_some mark.down ≡ true → held (reads h) w ≡ None
+held_not h w n mark fits says closed =
+    held_mark h w n mark fits says ∙ ap (λ b. if b then Some (last (reads h) w) else None) (none_some mark.down ∙ ap not closed)
+
+pub held_yet : (h : List Entry) (w n : ℕ) (mark : SessionMark) → Fits h → Says h w (last (reads h) w) n mark → is_some mark.down ≡ false → held (reads h) w ≡ Some (last (reads h) w)
+held_yet h w n mark fits says closed =
+    held_mark h w n mark fits says ∙ ap (λ b. if b then Some (last (reads h) w) else None) (none_some mark.down ∙ ap not closed)
+
+pub below : (a b c : ℕ) (r : Bool) (Q : Type 0) → r ≡ is_lt (nat_cmp a b) → a ≡ c → Q → (IsTrue r → Q × (c < b)) × (Q × (c < b) → IsTrue r)
+below a b c r Q is same q = (
+  λ yes. (q, let test : is_lt (nat_cmp a b) ≡ true = sym is ∙ yes in grind (arith, nat_tests)),
+  λ both. is ∙ (let less = both.1 in grind (arith, nat_tests)),
+)
+
+-- ---- entries
+
+pub zip_back : {A B : Type 0} (R : A → B → Type 0) (xs : List A) (ys : List B) (i : ℕ) (y : B) → AllZip R xs ys → slice_get ys i ≡ Some y → (x : A) × (slice_get xs i ≡ Some x) × R x y
+zip_back R [] [] i y all at = absurd (cc at)
+zip_back R [] (b ∷ ys) i y all at = absurd all
+zip_back R (a ∷ xs) [] i y all at = absurd all
+zip_back R (a ∷ xs) (b ∷ ys) zero y all at = (a, refl, subst (R a) (same_Some b y at) all.0)
+zip_back R (a ∷ xs) (b ∷ ys) (suc i) y all at = zip_back R xs ys i y all.1 at
+
+-- what `get` answers
+pub got : {A B : Type 0} (read : B → A) (r : Option B) (xs : List A) (i : ℕ) → is_some r ≡ nat_lt i (length xs) → IfSome r (λ x. read x ≡ slice_index_or xs i (read x)) → IfSome r (λ x. slice_get xs i ≡ Some (read x))
+got read None xs i within is = tt
+got read (Some x) xs i within is = slice_get_read xs (length xs) i (read x) refl (grind (arith, nat_tests)) is
+
+pub missing : {B : Type 0} (r : Option B) (n i place : ℕ) → is_some r ≡ nat_lt place n → 1 ≤ i → place ≡ i - 1 → (IsNone r → (i ≡ 0) ⊎ (n < i)) × ((i ≡ 0) ⊎ (n < i) → IsNone r)
+missing None n i place within from is = (λ none. inr (let out : n ≤ place = grind (arith, nat_tests) in omega arith), λ past. refl)
+missing (Some x) n i place within from is =
+    (λ none. absurd (cc none), λ past. absurd (let inside : place < n = grind (arith, nat_tests) in ⊎_elim (λ (e : i ≡ 0). omega arith) (λ (e : n < i). omega arith) past))
+
+pub count_steps : (h : List Entry) → length (steps h) ≡ length h
+count_steps [] = refl
+count_steps (k ∷ h) = let before = count_steps h in omega (arith, length-append (steps h) (record { before = h; entry = k } ∷ []))

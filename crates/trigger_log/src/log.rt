@@ -348,7 +348,10 @@ impl<P: Policy + Copy> NodeLog<P> {
             StandsFor policy (P.rules policy) net u self.now h → has (neighbours net u) nbr ≡ true →
             IsTrue result ↔ (held (reads h) nbr ≡ Some session) }
     {
-        self.held(nbr) == Some(session)
+        match self.held(nbr) {
+            None => false,
+            Some(held) => held == session,
+        }
     }
 
     // Whether the next update of the neighbour in the session has this number.
@@ -357,7 +360,10 @@ impl<P: Policy + Copy> NodeLog<P> {
             StandsFor policy (P.rules policy) net u self.now h → has (neighbours net u) nbr ≡ true →
             IsTrue result ↔ (seq ≡ suc (length (inbox h nbr session))) }
     {
-        self.received(nbr, session).checked_add(1) == Some(seq)
+        match self.received(nbr, session).checked_add(1) {
+            None => false,
+            Some(next) => next == seq,
+        }
     }
 
     // Whether no session is held with the neighbour, and all so far are below this one.
