@@ -1,17 +1,22 @@
 -- What is read of a log.
-use Rattle.std.proofs.Common.{ℕ, zero, suc, ◌+◌, ◌<◌, ◌≤◌, Bool, true, false, ◌&&◌, not, ◌-◌, Option, Some, None, IsNone, List, [], ◌∷◌, ◌++◌, ◌≡◌, ◌⊎◌, inr, ⊎_elim, refl, sym, ◌∙◌, ap, subst, arith, length, length-append, slice_get, slice_index_or, nat_cmp, nat_lt, is_lt}
-use Rattle.std.specs.Prelude.{if◌then◌else◌, IfSome, IfNone, IsTrue, is_some, is_none}
+use Rattle.std.proofs.Common.{ℕ, zero, suc, ◌+◌, ◌<◌, ◌≤◌, Bool, true, false, ◌&&◌, ◌==◌, nat_eq, not, ◌-◌, Option, Some, None, IsNone, List, [], ◌∷◌, ◌++◌, ◌≡◌, ◌⊎◌, inr, ⊎_elim, refl, sym, ◌∙◌, ap, subst, arith, length, length-append, slice_get, slice_index_or, nat_cmp, nat_lt, is_lt}
+use Rattle.std.specs.Prelude.{if◌then◌else◌, IfSome, IfNone, ◌↔◌, IsTrue, is_some, is_none}
 use Rattle.std.proofs.lemmas.Option.{same_Some, slice_get_read}
 use Rattle.std.proofs.lemmas.Bool.Decides.{nat_tests}
 use Rattle.trigger_log.specs.Standing.{Step, steps}
 use Rattle.std.specs.List.{AllZip}
 use Rattle.topology.specs.Net.{Net, neighbours}
 use Rattle.path_vector.specs.Rules.{Rules}
-use Rattle.path_vector.specs.History.{last, held, ready}
+use Rattle.path_vector.specs.History.{last, held, opened, ready}
+use Rattle.path_vector.specs.Kept.{IsOfNeighbour}
+use Rattle.path_vector.specs.declared.causes.Cause.{Cause}
+use Rattle.path_vector.specs.declared.causes.Cause.TheVariants.{Recv, Down, Up, Ready}
+use Rattle.topology.specs.declared.names.Scope.{Scope}
+use Rattle.topology.specs.declared.names.Scope.TheVariants.{One, All}
 use Rattle.trigger_log.specs.declared.sessions.SessionMark.{SessionMark}
 use Rattle.trigger_log.specs.Entries.{Entry, reads, inbox}
 use Rattle.trigger_log.specs.Sending.{sent_count}
-use Rattle.trigger_log.specs.Fits.{Fits}
+use Rattle.trigger_log.specs.Fits.{CauseFits, Fits}
 use Rattle.trigger_log.specs.Sessions.{ever, IsMark, AreMarks, AreRows}
 use Rattle.trigger_log.specs.Rows.{EndsWith}
 use Rattle.trigger_log.specs.Marked.{Says}
@@ -105,3 +110,69 @@ missing (Some x) n i place within from is =
 pub count_steps : (h : List Entry) → length (steps h) ≡ length h
 count_steps [] = refl
 count_steps (k ∷ h) = let before = count_steps h in omega (arith, length-append (steps h) (record { before = h; entry = k } ∷ []))
+
+-- ---- tests
+
+pub holds_none : (a : Option ℕ) (s : ℕ) → a ≡ None → (IsTrue false → a ≡ Some s) × (a ≡ Some s → IsTrue false)
+holds_none a s e = (λ yes. absurd (cc yes), λ f. absurd (cc (e, f)))
+
+pub holds_some : (a : Option ℕ) (t s : ℕ) (r : Bool) → r ≡ nat_eq t s → a ≡ Some t → (IsTrue r → a ≡ Some s) × (a ≡ Some s → IsTrue r)
+holds_some a t s r is e = (
+  λ yes. let test : (t == s) ≡ true = sym is ∙ yes in let same : t ≡ s = grind (arith, nat_tests) in e ∙ ap (λ n. Some n) same,
+  λ f. let same : t ≡ s = same_Some t s (sym e ∙ f) in is ∙ (let test : (t == s) ≡ true = grind (arith, nat_tests) in test),
+)
+
+pub next_over : (seq n m : ℕ) → seq < 4294967296 → (n + 1 < 4294967296 → ⊥) → n ≡ m → (IsTrue false → seq ≡ suc m) × (seq ≡ suc m → IsTrue false)
+next_over seq n m small over same = (λ yes. absurd (cc yes), λ e. absurd (over (omega arith)))
+
+pub next_is : (x seq n m : ℕ) → x ≡ n + 1 → n ≡ m → (IsTrue (nat_eq x seq) → seq ≡ suc m) × (seq ≡ suc m → IsTrue (nat_eq x seq))
+next_is x seq n m is same = (
+  λ yes. let test : (x == seq) ≡ true = yes in let e : x ≡ seq = grind (arith, nat_tests) in omega arith,
+  λ e. let both : x ≡ seq = omega arith in let test : (x == seq) ≡ true = grind (arith, nat_tests) in test,
+)
+
+-- whether a held session is ready is whether the other end has opened it
+ready_test : (h : List Entry) (w s : ℕ) → held (reads h) w ≡ Some s → is_some (ready (reads h) w) ≡ opened (reads h) w s
+ready_test h w s e = rw e (some_if (opened (reads h) w s) s)
+
+not_is : (r o : Bool) → r ≡ o → (IsTrue (not r) → o ≡ false) × (o ≡ false → IsTrue (not r))
+not_is true o e = (λ yes. absurd (cc yes), λ f. absurd (cc (e, f)))
+not_is false o e = (λ yes. sym e, λ f. refl)
+
+-- ---- what fits
+
+module _ (net : Net) (u : ℕ) (h : List Entry) (cause : Cause) (near : IsOfNeighbour net u cause) where
+  pub near_of : (c : Cause) → cause ≡ c → IsOfNeighbour net u c
+  near_of c is = subst (IsOfNeighbour net u) is near
+
+  fits_as : (scope : Scope) (c : Cause) (r : Bool) → cause ≡ c → IsTrue r ↔ CauseFits h scope c → IsTrue r ↔ CauseFits h scope cause
+  fits_as scope c r is both = subst (λ x. IsTrue r ↔ CauseFits h scope x) (sym is) both
+
+  pub fits_recv : (p v s seq : ℕ) (path : Option (List ℕ)) (holds next : Bool) → cause ≡ Recv v s seq path → IsTrue holds ↔ (held (reads h) v ≡ Some s) → holds ≡ true
+      → IsTrue next ↔ (seq ≡ suc (length (inbox h v s))) → IsTrue next ↔ CauseFits h (One p) cause
+  fits_recv p v s seq path holds next is of so follows =
+      fits_as (One p) (Recv v s seq path) next is (λ t. (of.0 so, follows.0 t), λ f. follows.1 f.1)
+
+  pub fits_recv_not : (p v s seq : ℕ) (path : Option (List ℕ)) (holds : Bool) → cause ≡ Recv v s seq path → IsTrue holds ↔ (held (reads h) v ≡ Some s) → holds ≡ false
+      → IsTrue holds ↔ CauseFits h (One p) cause
+  fits_recv_not p v s seq path holds is of not_so =
+      fits_as (One p) (Recv v s seq path) holds is (λ t. absurd (cc (t, not_so)), λ f. of.1 f.0)
+
+  pub fits_down : (v s : ℕ) (holds : Bool) → cause ≡ Down v s → IsTrue holds ↔ (held (reads h) v ≡ Some s) → IsTrue holds ↔ CauseFits h All cause
+  fits_down v s holds is of = fits_as All (Down v s) holds is of
+
+  pub fits_up : (v s : ℕ) (opens : Bool) → cause ≡ Up v s → IsTrue opens ↔ ((held (reads h) v ≡ None) × (last (reads h) v < s)) → IsTrue opens ↔ CauseFits h All cause
+  fits_up v s opens is of = fits_as All (Up v s) opens is of
+
+  pub fits_ready : (v s : ℕ) (holds now : Bool) → cause ≡ Ready v s → IsTrue holds ↔ (held (reads h) v ≡ Some s) → holds ≡ true → now ≡ is_some (ready (reads h) v)
+      → IsTrue (not now) ↔ CauseFits h All cause
+  fits_ready v s holds now is of so shown =
+      let is_held = of.0 so in
+      let test = not_is now (opened (reads h) v s) (shown ∙ ready_test h v s is_held) in
+      fits_as All (Ready v s) (not now) is (λ t. (is_held, test.0 t), λ f. test.1 f.1)
+
+  pub fits_ready_not : (v s : ℕ) (holds : Bool) → cause ≡ Ready v s → IsTrue holds ↔ (held (reads h) v ≡ Some s) → holds ≡ false → IsTrue holds ↔ CauseFits h All cause
+  fits_ready_not v s holds is of not_so = fits_as All (Ready v s) holds is (λ t. absurd (cc (t, not_so)), λ f. of.1 f.0)
+
+pub fits_scope : (h : List Entry) (cause : Cause) (scope same : Scope) (r : Bool) → scope ≡ same → IsTrue r ↔ CauseFits h same cause → IsTrue r ↔ CauseFits h scope cause
+fits_scope h cause scope same r is both = subst (λ x. IsTrue r ↔ CauseFits h x cause) (sym is) both
