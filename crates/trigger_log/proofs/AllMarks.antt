@@ -1,5 +1,5 @@
 -- All marks of a node.
-use Rattle.std.proofs.Common.{◌≡◌, zero, suc, slice_get, Some, None, ◌==◌, true, false, ℕ, List, [], ◌∷◌, ◌++◌, map, refl, sym, ◌∙◌, subst, arith, inl, inr, ◌⊎◌, ⊎_elim}
+use Rattle.std.proofs.Common.{◌≡◌, ◌==◌, true, false, ℕ, List, [], ◌∷◌, ◌++◌, map, refl, sym, ◌∙◌, subst, arith, inl, inr, ◌⊎◌, ⊎_elim}
 use Rattle.std.specs.List.{AllZip}
 use Rattle.std.proofs.lemmas.Bool.Decides.{nat_tests}
 use Rattle.topology.specs.Lists.{Among, has}
@@ -7,10 +7,9 @@ use Rattle.topology.specs.Net.{Net, neighbours}
 use Rattle.topology.proofs.Tests.{or_none, or_cases}
 use Rattle.path_vector.specs.Rules.{Rules}
 use Rattle.trigger_log.specs.declared.sessions.SessionMark.{SessionMark}
-use Rattle.trigger_log.specs.Entries.{Entry, reads}
+use Rattle.trigger_log.specs.Entries.{Entry}
 use Rattle.trigger_log.specs.Sending.{outbox, sent_count}
 use Rattle.trigger_log.specs.Rows.{joined}
-use Rattle.trigger_log.specs.declared.sessions.Sessions.{Sessions}
 use Rattle.trigger_log.specs.Sessions.{ever, IsMark, AreMarks, AreRows}
 use Rattle.trigger_log.proofs.Rows.{first}
 

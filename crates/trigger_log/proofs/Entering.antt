@@ -1,5 +1,5 @@
 -- A log with one entry more.
-use Rattle.std.proofs.Common.{ℕ, suc, ◌+◌, ◌≤◌, Bool, true, false, List, [], ◌∷◌, ◌++◌, ◌≡◌, refl, sym, ◌∙◌, ap, subst, arith, length, flat_map, map, take, cond}
+use Rattle.std.proofs.Common.{ℕ, suc, ◌≤◌, Bool, true, false, List, [], ◌∷◌, ◌++◌, ◌≡◌, refl, sym, ◌∙◌, ap, subst, length, flat_map, map, take}
 use Rattle.std.specs.Prelude.{if◌then◌else◌}
 use Rattle.std.specs.List.{AllZip}
 use Rattle.std.proofs.lemmas.List.{take_all}
@@ -12,7 +12,6 @@ use Rattle.path_vector.specs.Rules.{Rules}
 use Rattle.path_vector.specs.History.{Accepts, change, held}
 use Rattle.path_vector.specs.declared.state.RouteState.{RouteState}
 use Rattle.path_vector.specs.Standing.{StandsFor as RoutesStandFor}
-use Rattle.trigger_log.specs.declared.entries.Entry.{Entry as Shown}
 use Rattle.trigger_log.specs.declared.offers.Offer.{Offer}
 use Rattle.trigger_log.specs.declared.telling.Turn.{Turn}
 use Rattle.trigger_log.specs.declared.outgoing.Outgoing.{Outgoing}
@@ -22,7 +21,7 @@ use Rattle.trigger_log.specs.Entries.{Entry, entry, reads, is_local, locals}
 use Rattle.trigger_log.specs.Sending.{sent_by, sent_to}
 use Rattle.trigger_log.specs.Going.{going_of, going_by, going_in, spread, told}
 use Rattle.trigger_log.specs.Fits.{CauseFits, Fits}
-use Rattle.trigger_log.specs.Standing.{Step, Shows, StandsFor, steps}
+use Rattle.trigger_log.specs.Standing.{Shows, StandsFor, steps}
 use Rattle.trigger_log.specs.Marked.{Enters, ToldTo}
 use Rattle.trigger_log.specs.Offered.{AreChosen, IsPlaced, places_of, prefixes_of}
 use Rattle.trigger_log.proofs.Holding.{accepted}

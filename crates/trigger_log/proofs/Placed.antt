@@ -1,5 +1,5 @@
 -- The place of a neighbour.
-use Rattle.std.proofs.Common.{ℕ, ◌≡◌, ◌<◌, ◌≤◌, arith, false, [], ◌∷◌, Some, Result, Ok, Err, List, refl, sym, ◌∙◌, ap, subst, nat_cmp, slice_get, length}
+use Rattle.std.proofs.Common.{ℕ, ◌≡◌, ◌<◌, ◌≤◌, arith, false, [], ◌∷◌, Some, Result, Ok, Err, List, refl, ◌∙◌, ap, subst, nat_cmp, slice_get}
 use Rattle.std.specs.Prelude.{IfSome, IfNone}
 use Rattle.std.specs.Result.{result_ok}
 use Rattle.std.specs.List.Sorted.{IsBinarySearchResult}

@@ -1,5 +1,5 @@
 -- One neighbour more is told.
-use Rattle.std.proofs.Common.{ℕ, zero, suc, ◌+◌, ◌<◌, ◌≤◌, Bool, true, false, cond, ◌==◌, ◌&&◌, Option, Some, None, List, [], ◌∷◌, ◌++◌, ◌≡◌, ◌≢◌, refl, sym, ◌∙◌, ap, subst, arith, length, length-set, map, flat_map, take, set, slice_get, append_assoc, ⊎_elim}
+use Rattle.std.proofs.Common.{ℕ, zero, suc, ◌+◌, ◌<◌, ◌≤◌, true, false, Some, List, [], ◌∷◌, ◌++◌, ◌≡◌, ◌≢◌, refl, sym, ◌∙◌, ap, subst, arith, length, length-set, map, flat_map, take, set, slice_get, append_assoc, ⊎_elim}
 use Rattle.std.specs.List.{AllZip}
 use Rattle.std.proofs.lemmas.Bool.{cases_eq}
 use Rattle.std.proofs.lemmas.Bool.Decides.{nat_tests}
@@ -12,6 +12,7 @@ use Rattle.path_vector.specs.declared.causes.Cause.{Cause}
 use Rattle.path_vector.specs.declared.causes.Cause.TheVariants.{Originate, Withdraw, Recv, Down, Up, Ready, Prefer}
 use Rattle.path_vector.specs.Rules.{Rules}
 use Rattle.path_vector.specs.History.{last, last_by, held}
+use Rattle.std.proofs.lemmas.Slice.Zip.{AllZip-long}
 use Rattle.trigger_log.specs.declared.outgoing.Outgoing.{Outgoing}
 use Rattle.trigger_log.specs.declared.sessions.SessionMark.{SessionMark}
 use Rattle.trigger_log.specs.declared.sessions.Sessions.{Sessions}
@@ -19,13 +20,13 @@ use Rattle.trigger_log.specs.Entries.{Entry, reads, closes}
 use Rattle.trigger_log.specs.Sending.{sent_count, sent_to}
 use Rattle.trigger_log.specs.Going.{Going, going_of, going_in, told}
 use Rattle.trigger_log.specs.Fits.{Fits}
-use Rattle.trigger_log.specs.Sessions.{ever, IsMark, AreMarks, AreRows}
-use Rattle.trigger_log.specs.Rows.{HasRows, EndsWith}
+use Rattle.trigger_log.specs.Sessions.{IsMark, AreMarks, AreRows}
+use Rattle.trigger_log.specs.Rows.{HasRows}
 use Rattle.trigger_log.specs.Marked.{Says, AreMarked, Marked, Spoken, ToldTo}
 use Rattle.trigger_log.proofs.Holding.{held_is_last}
 use Rattle.trigger_log.proofs.Closings.{count_other}
 use Rattle.trigger_log.proofs.Newest.{ends_ever}
-use Rattle.trigger_log.proofs.Zips.{zip_push, zip_end, zip_each, zip_length, zip_both, zip_from}
+use Rattle.trigger_log.proofs.Zips.{zip_push, zip_end, zip_each, zip_both, zip_from}
 
 get_set_same : {A : Type 0} (xs : List A) (i : ℕ) (x : A) → i < length xs → slice_get (set xs i x) i ≡ Some x
 get_set_same [] i x l = absurd (omega arith)
@@ -145,7 +146,7 @@ module _ (rules : Rules) (net : Net) (u : ℕ) (h : List Entry) (k : Entry) (fit
   told_none sessions sent out marked = record {
     rows = marked.rows;
     kept = marked.kept;
-    width = zip_length (AreMarked rules net u h k) (neighbours net u) marked.rows marked.each;
+    width = AllZip-long (AreMarked rules net u h k) (neighbours net u) marked.rows marked.each;
     done = λ j w row below near found. absurd (omega arith);
     rest = λ j w row above near found. zip_both (AreMarked rules net u h k) (neighbours net u) marked.rows j w row marked.each near found;
     sent = sym (append-nil sent);

@@ -1,6 +1,6 @@
 -- What an entry says to one neighbour.
-use Rattle.std.proofs.Common.{ℕ, zero, suc, ◌+◌, ◌<◌, ◌≤◌, Bool, true, false, not, cond, ◌==◌, ◌&&◌, Option, Some, None, List, [], ◌∷◌, ◌++◌, ◌≡◌, ◌≢◌, refl, sym, ◌∙◌, ap, subst, arith, length, map, filter}
-use Rattle.std.specs.Prelude.{if◌then◌else◌, option_map, option_and_then, is_some, is_none}
+use Rattle.std.proofs.Common.{ℕ, zero, suc, ◌+◌, ◌<◌, ◌≤◌, Bool, true, false, not, cond, ◌==◌, ◌&&◌, Option, Some, None, List, [], ◌∷◌, ◌++◌, ◌≡◌, refl, sym, ◌∙◌, ap, subst, arith, length, map, filter}
+use Rattle.std.specs.Prelude.{if◌then◌else◌, option_map, is_some, is_none}
 use Rattle.std.specs.List.{range_with_len}
 use Rattle.std.proofs.lemmas.Bool.Decides.{nat_tests}
 use Rattle.std.proofs.lemmas.List.{append-nil}
@@ -19,14 +19,14 @@ use Rattle.trigger_log.specs.declared.outgoing.Outgoing.{Outgoing}
 use Rattle.trigger_log.specs.declared.sessions.SessionMark.{SessionMark}
 use Rattle.trigger_log.specs.declared.telling.Listener.{Listener}
 use Rattle.trigger_log.specs.Entries.{Entry, Update, reads, entry, closes, is_session}
-use Rattle.trigger_log.specs.Sending.{news, update_of, outbox, sent_count, sent_to, sent_from, updates_sent, close_sent, next_number, one_where}
+use Rattle.trigger_log.specs.Sending.{news, update_of, sent_count, sent_from, updates_sent, close_sent, next_number}
 use Rattle.trigger_log.specs.Going.{going_of, going_in, going_to, told, numbered}
 use Rattle.trigger_log.specs.Fits.{CauseFits, Fits}
 use Rattle.trigger_log.specs.Offered.{IsPlaced, places_of, differs, updates_over}
 use Rattle.trigger_log.specs.Telling.{Tells}
 use Rattle.trigger_log.specs.Marked.{Says, Spoken, ends_with, readies}
 use Rattle.trigger_log.proofs.Holding.{accepted, fits_up, fits_down, fits_ready, held_is_last}
-use Rattle.trigger_log.proofs.Closings.{count_held, count_other, count_down, close_count, held_count, not_close}
+use Rattle.trigger_log.proofs.Closings.{count_held, count_other, count_down, close_count, held_count}
 use Rattle.trigger_log.proofs.Silence.{ready_in, ready_held, not_opened, opened_above}
 use Rattle.trigger_log.proofs.Newest.{held_until}
 

@@ -1,6 +1,5 @@
 -- What an entry changes in the marks of sessions.
-use Rattle.std.proofs.Common.{ℕ, suc, ◌+◌, ◌<◌, Bool, true, false, cond, ◌==◌, ◌&&◌, Option, Some, None, List, [], ◌∷◌, ◌++◌, ◌≡◌, refl, sym, ◌∙◌, ap, subst, arith, length, length-append, set, slice_get}
-use Rattle.std.specs.Prelude.{if◌then◌else◌, option_map}
+use Rattle.std.proofs.Common.{ℕ, suc, ◌<◌, true, false, cond, ◌==◌, ◌&&◌, Option, Some, None, List, [], ◌∷◌, ◌++◌, ◌≡◌, refl, sym, ◌∙◌, ap, subst, arith, length, length-append, set, slice_get}
 use Rattle.std.specs.List.{AllZip}
 use Rattle.std.proofs.lemmas.Bool.Decides.{nat_tests}
 use Rattle.std.proofs.lemmas.List.{append-nil}
@@ -17,13 +16,13 @@ use Rattle.path_vector.specs.History.{last, opened, opened_by}
 use Rattle.path_vector.specs.Kept.{names}
 use Rattle.trigger_log.specs.declared.sessions.SessionMark.{SessionMark}
 use Rattle.trigger_log.specs.declared.sessions.Sessions.{Sessions}
-use Rattle.trigger_log.specs.Entries.{Entry, reads, entry, inbox, received_by, closes, closing}
+use Rattle.trigger_log.specs.Entries.{Entry, reads, entry, inbox, received_by, closes}
 use Rattle.trigger_log.specs.Sending.{sent_count}
 use Rattle.trigger_log.specs.Fits.{CauseFits, Fits}
 use Rattle.trigger_log.specs.Sessions.{ever, opens_by, IsMark, AreMarks, AreRows}
 use Rattle.trigger_log.specs.Rows.{HasRows, EndsWith}
 use Rattle.trigger_log.specs.Marked.{Says, AreMarked, Marked}
-use Rattle.trigger_log.proofs.Holding.{fits_recv, fits_down, fits_up, fits_ready, held_is_last}
+use Rattle.trigger_log.proofs.Holding.{fits_recv, fits_down, fits_ready, held_is_last}
 use Rattle.trigger_log.proofs.Closings.{closing_above, closing_other, count_above}
 use Rattle.trigger_log.proofs.Fresh.{ever_above, fresh_inbox}
 use Rattle.trigger_log.proofs.Silence.{opened_above}

@@ -1,5 +1,5 @@
 -- One update more to a listener.
-use Rattle.std.proofs.Common.{ℕ, zero, suc, not, subst, Option, None, option_map, slice_index_or, ◌+◌, ◌<◌, Bool, true, false, cond, List, [], ◌∷◌, ◌++◌, ◌≡◌, refl, sym, ◌∙◌, ap, map, filter, take, length, length-append, slice_get, Some, append_assoc, arith}
+use Rattle.std.proofs.Common.{ℕ, zero, suc, not, subst, Option, None, option_map, slice_index_or, ◌+◌, ◌<◌, Bool, true, false, List, [], ◌∷◌, ◌++◌, ◌≡◌, refl, sym, ◌∙◌, ap, map, filter, take, length, length-append, slice_get, Some, append_assoc, arith}
 use Rattle.std.specs.Prelude.{if◌then◌else◌}
 use Rattle.std.specs.List.{AllByRecursion}
 use Rattle.std.proofs.lemmas.List.{map-append, append-nil, take_more, length-map}
@@ -18,7 +18,7 @@ use Rattle.trigger_log.specs.declared.outgoing.Outgoing.{Outgoing}
 use Rattle.trigger_log.specs.declared.telling.Listener.{Listener}
 use Rattle.trigger_log.specs.Entries.{Entry, Update, reads}
 use Rattle.trigger_log.specs.Sending.{sent_from, update_of}
-use Rattle.trigger_log.specs.Going.{Going, Item, News, going_of, going_to, numbered}
+use Rattle.trigger_log.specs.Going.{Item, News, going_of, going_to, numbered}
 use Rattle.trigger_log.specs.Offered.{differs, updates_over, AreChosen, prefixes_of}
 use Rattle.trigger_log.specs.Telling.{Tells, update_going}
 

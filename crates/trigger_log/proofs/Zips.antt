@@ -1,5 +1,5 @@
 -- Two lists place by place.
-use Rattle.std.proofs.Common.{ℕ, zero, suc, ◌+◌, ◌<◌, ◌≤◌, Bool, true, false, not, ◌==◌, Option, Some, None, List, [], ◌∷◌, ◌++◌, ◌≡◌, ◌≢◌, refl, sym, ◌∙◌, ap, subst, arith, length, set, slice_get}
+use Rattle.std.proofs.Common.{ℕ, zero, suc, true, false, not, ◌==◌, Some, List, [], ◌∷◌, ◌++◌, ◌≡◌, ◌≢◌, refl, sym, ◌∙◌, subst, arith, length, set, slice_get}
 use Rattle.std.specs.List.{AllZip, AllByRecursion}
 use Rattle.std.proofs.lemmas.Option.{same_Some}
 use Rattle.std.proofs.lemmas.Bool.Decides.{nat_tests}
@@ -34,12 +34,6 @@ zip_map R S step [] [] all = tt
 zip_map R S step [] (y ∷ ys) all = absurd all
 zip_map R S step (x ∷ xs) [] all = absurd all
 zip_map R S step (x ∷ xs) (y ∷ ys) all = (step x y all.0, zip_map R S step xs ys all.1)
-
-pub zip_length : {A B : Type 0} (R : A → B → Type 0) (xs : List A) (ys : List B) → AllZip R xs ys → length ys ≡ length xs
-zip_length R [] [] all = refl
-zip_length R [] (y ∷ ys) all = absurd all
-zip_length R (x ∷ xs) [] all = absurd all
-zip_length R (x ∷ xs) (y ∷ ys) all = ap suc (zip_length R xs ys all.1)
 
 -- what stands at a place of both
 pub zip_at : {A B : Type 0} (R : A → B → Type 0) (xs : List A) (ys : List B) (i : ℕ) (x : A) → AllZip R xs ys → slice_get xs i ≡ Some x → (y : B) × (slice_get ys i ≡ Some y) × R x y

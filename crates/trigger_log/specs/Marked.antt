@@ -1,5 +1,5 @@
 -- The sessions of a node while it makes an entry: what the entry changes in them is marked, and then what it says is counted.
-use Rattle.std.specs.Prelude.{ℕ, ◌+◌, ◌≡◌, ◌<◌, ◌≤◌, ◌==◌, Bool, true, false, Option, Some, List, [], ◌∷◌, ◌++◌, length, map, flat_map, take, slice_get, option_map, if◌then◌else◌}
+use Rattle.std.specs.Prelude.{ℕ, ◌≡◌, ◌<◌, ◌≤◌, ◌==◌, Bool, false, Some, List, [], ◌∷◌, ◌++◌, length, map, flat_map, take, slice_get, option_map}
 use Rattle.std.specs.List.{AllZip}
 use Rattle.topology.specs.declared.items.Sent.{Sent}
 use Rattle.topology.specs.Net.{Net, neighbours}

@@ -1,6 +1,5 @@
-use Rattle.std.proofs.Common.{◌≡◌, ◌∙◌, ◌∷◌, [], Some, None, sym, ap, slice_get}
+use Rattle.std.proofs.Common.{◌≡◌, ◌∙◌, ◌∷◌, [], Some, sym, ap}
 use Rattle.std.proofs.lemmas.Option.{same_Some}
-use Rattle.topology.specs.Net.{neighbours}
 use Rattle.path_vector.specs.declared.causes.Cause.TheVariants.{Up}
 use Rattle.path_vector.specs.Kept.{names}
 use Rattle.trigger_log.specs.Entries.{entry}

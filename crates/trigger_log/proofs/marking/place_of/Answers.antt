@@ -1,4 +1,3 @@
-use Rattle.std.proofs.Common.{rules}
 use Rattle.trigger_log.proofs.Placed.{placed, not_placed}
 use Rattle.trigger_log.proofs.marking.place_of.Goals as goal
 

@@ -1,10 +1,10 @@
-use Rattle.std.proofs.Common.{ℕ, ◌≡◌, ◌<◌, ◌+◌, ◌++◌, ◌∷◌, [], length, arith, rules, ◌∙◌, ap, subst, sym}
+use Rattle.std.proofs.Common.{◌≡◌, length, arith, ◌∙◌, ap, sym}
 use Rattle.std.specs.List.{range_with_len}
 use Rattle.topology.specs.Net.{places}
 use Rattle.path_vector.specs.Selection.{best}
 use Rattle.path_vector.specs.Answers.{Copies}
 use Rattle.trigger_log.specs.declared.offers.Offer.{Offer}
-use Rattle.trigger_log.specs.Offered.{AreChosen, prefixes_of, places_of, IsPlaced}
+use Rattle.trigger_log.specs.Offered.{places_of}
 use Rattle.trigger_log.proofs.Offering.{all_more, offers_more}
 use Rattle.trigger_log.proofs.offers.offers_of.Goals as goal
 

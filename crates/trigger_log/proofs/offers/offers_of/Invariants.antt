@@ -1,6 +1,5 @@
-use Rattle.std.proofs.Common.{ℕ, ◌≡◌, ◌≤◌, length}
+use Rattle.std.proofs.Common.{ℕ, ◌≡◌}
 use Rattle.std.specs.List.{range_with_len}
-use Rattle.topology.specs.Net.{Net}
 use Rattle.path_vector.specs.History.{History}
 use Rattle.path_vector.specs.Standing.{StandsFor}
 use Rattle.trigger_log.specs.Offered.{AreChosen, prefixes_of}

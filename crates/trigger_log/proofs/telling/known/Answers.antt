@@ -1,6 +1,5 @@
-use Rattle.std.proofs.Common.{◌≡◌, ◌∙◌, sym, ap, if◌then◌else◌, None}
 use Rattle.path_vector.specs.Selection.{best}
-use Rattle.path_vector.specs.Offers.{offer, offered_route}
+use Rattle.path_vector.specs.Offers.{offered_route}
 use Rattle.trigger_log.proofs.telling.known.Goals as goal
 
 pub returns : goal.returns

@@ -1,4 +1,4 @@
-use Rattle.std.proofs.Common.{◌≡◌, ◌∙◌, ◌<◌, ◌∷◌, [], ◌++◌, refl, sym, ap, subst, arith, true, false, not, length, map, take, slice_index_or}
+use Rattle.std.proofs.Common.{◌≡◌, ◌∙◌, ◌<◌, ◌∷◌, [], ◌++◌, sym, ap, subst, arith, true, false, length, map, take, slice_index_or}
 use Rattle.std.proofs.lemmas.List.{take_all, length-map}
 use Rattle.std.specs.Option.{option_copied}
 use Rattle.path_vector.specs.Selection.{best}
@@ -7,7 +7,7 @@ use Rattle.trigger_log.specs.declared.offers.Offer.{Offer}
 use Rattle.trigger_log.specs.Entries.{Update, reads}
 use Rattle.trigger_log.specs.Going.{going_of}
 use Rattle.trigger_log.specs.Sending.{update_of}
-use Rattle.trigger_log.specs.Offered.{prefixes_of, updates_over, differs}
+use Rattle.trigger_log.specs.Offered.{prefixes_of, updates_over}
 use Rattle.trigger_log.specs.Telling.{Tells, update_going}
 use Rattle.trigger_log.proofs.Updating.{tells_more, over_same, over_other, differs_is, prefix_at, chosen_at, chosen_in, same_length, same_prefix_at, same_update}
 use Rattle.trigger_log.proofs.telling.tell.Goals as goal

@@ -1,4 +1,4 @@
-use Rattle.std.proofs.Common.{ℕ, ◌≡◌, ◌≤◌, ◌∷◌, [], true, List, take, length}
+use Rattle.std.proofs.Common.{ℕ, ◌≡◌, ◌∷◌, [], true, List, take}
 use Rattle.topology.specs.Lists.{has}
 use Rattle.topology.specs.Net.{Net, neighbours}
 use Rattle.path_vector.specs.Standing.{StandsFor}

@@ -1,12 +1,12 @@
-use Rattle.std.proofs.Common.{◌≡◌, ◌∙◌, ◌∷◌, ◌&&◌, Some, None, true, false, not, sym, ap, subst, ℕ, Bool, List}
-use Rattle.std.specs.Prelude.{if◌then◌else◌, is_none, is_some}
+use Rattle.std.proofs.Common.{◌≡◌, ◌∙◌, ◌∷◌, Some, None, true, false, not, sym, ap, subst, List}
+use Rattle.std.specs.Prelude.{if◌then◌else◌, is_some}
 use Rattle.topology.specs.Lists.{has}
 use Rattle.topology.specs.Net.{neighbours}
 use Rattle.path_vector.specs.History.{last, ready}
 use Rattle.trigger_log.specs.declared.telling.Listener.{Listener}
 use Rattle.trigger_log.specs.Entries.{Update, reads}
 use Rattle.trigger_log.specs.Sending.{news, sent_count}
-use Rattle.trigger_log.specs.Offered.{prefixes_of, places_of, updates_over}
+use Rattle.trigger_log.specs.Offered.{prefixes_of, updates_over}
 use Rattle.trigger_log.specs.Telling.{Tells}
 use Rattle.trigger_log.specs.Marked.{ends_with, readies}
 use Rattle.trigger_log.proofs.Speaking.{ready_mark, knew, over_scope, spoken_told, spoken_none, spoken_closed}

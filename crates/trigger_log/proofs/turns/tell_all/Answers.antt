@@ -1,4 +1,4 @@
-use Rattle.std.proofs.Common.{◌≡◌, ◌<◌, ap, arith, length}
+use Rattle.std.proofs.Common.{◌≡◌, ap, arith, length}
 use Rattle.topology.specs.Net.{neighbours}
 use Rattle.trigger_log.proofs.Rounds.{some_at}
 use Rattle.trigger_log.proofs.turns.tell_all.Goals as goal

@@ -1,4 +1,4 @@
-use Rattle.std.proofs.Common.{◌≡◌, ◌∙◌, ap, sym, None}
+use Rattle.std.proofs.Common.{◌≡◌, sym, None}
 use Rattle.path_vector.specs.History.{last, held}
 use Rattle.trigger_log.specs.Entries.{reads}
 use Rattle.trigger_log.specs.Sending.{sent_count}

@@ -1,4 +1,4 @@
-use Rattle.std.proofs.Common.{◌≡◌, ◌∙◌, [], refl, sym, ap, subst, map}
+use Rattle.std.proofs.Common.{◌∙◌, [], refl, sym, subst, map}
 use Rattle.std.specs.List.{AllZip}
 use Rattle.topology.specs.Net.{neighbours}
 use Rattle.trigger_log.specs.Rows.{HasRows}

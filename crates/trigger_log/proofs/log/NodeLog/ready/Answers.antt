@@ -1,4 +1,4 @@
-use Rattle.std.proofs.Common.{◌∙◌, ap, sym}
+use Rattle.std.proofs.Common.{◌∙◌}
 use Rattle.path_vector.specs.History.{last}
 use Rattle.trigger_log.specs.Entries.{reads}
 use Rattle.trigger_log.specs.Sending.{sent_count}
