@@ -7,3 +7,17 @@ pub mod Listed
 pub mod InOrder
 pub mod Numbering
 mod Reopened
+pub mod Rows
+pub mod Shifted
+pub mod Offering
+pub mod Updating
+pub mod Newest
+pub mod Zips
+pub mod Turned
+pub mod Placed
+pub mod Speaking
+pub mod Rounds
+pub mod Finding
+pub mod AllMarks
+pub mod Entering
+pub mod Reading

@@ -7,3 +7,4 @@ pub mod Rows
 pub mod Standing
 pub mod Offered
 pub mod Telling
+pub mod Marked

@@ -1,5 +1,5 @@
 -- Rows of marks that are kept as one list.
-use Rattle.std.specs.Prelude.{ℕ, ◌≡◌, ◌<◌, ◌+◌, ◌-◌, List, [], ◌∷◌, ◌++◌, length, flat_map}
+use Rattle.std.specs.Prelude.{ℕ, zero, suc, ◌≡◌, ◌<◌, ◌+◌, ◌-◌, List, [], ◌∷◌, ◌++◌, length, flat_map}
 use Rattle.std.specs.List.{AllByRecursion}
 use Rattle.trigger_log.specs.declared.sessions.SessionMark.{SessionMark}
 use Rattle.trigger_log.specs.declared.sessions.Sessions.{Sessions}
@@ -22,3 +22,9 @@ pub record HasRows (rows : List (List SessionMark)) (sessions : Sessions) : Type
 -- the mark is the last one of the row
 abbrev pub EndsWith : List SessionMark → SessionMark → Type 0
 EndsWith row mark = (older : List SessionMark) × (row ≡ older ++ mark ∷ [])
+
+-- each number from this place on is one more
+abbrev pub shifted : ℕ → List ℕ → List ℕ
+shifted n [] = []
+shifted zero (x ∷ xs) = suc x ∷ shifted zero xs
+shifted (suc n) (x ∷ xs) = x ∷ shifted n xs

@@ -5,7 +5,11 @@ use Rattle.trigger_log.specs.declared.outgoing.Outgoing.{Outgoing}
 use Rattle.trigger_log.specs.declared.telling.Listener.{Listener}
 use Rattle.trigger_log.specs.Entries.{Update}
 use Rattle.trigger_log.specs.Sending.{sent_from}
-use Rattle.trigger_log.specs.Going.{going_of, going_to, numbered}
+use Rattle.trigger_log.specs.Going.{Going, News, going_of, going_to, numbered}
+
+-- an update as it goes to the listener
+abbrev pub update_going : Listener → ℕ → Update → Going
+update_going listener seq update = record { to = listener.nbr; session = listener.session; item = News seq update }
 
 -- these updates are listed and go out, numbered on from those that the listener was sent
 pub record Tells (listener : Listener) (list : List Update) (sent_before sent_after : List Sent)

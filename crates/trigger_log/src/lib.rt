@@ -4,10 +4,12 @@
 pub mod entries;
 pub mod laws;
 pub mod log;
+mod marking;
 mod offers;
 pub mod outgoing;
 pub mod sessions;
 mod telling;
+mod turns;
 
 pub use entries::{Entry, SentItems};
 pub use log::NodeLog;

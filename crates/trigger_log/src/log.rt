@@ -1,27 +1,31 @@
 //! The log of a node.
-ghost use Rattle.std.specs.Prelude.{ℕ, suc, ◌≡◌, ◌<◌, ◌≤◌, ◌⊎◌, ◌↔◌, ◌-◌, [], ◌∷◌, true, List, length, map, slice_get, is_some, Some, IsTrue, IsNone, IfOk, IfSome, OnOk};
+ghost use Rattle.std.specs.Prelude.{ℕ, suc, ◌≡◌, ◌<◌, ◌≤◌, ◌⊎◌, ◌↔◌, ◌-◌, [], ◌∷◌, true, List, length, map, slice_get, is_some, Some, None, false, IsTrue, IsNone, IfOk, IfSome, IfNone, OnOk, if◌then◌else◌};
 ghost use Rattle.std.specs.List.{AllZip};
 ghost use Rattle.topology.specs.Lists.{has};
 ghost use Rattle.topology.specs.Net.{Net, neighbours};
-ghost use Rattle.path_vector.specs.History.{held, ready};
+ghost use Rattle.path_vector.specs.History.{held, last, ready};
+ghost use Rattle.topology.specs.declared.names.Scope.TheVariants.{One, All};
 ghost use Rattle.path_vector.specs.Kept.{IsOfNeighbour};
 ghost use Rattle.path_vector.specs.Standing.{StandsFor as RoutesStandFor};
-ghost use Rattle.trigger_log.specs.Entries.{Entry as Logged, entry, reads, inbox, next_trigger};
+ghost use Rattle.trigger_log.specs.Entries.{Entry as Logged, entry, reads, inbox, is_local, next_trigger};
 ghost use Rattle.trigger_log.specs.Sending.{sent_count};
 ghost use Rattle.trigger_log.specs.Going.{going_of, going_by};
 ghost use Rattle.trigger_log.specs.Fits.{CauseFits};
 ghost use Rattle.trigger_log.specs.Sessions.{AreAllMarks};
 ghost use Rattle.trigger_log.specs.Offered.{IsPlaced};
+ghost use Rattle.trigger_log.specs.Marked.{Says};
 ghost use Rattle.trigger_log.specs.Standing.{Step, steps, Shows, StandsFor};
 
 use crate::entries::{Entry, SentItems};
+use crate::marking::{mark, place_of};
 use crate::offers::offers_of;
 use crate::outgoing::Outgoing;
 use crate::sessions::{SessionMark, Sessions};
-use crate::telling::{Listener, Turn, tell};
+use crate::telling::Turn;
+use crate::turns::tell_all;
 use path_vector::{Cause, Policy, RouteState};
 use std::alloc::Global;
-use topology::{NoMemory, NodeId, PrefixId, Scope, Sent, Session, Topology, Trigger};
+use topology::{NoMemory, NodeId, PrefixId, Scope, Session, Topology, Trigger};
 
 /// What a node entered, the oldest entry first, and what it needs to make the next one: its routes,
 /// its sessions, the number of its entries and the counter of its next trigger.
@@ -37,59 +41,38 @@ pub struct NodeLog<P: Policy + Copy> {
     next_count: u32,
 }
 
-// The mark after an entry that names its neighbour and opens no session.
-fn turned(mark: SessionMark, trigger: Trigger, cause: &Cause) -> Result<SessionMark, NoMemory> {
-    match cause {
-        Cause::Recv { .. } => match mark.received.checked_add(1) {
-            None => Err(NoMemory),
-            Some(received) => Ok(SessionMark { received, ..mark }),
-        },
-        Cause::Down { .. } => Ok(SessionMark {
-            down: Some(trigger),
-            ..mark
-        }),
-        Cause::Ready { .. } => Ok(SessionMark {
-            opened: true,
-            ..mark
-        }),
-        _ => Ok(mark),
-    }
-}
-
-// The neighbour whose session the entry ends.
-fn closed_by(cause: &Cause) -> Option<NodeId> {
-    match cause {
-        Cause::Down { nbr, .. } => Some(*nbr),
-        _ => None,
-    }
-}
-
-// The neighbour whose session is ready from the entry on.
-fn readied_by(cause: &Cause) -> Option<NodeId> {
-    match cause {
-        Cause::Ready { nbr, .. } => Some(*nbr),
-        _ => None,
-    }
-}
-
-// The neighbour that an entry is about.
-fn named(cause: &Cause) -> Option<NodeId> {
-    match cause {
-        Cause::Originate => None,
-        Cause::Withdraw => None,
-        Cause::Recv { from, .. } => Some(*from),
-        Cause::Down { nbr, .. } => Some(*nbr),
-        Cause::Up { nbr, .. } => Some(*nbr),
-        Cause::Ready { nbr, .. } => Some(*nbr),
-        Cause::Prefer { nbr, .. } => Some(*nbr),
-    }
-}
-
 // An equal list.
 fn copy_of(alloc: Global, near: &[NodeId]) -> Result<Vec<NodeId>, NoMemory>
     ensures { IfOk result (λ copy. copy.items ≡ near.now) }
 {
     Ok(Vec::from_slice(alloc, near)?)
+}
+
+// An equal scope.
+fn copied(scope: &Scope) -> Scope
+    ensures { result ≡ scope.now }
+{
+    *scope
+}
+
+// The next number.
+fn next(number: u32) -> Result<u32, NoMemory>
+    ensures { IfOk result (λ next. next ≡ suc number) }
+{
+    match number.checked_add(1) {
+        None => Err(NoMemory),
+        Some(next) => Ok(next),
+    }
+}
+
+// The count of the next trigger after an entry, which took one where it is a local one.
+fn counted(count: u32, cause: &Cause) -> Result<u32, NoMemory>
+    ensures { IfOk result (λ counted. counted ≡ (if is_local cause.now then suc count else count)) }
+{
+    match cause {
+        Cause::Recv { .. } => Ok(count),
+        _ => Ok(next(count)?),
+    }
 }
 
 impl<P: Policy + Copy> NodeLog<P> {
@@ -170,21 +153,28 @@ impl<P: Policy + Copy> NodeLog<P> {
             IsPlaced topology.now scope → CauseFits h scope cause →
             map going_of outgoing.items ≡ going_by (P.rules policy) topology.now u h (entry (trigger ∷ []) scope cause)) }
     {
-        let before = offers_of(self.alloc, &self.routes, topology, scope)?;
-        self.routes.apply(scope, &cause)?;
-        let after = offers_of(self.alloc, &self.routes, topology, scope)?;
-        self.mark(trigger, &cause)?;
-        let mut sent = Vec::new(self.alloc);
-        let mut outgoing = Vec::new(self.alloc);
+        let before = offers_of(self.alloc, &self.routes, topology, &scope)?;
+        self.routes.apply(copied(&scope), &cause)?;
+        let after = offers_of(self.alloc, &self.routes, topology, &scope)?;
+        mark(&mut self.sessions, &self.near, &trigger, &cause)?;
         let turn = Turn {
-            trigger,
+            trigger: &trigger,
+            cause: &cause,
             before: &before,
             after: &after,
         };
-        for place in 0..self.near.len() {
-            self.tell_at(place, &turn, &cause, &mut sent, &mut outgoing)?;
-        }
-        self.count(&cause)?;
+        let mut sent = Vec::new(self.alloc);
+        let mut outgoing = Vec::new(self.alloc);
+        tell_all(
+            &self.routes,
+            &mut self.sessions,
+            &self.near,
+            &turn,
+            &mut sent,
+            &mut outgoing,
+        )?;
+        self.len = next(self.len)?;
+        self.next_count = counted(self.next_count, &cause)?;
         let sent = SentItems::new(sent);
         self.entries.push(Entry {
             trigger,
@@ -193,99 +183,6 @@ impl<P: Policy + Copy> NodeLog<P> {
             sent,
         })?;
         Ok(outgoing)
-    }
-
-    // Marks what the entry changes in the sessions.
-    fn mark(&mut self, trigger: Trigger, cause: &Cause) -> Result<(), NoMemory> {
-        let Some(nbr) = named(cause) else {
-            return Ok(());
-        };
-        let Some(place) = self.place_of(nbr) else {
-            return Ok(());
-        };
-        if let Cause::Up { session, .. } = cause {
-            return self.sessions.open(place, nbr, *session);
-        }
-        let Some(mark) = self.sessions.newest(place) else {
-            return Ok(());
-        };
-        let mark = turned(*mark, trigger, cause)?;
-        self.sessions.put(place, mark);
-        Ok(())
-    }
-
-    // Lists what the entry says to the neighbour at this place.
-    fn tell_at(
-        &mut self,
-        place: usize,
-        turn: &Turn<'_>,
-        cause: &Cause,
-        sent: &mut Vec<Sent>,
-        outgoing: &mut Vec<Outgoing>,
-    ) -> Result<(), NoMemory> {
-        let Some(mark) = self.sessions.newest(place) else {
-            return Ok(());
-        };
-        let mark = *mark;
-        if closed_by(cause) == Some(mark.nbr) {
-            return self.close_at(place, mark, sent);
-        }
-        if !mark.is_ready() {
-            return Ok(());
-        }
-        let listener = Listener {
-            nbr: mark.nbr,
-            session: mark.session,
-            sent: mark.sent,
-            knows: readied_by(cause) != Some(mark.nbr),
-        };
-        let count = tell(&self.routes, turn, &listener, sent, outgoing)?;
-        self.sessions.put(
-            place,
-            SessionMark {
-                sent: count,
-                ..mark
-            },
-        );
-        Ok(())
-    }
-
-    // Lists the close of a session, where the other end had opened it.
-    fn close_at(
-        &mut self,
-        place: usize,
-        mark: SessionMark,
-        list: &mut Vec<Sent>,
-    ) -> Result<(), NoMemory> {
-        if !mark.opened {
-            return Ok(());
-        }
-        let Some(sent) = mark.sent.checked_add(1) else {
-            return Err(NoMemory);
-        };
-        list.push(Sent {
-            to: mark.nbr,
-            session: mark.session,
-            seq: sent,
-        })?;
-        self.sessions.put(place, SessionMark { sent, ..mark });
-        Ok(())
-    }
-
-    // Counts the entry, and its trigger where it is a local one.
-    fn count(&mut self, cause: &Cause) -> Result<(), NoMemory> {
-        let Some(len) = self.len.checked_add(1) else {
-            return Err(NoMemory);
-        };
-        self.len = len;
-        if let Cause::Recv { .. } = cause {
-            return Ok(());
-        }
-        let Some(next_count) = self.next_count.checked_add(1) else {
-            return Err(NoMemory);
-        };
-        self.next_count = next_count;
-        Ok(())
     }
 
     /// The trigger that the next local entry gets.
@@ -401,7 +298,11 @@ impl<P: Policy + Copy> NodeLog<P> {
     }
 
     // Whether an entry of one prefix may follow.
-    fn fits_one(&self, prefix: PrefixId, cause: &Cause) -> bool {
+    fn fits_one(&self, prefix: PrefixId, cause: &Cause) -> bool
+        ensures { (policy : P) (net : Net) (u : ℕ) (h : List Logged) →
+            StandsFor policy (P.rules policy) net u self.now h → IsOfNeighbour net u cause.now →
+            prefix < length net.prefixes → IsTrue result ↔ CauseFits h (One prefix) cause.now }
+    {
         match cause {
             Cause::Originate => !self.routes.owns(prefix),
             Cause::Withdraw => self.routes.owns(prefix),
@@ -410,44 +311,67 @@ impl<P: Policy + Copy> NodeLog<P> {
                 session,
                 seq,
                 ..
-            } => self.held(*from) == Some(*session) && self.is_next(*from, *seq),
+            } => self.holds(*from, *session) && self.is_next(*from, *session, *seq),
             _ => false,
         }
     }
 
     // Whether an entry of all prefixes may follow.
-    fn fits_all(&self, cause: &Cause) -> bool {
+    fn fits_all(&self, cause: &Cause) -> bool
+        ensures { (policy : P) (net : Net) (u : ℕ) (h : List Logged) →
+            StandsFor policy (P.rules policy) net u self.now h → IsOfNeighbour net u cause.now →
+            IsTrue result ↔ CauseFits h All cause.now }
+    {
         match cause {
-            Cause::Down { nbr, session } => self.held(*nbr) == Some(*session),
+            Cause::Down { nbr, session } => self.holds(*nbr, *session),
             Cause::Up { nbr, session } => self.may_open(*nbr, *session),
-            Cause::Ready { nbr, session } => {
-                self.held(*nbr) == Some(*session) && !self.ready(*nbr)
-            }
+            Cause::Ready { nbr, session } => self.holds(*nbr, *session) && !self.ready(*nbr),
             Cause::Prefer { .. } => true,
             _ => false,
         }
     }
 
-    // The place of a neighbour.
-    fn place_of(&self, nbr: NodeId) -> Option<usize> {
-        self.near.binary_search(&nbr).ok()
-    }
-
     // The newest session with a neighbour.
-    fn newest(&self, nbr: NodeId) -> Option<&SessionMark> {
-        self.sessions.newest(self.place_of(nbr)?)
+    fn newest(&self, nbr: NodeId) -> Option<&SessionMark>
+        ensures some { IfSome result (λ mark. (policy : P) (net : Net) (u : ℕ) (h : List Logged) →
+            StandsFor policy (P.rules policy) net u self.now h →
+            Says h nbr (last (reads h) nbr) (sent_count (P.rules policy) net u h nbr (last (reads h) nbr)) mark.now) }
+        ensures none { IfNone result ((policy : P) (net : Net) (u : ℕ) (h : List Logged) →
+            StandsFor policy (P.rules policy) net u self.now h → has (neighbours net u) nbr ≡ false) }
+    {
+        self.sessions.newest(place_of(&self.near, nbr)?)
     }
 
-    // Whether the next update of the neighbour has this number.
-    fn is_next(&self, nbr: NodeId, seq: u32) -> bool {
-        match self.newest(nbr) {
+    // Whether the session is held with the neighbour.
+    fn holds(&self, nbr: NodeId, session: Session) -> bool
+        ensures { (policy : P) (net : Net) (u : ℕ) (h : List Logged) →
+            StandsFor policy (P.rules policy) net u self.now h → has (neighbours net u) nbr ≡ true →
+            IsTrue result ↔ (held (reads h) nbr ≡ Some session) }
+    {
+        match self.held(nbr) {
             None => false,
-            Some(mark) => mark.received.checked_add(1) == Some(seq),
+            Some(held) => held == session,
+        }
+    }
+
+    // Whether the next update of the neighbour in the session has this number.
+    fn is_next(&self, nbr: NodeId, session: Session, seq: u32) -> bool
+        ensures { (policy : P) (net : Net) (u : ℕ) (h : List Logged) →
+            StandsFor policy (P.rules policy) net u self.now h → has (neighbours net u) nbr ≡ true →
+            IsTrue result ↔ (seq ≡ suc (length (inbox h nbr session))) }
+    {
+        match self.received(nbr, session).checked_add(1) {
+            None => false,
+            Some(next) => next == seq,
         }
     }
 
     // Whether no session is held with the neighbour, and all so far are below this one.
-    fn may_open(&self, nbr: NodeId, session: Session) -> bool {
+    fn may_open(&self, nbr: NodeId, session: Session) -> bool
+        ensures { (policy : P) (net : Net) (u : ℕ) (h : List Logged) →
+            StandsFor policy (P.rules policy) net u self.now h → has (neighbours net u) nbr ≡ true →
+            IsTrue result ↔ ((held (reads h) nbr ≡ None) × (last (reads h) nbr < session)) }
+    {
         match self.newest(nbr) {
             None => false,
             Some(mark) => mark.down.is_some() && mark.session < session,

@@ -34,21 +34,20 @@ pub fn offers_of<P: Policy + Copy>(
     alloc: Global,
     routes: &RouteState<P>,
     topology: &Topology,
-    scope: Scope,
+    scope: &Scope,
 ) -> Result<Vec<Offer>, NoMemory>
-    ensures covers { IfOk result (λ offers. prefixes_of offers.items ≡ places_of topology.now scope) }
+    ensures covers { IfOk result (λ offers. prefixes_of offers.items ≡ places_of topology.now scope.now) }
     ensures chosen { IfOk result (λ offers. (policy : P) (u : ℕ) (h : History) →
-        StandsFor policy topology.now u routes.now h → IsPlaced topology.now scope →
+        StandsFor policy topology.now u routes.now h → IsPlaced topology.now scope.now →
         AreChosen (P.rules policy) topology.now u h offers.items) }
 {
     let mut offers = Vec::new(alloc);
-    match scope {
-        Scope::One(prefix) => offers.push(offer_of(routes, prefix)?)?,
-        Scope::All => {
-            for place in 0..topology.prefix_count() {
-                offers.push(offer_of(routes, PrefixId::new(place))?)?;
-            }
-        }
+    if let Scope::One(prefix) = scope {
+        offers.push(offer_of(routes, *prefix)?)?;
+        return Ok(offers);
+    }
+    for place in 0..topology.prefix_count() {
+        offers.push(offer_of(routes, PrefixId::new(place))?)?;
     }
     Ok(offers)
 }

@@ -1,7 +1,8 @@
 //! The sessions that a node ever held.
 ghost use Rattle.std.specs.Prelude.{ℕ, ◌≡◌, ◌<◌, List, [], ◌∷◌, ◌++◌, Some, None, false, true, length, map, slice_get, slice_set, is_none, ◌&&◌, if◌then◌else◌, IfOk, IfSome, IfNone, OnOk};
 ghost use Rattle.trigger_log.specs.declared.sessions.SessionMark.{SessionMark};
-ghost use Rattle.trigger_log.specs.Rows.{HasRows, EndsWith, joined};
+ghost use Rattle.topology.specs.Lists.{Among};
+ghost use Rattle.trigger_log.specs.Rows.{HasRows, EndsWith, joined, shifted};
 
 use std::alloc::Global;
 use topology::{NoMemory, NodeId, Session, Trigger};
@@ -38,20 +39,6 @@ impl SessionMark {
     {
         self.down.is_none() && self.opened
     }
-
-    // A session in which nothing was said.
-    fn fresh(nbr: NodeId, session: Session, opened: bool) -> SessionMark
-        ensures { result ≡ record { nbr = nbr; session = session; opened = opened; sent = 0; received = 0; down = None } }
-    {
-        SessionMark {
-            nbr,
-            session,
-            opened,
-            sent: 0,
-            received: 0,
-            down: None,
-        }
-    }
 }
 
 /// The sessions of a node: a row for each neighbour, by its place, one row after the other in one
@@ -60,6 +47,19 @@ impl SessionMark {
 pub struct Sessions {
     marks: Vec<SessionMark>,
     newest: Vec<usize>,
+}
+
+// Adds one to each number from this place on.
+fn shift(places: &mut Vec<usize>, from: usize) -> Result<(), NoMemory>
+    ensures { OnOk result (places.new.items ≡ shifted from places.old.items) }
+{
+    for i in from..places.len() {
+        let Some(place) = places[i].checked_add(1) else {
+            return Err(NoMemory);
+        };
+        places[i] = place;
+    }
+    Ok(())
 }
 
 impl Sessions {
@@ -71,7 +71,14 @@ impl Sessions {
         let mut newest = Vec::with_capacity(alloc, near.len())?;
         for nbr in near {
             newest.push(marks.len())?;
-            marks.push(SessionMark::fresh(*nbr, Session::new(1), true))?;
+            marks.push(SessionMark {
+                nbr: *nbr,
+                session: Session::new(1),
+                opened: true,
+                sent: 0,
+                received: 0,
+                down: None,
+            })?;
         }
         Ok(Sessions { marks, newest })
     }
@@ -115,17 +122,29 @@ impl Sessions {
         let Some(last) = self.newest.get(place) else {
             return Ok(());
         };
-        let behind = *last + 1;
-        self.marks
-            .insert(behind, SessionMark::fresh(nbr, session, false))?;
-        for later in place..self.newest.len() {
-            self.newest[later] += 1;
+        let last = *last;
+        if last >= self.marks.len() {
+            return Ok(());
         }
-        Ok(())
+        let mark = SessionMark {
+            nbr,
+            session,
+            opened: false,
+            sent: 0,
+            received: 0,
+            down: None,
+        };
+        self.marks.insert(last + 1, mark)?;
+        shift(&mut self.newest, place)
     }
 
     /// The mark of a session. None where it was never held.
-    pub fn find(&self, nbr: NodeId, session: Session) -> Option<&SessionMark> {
+    pub fn find(&self, nbr: NodeId, session: Session) -> Option<&SessionMark>
+        ensures some { IfSome result (λ mark. (mark.now.nbr ≡ nbr) × (mark.now.session ≡ session) ×
+            ((rows : List (List SessionMark)) → HasRows rows self.now → Among mark.now (joined rows))) }
+        ensures none { IfNone result ((rows : List (List SessionMark)) (mark : SessionMark) → HasRows rows self.now →
+            Among mark (joined rows) → mark.nbr ≡ nbr → mark.session ≡ session → ⊥) }
+    {
         self.marks
             .iter()
             .find(|mark| mark.nbr == nbr && mark.session == session)

@@ -1,16 +1,21 @@
 //! What an entry makes a node tell one neighbour.
-ghost use Rattle.std.specs.Prelude.{ℕ, ◌≡◌, ◌∷◌, [], true, List, IfOk};
+ghost use Rattle.std.specs.Prelude.{ℕ, suc, ◌≡◌, ◌∷◌, [], ◌++◌, true, None, map, option_map, if◌then◌else◌, List, IfOk};
 ghost use Rattle.std.specs.Option.{option_copied};
 ghost use Rattle.topology.specs.Lists.{has, same_nodes, same_path};
 ghost use Rattle.topology.specs.Net.{Net, neighbours};
 ghost use Rattle.path_vector.specs.Standing.{StandsFor};
+ghost use Rattle.path_vector.specs.History.{History};
+ghost use Rattle.path_vector.specs.Selection.{best};
+ghost use Rattle.path_vector.specs.Answers.{Copies};
+ghost use Rattle.path_vector.specs.Offers.{offer};
+ghost use Rattle.trigger_log.specs.Going.{going_of};
 ghost use Rattle.trigger_log.specs.Entries.{Entry, reads};
 ghost use Rattle.trigger_log.specs.Offered.{AreChosen, prefixes_of, updates_over};
-ghost use Rattle.trigger_log.specs.Telling.{Tells};
+ghost use Rattle.trigger_log.specs.Telling.{Tells, update_going};
 
 use crate::offers::Offer;
 use crate::outgoing::Outgoing;
-use path_vector::{Policy, RouteState};
+use path_vector::{Cause, Policy, RouteState};
 use topology::{Item, NoMemory, NodeId, Path, PrefixId, Sent, Session, Trigger};
 
 fn same_slice(a: &[NodeId], b: &[NodeId]) -> bool
@@ -55,12 +60,69 @@ pub struct Listener {
     pub knows: bool,
 }
 
-/// The trigger of an entry, and the best routes of its prefixes before and after it.
+/// The trigger and the cause of an entry, and the best routes of its prefixes before and after it.
 #[derive(Drop)]
 pub struct Turn<'a> {
-    pub trigger: Trigger,
+    pub trigger: &'a Trigger,
+    pub cause: &'a Cause,
     pub before: &'a [Offer],
     pub after: &'a [Offer],
+}
+
+// The path that the neighbour knows of: none where it knows nothing.
+fn known<'a, P: Policy + Copy>(
+    routes: &RouteState<P>,
+    before: &'a Offer,
+    listener: &Listener,
+) -> Option<&'a Path>
+    ensures { (policy : P) (net : Net) (u : ℕ) (h now : History) → StandsFor policy net u routes.now now →
+        Copies net u before.now.chosen (best (P.rules policy) net u h before.now.prefix) →
+        has (neighbours net u) listener.now.nbr ≡ true →
+        option_map (λ path. path.now) result
+        ≡ (if listener.now.knows then offer (P.rules policy) net u h before.now.prefix listener.now.nbr else None) }
+{
+    if !listener.knows {
+        return None;
+    }
+    routes.offered_path(&before.chosen, listener.nbr)
+}
+
+// Lists one update more, and answers its number.
+fn say(
+    listener: &Listener,
+    count: u32,
+    prefix: PrefixId,
+    trigger: &Trigger,
+    path: Option<&Path>,
+    sent: &mut Vec<Sent>,
+    outgoing: &mut Vec<Outgoing>,
+) -> Result<u32, NoMemory>
+    ensures count { IfOk result (λ seq. seq ≡ suc count) }
+    ensures sent { IfOk result (λ seq. sent.new.items
+        ≡ sent.old.items ++ record { to = listener.now.nbr; session = listener.now.session; seq = seq } ∷ []) }
+    ensures outgoing { IfOk result (λ seq. map going_of outgoing.new.items
+        ≡ map going_of outgoing.old.items ++ update_going listener.now seq (record { prefix = prefix; triggers = trigger.now ∷ []; path = option_copied path.entry }) ∷ []) }
+{
+    let Some(seq) = count.checked_add(1) else {
+        return Err(NoMemory);
+    };
+    let path = copy(path)?;
+    sent.push(Sent {
+        to: listener.nbr,
+        session: listener.session,
+        seq,
+    })?;
+    outgoing.push(Outgoing {
+        to: listener.nbr,
+        session: listener.session,
+        item: Item::Update {
+            prefix,
+            seq,
+            trigger: *trigger,
+            path,
+        },
+    })?;
+    Ok(seq)
 }
 
 /// Lists an update of each prefix of which the neighbour is offered another path than it knows,
@@ -74,7 +136,7 @@ pub fn tell<P: Policy + Copy>(
 ) -> Result<u32, NoMemory>
     requires same_prefixes { prefixes_of turn.now.before.now ≡ prefixes_of turn.now.after.now }
     ensures { IfOk result (λ count. (policy : P) (net : Net) (u : ℕ) (h : List Entry) (k : Entry) →
-        StandsFor policy net u routes.now (k.read ∷ reads h) → k.triggers ≡ turn.now.trigger ∷ [] →
+        StandsFor policy net u routes.now (k.read ∷ reads h) → k.triggers ≡ turn.now.trigger.now ∷ [] →
         AreChosen (P.rules policy) net u (reads h) turn.now.before.now →
         AreChosen (P.rules policy) net u (k.read ∷ reads h) turn.now.after.now →
         has (neighbours net u) listener.now.nbr ≡ true →
@@ -84,34 +146,19 @@ pub fn tell<P: Policy + Copy>(
     let mut count = listener.sent;
     for i in 0..turn.after.len() {
         let offer = &turn.after[i];
-        let known = if listener.knows {
-            routes.offered_path(&turn.before[i].chosen, listener.nbr)
-        } else {
-            None
-        };
         let offered = routes.offered_path(&offer.chosen, listener.nbr);
-        if same(offered, known) {
+        if same(offered, known(routes, &turn.before[i], listener)) {
             continue;
         }
-        let Some(seq) = count.checked_add(1) else {
-            return Err(NoMemory);
-        };
-        count = seq;
-        sent.push(Sent {
-            to: listener.nbr,
-            session: listener.session,
-            seq,
-        })?;
-        outgoing.push(Outgoing {
-            to: listener.nbr,
-            session: listener.session,
-            item: Item::Update {
-                prefix: offer.prefix,
-                seq,
-                trigger: turn.trigger,
-                path: copy(offered)?,
-            },
-        })?;
+        count = say(
+            listener,
+            count,
+            offer.prefix,
+            turn.trigger,
+            offered,
+            sent,
+            outgoing,
+        )?;
     }
     Ok(count)
 }

@@ -1,0 +1,299 @@
+-- What an entry says to one neighbour.
+use Rattle.std.proofs.Common.{ℕ, zero, suc, ◌+◌, ◌<◌, ◌≤◌, Bool, true, false, not, cond, ◌==◌, ◌&&◌, Option, Some, None, List, [], ◌∷◌, ◌++◌, ◌≡◌, refl, sym, ◌∙◌, ap, subst, arith, length, map, filter}
+use Rattle.std.specs.Prelude.{if◌then◌else◌, option_map, is_some, is_none}
+use Rattle.std.specs.List.{range_with_len}
+use Rattle.std.proofs.lemmas.Bool.Decides.{nat_tests}
+use Rattle.std.proofs.lemmas.List.{append-nil}
+use Rattle.topology.specs.declared.names.Trigger.{Trigger}
+use Rattle.topology.specs.declared.names.Scope.{Scope}
+use Rattle.topology.specs.declared.names.Scope.TheVariants.{One, All}
+use Rattle.topology.specs.declared.items.Sent.{Sent}
+use Rattle.topology.specs.Net.{Net, places}
+use Rattle.path_vector.specs.declared.causes.Cause.{Cause}
+use Rattle.path_vector.specs.declared.causes.Cause.TheVariants.{Originate, Withdraw, Recv, Down, Up, Ready, Prefer}
+use Rattle.path_vector.specs.Rules.{Rules}
+use Rattle.path_vector.specs.History.{Scoped, last, held, held_by, opened, opened_by, ready, concerns}
+use Rattle.path_vector.specs.Offers.{changed, offered}
+use Rattle.path_vector.proofs.Changes.{other_prefix}
+use Rattle.trigger_log.specs.declared.outgoing.Outgoing.{Outgoing}
+use Rattle.trigger_log.specs.declared.sessions.SessionMark.{SessionMark}
+use Rattle.trigger_log.specs.declared.telling.Listener.{Listener}
+use Rattle.trigger_log.specs.Entries.{Entry, Update, reads, entry, closes, is_session}
+use Rattle.trigger_log.specs.Sending.{news, update_of, sent_count, sent_from, updates_sent, close_sent, next_number}
+use Rattle.trigger_log.specs.Going.{going_of, going_in, going_to, told, numbered}
+use Rattle.trigger_log.specs.Fits.{CauseFits, Fits}
+use Rattle.trigger_log.specs.Offered.{IsPlaced, places_of, differs, updates_over}
+use Rattle.trigger_log.specs.Telling.{Tells}
+use Rattle.trigger_log.specs.Marked.{Says, Spoken, ends_with, readies}
+use Rattle.trigger_log.proofs.Holding.{accepted, fits_up, fits_down, fits_ready, held_is_last}
+use Rattle.trigger_log.proofs.Closings.{count_held, count_other, count_down, close_count, held_count}
+use Rattle.trigger_log.proofs.Silence.{ready_in, ready_held, not_opened, opened_above}
+use Rattle.trigger_log.proofs.Newest.{held_until}
+
+same_number : (v w : ℕ) → (v == w) ≡ true → v ≡ w
+same_number v w e = grind (arith, nat_tests)
+
+same_self : (n : ℕ) → (n == n) ≡ true
+same_self n = grind (arith, nat_tests)
+
+-- ---- whether w is ready, as its newest mark shows
+
+ready_of : (a : Option ℕ) (o : ℕ → Bool) (d b : Bool) (s : ℕ) → a ≡ (if d then Some s else None) → b ≡ o s → ready_in a o ≡ (if d && b then Some s else None)
+ready_of a o true b s e f = rw (e, f) refl
+ready_of a o false b s e f = rw e refl
+
+is_none_map : {A B : Type 0} (f : A → B) (o : Option A) → is_none (option_map f o) ≡ is_none o
+is_none_map f None = refl
+is_none_map f (Some x) = refl
+
+pub held_mark : (h : List Entry) (w n : ℕ) (mark : SessionMark) → Fits h → Says h w (last (reads h) w) n mark → held (reads h) w ≡ (if is_none mark.down then Some (last (reads h) w) else None)
+held_mark h w n mark fits says =
+    held_until h w fits
+    ∙ ap (λ b. if b then Some (last (reads h) w) else None) (sym (ap is_none says.down) ∙ is_none_map (λ t. t ∷ []) mark.down)
+
+pub ready_mark : (h : List Entry) (w n : ℕ) (mark : SessionMark) → Fits h → Says h w (last (reads h) w) n mark → ready (reads h) w ≡ (if is_none mark.down && mark.opened then Some (last (reads h) w) else None)
+ready_mark h w n mark fits says =
+    ready_of (held (reads h) w) (opened (reads h) w) (is_none mark.down) mark.opened (last (reads h) w) (held_mark h w n mark fits says) says.is_opened
+
+-- ---- where w is ready after an entry, it held the session before, and knows the offers unless it is ready by the entry
+
+abbrev Knew : List Entry → Cause → ℕ → ℕ → Type 0
+Knew h cause w s = (held (reads h) w ≡ Some s) × (is_some (ready (reads h) w) ≡ not (readies cause w))
+
+still : (h : List Entry) (w s : ℕ) → ready (reads h) w ≡ Some s → (held (reads h) w ≡ Some s) × (is_some (ready (reads h) w) ≡ true)
+still h w s e = (ready_held (held (reads h) w) (opened (reads h) w) s e, ap is_some e)
+
+knew_by : (h : List Entry) (scope : Scope) (cause : Cause) (w s : ℕ) → Fits h → CauseFits h scope cause
+    → ready_in (held_by cause w (held (reads h) w)) (λ t. opened_by cause w t (opened (reads h) w t)) ≡ Some s → Knew h cause w s
+knew_by h scope Originate w s f c e = still h w s e
+knew_by h scope Withdraw w s f c e = still h w s e
+knew_by h scope (Recv v t seq path) w s f c e = still h w s e
+knew_by h scope (Prefer v x) w s f c e = still h w s e
+knew_by h scope (Down v t) w s f c e =
+    (elim (v == w) as (λ b. ready_in (cond b None (held (reads h) w)) (opened (reads h) w) ≡ Some s → (held (reads h) w ≡ Some s) × (is_some (ready (reads h) w) ≡ true)) [
+      | true ↦ λ r. absurd (cc r)
+      | false ↦ λ r. still h w s r
+    ]) e
+knew_by h scope (Up v t) w s f c e =
+    (elim (v == w) as (λ b. (v == w) ≡ b → ready_in (cond b (Some t) (held (reads h) w)) (opened (reads h) w) ≡ Some s → (held (reads h) w ≡ Some s) × (is_some (ready (reads h) w) ≡ true)) [
+      | true ↦ λ q r.
+          let shut : opened (reads h) w t ≡ false = subst (λ x. opened (reads h) x t ≡ false) (same_number v w q) (opened_above h v t f (fits_up h scope v t c).1) in
+          absurd (cc (not_opened t (opened (reads h) w) (Some t) refl shut, r))
+      | false ↦ λ q r. still h w s r
+    ]) refl e
+knew_by h scope (Ready v t) w s f c e =
+    (elim (v == w) as (λ b. (v == w) ≡ b → ready_in (held (reads h) w) (λ x. if b && t == x then true else opened (reads h) w x) ≡ Some s → (held (reads h) w ≡ Some s) × (is_some (ready (reads h) w) ≡ not b)) [
+      | true ↦ λ q r.
+          let mine : held (reads h) w ≡ Some t = subst (λ x. held (reads h) x ≡ Some t) (same_number v w q) (fits_ready h scope v t c).0 in
+          let shut : opened (reads h) w t ≡ false = subst (λ x. opened (reads h) x t ≡ false) (same_number v w q) (fits_ready h scope v t c).1 in
+          (ready_held (held (reads h) w) (λ x. if true && t == x then true else opened (reads h) w x) s r, ap is_some (not_opened t (opened (reads h) w) (held (reads h) w) mine shut))
+      | false ↦ λ q r. still h w s r
+    ]) refl e
+
+pub knew : (k : Entry) (h : List Entry) (w s : ℕ) → Fits (k ∷ h) → ready (k.read ∷ reads h) w ≡ Some s → Knew h k.read.cause w s
+knew k h w s f e = knew_by h k.read.scope k.read.cause w s f.1 f.0 e
+
+-- ---- the updates over the places of the scope are all news
+
+none_passes : (f : ℕ → Bool) (p start n : ℕ) → p < start → ((q : ℕ) → (p == q) ≡ false → f q ≡ false) → filter f (range_with_len start n) ≡ []
+none_passes f p start zero before off = refl
+none_passes f p start (suc n) before off = rw (off start (grind (arith, nat_tests))) (none_passes f p (start + 1) n (omega arith) off)
+
+one_passes : (f : ℕ → Bool) (p start n : ℕ) → start ≤ p → p < start + n → ((q : ℕ) → (p == q) ≡ false → f q ≡ false) → filter f (range_with_len start n) ≡ (if f p then p ∷ [] else [])
+one_passes f p start zero from to off = absurd (omega arith)
+one_passes f p start (suc n) from to off =
+    (elim (p == start) as (λ t. (p == start) ≡ t → filter f (start ∷ range_with_len (start + 1) n) ≡ (if f p then p ∷ [] else [])) [
+      | true ↦ λ e.
+          let same : start ≡ p = grind (arith, nat_tests) in
+          rw (none_passes f p (start + 1) n (omega arith) off) (ap (λ q. if f q then q ∷ [] else []) same)
+      | false ↦ λ e.
+          let later : start + 1 ≤ p = grind (arith, nat_tests) in
+          rw (off start e) (one_passes f p (start + 1) n later (omega arith) off)
+    ]) refl
+
+filter_same : (f g : ℕ → Bool) → ((p : ℕ) → f p ≡ g p) → (xs : List ℕ) → filter f xs ≡ filter g xs
+filter_same f g same [] = refl
+filter_same f g same (x ∷ xs) = rw (same x, filter_same f g same xs) refl
+
+-- the entries of a fitting log have the scopes of their causes
+pub scoped : (h : List Entry) → Fits h → Scoped (reads h)
+scoped [] f = tt
+scoped (k ∷ h) f = ((accepted h k.read.scope k.read.cause f.1 f.0).scoped, scoped h f.1)
+
+module _ (rules : Rules) (net : Net) (u : ℕ) (h : List Entry) (k : Entry) (w s : ℕ) (fits : Fits (k ∷ h)) (now : ready (k.read ∷ reads h) w ≡ Some s) where
+  abbrev moved : ℕ → Bool
+  moved = changed rules net u (reads h) k.read w
+
+  moves : (p : ℕ) → differs rules net u h k (is_some (ready (reads h) w)) w p ≡ moved p
+  unfolding changed offered
+  moves p = rw now refl
+
+  passing : (scope : Scope) → k.read.scope ≡ scope → IsPlaced net scope → filter moved (places_of net scope) ≡ filter moved (places net)
+  unfolding places
+  passing All is placed = refl
+  passing (One p) is placed =
+      sym (one_passes moved p 0 (length net.prefixes) (omega arith) (omega arith)
+      (λ q other. other_prefix rules net u (reads h) k.read w q (scoped (k ∷ h) fits) (ap (concerns q) is ∙ other)))
+
+  pub over_scope : IsPlaced net k.read.scope → updates_over rules net u h k (is_some (ready (reads h) w)) w (places_of net k.read.scope) ≡ news rules net u h k w
+  unfolding news
+  over_scope placed =
+      ap (map (update_of rules net u h k w))
+      (filter_same (differs rules net u h k (is_some (ready (reads h) w)) w) moved moves (places_of net k.read.scope) ∙ passing k.read.scope refl placed)
+
+-- ---- the three cases
+
+filter_none : (f : ℕ → Bool) (xs : List ℕ) → ((p : ℕ) → f p ≡ false) → filter f xs ≡ []
+filter_none f [] none = refl
+filter_none f (x ∷ xs) none = rw (none x) (filter_none f xs none)
+
+-- no news where w is not ready after the entry
+unready_news : (rules : Rules) (net : Net) (u : ℕ) (h : List Entry) (k : Entry) (w : ℕ) → ready (k.read ∷ reads h) w ≡ None → news rules net u h k w ≡ []
+unfolding news changed
+unready_news rules net u h k w e =
+    ap (map (update_of rules net u h k w)) (filter_none (changed rules net u (reads h) k.read w) (places net) (λ p. rw e refl))
+
+not_closed : (cause : Cause) (w t : ℕ) → ends_with cause w ≡ false → closes cause w t ≡ false
+not_closed Originate w t e = refl
+not_closed Withdraw w t e = refl
+not_closed (Recv v s seq path) w t e = refl
+not_closed (Up v s) w t e = refl
+not_closed (Ready v s) w t e = refl
+not_closed (Prefer v x) w t e = refl
+not_closed (Down v s) w t e = rw e refl
+
+ended_by : (cause : Cause) (w : ℕ) → ends_with cause w ≡ true → (t : ℕ) × (cause ≡ Down w t)
+ended_by Originate w e = absurd (cc e)
+ended_by Withdraw w e = absurd (cc e)
+ended_by (Recv v s seq path) w e = absurd (cc e)
+ended_by (Up v s) w e = absurd (cc e)
+ended_by (Ready v s) w e = absurd (cc e)
+ended_by (Prefer v x) w e = absurd (cc e)
+ended_by (Down v s) w e = (s, ap (λ n. Down n s) (same_number v w e))
+
+module _ (rules : Rules) (net : Net) (u : ℕ) (h : List Entry) (k : Entry) (w : ℕ) (fits : Fits (k ∷ h)) where
+  close_none : (a : Option ℕ) → ends_with k.read.cause w ≡ false → close_sent rules net u h k w a ≡ []
+  close_none None e = refl
+  close_none (Some t) e = rw (not_closed k.read.cause w t e) refl
+
+  number_is : (s : ℕ) → held (reads h) w ≡ Some s → next_number rules net u h w s ≡ suc (sent_count rules net u h w s)
+  number_is s e = ap suc (sym (held_count rules net u h w s fits.1 e))
+
+  -- its news go out
+  pub spoken_told : (s count : ℕ) (listener : Listener) (sent all : List Sent) (out all_out : List Outgoing) → listener.nbr ≡ w → listener.session ≡ s → listener.sent ≡ sent_count rules net u h w s
+      → ends_with k.read.cause w ≡ false → ready (k.read ∷ reads h) w ≡ Some s → Tells listener (news rules net u h k w) sent all out all_out count
+      → Spoken rules net u h k w s sent all out all_out count
+  spoken_told s count listener sent all out all_out nbr session so_far open_still now tells =
+      let list = news rules net u h k w in
+      let holds : held (k.read ∷ reads h) w ≡ Some s = ready_held (held (k.read ∷ reads h) w) (opened (k.read ∷ reads h) w) s now in
+      let number = number_is s (knew k h w s fits now).0 in
+      record {
+        counts = tells.counts ∙ (ap (λ n. n + length list) so_far ∙ sym (count_held rules net u k h w s holds));
+        sent = tells.sent ∙ ap (λ l. sent ++ l)
+            (ap (λ x. sent_from x listener.session (suc listener.sent) list) nbr
+            ∙ (ap (λ x. sent_from w x (suc listener.sent) list) session
+            ∙ (ap (λ n. sent_from w s (suc n) list) so_far
+            ∙ (ap (λ n. sent_from w s n list) (sym number)
+            ∙ (sym (append-nil (sent_from w s (next_number rules net u h w s) list))
+            ∙ (ap (λ l. updates_sent rules net u h k w (Some s) ++ l) (sym (close_none (ready (reads h) w) open_still))
+            ∙ ap (λ a. updates_sent rules net u h k w a ++ close_sent rules net u h k w (ready (reads h) w)) (sym holds)))))));
+        out = tells.out ∙ ap (λ l. map going_of out ++ l)
+            (ap (λ x. going_to x listener.session (numbered (suc listener.sent) list)) nbr
+            ∙ (ap (λ x. going_to w x (numbered (suc listener.sent) list)) session
+            ∙ (ap (λ n. going_to w s (numbered (suc n) list)) so_far
+            ∙ (ap (λ n. going_to w s (numbered n list)) (sym number)
+            ∙ ap (going_in w (told rules net u h k w)) (sym holds)))));
+      }
+
+  updates_none : (a : Option ℕ) → news rules net u h k w ≡ [] → updates_sent rules net u h k w a ≡ []
+  updates_none None e = refl
+  updates_none (Some t) e = ap (sent_from w t (next_number rules net u h w t)) e
+
+  going_none : (a : Option ℕ) → news rules net u h k w ≡ [] → going_in w (told rules net u h k w) a ≡ []
+  going_none None e = refl
+  going_none (Some t) e = ap (λ l. going_to w t (numbered (next_number rules net u h w t) l)) e
+
+  count_same : (a : Option ℕ) → held (k.read ∷ reads h) w ≡ a → ends_with k.read.cause w ≡ false → news rules net u h k w ≡ []
+      → sent_count rules net u (k ∷ h) w (last (k.read ∷ reads h) w) ≡ sent_count rules net u h w (last (k.read ∷ reads h) w)
+  count_same None e open_still none =
+      count_other rules net u k h w (last (k.read ∷ reads h) w) (λ f. absurd (cc (e, f))) (not_closed k.read.cause w (last (k.read ∷ reads h) w) open_still)
+  count_same (Some t) e open_still none =
+      let s = last (k.read ∷ reads h) w in
+      let same : t ≡ s = held_is_last (k.read ∷ reads h) w t e in
+      count_held rules net u k h w s (e ∙ ap (λ n. Some n) same) ∙ (ap (λ (l : List Update). sent_count rules net u h w s + length l) none ∙ omega arith)
+
+  -- it says nothing
+  pub spoken_none : (count : ℕ) (sent : List Sent) (out : List Outgoing) → count ≡ sent_count rules net u h w (last (k.read ∷ reads h) w) → ends_with k.read.cause w ≡ false → ready (k.read ∷ reads h) w ≡ None
+      → Spoken rules net u h k w (last (k.read ∷ reads h) w) sent sent out out count
+  spoken_none count sent out so_far open_still now =
+      let none = unready_news rules net u h k w now in
+      record {
+        counts = so_far ∙ sym (count_same (held (k.read ∷ reads h) w) refl open_still none);
+        sent = sym (ap (λ l. sent ++ l) (ap (λ l. l ++ close_sent rules net u h k w (ready (reads h) w)) (updates_none (held (k.read ∷ reads h) w) none) ∙ close_none (ready (reads h) w) open_still) ∙ append-nil sent);
+        out = sym (ap (λ l. map going_of out ++ l) (going_none (held (k.read ∷ reads h) w) none) ∙ append-nil (map going_of out));
+      }
+
+-- it closes the session
+module _ (rules : Rules) (net : Net) (u : ℕ) (h : List Entry) (triggers : List Trigger) (scope : Scope) (w t : ℕ) (fits : Fits (entry triggers scope (Down w t) ∷ h)) where
+  abbrev ending : Entry
+  ending = entry triggers scope (Down w t)
+
+  was_held : held (reads h) w ≡ Some t
+  was_held = fits_down h scope w t fits.0
+
+  abbrev listed : Bool → List Sent
+  listed b = if b then record { to = w; session = t; seq = suc (sent_count rules net u h w t) } ∷ [] else []
+
+  held_none : held (ending.read ∷ reads h) w ≡ None
+  held_none = rw (same_self w) refl
+
+  ready_is : ready (reads h) w ≡ (if opened (reads h) w t then Some t else None)
+  ready_is = rw was_held refl
+
+  in_session : (b : Bool) → is_session (if b then Some t else None) t ≡ b
+  in_session true = same_self t
+  in_session false = refl
+
+  close_is : (b : Bool) → close_sent rules net u h ending w (if b then Some t else None) ≡ listed b
+  close_is true =
+      rw (same_self w, same_self t) (ap (λ n. record { to = w; session = t; seq = suc n } ∷ []) (sym (held_count rules net u h w t fits.1 was_held)))
+  close_is false = refl
+
+  -- it closes the session
+  pub spoken_close : (count : ℕ) (sent all : List Sent) (out : List Outgoing) → count ≡ sent_count rules net u h w t + close_count (opened (reads h) w t) → all ≡ sent ++ listed (opened (reads h) w t)
+      → Spoken rules net u h ending w t sent all out out count
+  spoken_close count sent all out counted lists = record {
+    counts = counted ∙ (ap (λ b. sent_count rules net u h w t + close_count b) (sym (in_session (opened (reads h) w t)) ∙ ap (λ a. is_session a t) (sym ready_is))
+        ∙ sym (count_down rules net u triggers scope h w t fits));
+    sent = lists ∙ ap (λ l. sent ++ l) (sym (ap (λ a. updates_sent rules net u h ending w a ++ close_sent rules net u h ending w (ready (reads h) w)) held_none
+        ∙ (ap (close_sent rules net u h ending w) ready_is ∙ close_is (opened (reads h) w t))));
+    out = sym (ap (λ a. map going_of out ++ going_in w (told rules net u h ending w) a) held_none ∙ append-nil (map going_of out));
+  }
+
+  last_is : last (ending.read ∷ reads h) w ≡ t
+  last_is = rw (same_self w) refl
+
+  closed_listed : (nbr session : ℕ) (b : Bool) (n : ℕ) → nbr ≡ w → session ≡ t → n ≡ sent_count rules net u h w t → (if b then record { to = nbr; session = session; seq = suc n } ∷ [] else []) ≡ listed b
+  closed_listed nbr session b n e f g = rw (e, f, g) refl
+
+  spoken_ending : (count : ℕ) (mark : SessionMark) (sent all : List Sent) (out : List Outgoing)
+      → Says (ending ∷ h) w (last (ending.read ∷ reads h) w) (sent_count rules net u h w (last (ending.read ∷ reads h) w)) mark
+      → count ≡ mark.sent + close_count mark.opened → all ≡ sent ++ (if mark.opened then record { to = mark.nbr; session = mark.session; seq = suc mark.sent } ∷ [] else [])
+      → Spoken rules net u h ending w (last (ending.read ∷ reads h) w) sent all out out count
+  spoken_ending count mark sent all out says counted lists =
+      let at : Says (ending ∷ h) w t (sent_count rules net u h w t) mark = subst (λ s. Says (ending ∷ h) w s (sent_count rules net u h w s) mark) last_is says in
+      subst (λ s. Spoken rules net u h ending w s sent all out out count) (sym last_is)
+      (spoken_close count sent all out
+      (counted ∙ (ap (λ n. n + close_count mark.opened) at.sent ∙ ap (λ b. sent_count rules net u h w t + close_count b) at.is_opened))
+      (lists ∙ ap (λ l. sent ++ l) (closed_listed mark.nbr mark.session mark.opened mark.sent at.nbr at.session at.sent ∙ ap listed at.is_opened)))
+
+pub spoken_closed : (rules : Rules) (net : Net) (u : ℕ) (h : List Entry) (k : Entry) (w count : ℕ) (mark : SessionMark) (sent all : List Sent) (out : List Outgoing) → Fits (k ∷ h) → ends_with k.read.cause w ≡ true
+    → Says (k ∷ h) w (last (k.read ∷ reads h) w) (sent_count rules net u h w (last (k.read ∷ reads h) w)) mark
+    → count ≡ mark.sent + close_count mark.opened → all ≡ sent ++ (if mark.opened then record { to = mark.nbr; session = mark.session; seq = suc mark.sent } ∷ [] else [])
+    → Spoken rules net u h k w (last (k.read ∷ reads h) w) sent all out out count
+spoken_closed rules net u h k w count mark sent all out fits ends says counted lists =
+    let by = ended_by k.read.cause w ends in
+    let is : entry k.triggers k.read.scope (Down w by.0) ≡ k = ap (entry k.triggers k.read.scope) (sym by.1) in
+    (subst (λ (k : Entry). Fits (k ∷ h) → Says (k ∷ h) w (last (k.read ∷ reads h) w) (sent_count rules net u h w (last (k.read ∷ reads h) w)) mark
+    → Spoken rules net u h k w (last (k.read ∷ reads h) w) sent all out out count) is
+    (λ fits says. spoken_ending rules net u h k.triggers k.read.scope w by.0 fits count mark sent all out says counted lists)) fits says

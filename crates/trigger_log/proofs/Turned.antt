@@ -1,0 +1,327 @@
+-- What an entry changes in the marks of sessions.
+use Rattle.std.proofs.Common.{ℕ, suc, ◌<◌, true, false, cond, ◌==◌, ◌&&◌, Option, Some, None, List, [], ◌∷◌, ◌++◌, ◌≡◌, refl, sym, ◌∙◌, ap, subst, arith, length, length-append, set, slice_get}
+use Rattle.std.specs.List.{AllZip}
+use Rattle.std.proofs.lemmas.Bool.Decides.{nat_tests}
+use Rattle.std.proofs.lemmas.List.{append-nil}
+use Rattle.std.proofs.lemmas.Option.{same_Some}
+use Rattle.topology.specs.declared.names.Trigger.{Trigger}
+use Rattle.topology.specs.declared.names.Scope.{Scope}
+use Rattle.topology.specs.declared.names.Scope.TheVariants.{One, All}
+use Rattle.topology.specs.Net.{Net, IsValid, neighbours}
+use Rattle.topology.proofs.Neighbours.{differ-neighbours}
+use Rattle.path_vector.specs.declared.causes.Cause.{Cause}
+use Rattle.path_vector.specs.declared.causes.Cause.TheVariants.{Originate, Withdraw, Recv, Down, Up, Ready, Prefer}
+use Rattle.path_vector.specs.Rules.{Rules}
+use Rattle.path_vector.specs.History.{last, opened, opened_by}
+use Rattle.path_vector.specs.Kept.{names}
+use Rattle.trigger_log.specs.declared.sessions.SessionMark.{SessionMark}
+use Rattle.trigger_log.specs.declared.sessions.Sessions.{Sessions}
+use Rattle.trigger_log.specs.Entries.{Entry, reads, entry, inbox, received_by, closes}
+use Rattle.trigger_log.specs.Sending.{sent_count}
+use Rattle.trigger_log.specs.Fits.{CauseFits, Fits}
+use Rattle.trigger_log.specs.Sessions.{ever, opens_by, IsMark, AreMarks, AreRows}
+use Rattle.trigger_log.specs.Rows.{HasRows, EndsWith}
+use Rattle.trigger_log.specs.Marked.{Says, AreMarked, Marked}
+use Rattle.trigger_log.proofs.Holding.{fits_recv, fits_down, fits_ready, held_is_last}
+use Rattle.trigger_log.proofs.Closings.{closing_above, closing_other, count_above}
+use Rattle.trigger_log.proofs.Fresh.{ever_above, fresh_inbox}
+use Rattle.trigger_log.proofs.Silence.{opened_above}
+use Rattle.trigger_log.proofs.Newest.{ends_ever}
+use Rattle.trigger_log.proofs.Zips.{zip_push, zip_end, zip_each, zip_map, zip_at, zip_set}
+
+-- ---- sessions that an entry leaves
+
+no_test : (v w t s : ℕ) → (v ≡ w → t ≡ s → ⊥) → (v == w && t == s) ≡ false
+no_test v w t s other =
+    (elim (v == w) as (λ b. (v == w) ≡ b → (b && (t == s)) ≡ false) [
+      | true ↦ λ e. (elim (t == s) as (λ c. (t == s) ≡ c → c ≡ false) [
+        | true ↦ λ f. absurd (other (grind (arith, nat_tests)) (grind (arith, nat_tests)))
+        | false ↦ λ f. refl
+      ]) refl
+      | false ↦ λ e. refl
+    ]) refl
+
+-- the cause is not about session s with w
+abbrev Spares : List Entry → Cause → ℕ → ℕ → Type 0
+Spares h cause w s = names cause ≡ Some w → s ≡ last (reads h) w → ⊥
+
+some : (v w : ℕ) → v ≡ w → Some v ≡ Some w
+some v w e = ap (λ n. Some n) e
+
+opened_spared : (scope : Scope) (cause : Cause) (h : List Entry) (w s : ℕ) → CauseFits h scope cause → Spares h cause w s → opened_by cause w s (opened (reads h) w s) ≡ opened (reads h) w s
+opened_spared scope Originate h w s f other = refl
+opened_spared scope Withdraw h w s f other = refl
+opened_spared scope (Recv v t seq path) h w s f other = refl
+opened_spared scope (Down v t) h w s f other = refl
+opened_spared scope (Up v t) h w s f other = refl
+opened_spared scope (Prefer v x) h w s f other = refl
+opened_spared scope (Ready v t) h w s f other =
+    let newest = held_is_last (reads h) v t (fits_ready h scope v t f).0 in
+    rw (no_test v w t s (λ e g. other (some v w e) (sym g ∙ (newest ∙ ap (last (reads h)) e)))) refl
+
+received_spared : (triggers : List Trigger) (scope : Scope) (cause : Cause) (h : List Entry) (w s : ℕ) → CauseFits h scope cause → Spares h cause w s → received_by triggers scope cause w s ≡ []
+received_spared triggers All cause h w s f other = refl
+received_spared triggers (One p) Originate h w s f other = refl
+received_spared triggers (One p) Withdraw h w s f other = refl
+received_spared triggers (One p) (Down v t) h w s f other = refl
+received_spared triggers (One p) (Up v t) h w s f other = refl
+received_spared triggers (One p) (Ready v t) h w s f other = refl
+received_spared triggers (One p) (Prefer v x) h w s f other = refl
+received_spared triggers (One p) (Recv v t seq path) h w s f other =
+    let newest = held_is_last (reads h) v t (fits_recv h (One p) v t seq path f) in
+    rw (no_test v w t s (λ e g. other (some v w e) (sym g ∙ (newest ∙ ap (last (reads h)) e)))) refl
+
+closes_spared : (scope : Scope) (cause : Cause) (h : List Entry) (w s : ℕ) → CauseFits h scope cause → Spares h cause w s → closes cause w s ≡ false
+closes_spared scope Originate h w s f other = refl
+closes_spared scope Withdraw h w s f other = refl
+closes_spared scope (Recv v t seq path) h w s f other = refl
+closes_spared scope (Up v t) h w s f other = refl
+closes_spared scope (Ready v t) h w s f other = refl
+closes_spared scope (Prefer v x) h w s f other = refl
+closes_spared scope (Down v t) h w s f other =
+    let newest = held_is_last (reads h) v t (fits_down h scope v t f) in
+    no_test v w t s (λ e g. other (some v w e) (sym g ∙ (newest ∙ ap (last (reads h)) e)))
+
+says_same : (k : Entry) (h : List Entry) (w s n : ℕ) (mark : SessionMark) → opened_by k.read.cause w s (opened (reads h) w s) ≡ opened (reads h) w s → received_by k.triggers k.read.scope k.read.cause w s ≡ []
+    → closes k.read.cause w s ≡ false → Says h w s n mark → Says (k ∷ h) w s n mark
+says_same k h w s n mark same_opened none other was = record {
+  nbr = was.nbr;
+  session = was.session;
+  is_opened = was.is_opened ∙ sym same_opened;
+  sent = was.sent;
+  received = was.received ∙ ap length (sym (ap (λ l. inbox h w s ++ l) none ∙ append-nil (inbox h w s)));
+  down = was.down ∙ sym (closing_other k h w s other);
+}
+
+says_spared : (k : Entry) (h : List Entry) (w s n : ℕ) (mark : SessionMark) → Fits (k ∷ h) → Spares h k.read.cause w s → Says h w s n mark → Says (k ∷ h) w s n mark
+says_spared k h w s n mark f other was =
+    says_same k h w s n mark (opened_spared k.read.scope k.read.cause h w s f.0 other) (received_spared k.triggers k.read.scope k.read.cause h w s f.0 other)
+    (closes_spared k.read.scope k.read.cause h w s f.0 other) was
+
+-- ---- the newest session of the neighbour that an entry names
+
+both_hold : (v w t s : ℕ) → v ≡ w → t ≡ s → (v == w && t == s) ≡ true
+both_hold v w t s e f = grind (arith, nat_tests)
+
+named_is : (v w : ℕ) → Some v ≡ Some w → v ≡ w
+named_is v w e = same_Some v w e
+
+recv_test : (scope : Scope) (h : List Entry) (v t seq w : ℕ) (path : Option (List ℕ)) → CauseFits h scope (Recv v t seq path) → v ≡ w → (v == w && t == last (reads h) w) ≡ true
+recv_test scope h v t seq w path f e =
+    both_hold v w t (last (reads h) w) e (held_is_last (reads h) v t (fits_recv h scope v t seq path f) ∙ ap (last (reads h)) e)
+
+received_one : (triggers : List Trigger) (scope : Scope) (h : List Entry) (v t seq w : ℕ) (path : Option (List ℕ)) → CauseFits h scope (Recv v t seq path) → v ≡ w
+    → length (inbox h w (last (reads h) w) ++ received_by triggers scope (Recv v t seq path) w (last (reads h) w)) ≡ suc (length (inbox h w (last (reads h) w)))
+received_one triggers All h v t seq w path f e = absurd f
+received_one triggers (One p) h v t seq w path f e =
+    rw (recv_test (One p) h v t seq w path f e) (simp length-append (omega arith))
+
+module _ (trigger : Trigger) (scope : Scope) (h : List Entry) (w n : ℕ) (mark : SessionMark) where
+  abbrev newest : ℕ
+  newest = last (reads h) w
+
+  abbrev after : Cause → List Entry
+  after cause = entry (trigger ∷ []) scope cause ∷ h
+
+  recv_says : (v t seq x : ℕ) (path : Option (List ℕ)) → Fits (after (Recv v t seq path)) → v ≡ w → x ≡ suc mark.received → Says h w newest n mark
+      → Says (after (Recv v t seq path)) w newest n (record mark { received = x })
+  recv_says v t seq x path f e more was = record {
+    nbr = was.nbr;
+    session = was.session;
+    is_opened = was.is_opened;
+    sent = was.sent;
+    received = more ∙ (ap suc was.received ∙ sym (received_one (trigger ∷ []) scope h v t seq w path f.0 e));
+    down = was.down;
+  }
+
+  pub turned_recv : (v t seq x : ℕ) (path : Option (List ℕ)) (cause : Cause) → cause ≡ Recv v t seq path → Fits (after cause) → names cause ≡ Some w → x ≡ suc mark.received → Says h w newest n mark
+      → Says (after cause) w newest n (record mark { received = x })
+  turned_recv v t seq x path cause is f by more was =
+      subst (λ c. Fits (after c) → names c ≡ Some w → Says (after c) w newest n (record mark { received = x })) (sym is)
+      (λ f by. recv_says v t seq x path f (named_is v w by) more was) f by
+
+  down_says : (v t : ℕ) → Fits (after (Down v t)) → v ≡ w → Says h w newest n mark → Says (after (Down v t)) w newest n (record mark { down = Some trigger })
+  down_says v t f e was =
+      let test = both_hold v w t newest e (held_is_last (reads h) v t (fits_down h scope v t f.0) ∙ ap (last (reads h)) e) in
+      record {
+        nbr = was.nbr;
+        session = was.session;
+        is_opened = was.is_opened;
+        sent = was.sent;
+        received = was.received ∙ ap length (sym (ap (λ l. inbox h w newest ++ l) (none scope) ∙ append-nil (inbox h w newest)));
+        down = rw test refl;
+      }
+    where
+      none : (scope : Scope) → received_by (trigger ∷ []) scope (Down v t) w newest ≡ []
+      none All = refl
+      none (One p) = refl
+
+  pub turned_down : (v t : ℕ) (cause : Cause) → cause ≡ Down v t → Fits (after cause) → names cause ≡ Some w → Says h w newest n mark
+      → Says (after cause) w newest n (record mark { down = Some trigger })
+  turned_down v t cause is f by was =
+      subst (λ c. Fits (after c) → names c ≡ Some w → Says (after c) w newest n (record mark { down = Some trigger })) (sym is)
+      (λ f by. down_says v t f (named_is v w by) was) f by
+
+  ready_says : (v t : ℕ) → Fits (after (Ready v t)) → v ≡ w → Says h w newest n mark → Says (after (Ready v t)) w newest n (record mark { opened = true })
+  ready_says v t f e was =
+      let test = both_hold v w t newest e (held_is_last (reads h) v t (fits_ready h scope v t f.0).0 ∙ ap (last (reads h)) e) in
+      record {
+        nbr = was.nbr;
+        session = was.session;
+        is_opened = rw test refl;
+        sent = was.sent;
+        received = was.received ∙ ap length (sym (ap (λ l. inbox h w newest ++ l) (none scope) ∙ append-nil (inbox h w newest)));
+        down = was.down;
+      }
+    where
+      none : (scope : Scope) → received_by (trigger ∷ []) scope (Ready v t) w newest ≡ []
+      none All = refl
+      none (One p) = refl
+
+  pub turned_ready : (v t : ℕ) (cause : Cause) → cause ≡ Ready v t → Fits (after cause) → names cause ≡ Some w → Says h w newest n mark
+      → Says (after cause) w newest n (record mark { opened = true })
+  turned_ready v t cause is f by was =
+      subst (λ c. Fits (after c) → names c ≡ Some w → Says (after c) w newest n (record mark { opened = true })) (sym is)
+      (λ f by. ready_says v t f (named_is v w by) was) f by
+
+-- ---- rows
+
+module _ (rules : Rules) (net : Net) (u : ℕ) (h : List Entry) (k : Entry) (fits : Fits (k ∷ h)) where
+  -- a mark of the entries before, after k
+  abbrev Before : ℕ → ℕ → SessionMark → Type 0
+  Before w s mark = IsMark rules net u h w s mark
+
+  abbrev After : ℕ → ℕ → SessionMark → Type 0
+  After w s mark = Says (k ∷ h) w s (sent_count rules net u h w s) mark
+
+  says : (w s : ℕ) (mark : SessionMark) → Before w s mark → Says h w s (sent_count rules net u h w s) mark
+  says w s mark was = record { nbr = was.nbr; session = was.session; is_opened = was.is_opened; sent = was.sent; received = was.received; down = was.down }
+
+  spared_row : (w : ℕ) (row : List SessionMark) → opens_by k.read.cause w ≡ [] → (names k.read.cause ≡ Some w → ⊥) → AreMarks rules net u h w row → AreMarked rules net u h k w row
+  spared_row w row none other was =
+      subst (λ l. AllZip (After w) l row) (sym (ap (λ l. ever h w ++ l) none ∙ append-nil (ever h w)))
+      (zip_map (Before w) (After w) (λ s mark is. says_spared k h w s (sent_count rules net u h w s) mark fits (λ e f. other e) (says w s mark is)) (ever h w) row was)
+
+  opens_none : (cause : Cause) (w : ℕ) → (names cause ≡ Some w → ⊥) → opens_by cause w ≡ []
+  opens_none Originate w other = refl
+  opens_none Withdraw w other = refl
+  opens_none (Recv v t seq path) w other = refl
+  opens_none (Down v t) w other = refl
+  opens_none (Ready v t) w other = refl
+  opens_none (Prefer v x) w other = refl
+  opens_none (Up v t) w other =
+      (elim (v == w) as (λ b. (v == w) ≡ b → cond b (t ∷ []) [] ≡ []) [ true ↦ λ e. absurd (other (some v w (grind (arith, nat_tests)))) | false ↦ λ e. refl ]) refl
+
+  pub other_row : (w : ℕ) (row : List SessionMark) → (names k.read.cause ≡ Some w → ⊥) → AreMarks rules net u h w row → AreMarked rules net u h k w row
+  other_row w row other was = spared_row w row (opens_none k.read.cause w other) other was
+
+  -- the last mark of a row as it was, and the row with another
+  pub turned_row : (w : ℕ) (older : List SessionMark) (mark new : SessionMark) → opens_by k.read.cause w ≡ [] → AreMarks rules net u h w (older ++ mark ∷ [])
+      → (Says h w (last (reads h) w) (sent_count rules net u h w (last (reads h) w)) mark → Says (k ∷ h) w (last (reads h) w) (sent_count rules net u h w (last (reads h) w)) new)
+      → AreMarked rules net u h k w (older ++ new ∷ [])
+  turned_row w older mark new none was turn =
+      let ends = ends_ever h w fits.1 in
+      let parts = zip_end (Before w) ends.older older (last (reads h) w) mark (subst (λ l. AllZip (Before w) l (older ++ mark ∷ [])) ends.is was) in
+      subst (λ l. AllZip (After w) l (older ++ new ∷ [])) (sym (ap (λ l. ever h w ++ l) none ∙ (append-nil (ever h w) ∙ ends.is)))
+      (zip_push (After w) ends.older older (last (reads h) w) new
+      (zip_each (λ s. s < last (reads h) w) (Before w) (After w)
+      (λ s m below is. says_spared k h w s (sent_count rules net u h w s) m fits (λ e (f : s ≡ last (reads h) w). omega arith) (says w s m is))
+      ends.older older ends.below parts.0)
+      (turn (says w (last (reads h) w) mark parts.1)))
+
+-- a session more, in which nothing was said
+module _ (rules : Rules) (net : Net) (u : ℕ) (h : List Entry) (triggers : List Trigger) (w s : ℕ) (fits : Fits (entry triggers All (Up w s) ∷ h)) where
+  abbrev opening : Entry
+  opening = entry triggers All (Up w s)
+
+  abbrev fresh : SessionMark
+  fresh = record { nbr = w; session = s; opened = false; sent = 0; received = 0; down = None }
+
+  fresh_says : Says (opening ∷ h) w s (sent_count rules net u h w s) fresh
+  fresh_says =
+      let above = fits.0.1 in
+      record {
+        nbr = refl;
+        session = refl;
+        is_opened = sym (opened_above h w s fits.1 above);
+        sent = sym (count_above rules net u h w s fits.1 above);
+        received = sym (ap length (append-nil (inbox h w s) ∙ fresh_inbox h w s fits.1 (ever_above h w s fits.1 above)));
+        down = sym (closing_above h w s fits.1 above);
+      }
+
+  opened_row : (row : List SessionMark) → AreMarks rules net u h w row → AreMarked rules net u h opening w (row ++ fresh ∷ [])
+  opened_row row was =
+      let test : (w == w) ≡ true = grind (arith, nat_tests) in
+      subst (λ l. AllZip (λ t mark. Says (opening ∷ h) w t (sent_count rules net u h w t) mark) l (row ++ fresh ∷ [])) (sym (ap (λ b. ever h w ++ cond b (s ∷ []) []) test))
+      (zip_push (λ t mark. Says (opening ∷ h) w t (sent_count rules net u h w t) mark) (ever h w) row s fresh
+      (zip_map (IsMark rules net u h w) (λ t mark. Says (opening ∷ h) w t (sent_count rules net u h w t) mark)
+      (λ t mark is. says_same opening h w t (sent_count rules net u h w t) mark refl refl refl (says rules net u h opening fits w t mark is)) (ever h w) row was)
+      fresh_says)
+
+-- ---- all rows
+
+module _ (rules : Rules) (net : Net) (u : ℕ) (h : List Entry) (rows : List (List SessionMark)) (valid : IsValid net) (were : AreRows rules net u h rows) where
+  -- an entry that names no neighbour
+  pub marked_none : (trigger : Trigger) (scope : Scope) (cause : Cause) (sessions : Sessions) → Fits (entry (trigger ∷ []) scope cause ∷ h) → names cause ≡ None → HasRows rows sessions
+      → Marked rules net u h (entry (trigger ∷ []) scope cause) sessions
+  marked_none trigger scope cause sessions fits by has = record {
+    rows = rows;
+    kept = has;
+    each = zip_map (AreMarks rules net u h) (AreMarked rules net u h (entry (trigger ∷ []) scope cause))
+        (λ w row was. other_row rules net u h (entry (trigger ∷ []) scope cause) fits w row (λ e. absurd (cc (by, e))) was) (neighbours net u) rows were;
+  }
+
+  set_row : (k : Entry) (fits : Fits (k ∷ h)) (v i : ℕ) (row : List SessionMark) → names k.read.cause ≡ Some v → slice_get (neighbours net u) i ≡ Some v → AreMarked rules net u h k v row
+      → AllZip (AreMarked rules net u h k) (neighbours net u) (set rows i row)
+  set_row k fits v i row by at here =
+      zip_set (AreMarks rules net u h) (AreMarked rules net u h k) v
+      (λ w old other was. other_row rules net u h k fits w old (λ e. let same : v ≡ w = same_Some v w (sym by ∙ e) in absurd (grind (arith, nat_tests))) was)
+      (neighbours net u) rows i row (differ-neighbours net u valid) at here were
+
+  -- the row at a place
+  pub row_of : (v i : ℕ) → slice_get (neighbours net u) i ≡ Some v → (row : List SessionMark) × (slice_get rows i ≡ Some row) × AreMarks rules net u h v row
+  row_of v i at = zip_at (AreMarks rules net u h) (neighbours net u) rows i v were at
+
+  up_fits : (triggers : List Trigger) (scope : Scope) (v s : ℕ) → Fits (entry triggers scope (Up v s) ∷ h) → scope ≡ All
+  up_fits triggers (One p) v s f = absurd f.0
+  up_fits triggers All v s f = refl
+
+  pub marked_up : (trigger : Trigger) (scope : Scope) (cause : Cause) (v s i : ℕ) (sessions : Sessions) → Fits (entry (trigger ∷ []) scope cause ∷ h) → cause ≡ Up v s → slice_get (neighbours net u) i ≡ Some v
+      → ((row : List SessionMark) → slice_get rows i ≡ Some row → HasRows (set rows i (row ++ record { nbr = v; session = s; opened = false; sent = 0; received = 0; down = None } ∷ [])) sessions)
+      → Marked rules net u h (entry (trigger ∷ []) scope cause) sessions
+  marked_up trigger scope cause v s i sessions fits is at opened =
+      let is_all : scope ≡ All = up_fits (trigger ∷ []) scope v s (subst (λ c. Fits (entry (trigger ∷ []) scope c ∷ h)) is fits) in
+      let k = entry (trigger ∷ []) All (Up v s) in
+      let up : Fits (k ∷ h) = subst (λ x. Fits (entry (trigger ∷ []) x (Up v s) ∷ h)) is_all (subst (λ c. Fits (entry (trigger ∷ []) scope c ∷ h)) is fits) in
+      let found = row_of v i at in
+      let row = found.0 ++ fresh rules net u h (trigger ∷ []) v s up ∷ [] in
+      let marked : Marked rules net u h k sessions = record {
+        rows = set rows i row;
+        kept = opened found.0 found.1;
+        each = set_row k up v i row refl at (opened_row rules net u h (trigger ∷ []) v s up found.0 found.2);
+      } in
+      subst (λ x. Marked rules net u h (entry (trigger ∷ []) x cause) sessions) (sym is_all) (subst (λ c. Marked rules net u h (entry (trigger ∷ []) All c) sessions) (sym is) marked)
+
+  not_up : (cause : Cause) (w : ℕ) → ((v s : ℕ) → cause ≡ Up v s → ⊥) → opens_by cause w ≡ []
+  not_up Originate w other = refl
+  not_up Withdraw w other = refl
+  not_up (Recv v t seq path) w other = refl
+  not_up (Down v t) w other = refl
+  not_up (Ready v t) w other = refl
+  not_up (Prefer v x) w other = refl
+  not_up (Up v t) w other = absurd (other v t refl)
+
+  pub marked_turned : (k : Entry) (v i : ℕ) (mark new : SessionMark) (sessions : Sessions) → Fits (k ∷ h) → ((v s : ℕ) → k.read.cause ≡ Up v s → ⊥) → names k.read.cause ≡ Some v
+      → slice_get (neighbours net u) i ≡ Some v → ((row : List SessionMark) → slice_get rows i ≡ Some row → EndsWith row mark)
+      → ((n : ℕ) → Says h v (last (reads h) v) n mark → Says (k ∷ h) v (last (reads h) v) n new)
+      → ((older : List SessionMark) → slice_get rows i ≡ Some (older ++ mark ∷ []) → HasRows (set rows i (older ++ new ∷ [])) sessions)
+      → Marked rules net u h k sessions
+  marked_turned k v i mark new sessions fits other by at ends turn put =
+      let found = row_of v i at in
+      let end = ends found.0 found.1 in
+      record {
+        rows = set rows i (end.0 ++ new ∷ []);
+        kept = put end.0 (found.1 ∙ ap (λ r. Some r) end.1);
+        each = set_row k fits v i (end.0 ++ new ∷ []) by at
+            (turned_row rules net u h k fits v end.0 mark new (not_up k.read.cause v other) (subst (AreMarks rules net u h v) end.1 found.2) (turn (sent_count rules net u h v (last (reads h) v))));
+      }

@@ -1,0 +1,26 @@
+use Rattle.std.proofs.Common.{◌∙◌, [], refl, sym, subst, map}
+use Rattle.std.specs.List.{AllZip}
+use Rattle.topology.specs.Net.{neighbours}
+use Rattle.trigger_log.specs.Rows.{HasRows}
+use Rattle.trigger_log.specs.Standing.{Shows}
+use Rattle.trigger_log.proofs.Rows.{first}
+use Rattle.trigger_log.proofs.AllMarks.{rows_first}
+use Rattle.trigger_log.proofs.log.NodeLog.new.Goals as goal
+
+pub returns : goal.returns
+returns g c =
+    let rules = g.P.Policy.rules c.args.policy in
+    let net = c.args.topology.now in
+    let u = c.args.node in
+    record {
+      routes = c.in_ok-new.ensures;
+      fitting = tt;
+      node = refl;
+      near = c.in_ok-copy_of.ensures ∙ c.neighbours-near.ensures.neighbours;
+      count = refl;
+      next = refl;
+      shown = subst (AllZip (Shows rules net u) []) (sym c.new-3.ensures.items) tt;
+      rows = map first (neighbours net u);
+      kept = subst (λ near. HasRows (map first near) c.in_ok-new-2.field-0) c.neighbours-near.ensures.neighbours c.in_ok-new-2.ensures;
+      each = rows_first rules net u;
+    }

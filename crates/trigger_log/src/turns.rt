@@ -1,0 +1,140 @@
+//! What an entry says to all neighbours.
+ghost use Rattle.std.specs.Prelude.{ℕ, ◌≡◌, ◌+◌, ◌∷◌, ◌++◌, [], suc, true, Some, List, length, map, slice_get, IfOk, OnOk, if◌then◌else◌};
+ghost use Rattle.topology.specs.Lists.{has};
+ghost use Rattle.topology.specs.Net.{Net, neighbours};
+ghost use Rattle.topology.specs.declared.items.Sent.{Sent};
+ghost use Rattle.path_vector.specs.Rules.{Rules};
+ghost use Rattle.path_vector.specs.History.{last};
+ghost use Rattle.trigger_log.specs.declared.outgoing.Outgoing.{Outgoing};
+ghost use Rattle.trigger_log.specs.Entries.{Entry, reads};
+ghost use Rattle.trigger_log.specs.Sending.{sent_count};
+ghost use Rattle.trigger_log.specs.Offered.{prefixes_of};
+ghost use Rattle.trigger_log.specs.Marked.{Says, Enters, Spoken, ToldTo, ends_with, readies};
+
+use crate::outgoing::Outgoing;
+use crate::sessions::{SessionMark, Sessions};
+use crate::telling::{Listener, Turn, tell};
+use path_vector::{Cause, Policy, RouteState};
+use topology::{NoMemory, NodeId, Sent};
+
+// Whether the entry ends a session with the neighbour.
+fn ends_with(cause: &Cause, with: NodeId) -> bool
+    ensures { result ≡ ends_with cause.now with }
+{
+    match cause {
+        Cause::Down { nbr, .. } => *nbr == with,
+        _ => false,
+    }
+}
+
+// Whether a session with the neighbour is ready from the entry on.
+fn readies(cause: &Cause, with: NodeId) -> bool
+    ensures { result ≡ readies cause.now with }
+{
+    match cause {
+        Cause::Ready { nbr, .. } => *nbr == with,
+        _ => false,
+    }
+}
+
+// Lists the close of a session, where the other end had opened it, and answers how many items were
+// sent in it then.
+fn close(mark: &SessionMark, sent: &mut Vec<Sent>) -> Result<u32, NoMemory>
+    ensures count { IfOk result (λ count. count ≡ mark.now.sent + (if mark.now.opened then 1 else 0)) }
+    ensures sent { IfOk result (λ count. sent.new.items ≡ sent.old.items ++
+        (if mark.now.opened then record { to = mark.now.nbr; session = mark.now.session; seq = suc mark.now.sent } ∷ [] else [])) }
+{
+    if !mark.opened {
+        return Ok(mark.sent);
+    }
+    let Some(seq) = mark.sent.checked_add(1) else {
+        return Err(NoMemory);
+    };
+    sent.push(Sent {
+        to: mark.nbr,
+        session: mark.session,
+        seq,
+    })?;
+    Ok(seq)
+}
+
+// Lists what the entry says in the newest session with a neighbour, and answers how many items were
+// sent in it then.
+fn speak<P: Policy + Copy>(
+    routes: &RouteState<P>,
+    turn: &Turn<'_>,
+    mark: &SessionMark,
+    sent: &mut Vec<Sent>,
+    outgoing: &mut Vec<Outgoing>,
+) -> Result<u32, NoMemory>
+    requires same_prefixes { prefixes_of turn.now.before.now ≡ prefixes_of turn.now.after.now }
+    ensures { IfOk result (λ count. (policy : P) (net : Net) (u : ℕ) (h : List Entry) (k : Entry) (w : ℕ) →
+        Enters policy (P.rules policy) net u h k routes.now turn.now → has (neighbours net u) w ≡ true →
+        Says (k ∷ h) w (last (reads (k ∷ h)) w) (sent_count (P.rules policy) net u h w (last (reads (k ∷ h)) w)) mark.now →
+        Spoken (P.rules policy) net u h k w (last (reads (k ∷ h)) w) sent.old.items sent.new.items outgoing.old.items outgoing.new.items count) }
+{
+    if ends_with(turn.cause, mark.nbr) {
+        return Ok(close(mark, sent)?);
+    }
+    if !mark.is_ready() {
+        return Ok(mark.sent);
+    }
+    let listener = Listener {
+        nbr: mark.nbr,
+        session: mark.session,
+        sent: mark.sent,
+        knows: !readies(turn.cause, mark.nbr),
+    };
+    Ok(tell(routes, turn, &listener, sent, outgoing)?)
+}
+
+// Lists what the entry says to the neighbour at this place, and counts it.
+fn tell_at<P: Policy + Copy>(
+    routes: &RouteState<P>,
+    sessions: &mut Sessions,
+    place: usize,
+    turn: &Turn<'_>,
+    sent: &mut Vec<Sent>,
+    outgoing: &mut Vec<Outgoing>,
+) -> Result<(), NoMemory>
+    requires same_prefixes { prefixes_of turn.now.before.now ≡ prefixes_of turn.now.after.now }
+    ensures { OnOk result ((policy : P) (net : Net) (u : ℕ) (h : List Entry) (k : Entry) (w : ℕ) (sent_first : List Sent)
+        (out_first : List Outgoing) → Enters policy (P.rules policy) net u h k routes.now turn.now →
+        slice_get (neighbours net u) place ≡ Some w →
+        ToldTo (P.rules policy) net u h k place sessions.old sent_first sent.old.items out_first outgoing.old.items →
+        ToldTo (P.rules policy) net u h k (place + 1) sessions.new sent_first sent.new.items out_first outgoing.new.items) }
+{
+    let Some(mark) = sessions.newest(place) else {
+        return Ok(());
+    };
+    let mark = *mark;
+    let count = speak(routes, turn, &mark, sent, outgoing)?;
+    let mark = SessionMark {
+        sent: count,
+        ..mark
+    };
+    sessions.put(place, mark);
+    Ok(())
+}
+
+/// Lists what the entry says to each neighbour, ascending, and counts it.
+pub fn tell_all<P: Policy + Copy>(
+    routes: &RouteState<P>,
+    sessions: &mut Sessions,
+    near: &[NodeId],
+    turn: &Turn<'_>,
+    sent: &mut Vec<Sent>,
+    outgoing: &mut Vec<Outgoing>,
+) -> Result<(), NoMemory>
+    requires same_prefixes { prefixes_of turn.now.before.now ≡ prefixes_of turn.now.after.now }
+    ensures { OnOk result ((policy : P) (net : Net) (u : ℕ) (h : List Entry) (k : Entry) (sent_first : List Sent)
+        (out_first : List Outgoing) → Enters policy (P.rules policy) net u h k routes.now turn.now →
+        near.now ≡ neighbours net u →
+        ToldTo (P.rules policy) net u h k 0 sessions.old sent_first sent.old.items out_first outgoing.old.items →
+        ToldTo (P.rules policy) net u h k (length near.now) sessions.new sent_first sent.new.items out_first outgoing.new.items) }
+{
+    for place in 0..near.len() {
+        tell_at(routes, sessions, place, turn, sent, outgoing)?;
+    }
+    Ok(())
+}
