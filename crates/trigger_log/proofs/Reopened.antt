@@ -1,5 +1,5 @@
 -- Two nodes whose link fails and is restored: the logs of both ends, and what each entry lists.
-use Rattle.std.specs.Prelude.{ℕ, List, [], ◌∷◌, ◌++◌, Some, None, ◌≡◌, refl, reverse}
+use Rattle.std.specs.Prelude.{ℕ, List, [], ◌∷◌, ◌++◌, Some, ◌≡◌, refl, reverse}
 use Rattle.topology.specs.declared.items.Sent.{Sent}
 use Rattle.topology.specs.declared.links.Relation.TheVariants.{Any}
 use Rattle.topology.specs.declared.names.Scope.TheVariants.{One, All}
@@ -11,7 +11,7 @@ use Rattle.path_vector.specs.GaoRexford.{gao_rexford}
 use Rattle.path_vector.specs.Selection.{beyond, choices, best}
 use Rattle.path_vector.specs.Offers.{offered_route, offered, changed}
 use Rattle.trigger_log.specs.Entries.{Entry, entry}
-use Rattle.trigger_log.specs.Sending.{news, outbox, sent_by, sent_count}
+use Rattle.trigger_log.specs.Sending.{news, outbox, sent_by}
 
 -- opens all definitions
 unfoldable all : ℕ
