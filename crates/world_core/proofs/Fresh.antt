@@ -7,6 +7,7 @@ use Rattle.trigger_log.specs.Going.{item_of}
 use Rattle.world_core.specs.declared.sites.Channel.{Channel}
 use Rattle.world_core.specs.declared.sites.Site.{Site}
 use Rattle.world_core.specs.Matching.{IsSite}
+use Rattle.world_core.proofs.Listed.{none_sent}
 use Rattle.world_core.proofs.Told.{same_some}
 
 -- a place of a list with one more at its end is one of the list, or the end
@@ -27,9 +28,10 @@ pub unused_push : (kept : List Channel) (more : Channel) → AllUnused kept → 
 unused_push kept more was new i one e = ⊎_elim (λ here. was i one here) (λ (last : (i ≡ length kept) × (one ≡ more)). subst IsUnused (sym last.1) new) (pushed_at kept more i one e)
 
 pub unused_site : {P : Type 0} (policy : P) (rules : Rules) (net : Net) (u : ℕ) (site : Site P) → StandsFor policy rules net u site.log []
-    → length site.outgoing.items ≡ length (neighbours net u) → AllUnused site.outgoing.items → IsSite policy rules net [] u site
-unused_site policy rules net u site stands width unused = record {
+    → site.updates ≡ 0 → length site.outgoing.items ≡ length (neighbours net u) → AllUnused site.outgoing.items → IsSite policy rules net [] u site
+unused_site policy rules net u site stands none width unused = record {
   log = stands;
+  updates = none ∙ sym (none_sent rules net u);
   width = width;
   outgoing = λ i w kept near at. ap (map item_of) (unused i kept at);
 }

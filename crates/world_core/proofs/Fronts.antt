@@ -1,5 +1,5 @@
 -- The front item of a channel leaves it.
-use Rattle.std.proofs.Common.{ℕ, Option, Some, None, IfSome, IfNone, List, [], ◌∷◌, ◌++◌, ◌≡◌, refl, sym, ◌∙◌, ap, subst, map, arith, drop, length, get_or, set, slice_get}
+use Rattle.std.proofs.Common.{ℕ, Option, Some, None, IfSome, IfNone, List, [], ◌∷◌, ◌++◌, ◌≡◌, refl, sym, ◌∙◌, ap, map, arith, drop, length, get_or, set, slice_get}
 use Rattle.std.specs.Option.{option_to_list}
 use Rattle.std.proofs.lemmas.Option.{slice_get_within, slice_get_read}
 use Rattle.topology.specs.declared.items.Item.{Item}
@@ -24,6 +24,7 @@ pub record Pops {P : Type 0} (net : Net) (sites : List (Site P)) (rank place v u
   pub items : kept.items.items ≡ option_to_list front ++ left.items.items
   pub rest : left.items.items ≡ drop 1 kept.items.items
   pub log : new.log ≡ old.log
+  pub updates : new.updates ≡ old.updates
   pub outgoing : new.outgoing.items ≡ set old.outgoing.items place left
 
 all_rest : (xs : List Item) → xs ≡ drop 1 xs → xs ≡ []
@@ -49,7 +50,7 @@ module _ {P : Type 0} (net : Net) (sites : List (Site P)) (rank place v u : ℕ)
         map item_of left.items.items,
         is,
         matches_at policy (rules policy) net past (Took v u only_session (item_of item) ∷ past) sites rank v new was pops.node
-            (took_site (rules policy) net past v u item policy place old new left was.valid here pops.near is pops.log pops.outgoing)
+            (took_site (rules policy) net past v u item policy place old new left was.valid here pops.near is pops.log pops.updates pops.outgoing)
             (λ a site ne. took_other (rules policy) net past v u item policy a site ne),
       )
 
@@ -64,6 +65,6 @@ module _ {P : Type 0} (net : Net) (sites : List (Site P)) (rank place v u : ℕ)
       let way = here.outgoing place u kept pops.near at in (
         sym way ∙ ap (map item_of) (pops.items ∙ all_rest left.items.items (pops.rest ∙ ap (drop 1) pops.items)),
         matches_at policy (rules policy) net past past sites rank v new was pops.node
-            (same_site policy (rules policy) net past v place u old new kept left was.valid here pops.near at pops.items pops.log pops.outgoing)
+            (same_site policy (rules policy) net past v place u old new kept left was.valid here pops.near at pops.items pops.log pops.updates pops.outgoing)
             (λ a site ne kept. kept),
       )

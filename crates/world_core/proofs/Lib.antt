@@ -1,5 +1,6 @@
 pub mod Told
 pub mod Near
+pub mod Listed
 pub mod Places
 pub mod Sent
 pub mod Fronts
@@ -7,3 +8,4 @@ pub mod Keeps
 pub mod Fresh
 pub mod Shows
 pub mod Coming
+pub mod Counts

@@ -10,6 +10,7 @@ use Rattle.topology.specs.Net.{Net, IsValid, neighbours}
 use Rattle.topology.proofs.Ascending.{differ-ascending}
 use Rattle.topology.proofs.Places.{has_placed}
 use Rattle.path_vector.specs.Rules.{Rules}
+use Rattle.trigger_log.specs.Sending.{sent_of}
 use Rattle.trigger_log.specs.Standing.{StandsFor}
 use Rattle.trigger_log.specs.Going.{item_of}
 use Rattle.chronicle.specs.Facts.{Chronicle, Took}
@@ -93,12 +94,13 @@ matches_at policy rules net past now sites i u new was at changed others = recor
 -- one channel of a site has changed as the run has
 module _ {P : Type 0} (policy : P) (rules : Rules) (net : Net) (past now : Chronicle) (v i u : ℕ) (old new : Site P) (left : Channel) where
   pub site_with : IsValid net → IsSite policy rules net past v old → log_of v now ≡ log_of v past → slice_get (neighbours net v) i ≡ Some u
-      → new.log ≡ old.log → new.outgoing.items ≡ set old.outgoing.items i left
+      → new.log ≡ old.log → new.updates ≡ old.updates → new.outgoing.items ≡ set old.outgoing.items i left
       → IsChannel now v u left
       → ((w : ℕ) (kept : Channel) → (u == w) ≡ false → IsChannel past v w kept → IsChannel now v w kept)
       → IsSite policy rules net now v new
-  site_with valid was same near log outgoing changed others = record {
+  site_with valid was same near log updates outgoing changed others = record {
     log = rw log (subst (StandsFor policy rules net v old.log) (sym same) was.log);
+    updates = updates ∙ (was.updates ∙ ap (λ h. length (sent_of rules net v h)) (sym same));
     width = ap length outgoing ∙ (length-set old.outgoing.items i left ∙ was.width);
     outgoing = λ j w kept near_w at.
         let here : slice_get (set old.outgoing.items i left) j ≡ Some kept = ap (λ l. slice_get l j) (sym outgoing) ∙ at in
@@ -127,16 +129,17 @@ module _ (rules : Rules) (net : Net) (past : Chronicle) (v u : ℕ) (item : Item
 
   pub took_site : {P : Type 0} (policy : P) (i : ℕ) (old new : Site P) (left : Channel) → IsValid net → IsSite policy rules net past v old
       → slice_get (neighbours net v) i ≡ Some u → channel v u past ≡ item_of item ∷ map item_of left.items.items
-      → new.log ≡ old.log → new.outgoing.items ≡ set old.outgoing.items i left
+      → new.log ≡ old.log → new.updates ≡ old.updates → new.outgoing.items ≡ set old.outgoing.items i left
       → IsSite policy rules net now v new
-  took_site policy i old new left valid was near front log outgoing =
-      site_with policy rules net past now v i u old new left valid was refl near log outgoing
+  took_site policy i old new left valid was near front log updates outgoing =
+      site_with policy rules net past now v i u old new left valid was refl near log updates outgoing
       (sym (channel_took ∙ ap tail front))
       (λ w kept ne. kept_channel v w kept (rw (same_number v) ne))
 
   pub took_other : {P : Type 0} (policy : P) (a : ℕ) (site : Site P) → (v == a) ≡ false → IsSite policy rules net past a site → IsSite policy rules net now a site
   took_other policy a site ne was = record {
     log = was.log;
+    updates = was.updates;
     width = was.width;
     outgoing = λ i w kept near at. kept_channel a w kept (rw ne refl) (was.outgoing i w kept near at);
   }
@@ -144,9 +147,9 @@ module _ (rules : Rules) (net : Net) (past : Chronicle) (v u : ℕ) (item : Item
 -- nothing is taken from an empty channel
 pub same_site : {P : Type 0} (policy : P) (rules : Rules) (net : Net) (past : Chronicle) (v i u : ℕ) (old new : Site P) (kept left : Channel) → IsValid net → IsSite policy rules net past v old
     → slice_get (neighbours net v) i ≡ Some u → slice_get old.outgoing.items i ≡ Some kept → kept.items.items ≡ left.items.items
-    → new.log ≡ old.log → new.outgoing.items ≡ set old.outgoing.items i left
+    → new.log ≡ old.log → new.updates ≡ old.updates → new.outgoing.items ≡ set old.outgoing.items i left
     → IsSite policy rules net past v new
-same_site policy rules net past v i u old new kept left valid was near here items log outgoing =
-    site_with policy rules net past past v i u old new left valid was refl near log outgoing
+same_site policy rules net past v i u old new kept left valid was near here items log updates outgoing =
+    site_with policy rules net past past v i u old new left valid was refl near log updates outgoing
     (ap (map item_of) (sym items) ∙ was.outgoing i u kept near here)
     (λ w kept ne was. was)

@@ -1,17 +1,17 @@
 -- What is put on its way.
-use Rattle.std.proofs.Common.{ℕ, ◌<◌, ◌≤◌, IsNone, Bool, true, false, cond, ◌==◌, Some, List, [], ◌∷◌, ◌++◌, ◌≡◌, ◌≢◌, refl, sym, ◌∙◌, ap, subst, arith, map, length, length-set, set, slice_get, true≢false, ⊎_elim, append_assoc, Result, Err, Ok, nat_cmp}
+use Rattle.std.proofs.Common.{ℕ, ◌<◌, ◌≤◌, IsNone, true, false, cond, ◌==◌, Some, List, [], ◌∷◌, ◌++◌, ◌≡◌, ◌≢◌, refl, sym, ◌∙◌, ap, subst, arith, map, length, set, slice_get, true≢false, ⊎_elim, append_assoc, Result, Ok, nat_cmp}
 use Rattle.std.specs.Result.{result_ok}
 use Rattle.std.specs.List.Sorted.{IsBinarySearchResult}
 use Rattle.std.proofs.lemmas.Bool.{cases_eq}
 use Rattle.std.proofs.lemmas.Bool.Decides.{nat_tests}
-use Rattle.std.proofs.lemmas.List.{append-nil, map-append}
+use Rattle.std.proofs.lemmas.List.{append-nil}
 use Rattle.std.proofs.lemmas.List.Sorted.{searched}
 use Rattle.std.proofs.lemmas.Option.{slice_get_within, slice_get-get_or}
 use Rattle.topology.specs.Lists.{has}
 use Rattle.topology.proofs.Ascending.{Climbs, climbs_at, differ-rises, each_weaker}
 use Rattle.topology.proofs.Places.{has_placed}
 use Rattle.topology.proofs.Sets.{sought}
-use Rattle.trigger_log.specs.Going.{Going, Item, item_of, items_to}
+use Rattle.trigger_log.specs.Going.{Going, item_of, items_to}
 use Rattle.world_core.specs.declared.sites.Channel.{Channel}
 use Rattle.world_core.specs.Sending.{Grown, Rises}
 use Rattle.chronicle.proofs.Blocks.{same_number}

@@ -1,5 +1,5 @@
 -- What an entry, and what goes out with it, show.
-use Rattle.std.proofs.Common.{ℕ, suc, true, List, [], ◌∷◌, ◌++◌, ◌≡◌, sym, ◌∙◌, ap, map, length, append_assoc}
+use Rattle.std.proofs.Common.{ℕ, suc, true, List, [], ◌∷◌, ◌++◌, ◌≡◌, sym, ◌∙◌, ap, length, append_assoc}
 use Rattle.std.proofs.lemmas.List.{append-nil}
 use Rattle.topology.specs.Net.{Net}
 use Rattle.path_vector.specs.Rules.{Rules}

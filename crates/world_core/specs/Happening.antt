@@ -1,9 +1,10 @@
 -- What an event leaves of the sites, and what came of it.
-use Rattle.std.specs.Prelude.{ℕ, ◌≡◌, Some, List, length, slice_get}
+use Rattle.std.specs.Prelude.{ℕ, Bool, true, false, ◌≡◌, Some, List, length, slice_get}
 use Rattle.topology.specs.Lists.{ascending}
 use Rattle.topology.specs.Net.{Net, IsValid, neighbours}
 use Rattle.path_vector.specs.Rules.{Rules}
 use Rattle.chronicle.specs.declared.events.Event.{Event}
+use Rattle.chronicle.specs.declared.events.Event.TheVariants.{Originate, Withdraw, Deliver}
 use Rattle.chronicle.specs.Facts.{Chronicle}
 use Rattle.chronicle.specs.Run.{step, after}
 use Rattle.cut_laws.specs.Joined.{FrontFits}
@@ -28,3 +29,14 @@ pub record Happens {P : Type 0} (policy : P) (rules : Rules) (net : Net) (past :
     (event : Event) (sites : List (Site P)) (outcome : Outcome) : Type 0 where
   pub matches : Matches policy rules net (after rules net past event) sites
   pub tells : Tells past (step rules net past event) outcome
+
+-- the node that makes an entry, where the event is not idle
+abbrev pub node_of : Event → ℕ
+node_of (Originate node prefix) = node
+node_of (Withdraw node prefix) = node
+node_of (Deliver from to) = to
+
+-- that entry is local: it comes of no update
+abbrev pub is_own : Event → Bool
+is_own (Deliver from to) = false
+is_own other = true

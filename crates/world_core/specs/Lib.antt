@@ -1,6 +1,7 @@
 pub mod View
 pub mod Fits
 pub mod Effects
+pub mod Limits
 pub mod Matching
 pub mod Sending
 pub mod Happening

@@ -1,6 +1,7 @@
 //! All nodes and channels of a network, and what each event does to them.
 #![tactic(auto)]
 
+mod limits;
 pub mod outcomes;
 mod sending;
 mod sites;

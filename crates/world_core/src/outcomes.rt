@@ -1,8 +1,9 @@
 //! What an event comes to.
 ghost use Rattle.std.specs.Prelude.{◌≡◌};
+ghost use Rattle.world_core.specs.declared.outcomes.Stop.TheVariants.{NoMemory};
 
 use std::marker::Model;
-use topology::{NoMemory, NodeId, Reason};
+use topology::{LimitKind, NoMemory, NodeId, Reason};
 
 /// Something that an event did.
 #[derive(Clone, Copy, Debug, PartialEq, Eq)]
@@ -55,9 +56,13 @@ pub enum Outcome {
 #[derive(Clone, Copy, Debug, PartialEq, Eq)]
 pub enum Stop {
     NoMemory,
+    /// The step would take this count above this number.
+    Limit(LimitKind, u32),
 }
 
 impl From<NoMemory> for Stop {
+    ghost from_gives = { λ _ stop. stop ≡ NoMemory };
+
     fn from(_: NoMemory) -> Stop {
         Stop::NoMemory
     }

@@ -1,10 +1,12 @@
 //! One node of the world with what it has sent.
-ghost use Rattle.std.specs.Prelude.{◌≡◌, ℕ, [], ◌∷◌, IfOk, OnOk, length};
-ghost use Rattle.topology.specs.Net.{neighbours};
+ghost use Rattle.std.specs.Prelude.{◌≡◌, ℕ, [], ◌∷◌, List, IfOk, OnOk, length};
+ghost use Rattle.topology.specs.Net.{Net, neighbours};
 ghost use Rattle.path_vector.specs.Kept.{IsOfNeighbour};
-ghost use Rattle.trigger_log.specs.Entries.{entry};
+ghost use Rattle.trigger_log.specs.Entries.{Entry as Logged, entry};
 ghost use Rattle.trigger_log.specs.Fits.{CauseFits};
 ghost use Rattle.trigger_log.specs.Offered.{IsPlaced};
+ghost use Rattle.trigger_log.specs.Sending.{sent_by};
+ghost use Rattle.trigger_log.specs.Standing.{StandsFor};
 ghost use Rattle.chronicle.specs.Facts.{Chronicle};
 ghost use Rattle.chronicle.specs.Logs.{log_of};
 ghost use Rattle.chronicle.specs.Steps.{write};
@@ -25,11 +27,24 @@ pub struct Channel {
     pub items: VecDeque<Item>,
 }
 
-/// A node: its log, and its channels by the place of the neighbour.
+/// A node: its log, how many items that lists, and its channels by the place of the neighbour.
 #[derive(Drop)]
 pub struct Site<P: Policy + Copy> {
     pub log: NodeLog<P>,
+    pub updates: usize,
     pub outgoing: Vec<Channel>,
+}
+
+// How many items the newest entry lists.
+fn listed<P: Policy + Copy>(log: &NodeLog<P>) -> usize
+    ensures { (policy : P) (net : Net) (u : ℕ) (k : Logged) (h : List Logged) →
+        StandsFor policy (P.rules policy) net u log.now (k ∷ h) →
+        result ≡ length (sent_by (P.rules policy) net u h k) }
+{
+    let Some(entry) = log.entry(log.len()) else {
+        return 0;
+    };
+    entry.sent.as_slice().len()
 }
 
 impl<P: Policy + Copy> Site<P> {
@@ -50,6 +65,7 @@ impl<P: Policy + Copy> Site<P> {
         }
         Ok(Site {
             log: NodeLog::new(alloc, topology, node, policy)?,
+            updates: 0,
             outgoing,
         })
     }
@@ -81,6 +97,10 @@ impl<P: Policy + Copy> Site<P> {
             node,
             index: self.log.len(),
         })?;
+        let Some(updates) = self.updates.checked_add(listed(&self.log)) else {
+            return Err(NoMemory);
+        };
+        self.updates = updates;
         send(
             node,
             topology.neighbours(node),

@@ -1,13 +1,15 @@
 //! The world: all nodes and channels.
-ghost use Rattle.std.specs.Prelude.{◌≡◌, [], ◌∷◌, ◌++◌, ◌&&◌, false, nat_lt, length, IsTrue, IsNone, IfOk, IfSome, ◌↔◌};
+ghost use Rattle.std.specs.Prelude.{◌≡◌, [], ◌∷◌, ◌++◌, ◌&&◌, false, nat_lt, length, None, IsTrue, IsNone, IfOk, IfErr, IfSome, ◌↔◌};
 ghost use Rattle.topology.specs.Lists.{has};
 ghost use Rattle.trigger_log.specs.Standing.{StandsFor};
 ghost use Rattle.chronicle.specs.Logs.{log_of};
 ghost use Rattle.chronicle.specs.Run.{run, step};
 ghost use Rattle.world_core.specs.Fits.{fits};
 ghost use Rattle.world_core.specs.Effects.{Tells};
+ghost use Rattle.world_core.specs.Limits.{limit_of, StopsAt};
 ghost use Rattle.world_core.specs.Matching.{Matches};
 
+use crate::limits::{MOST_EVENTS, count};
 use crate::outcomes::{Outcome, Stop};
 use crate::sites::Site;
 use crate::steps::happen;
@@ -16,7 +18,7 @@ use path_vector::Policy;
 use std::alloc::Global;
 use std::marker::Model;
 use std::rc::Rc;
-use topology::{NoMemory, NodeId, PrefixId, Topology};
+use topology::{LimitKind, NoMemory, NodeId, PrefixId, Topology};
 use trigger_log::NodeLog;
 
 /// All nodes and channels of a network, and the events so far.
@@ -27,18 +29,22 @@ pub struct World<P: Policy + Copy> {
     policy: P,
     sites: Vec<Site<P>>,
     events: Vec<Event>,
+    // The triggers that all nodes gave.
+    triggers: u32,
 }
 
 impl<P: Policy + Copy> Model for World<P> {
     ghost use Rattle.world_core.specs.View.{WorldView};
-    ghost use Rattle.world_core.specs.Matching.{Matches};
+    ghost use Rattle.world_core.specs.Matching.{Matches, IsCounted};
     ghost use Rattle.chronicle.specs.Run.{run};
 
     ghost Value = { WorldView P };
 
     ghost view = { λ w. record { policy = w.policy; net = w.topology.value; events = w.events.items } };
 
-    ghost invariant = { λ w. Matches w.policy (P.rules w.policy) w.topology.value (run (P.rules w.policy) w.topology.value w.events.items) w.sites.items };
+    ghost invariant = { λ w. let past = run (P.rules w.policy) w.topology.value w.events.items in
+        Matches w.policy (P.rules w.policy) w.topology.value past w.sites.items ×
+        IsCounted (P.rules w.policy) w.topology.value past w.triggers };
 }
 
 // The sites of a world in which nothing has happened, by the ranks of the nodes.
@@ -75,6 +81,7 @@ impl<P: Policy + Copy> World<P> {
             policy,
             sites,
             events: Vec::new(alloc),
+            triggers: 0,
         })
     }
 
@@ -113,14 +120,17 @@ impl<P: Policy + Copy> World<P> {
         Some(&self.sites[rank].log)
     }
 
-    /// The world after one more event, and what came of it. The cost is that of what the event
-    /// touches: the node's neighbours, and the prefix.
+    /// The world after one more event, and what came of it. Stops at a limit exactly where the
+    /// event would take a count above its number, unless memory is wanted first. The cost is that of
+    /// what the event touches: the node's neighbours, and the prefix.
     pub fn step(self, event: Event) -> Result<(World<P>, Outcome), Stop>
         requires { IsTrue (fits self.net event) }
         ensures world { IfOk result (λ r. r.0 ≡ record self { events = self.events ++ event ∷ [] }) }
         ensures outcome { IfOk result (λ r.
             let past = run (P.rules self.policy) self.net self.events in
             Tells past (step (P.rules self.policy) self.net past event) r.1) }
+        ensures within { IfOk result (λ r. limit_of (P.rules self.policy) self.net self.events event ≡ None) }
+        ensures stopped { IfErr result (StopsAt (limit_of (P.rules self.policy) self.net self.events event)) }
     {
         let World {
             alloc,
@@ -128,9 +138,14 @@ impl<P: Policy + Copy> World<P> {
             policy,
             mut sites,
             mut events,
+            triggers,
         } = self;
+        if events.len() >= MOST_EVENTS as usize {
+            return Err(Stop::Limit(LimitKind::Events, MOST_EVENTS));
+        }
         cut_laws::laws::the_front_item_is_the_next();
         let outcome = happen(alloc, &topology, &mut sites, &event)?;
+        let triggers = count(&topology, &sites, triggers, &event, &outcome)?;
         let Ok(()) = events.push(event) else {
             return Err(Stop::NoMemory);
         };
@@ -140,6 +155,7 @@ impl<P: Policy + Copy> World<P> {
             policy,
             sites,
             events,
+            triggers,
         };
         Ok((world, outcome))
     }

@@ -1,4 +1,4 @@
-use Rattle.std.proofs.Common.{◌≡◌, ◌∷◌, [], ◌∙◌, ◌<◌, ap, map, refl, length, arith, sym}
+use Rattle.std.proofs.Common.{◌∷◌, [], ◌∙◌, ◌<◌, ap, map, refl, length, arith}
 use Rattle.std.proofs.lemmas.List.{map-append}
 use Rattle.std.proofs.lemmas.Option.{slice_get_read}
 use Rattle.trigger_log.specs.Going.{going_of, item_of}

@@ -1,9 +1,9 @@
-use Rattle.std.proofs.Common.{[], ◌∷◌, ◌++◌, ◌≡◌, refl, sym, ◌∙◌, ap, map, length, append_assoc}
+use Rattle.std.proofs.Common.{[], ◌∷◌, ◌++◌, ◌≡◌, sym, ◌∙◌, ap, map, length, append_assoc}
 use Rattle.std.proofs.lemmas.List.{append-nil, map-append}
 use Rattle.std.proofs.lemmas.Iterator.Adapters.{YieldsList-from_vec}
 use Rattle.std.proofs.lemmas.Iterator.Consumers.{YieldsList-end}
 use Rattle.trigger_log.specs.Going.{going_of}
-use Rattle.world_core.specs.Sending.{Grown, queued_by}
+use Rattle.world_core.specs.Sending.{queued_by}
 use Rattle.world_core.specs.declared.outcomes.Effect.TheVariants.{Queued}
 use Rattle.world_core.proofs.Sent.{grown_none, grown_more, map-same}
 use Rattle.world_core.proofs.sending.send.Goals as goal

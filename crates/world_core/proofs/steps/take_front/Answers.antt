@@ -56,6 +56,7 @@ returns-clause-some g c =
       items = c.pop_front.ensures.items;
       rest = c.pop_front.ensures.rest;
       log = refl;
+      updates = refl;
       outgoing = refl;
     })
 
@@ -71,5 +72,6 @@ returns-clause-none g c =
       items = c.pop_front.ensures.items;
       rest = c.pop_front.ensures.rest;
       log = refl;
+      updates = refl;
       outgoing = refl;
     })

@@ -1,4 +1,4 @@
-use Rattle.std.proofs.Common.{◌≡◌, ◌+◌, ◌∙◌, length, arith, ap}
+use Rattle.std.proofs.Common.{◌≡◌, ◌+◌, ◌∙◌, length, arith, ap, refl}
 use Rattle.std.proofs.lemmas.List.{length_push}
 use Rattle.world_core.specs.declared.sites.Channel.{Channel}
 use Rattle.world_core.proofs.Fresh.{unused_push, unused_site}
@@ -15,6 +15,6 @@ loop-preserved g c =
 pub returns : goal.returns
 returns g c =
     let ends : length c.loop.outgoing.items ≡ length c.neighbours-items.result.now = omega arith in
-    unused_site c.args.policy (g.P.Policy.rules c.args.policy) c.args.topology.now c.args.node (record { log = c.in_ok-new.field-0; outgoing = c.loop.outgoing }) c.in_ok-new.ensures
+    unused_site c.args.policy (g.P.Policy.rules c.args.policy) c.args.topology.now c.args.node (record { log = c.in_ok-new.field-0; updates = 0; outgoing = c.loop.outgoing }) c.in_ok-new.ensures refl
     (ends ∙ ap length c.neighbours-items.ensures.neighbours)
     c.loop.invariant.unused

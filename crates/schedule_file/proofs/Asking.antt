@@ -1,0 +1,34 @@
+-- What the refusals of a network say of a line, and how an error is handed on.
+use Rattle.std.proofs.Common.{◌≡◌, refl, sym, ap, ◌∙◌, subst}
+use Rattle.std.specs.Prelude.{Option, Some, None, Result, Err, IsErr, IsErrAnd, IfErr}
+use Rattle.std.proofs.lemmas.Result.{err_from_is_err_and}
+use Rattle.topology.specs.declared.building.BuildError.{BuildError}
+use Rattle.topology.specs.declared.building.BuildError.TheVariants as building
+use Rattle.topology.specs.Building.{AnswersBy}
+use Rattle.schedule_file.specs.declared.names.Refusal.{Refusal}
+use Rattle.schedule_file.specs.Grammar.{fault_from}
+use Rattle.schedule_file.specs.Standing.{Says, refusal_of}
+
+-- an error that a `?` hands on
+pub handed_on : {T E : Type 0} (r : Result T E) (Q P : E → Type 0) → IsErr r × IsErrAnd r Q → ((e : E) → Q e → P e) → IfErr r P
+handed_on r Q P h step =
+    let e = err_from_is_err_and r h.1 in
+    rw e.1 (step e.0 e.2)
+
+-- the refusal says what is wrong
+says_own : (e : BuildError) → Says (refusal_of e) (fault_from (Some e))
+says_own building.DuplicateNode = refl
+says_own (building.UnknownNode id) = refl
+says_own building.DuplicateLink = refl
+says_own building.SelfLink = refl
+says_own building.DuplicatePrefix = refl
+says_own building.TooMany = refl
+says_own building.NoMemory = tt
+says_own building.NoLink = refl
+
+pub says_refused : (T : Type 0) (e : BuildError) (refusal : Option BuildError) (why : Refusal) → AnswersBy {T = T} (Err e) refusal → why ≡ refusal_of e → Says why (fault_from refusal)
+says_refused T e None why h same = subst (λ w. Says w None) (sym (same ∙ ap refusal_of h)) tt
+says_refused T e (Some r) why h same =
+    let q : ◌≡◌ {A = Result T BuildError} (Err e) (Err r) = h in
+    let is : e ≡ r = cc in
+    subst (λ w. Says w (fault_from (Some r))) (sym (same ∙ ap refusal_of is)) (says_own r)

@@ -1,0 +1,37 @@
+//! The schedule file: reads its bytes into a network and what is to happen in it, or names its
+//! first bad line and what is wrong with it.
+//!
+//! A file is cut into lines and words as `text_lines` says; a line without words is skipped.
+//! The first part describes the network, and each name stands before its use:
+//!
+//! | Line | Meaning |
+//! |---|---|
+//! | `node N`, `node N consolidator` | a node, N from 1 to 65535 |
+//! | `link A B REL` | a link; B is `customer`, `provider`, `peer` or `any` to A |
+//! | `pref A B V` | the preference, 0 to 1000000, that A gives to B; a later one replaces it |
+//! | `prefix PREFIX` | four numbers from 0 to 255 joined by points, `/`, and a length up to 32 |
+//! | `begin` | ends this part; not needed where nothing follows |
+//!
+//! The second part says what happens: `originate N PREFIX`, `withdraw N PREFIX`, `deliver A B`,
+//! `show rib`, `show log`. Numbers are decimal, without sign and leading zeros.
+//!
+//! Of several faults of a line the first in this order is named: an unknown first word, or one of
+//! a later version; the wrong side of `begin`; the number of words; from left to right a word, a
+//! number or a prefix that may not stand there; an unknown node, an unknown prefix; equal ends; no
+//! link; what is there already; too many. A third word behind `show rib` or `show log` is one too
+//! many, but a second word that is not known is named first.
+#![tactic(auto)]
+
+pub mod laws;
+pub mod lines;
+pub mod names;
+pub mod parser;
+pub mod prefixes;
+pub mod reading;
+pub mod words;
+
+pub use lines::{Directive, Line, Numbered, Schedule};
+pub use parser::{ParseEnd, parse};
+
+#[cfg(test)]
+mod tests;

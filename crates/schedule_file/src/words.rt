@@ -1,0 +1,226 @@
+//! The words of a line, and what each may be.
+ghost use Rattle.std.specs.Prelude.{ℕ, ◌≡◌, ◌≢◌, ◌≤◌, ◌+◌, Bool, false, true, List, None, Some, IfOk, OnOk, OnErr, IfErr, IfSome, IfNone, length, slice_range, drop, bytes_eq};
+ghost use Rattle.std.specs.List.{list_any};
+ghost use Rattle.std.specs.Fmt.{decimal};
+ghost use Rattle.text_lines.specs.Words.{words_of};
+ghost use Rattle.text_lines.specs.Readings.{words_left};
+ghost use Rattle.topology.specs.declared.status.BadKind.TheVariants.{UnknownWord, BadNumber, BadPrefix};
+ghost use Rattle.schedule_file.specs.Spelling.{prefix_text, relation_text, IsNumber, IsRange};
+ghost use Rattle.schedule_file.specs.Words.{has_word};
+ghost use Rattle.schedule_file.specs.Table.{Field, spells_field, keyword_in, keyword_text, later_words, later_views, relations};
+ghost use Rattle.schedule_file.specs.Table.Field.{NodeNumber, Value, Masked, OneOf};
+ghost use Rattle.schedule_file.specs.Refusals.{fault_by};
+ghost use Rattle.schedule_file.specs.Standing.{word_at, Holds};
+
+use crate::prefixes::read_prefix;
+use text_lines::{Line as Span, Tokens, read_number};
+use topology::{BadKind, NodeId, Prefix, Relation};
+
+const MAX_NODE: u32 = 65_535;
+
+const MAX_PREFERENCE: u32 = 1_000_000;
+
+const LATER_WORDS: [&[u8]; 15] = [
+    b"prefer",
+    b"fail",
+    b"notice",
+    b"restore",
+    b"open",
+    b"drain",
+    b"snap",
+    b"propose",
+    b"ctl",
+    b"crash",
+    b"restart",
+    b"hops",
+    b"transient",
+    b"inject",
+    b"hop",
+];
+
+const LATER_VIEWS: [&[u8]; 5] = [b"cut", b"closure", b"ctl", b"tables", b"walk"];
+
+/// The words of one line: how many, and the first four. One that is not there is empty.
+#[derive(Clone, Copy, Debug)]
+pub struct Words<'a> {
+    pub count: usize,
+    pub first: &'a [u8],
+    pub second: &'a [u8],
+    pub third: &'a [u8],
+    pub fourth: &'a [u8],
+}
+
+/// What a line begins with.
+#[derive(Clone, Copy, Debug, PartialEq, Eq)]
+pub enum Keyword {
+    Node,
+    Link,
+    Pref,
+    Prefix,
+    Begin,
+    Originate,
+    Withdraw,
+    Deliver,
+    Show,
+}
+
+// How many words the line has.
+fn count_words(text: &[u8], line: Span) -> usize
+    requires ordered { line.start ≤ line.end }
+    requires inside { line.end ≤ length text.now }
+    ensures count { result ≡ length (words_of (slice_range text.now line.start line.end)) }
+    ensures few { result + line.start ≤ line.end }
+{
+    let mut count = 0;
+    let mut tokens = Tokens::new(text, line);
+    while let Some(_token) = tokens.next() {
+        count += 1;
+    }
+    count
+}
+
+// The next word, empty where there is none.
+fn next_word<'a>(text: &'a [u8], tokens: &mut Tokens<'a>) -> &'a [u8]
+    requires { tokens.old.text ≡ text.now }
+    ensures word { result.now ≡ word_at 0 (words_left tokens.old) }
+    ensures left { words_left tokens.new ≡ drop 1 (words_left tokens.old) }
+    ensures text { tokens.new.text ≡ text.now }
+{
+    match tokens.next() {
+        Some(token) => &text[token.start..token.end],
+        None => &[],
+    }
+}
+
+/// The words of the line.
+pub fn words_of<'a>(text: &'a [u8], line: Span) -> Words<'a>
+    requires ordered { line.start ≤ line.end }
+    requires inside { line.end ≤ length text.now }
+    ensures { Holds result (words_of (slice_range text.now line.start line.end)) }
+{
+    let count = count_words(text, line);
+    let mut tokens = Tokens::new(text, line);
+    let first = next_word(text, &mut tokens);
+    let second = next_word(text, &mut tokens);
+    let third = next_word(text, &mut tokens);
+    let fourth = next_word(text, &mut tokens);
+    Words {
+        count,
+        first,
+        second,
+        third,
+        fourth,
+    }
+}
+
+// The word is one of these.
+fn is_among(word: &[u8], words: &[&[u8]]) -> bool
+    ensures { result ≡ list_any (λ other. bytes_eq word.now other.now) words.now }
+{
+    words.iter().any(|other| word == *other)
+}
+
+// The word begins a line of a later version.
+fn begins_later(word: &[u8]) -> bool
+    ensures { result ≡ has_word later_words word.now }
+{
+    is_among(word, &LATER_WORDS)
+}
+
+/// A later version shows this.
+pub fn is_later_view(word: &[u8]) -> bool
+    ensures { result ≡ has_word later_views word.now }
+{
+    is_among(word, &LATER_VIEWS)
+}
+
+// The kind of line that the word begins.
+fn keyword_in(word: &[u8]) -> Option<Keyword>
+    ensures some { IfSome result (λ keyword. word.now ≡ keyword_text keyword) }
+    ensures none { IfNone result ((keyword : Keyword) → word.now ≢ keyword_text keyword) }
+{
+    match word {
+        b"node" => Some(Keyword::Node),
+        b"link" => Some(Keyword::Link),
+        b"pref" => Some(Keyword::Pref),
+        b"prefix" => Some(Keyword::Prefix),
+        b"begin" => Some(Keyword::Begin),
+        b"originate" => Some(Keyword::Originate),
+        b"withdraw" => Some(Keyword::Withdraw),
+        b"deliver" => Some(Keyword::Deliver),
+        b"show" => Some(Keyword::Show),
+        _ => None,
+    }
+}
+
+/// The kind of line that begins with the word.
+pub fn keyword_of(word: &[u8]) -> Result<Keyword, BadKind>
+    ensures ok { IfOk result (λ keyword. word.now ≡ keyword_text keyword) }
+    ensures none { OnErr result (keyword_in word.now ≡ None) }
+    ensures err { IfErr result
+        (λ kind. (started : Bool) (words : List (List ℕ)) → fault_by started word.now None words ≡ Some kind) }
+{
+    match keyword_in(word) {
+        Some(keyword) => Ok(keyword),
+        None if begins_later(word) => Err(BadKind::NotBuilt),
+        None => Err(BadKind::UnknownWord),
+    }
+}
+
+/// The number of a node, from 1.
+pub fn node_of(word: &[u8]) -> Result<NodeId, BadKind>
+    ensures ok { IfOk result (λ node. word.now ≡ decimal node) }
+    ensures in_range { IfOk result (λ node. IsNumber node) }
+    ensures fine { OnOk result (spells_field NodeNumber word.now ≡ true) }
+    ensures err { OnErr result (spells_field NodeNumber word.now ≡ false) }
+    ensures kind { IfErr result (λ kind. kind ≡ BadNumber) }
+{
+    let Some(number) = read_number(word, MAX_NODE) else {
+        return Err(BadKind::BadNumber);
+    };
+    if number == 0 {
+        return Err(BadKind::BadNumber);
+    }
+    Ok(NodeId::new(number as u16))
+}
+
+/// A preference.
+pub fn value_of(word: &[u8]) -> Result<u32, BadKind>
+    ensures ok { IfOk result (λ value. word.now ≡ decimal value) }
+    ensures in_range { IfOk result (λ value. value ≤ 1000000) }
+    ensures err { OnErr result (spells_field Value word.now ≡ false) }
+    ensures kind { IfErr result (λ kind. kind ≡ BadNumber) }
+{
+    let Some(value) = read_number(word, MAX_PREFERENCE) else {
+        return Err(BadKind::BadNumber);
+    };
+    Ok(value)
+}
+
+/// A prefix.
+pub fn prefix_of(word: &[u8]) -> Result<Prefix, BadKind>
+    ensures ok { IfOk result (λ p. word.now ≡ prefix_text p) }
+    ensures in_range { IfOk result (λ p. IsRange p) }
+    ensures err { OnErr result (spells_field Masked word.now ≡ false) }
+    ensures kind { IfErr result (λ kind. kind ≡ BadPrefix) }
+{
+    let Some(prefix) = read_prefix(word) else {
+        return Err(BadKind::BadPrefix);
+    };
+    Ok(prefix)
+}
+
+/// What the second end of a link is to the first.
+pub fn relation_of(word: &[u8]) -> Result<Relation, BadKind>
+    ensures ok { IfOk result (λ relation. word.now ≡ relation_text relation) }
+    ensures err { OnErr result (spells_field (OneOf relations) word.now ≡ false) }
+    ensures kind { IfErr result (λ kind. kind ≡ UnknownWord) }
+{
+    match word {
+        b"customer" => Ok(Relation::Customer),
+        b"provider" => Ok(Relation::Provider),
+        b"peer" => Ok(Relation::Peer),
+        b"any" => Ok(Relation::Any),
+        _ => Err(BadKind::UnknownWord),
+    }
+}
