@@ -1,11 +1,2 @@
-pub mod Cutting
-pub mod Spelling
-pub mod Reading
-pub mod Grammar
-pub mod Standing
-pub mod Ends
-pub mod LogText
-pub mod Text
 pub mod Headline
 pub mod Plain
-pub mod Running

@@ -1,16 +1,9 @@
 //! Replays schedules of a network whose routers agree on stable tables.
 #![tactic(auto)]
 
-mod directives;
-mod log_text;
-mod parse;
-mod reading;
-mod replay;
 mod run;
 #[cfg(test)]
 mod tests;
-mod text;
-mod words;
 
 use route_io::{StdSink, StdSource};
 use std::process::ExitCode;

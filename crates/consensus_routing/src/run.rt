@@ -1,10 +1,11 @@
 //! The top call.
 ghost use Rattle.std.specs.Prelude.{◌≡◌, ◌↔◌, IsTrue, map};
 ghost use Rattle.std.specs.String.{string_bytes};
-ghost use Rattle.consensus_routing.specs.Headline.{Headline, side, replay_form};
+ghost use Rattle.route_replay.specs.Side.{side};
+ghost use Rattle.consensus_routing.specs.Headline.{Headline, replay_form};
 
-use crate::replay::replay;
 use route_io::{Sink, Source};
+use route_replay::replay;
 use std::alloc::Global;
 use topology::Status;
 
@@ -20,7 +21,7 @@ fn is_replay(words: &[String]) -> bool
 
 /// Does what the words say. The words are those after the program's name; `replay` reads a
 /// schedule from the source, runs it, and writes its text to the sink. What a user may rely on
-/// stands in `specs/Headline.antt`.
+/// stands in `specs/Headline.antt` and in `route_replay/specs/Replayed.antt`.
 pub fn run<I: Source, O: Sink>(
     alloc: Global,
     words: &[String],

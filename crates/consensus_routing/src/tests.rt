@@ -143,88 +143,84 @@ fn runs_files_and_names_each_fault(rt: HostRuntime) -> Result<(), Fail> {
 #[test]
 fn names_the_first_bad_line(rt: HostRuntime) -> Result<(), Fail> {
     let alloc = rt.alloc();
-    // each line stands alone behind the seven lines of the network, or behind none
-    let behind = [
-        "hello",
-        "node 4",
-        "begin",
-        "originate 1",
-        "originate 1 10.0.0.0/8 now",
-        "deliver 1",
-        "originate 0 10.0.0.0/8",
-        "originate 01 10.0.0.0/8",
-        "originate +1 10.0.0.0/8",
-        "originate 65536 10.0.0.0/8",
-        "originate 1 10.0.0.0",
-        "originate 1 10.0.0/8",
-        "originate 1 256.0.0.0/8",
-        "originate 1 10.0.0.0/33",
-        "originate 1 10.0.0.1/8",
-        "originate 4 10.0.0.0/8",
-        "originate 1 20.0.0.0/8",
-        "deliver 1 1",
-        "deliver 1 3",
-        "deliver 1 4",
-        "show",
-        "show logs",
-        "show rib 1",
-        "snap 1",
-        "",
-        " show rib",
-        "show rib ",
-        "show  rib",
-        "show\trib",
-        "show rib\r",
-        "show rib # all",
+    // each line stands behind the seven lines of the network, and before one that is bad too
+    let cases = [
+        ("hello", BadKind::UnknownWord),
+        ("snap 1", BadKind::NotBuilt),
+        ("node 4", BadKind::NotHere),
+        ("deliver 1", BadKind::WrongCount),
+        ("originate 01 10.0.0.0/8", BadKind::BadNumber),
+        ("originate 1 10.0.0.1/8", BadKind::BadPrefix),
+        ("originate 4 20.0.0.0/8", BadKind::UnknownNode),
+        ("originate 1 20.0.0.0/8", BadKind::UnknownPrefix),
+        ("deliver 1 1", BadKind::SelfLink),
+        ("deliver 1 3", BadKind::NoLink),
     ];
-    for line in behind {
+    for (line, kind) in cases {
         let file = file_of(alloc, LINE, line)?;
         let file = file_of(alloc, file.as_str(), "\nhello\n")?;
         let (answer, text) = outcome(alloc, &["replay"], file.as_str(), &[], &[])?;
-        assert_eq!(rt; answer, Status::BadSchedule(8, BadKind::NotBuilt), "{line}");
+        assert_eq!(rt; answer, Status::BadSchedule(8, kind), "{line}");
         assert_eq!(rt; text.as_str(), "", "{line}");
     }
-    let before = [
-        "originate 1 10.0.0.0/8",
-        "show rib",
-        "node 2",
-        "node 0",
-        "node 65536",
-        "node 3 any",
-        "link 1 2 any",
-        "link 2 1 any",
-        "link 1 1 any",
-        "link 1 9 any",
-        "link 1 2 peer",
-        "link 1 2",
-        "prefix 10.0.0.0/8",
-        "prefix 11.0.0.0/7",
-        "prefix",
-        "begin now",
-    ];
-    let first = "node 1\nnode 2\nlink 1 2 any\nprefix 10.0.0.0/8\n";
-    for line in before {
-        let file = file_of(alloc, first, line)?;
-        let (answer, _) = outcome(alloc, &["replay"], file.as_str(), &[], &[])?;
-        assert_eq!(rt; answer, Status::BadSchedule(5, BadKind::NotBuilt), "{line}");
-    }
     Ok(())
+}
+
+// A file of comments, so many bytes long.
+fn comments(alloc: Global, lines: u32) -> Result<String, Fail> {
+    let mut line = String::from_str(alloc, "#")?;
+    for _ in 0..1022 {
+        line.push_str("-")?;
+    }
+    line.push_str("\n")?;
+    let mut file = String::new(alloc);
+    for _ in 0..lines {
+        file.push_str(line.as_str())?;
+    }
+    Ok(file)
 }
 
 #[test]
 fn takes_as_many_bytes_as_the_limit_says(rt: HostRuntime) -> Result<(), Fail> {
     let alloc = rt.alloc();
-    let mut file = String::from_str(alloc, "node 1000\nbegin\n")?;
-    for _ in 0..7280 {
-        file.push_str("show rib\n")?;
-    }
-    assert_eq!(rt; file.len(), 65_536);
+    let mut file = comments(alloc, 16_384)?;
+    assert_eq!(rt; file.len(), 16_777_216);
     let (answer, _) = outcome(alloc, &["replay"], file.as_str(), &[], &[])?;
     assert_eq!(rt; answer, Status::Done);
     file.push_str("\n")?;
     let (answer, text) = outcome(alloc, &["replay"], file.as_str(), &[], &[])?;
-    assert_eq!(rt; answer, Status::Limit(LimitKind::Bytes, 65_536));
+    assert_eq!(rt; answer, Status::Limit(LimitKind::Bytes, 16_777_216));
     assert_eq!(rt; text.as_str(), "");
+    Ok(())
+}
+
+// Four nodes give as many triggers as there may be, and one more is asked for.
+fn busy(alloc: Global) -> Result<String, Fail> {
+    let mut file = String::from_str(
+        alloc,
+        "node 1\nnode 2\nnode 3\nnode 4\nnode 5\nprefix 10.0.0.0/8\nbegin\n",
+    )?;
+    for node in 1..5 {
+        for _ in 0..1024 {
+            write!(
+                file,
+                "originate {node} 10.0.0.0/8\nwithdraw {node} 10.0.0.0/8\n"
+            )?;
+        }
+    }
+    Ok(file)
+}
+
+#[test]
+fn gives_as_many_triggers_as_the_limit_says(rt: HostRuntime) -> Result<(), Fail> {
+    let alloc = rt.alloc();
+    let mut file = busy(alloc)?;
+    let (answer, _) = outcome(alloc, &["replay"], file.as_str(), &[], &[])?;
+    assert_eq!(rt; answer, Status::Done);
+    file.push_str("withdraw 5 10.0.0.0/8\noriginate 5 10.0.0.0/8\n")?;
+    let (answer, text) = outcome(alloc, &["replay"], file.as_str(), &[], &[])?;
+    assert_eq!(rt; answer, Status::Limit(LimitKind::Triggers, 8192));
+    assert_eq!(rt; text.as_str(), "8200: idle not origin\n");
     Ok(())
 }
 

@@ -1,7 +1,0 @@
-use Rattle.chronicle.specs.Run.{run}
-use Rattle.consensus_routing.proofs.replay.run_schedule.Goals as goal
-
--- in a new world nothing has happened
-pub returns-clause-runs : goal.returns-clause-runs
-unfolding run
-returns-clause-runs g c = rw (c.deref.ensures.value, c.in-Ok-new.ensures, c.in-Ok.ensures.ok) at c.run_lines.ensures.runs

@@ -1,0 +1,252 @@
+-- What each end of a replay gives of the promise.
+use Rattle.std.proofs.Common.{◌≡◌, ◌≢◌, ℕ, ◌<◌, ◌≤◌, ◌⊎◌, inl, inr, Option, Some, None, IfSome, List, [], ◌∷◌, length, Result, Ok, Err, Bool, true, false, true≢false, cond, nat_lt, nat_le, refl, sym, ap, ◌∙◌, subst, arith}
+use Rattle.std.specs.Option.{option_or}
+use Rattle.std.specs.Io.KnownBytes.{Appends}
+use Rattle.topology.specs.declared.status.Status.{Status}
+use Rattle.topology.specs.declared.status.Status.TheVariants.{Done, Usage, NoMemory, BadSchedule, Limit, ReadFault, WriteFault}
+use Rattle.topology.specs.declared.status.BadKind.{BadKind}
+use Rattle.topology.specs.declared.status.LimitKind.{LimitKind}
+use Rattle.topology.specs.declared.status.LimitKind.TheVariants as count
+use Rattle.path_vector.specs.GaoRexford.{gao_rexford}
+use Rattle.topology.specs.Net.{Net}
+use Rattle.path_vector.specs.Rules.{Rules}
+use Rattle.chronicle.specs.declared.events.Event.{Event}
+use Rattle.chronicle.specs.Run.{Step, Idle, Goes, step, run}
+use Rattle.world_core.specs.Limits.{Reached, most_events, most_triggers, triggers_of, has_more_entries, has_more_updates, first_above, above, above_by, limit_of}
+use Rattle.schedule_file.specs.declared.lines.Numbered.{Numbered}
+use Rattle.schedule_file.specs.declared.lines.Line.{Line}
+use Rattle.schedule_file.specs.Spelling.{words_by_line}
+use Rattle.schedule_file.specs.Grammar.{Reads, net_of, directives_of}
+use Rattle.schedule_file.specs.Refusals.{FirstBad}
+use Rattle.schedule_file.proofs.Readings.{same_lines, no_bad_line, one_first}
+use Rattle.route_replay.specs.declared.runner.RunEnd.{RunEnd}
+use Rattle.route_replay.specs.declared.runner.RunEnd.TheVariants as end
+use Rattle.route_replay.specs.Side.{Side}
+use Rattle.route_replay.specs.Text.{event_of, goes_on, text, stop, stop_by, stop_of}
+use Rattle.route_replay.specs.Running.{Runs}
+use Rattle.route_replay.specs.Replayed.{Replayed, Comes, IsRun, IsLimit, ends_early, most_bytes}
+
+-- what a told source gave is what it told
+pub known : (told : Option (List ℕ)) (items : List ℕ) → IfSome told (λ bytes. items ≡ bytes) → (bytes : List ℕ) → told ≡ Some bytes → items ≡ bytes
+known None items h bytes e = absurd (cc e)
+known (Some b) items h bytes e = let same : b ≡ bytes = cc in h ∙ same
+
+same_bad : (m n : ℕ) (k l : BadKind) → BadSchedule m k ≡ BadSchedule n l → (m ≡ n) × (k ≡ l)
+same_bad m n k l e = (cc, cc)
+
+same_status : (m n : ℕ) (k l : BadKind) → m ≡ n → k ≡ l → BadSchedule m k ≡ BadSchedule n l
+same_status m n k l a b = rw (a, b) refl
+
+-- a text that is read has no bad line, and another has one at most
+pub record OneReading (text : List ℕ) : Type 0 where
+  pub lines : (lines others : List Line) → Reads [] (words_by_line text) lines → Reads [] (words_by_line text) others → lines ≡ others
+  pub apart : (lines : List Line) (line : ℕ) (kind : BadKind) → Reads [] (words_by_line text) lines → FirstBad text line kind → ⊥
+  pub first : (line other : ℕ) (kind last : BadKind) → FirstBad text line kind → FirstBad text other last → (line ≡ other) × (kind ≡ last)
+
+pub one_reading_of : (text : List ℕ) → OneReading text
+one_reading_of text = record {
+  lines = same_lines text;
+  apart = λ lines line kind reads first. no_bad_line [] (words_by_line text) lines first.0 kind reads first.2;
+  first = one_first text;
+}
+
+-- the file is refused by a line
+pub ends_bad : (source source' sink : Side) (bytes : List ℕ) (line : ℕ) (kind : BadKind) → ((told : List ℕ) → source.told ≡ Some told → bytes ≡ told) → OneReading bytes
+    → length bytes ≤ most_bytes → FirstBad bytes line kind → source.faults ≤ source'.faults
+    → Replayed source source' sink sink (BadSchedule line kind)
+ends_bad source source' sink bytes line kind read one short bad later = record {
+  formed = λ e. absurd (cc e);
+  done = λ e. absurd (cc e);
+  front = λ told t. inl refl;
+  silent = λ _. refl;
+  bad_schedule = λ n k e told t.
+      let same = same_bad line n kind k e in
+      subst (λ b. FirstBad b n k) (read told t) (subst (λ l. FirstBad bytes n l) same.1 (subst (λ m. FirstBad bytes m kind) same.0 bad));
+  limit = λ k n e. absurd (cc e);
+  read_fault = λ e. absurd (cc e);
+  write_fault = λ e. absurd (cc e);
+  cut_off = λ e. absurd (cc e);
+  refused = λ told t _ n k first.
+      let same = one.first line n kind k bad (subst (λ b. FirstBad b n k) (sym (read told t)) first) in
+      inl (same_status line n kind k same.0 same.1);
+  too_long = λ told t long. absurd (let same = ap length (read told t) in omega arith);
+  complete = λ told t _ run. absurd (one.apart run.lines line kind (subst (λ b. Reads [] (words_by_line b) run.lines) (sym (read told t)) run.is_run.read) bad);
+  source_counts = later;
+  sink_counts = omega arith;
+}
+
+-- the file was run, and so it ended
+abbrev pub status_of : Result (Unit {0}) RunEnd → Status
+status_of (Ok _) = Done
+status_of (Err end.NoMemory) = NoMemory
+status_of (Err end.WriteFault) = WriteFault
+status_of (Err (end.Limit kind number)) = Limit kind number
+
+-- the limits of a run are not that of the bytes
+abbrev NotBytes : Option Reached → Type 0
+NotBytes None = Unit {0}
+NotBytes (Some reached) = reached.kind ≢ count.Bytes
+
+above_not_bytes : (triggers entries updates : Bool) → NotBytes (first_above triggers entries updates)
+above_not_bytes true entries updates = λ e. cc e
+above_not_bytes false true updates = λ e. cc e
+above_not_bytes false false true = λ e. cc e
+above_not_bytes false false false = tt
+
+step_not_bytes : (rules : Rules) (net : Net) (s : Step) → NotBytes (above_by rules net s)
+unfolding above
+step_not_bytes rules net (Idle reason) = tt
+step_not_bytes rules net (Goes now) = above_not_bytes (nat_lt most_triggers (triggers_of net now)) (has_more_entries net now) (has_more_updates rules net now)
+
+limit_not_bytes : (rules : Rules) (net : Net) (events : List Event) (e : Event) → NotBytes (limit_of rules net events e)
+unfolding limit_of
+limit_not_bytes rules net events e =
+    elim (nat_le most_events (length events)) as (λ b. NotBytes (cond b (Some (record { kind = count.Events; number = most_events })) (above_by rules net (step rules net (run rules net events) e)))) [
+      | true ↦ λ same. cc same
+      | false ↦ step_not_bytes rules net (step rules net (run rules net events) e)
+    ]
+
+directive_not_bytes : (rules : Rules) (net : Net) (events : List Event) (e : Option Event) → NotBytes (stop_by rules net events e)
+directive_not_bytes rules net events None = tt
+directive_not_bytes rules net events (Some e) = limit_not_bytes rules net events e
+
+either_not_bytes : (a b : Option Reached) → NotBytes a → NotBytes b → NotBytes (option_or a b)
+either_not_bytes None b h k = k
+either_not_bytes (Some r) b h k = h
+
+stop_not_bytes : (rules : Rules) (net : Net) (events : List Event) (ds : List Numbered) → NotBytes (stop rules net events ds)
+stop_not_bytes rules net events [] = tt
+stop_not_bytes rules net events (d ∷ ds) =
+    either_not_bytes (stop_of rules net events d) (stop rules net (goes_on events (event_of d.directive)) ds)
+    (directive_not_bytes rules net events (event_of d.directive)) (stop_not_bytes rules net (goes_on events (event_of d.directive)) ds)
+
+not_bytes_of : (o : Option Reached) (r : Reached) → NotBytes o → o ≡ Some r → r.kind ≢ count.Bytes
+not_bytes_of o r h e = subst NotBytes e h
+
+not_early : (kind : LimitKind) (number : ℕ) → kind ≢ count.Bytes → ends_early (Limit kind number) ≡ false
+not_early count.Bytes number ne = absurd (ne refl)
+not_early count.Events number ne = refl
+not_early count.Triggers number ne = refl
+not_early count.Entries number ne = refl
+not_early count.Updates number ne = refl
+
+is_limit : (bytes : List ℕ) (kind : LimitKind) (number : ℕ) (held held' : Option (List ℕ)) → kind ≢ count.Bytes
+    → ((run : Comes bytes) × (run.stopped ≡ Some (record { kind = kind; number = number })) × Appends held held' run.written) → IsLimit bytes kind number held held'
+is_limit bytes count.Bytes number held held' ne h = absurd (ne refl)
+is_limit bytes count.Events number held held' ne h = h
+is_limit bytes count.Triggers number held held' ne h = h
+is_limit bytes count.Entries number held held' ne h = h
+is_limit bytes count.Updates number held held' ne h = h
+
+same_count : (k l : LimitKind) (m n : ℕ) → Limit k m ≡ Limit l n → (k ≡ l) × (m ≡ n)
+same_count k l m n e = (cc, cc)
+
+same_reached : (k : LimitKind) (n : ℕ) (r : Reached) → ◌≡◌ {A = Option Reached} (Some (record { kind = k; number = n })) (Some r) → Limit k n ≡ Limit r.kind r.number
+same_reached k n r e = let same : record { kind = k; number = n } ≡ r = cc in ap (λ (x : Reached). Limit x.kind x.number) same
+
+none_some : {A P : Type 0} (o : Option A) (x : A) → o ≡ None → o ≡ Some x → P
+none_some o x a b = absurd (cc (sym a ∙ b))
+
+module _ (source source' sink sink' : Side) (bytes : List ℕ) (lines : List Line)
+    (read : (told : List ℕ) → source.told ≡ Some told → bytes ≡ told) (one : OneReading bytes) (short : length bytes ≤ most_bytes) (reads : Reads [] (words_by_line bytes) lines) (later : source.faults ≤ source'.faults) where
+  abbrev written : List ℕ
+  written = text gao_rexford (net_of lines) [] (directives_of lines)
+
+  abbrev stopped : Option Reached
+  stopped = stop gao_rexford (net_of lines) [] (directives_of lines)
+
+  abbrev comes : (told : List ℕ) → source.told ≡ Some told → Comes told
+  comes told t = record {
+    lines = lines;
+    written = written;
+    stopped = stopped;
+    is_run = record { read = subst (λ b. Reads [] (words_by_line b) lines) (read told t) reads; text = refl; stop = refl };
+  }
+
+  -- whatever the file comes to, it is stopped so
+  same_stop : (told : List ℕ) → source.told ≡ Some told → (run : Comes told) → run.stopped ≡ stopped
+  same_stop told t run =
+      let same = one.lines run.lines lines (subst (λ b. Reads [] (words_by_line b) run.lines) (sym (read told t)) run.is_run.read) reads in
+      sym run.is_run.stop ∙ ap (λ ls. stop gao_rexford (net_of ls) [] (directives_of ls)) same
+
+  never_bad : {P : Type 0} (told : List ℕ) → source.told ≡ Some told → (line : ℕ) (kind : BadKind) → FirstBad told line kind → P
+  never_bad told t line kind first = absurd (one.apart lines line kind reads (subst (λ b. FirstBad b line kind) (sym (read told t)) first))
+
+  never_long : {P : Type 0} (told : List ℕ) → source.told ≡ Some told → most_bytes < length told → P
+  never_long told t long = absurd (let same = ap length (read told t) in omega arith)
+
+  pub ends_run : (result : Result (Unit {0}) RunEnd) → Runs sink sink' written stopped result → Replayed source source' sink sink' (status_of result)
+  ends_run (Ok _) runs = record {
+    formed = λ e. absurd (cc e);
+    done = λ e told t. (comes told t, runs.whole.1, runs.whole.0);
+    front = λ told t. inr (comes told t, runs.front.0, runs.front.1, runs.front.2);
+    silent = λ e. absurd (cc e);
+    bad_schedule = λ n k e. absurd (cc e);
+    limit = λ k n e. absurd (cc e);
+    read_fault = λ e. absurd (cc e);
+    write_fault = λ e. absurd (cc e);
+    cut_off = λ e. absurd (cc e);
+    refused = λ told t _ n k first. never_bad told t n k first;
+    too_long = λ told t long. never_long told t long;
+    complete = λ told t _ run. (λ none. inl refl, λ r some. none_some stopped r runs.whole.1 (sym (same_stop told t run) ∙ some));
+    source_counts = later;
+    sink_counts = runs.later;
+  }
+  ends_run (Err end.NoMemory) runs = record {
+    formed = λ e. absurd (cc e);
+    done = λ e. absurd (cc e);
+    front = λ told t. inr (comes told t, runs.front.0, runs.front.1, runs.front.2);
+    silent = λ e. absurd (cc e);
+    bad_schedule = λ n k e. absurd (cc e);
+    limit = λ k n e. absurd (cc e);
+    read_fault = λ e. absurd (cc e);
+    write_fault = λ e. absurd (cc e);
+    cut_off = λ e. absurd (cc e);
+    refused = λ told t _ n k first. inr (inl refl);
+    too_long = λ told t long. inr (inl refl);
+    complete = λ told t _ run. (λ none. inr (inl refl), λ r some. inr (inl refl));
+    source_counts = later;
+    sink_counts = runs.later;
+  }
+  ends_run (Err end.WriteFault) runs = record {
+    formed = λ e. absurd (cc e);
+    done = λ e. absurd (cc e);
+    front = λ told t. inr (comes told t, runs.front.0, runs.front.1, runs.front.2);
+    silent = λ e. absurd (cc e);
+    bad_schedule = λ n k e. absurd (cc e);
+    limit = λ k n e. absurd (cc e);
+    read_fault = λ e. absurd (cc e);
+    write_fault = λ e. runs.fault refl;
+    cut_off = λ e told t. (comes told t, runs.cut_off refl);
+    refused = λ told t _ n k first. never_bad told t n k first;
+    too_long = λ told t long. never_long told t long;
+    complete = λ told t _ run. (λ none. inr (inr (inr refl)), λ r some. inr (inr (inr refl)));
+    source_counts = later;
+    sink_counts = runs.later;
+  }
+  ends_run (Err (end.Limit kind number)) runs =
+      let stops = (runs.limit kind number refl).1 in
+      let ne = not_bytes_of stopped (record { kind = kind; number = number }) (stop_not_bytes gao_rexford (net_of lines) [] (directives_of lines)) stops in
+      record {
+        formed = λ e. absurd (cc e);
+        done = λ e. absurd (cc e);
+        front = λ told t. inr (comes told t, runs.front.0, runs.front.1, runs.front.2);
+        silent = λ e. absurd (true≢false (sym e ∙ not_early kind number ne));
+        bad_schedule = λ n k e. absurd (cc e);
+        limit = λ k n e told t.
+            let same = same_count kind k number n e in
+            subst (λ l. IsLimit told l n sink.told sink'.told) same.0
+            (subst (λ m. IsLimit told kind m sink.told sink'.told) same.1
+            (is_limit told kind number sink.told sink'.told ne (comes told t, stops, (runs.limit kind number refl).0)));
+        read_fault = λ e. absurd (cc e);
+        write_fault = λ e. absurd (cc e);
+        cut_off = λ e. absurd (cc e);
+        refused = λ told t _ n k first. never_bad told t n k first;
+        too_long = λ told t long. never_long told t long;
+        complete = λ told t _ run. (
+          λ none. none_some stopped (record { kind = kind; number = number }) (sym (same_stop told t run) ∙ none) stops,
+          λ r some. inl (same_reached kind number r (sym stops ∙ (sym (same_stop told t run) ∙ some))),
+        );
+        source_counts = later;
+        sink_counts = runs.later;
+      }

@@ -1,0 +1,5 @@
+pub mod Steps
+pub mod Logs
+pub mod Fitting
+pub mod Ending
+pub mod Runs

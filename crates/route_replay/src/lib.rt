@@ -1,0 +1,8 @@
+//! Replays a schedule: the text of its run.
+#![tactic(auto)]
+
+pub mod log_text;
+pub mod runner;
+pub mod text;
+
+pub use runner::{MAX_BYTES, replay};

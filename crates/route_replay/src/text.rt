@@ -1,0 +1,151 @@
+//! The text of a run.
+ghost use Rattle.std.specs.Prelude.{◌≡◌, [], ◌∷◌, ◌++◌, true, IfOk, OnOk};
+ghost use Rattle.std.specs.String.{string_bytes};
+ghost use Rattle.topology.specs.Lists.{has};
+ghost use Rattle.path_vector.specs.Selection.{Route, path_of};
+ghost use Rattle.path_vector.specs.Answers.{Shows};
+ghost use Rattle.chronicle.specs.Facts.{Chronicle};
+ghost use Rattle.chronicle.specs.Run.{run, Step};
+ghost use Rattle.world_core.specs.Effects.{Tells};
+ghost use Rattle.schedule_file.specs.Spelling.{prefix_text};
+ghost use Rattle.route_replay.specs.Text.{reason_words, idle_line, step_text, rib_text, node_text, rib_line, path_text, nodes_text};
+
+use path_vector::{Best, Policy};
+use std::alloc::{AllocError, Global};
+use topology::{NoMemory, NodeId, Prefix, PrefixId, Reason};
+use world_core::{Outcome, World};
+
+// The words of a reason.
+fn reason_words(reason: Reason) -> &'static str
+    ensures { result.now ≡ reason_words reason }
+{
+    match reason {
+        Reason::AlreadyOrigin => "already origin",
+        Reason::NotOrigin => "not origin",
+        Reason::EmptyChannel => "empty channel",
+    }
+}
+
+/// What is shown of an event: a line, where it did nothing.
+pub fn event_line(alloc: Global, line: u32, outcome: &Outcome) -> Result<String, NoMemory>
+    ensures { (past : Chronicle) (step : Step) → Tells past step outcome.now →
+        IfOk result (λ text. string_bytes text ≡ step_text line step) }
+{
+    match outcome {
+        Outcome::Did(_) => Ok(String::new(alloc)),
+        Outcome::Idle(reason) => idle_line(alloc, line, *reason),
+    }
+}
+
+// The line of an event that did nothing.
+fn idle_line(alloc: Global, line: u32, reason: Reason) -> Result<String, NoMemory>
+    ensures { IfOk result (λ text. string_bytes text ≡ idle_line line reason) }
+{
+    let mut out = String::new(alloc);
+    write!(out, "{line}: idle ")?;
+    out.push_str(reason_words(reason))?;
+    out.push_str("\n")?;
+    Ok(out)
+}
+
+/// The routes of all nodes to all prefixes.
+#[tactic(auto, unfolding(crate::specs::Text::rib_text))]
+pub fn routes<P: Policy + Copy>(alloc: Global, world: &World<P>) -> Result<String, NoMemory>
+    ensures { IfOk result (λ text. string_bytes text
+        ≡ rib_text (P.rules world.now.policy) world.now.net (run (P.rules world.now.policy) world.now.net world.now.events)) }
+{
+    let mut out = String::new(alloc);
+    for node in world.topology().nodes() {
+        node_routes(&mut out, world, *node)?;
+    }
+    Ok(out)
+}
+
+// The routes of one node.
+#[tactic(auto, unfolding(crate::specs::Text::node_text))]
+fn node_routes<P: Policy + Copy>(
+    out: &mut String,
+    world: &World<P>,
+    node: NodeId,
+) -> Result<(), NoMemory>
+    requires { has world.now.net.nodes node ≡ true }
+    ensures { OnOk result (string_bytes out.new ≡ string_bytes out.old
+        ++ node_text (P.rules world.now.policy) world.now.net (run (P.rules world.now.policy) world.now.net world.now.events) node) }
+{
+    let Some(log) = world.log(node) else {
+        return Err(NoMemory);
+    };
+    for place in 0..world.topology().prefix_count() {
+        let id = PrefixId::new(place);
+        let Some(prefix) = world.topology().prefix(id) else {
+            return Err(NoMemory);
+        };
+        route_line(out, node, &prefix, &log.live().best(id))?;
+    }
+    Ok(())
+}
+
+fn route_line(
+    out: &mut String,
+    node: NodeId,
+    prefix: &Prefix,
+    best: &Best<'_>,
+) -> Result<(), AllocError>
+    ensures { (route : Route) → Shows node best.now route →
+        OnOk result (string_bytes out.new ≡ string_bytes out.old ++ rib_line node prefix.now (path_of node route)) }
+{
+    let number = node.number();
+    write!(out, "rib {number} ")?;
+    prefix_words(out, prefix)?;
+    out.push_str(":")?;
+    route_words(out, node, best)?;
+    out.push_str("\n")?;
+    Ok(())
+}
+
+/// Writes a prefix.
+#[tactic(auto, unfolding(schedule_file::specs::Spelling::prefix_text))]
+pub(crate) fn prefix_words(out: &mut String, prefix: &Prefix) -> Result<(), AllocError>
+    ensures { OnOk result (string_bytes out.new ≡ string_bytes out.old ++ prefix_text prefix.now) }
+{
+    let a = prefix.bits / 16_777_216 % 256;
+    let b = prefix.bits / 65_536 % 256;
+    let c = prefix.bits / 256 % 256;
+    let d = prefix.bits % 256;
+    let len = prefix.len;
+    write!(out, "{a}.{b}.")?;
+    write!(out, "{c}.{d}/{len}")?;
+    Ok(())
+}
+
+fn route_words(out: &mut String, node: NodeId, best: &Best<'_>) -> Result<(), AllocError>
+    ensures { (route : Route) → Shows node best.now route →
+        OnOk result (string_bytes out.new ≡ string_bytes out.old ++ path_text (path_of node route)) }
+{
+    match best {
+        Best::None => out.push_str(" none")?,
+        Best::Own => node_words(out, node)?,
+        Best::Via(_, rest) => {
+            node_words(out, node)?;
+            path_words(out, rest)?;
+        }
+    }
+    Ok(())
+}
+
+fn node_words(out: &mut String, node: NodeId) -> Result<(), AllocError>
+    ensures { OnOk result (string_bytes out.new ≡ string_bytes out.old ++ nodes_text (node ∷ [])) }
+{
+    let number = node.number();
+    write!(out, " {number}")?;
+    Ok(())
+}
+
+fn path_words(out: &mut String, nodes: &[NodeId]) -> Result<(), AllocError>
+    ensures { OnOk result (string_bytes out.new ≡ string_bytes out.old ++ nodes_text nodes.now) }
+{
+    for node in nodes {
+        node_words(out, *node)?;
+    }
+    Ok(())
+}
