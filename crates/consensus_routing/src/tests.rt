@@ -166,31 +166,15 @@ fn names_the_first_bad_line(rt: HostRuntime) -> Result<(), Fail> {
     Ok(())
 }
 
-// A file of comments, so many bytes long.
-fn comments(alloc: Global, lines: u32) -> Result<String, Fail> {
-    let mut line = String::from_str(alloc, "#")?;
-    for _ in 0..1022 {
-        line.push_str("-")?;
-    }
-    line.push_str("\n")?;
-    let mut file = String::new(alloc);
-    for _ in 0..lines {
-        file.push_str(line.as_str())?;
-    }
-    Ok(file)
-}
-
 #[test]
-fn takes_as_many_bytes_as_the_limit_says(rt: HostRuntime) -> Result<(), Fail> {
+fn takes_no_more_bytes_than_the_limit_says(rt: HostRuntime) -> Result<(), Fail> {
     let alloc = rt.alloc();
-    let mut file = comments(alloc, 16_384)?;
-    assert_eq!(rt; file.len(), 16_777_216);
-    let (answer, _) = outcome(alloc, &["replay"], file.as_str(), &[], &[])?;
-    assert_eq!(rt; answer, Status::Done);
-    file.push_str("\n")?;
-    let (answer, text) = outcome(alloc, &["replay"], file.as_str(), &[], &[])?;
-    assert_eq!(rt; answer, Status::Limit(LimitKind::Bytes, 16_777_216));
-    assert_eq!(rt; text.as_str(), "");
+    let mut words = Vec::new(alloc);
+    words.push(String::from_str(alloc, "replay")?)?;
+    let mut source = MemSource::new(vec![in alloc; b'\n'; 16_777_217]?, Vec::new(alloc));
+    let mut sink = MemSink::new(Vec::new(alloc), Vec::new(alloc));
+    let status = run(alloc, &words, &mut source, &mut sink);
+    assert_eq!(rt; status, Status::Limit(LimitKind::Bytes, 16_777_216));
     Ok(())
 }
 

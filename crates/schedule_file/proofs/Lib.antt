@@ -10,4 +10,4 @@ mod Forms
 mod Asking
 mod Places
 mod Steps
-mod Readings
+pub mod Readings
