@@ -9,6 +9,7 @@ pub of_replay : (words : List (List ℕ)) (source source' sink sink' : Side) (st
     → Headline words source source' sink sink' status
 of_replay words source source' sink sink' status same replayed = record {
   usage = (λ e. absurd (replayed.formed e), λ other. absurd (other same));
+  formed = λ _. same;
   untouched = λ other. absurd (other same);
   replayed = λ _. replayed;
 }

@@ -13,6 +13,8 @@ replay_form = codes "replay" ∷ []
 pub record Headline (words : List (List ℕ)) (source source' sink sink' : Side) (status : Status) : Type 0 where
   -- the words are none of the forms, exactly where the answer is Usage
   pub usage : (status ≡ Usage) ↔ (words ≢ replay_form)
+  -- any other answer is that of the one form
+  pub formed : status ≢ Usage → words ≡ replay_form
   -- and nothing is read or written then
   pub untouched : words ≢ replay_form → (source' ≡ source) × (sink' ≡ sink)
   -- the word replay: the schedule that the source holds is replayed
