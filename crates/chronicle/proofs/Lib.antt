@@ -1,5 +1,5 @@
 pub mod Opened
 pub mod Shown
-pub mod Blocks
 mod Line
 mod Square
+mod Reopened

@@ -1,6 +1,6 @@
 -- What a node sent and took in a session.
 use Rattle.std.specs.Prelude.{ℕ, Bool, ◌==◌, ◌&&◌, List, [], ◌∷◌, ◌++◌, if◌then◌else◌}
-use Rattle.trigger_log.specs.Going.{Item}
+use Rattle.trigger_log.specs.Going.{Item, News, Hello}
 use Rattle.chronicle.specs.Facts.{Fact, Chronicle, Sent, Took}
 
 -- it goes from a to b in session s
@@ -26,3 +26,9 @@ took_by a b s other before = before
 abbrev pub took : ℕ → ℕ → ℕ → Chronicle → List Item
 took a b s [] = []
 took a b s (f ∷ past) = took_by a b s f (took a b s past)
+
+-- the items that are updates
+abbrev pub updates : List Item → List Item
+updates [] = []
+updates (News n x ∷ items) = News n x ∷ updates items
+updates (Hello e ∷ items) = updates items

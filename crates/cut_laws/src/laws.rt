@@ -1,11 +1,16 @@
 //! Laws of every run. A call of a law brings what it says into the caller's proof.
-ghost use Rattle.std.specs.Prelude.{ℕ, List};
+ghost use Rattle.std.specs.Prelude.{ℕ, suc, ◌≡◌, ◌≤◌, List, length, drop};
+ghost use Rattle.topology.specs.declared.links.LinkState.TheVariants.{Up};
+ghost use Rattle.topology.specs.LinkStates.{number_of};
 ghost use Rattle.topology.specs.Net.{Net, IsValid};
 ghost use Rattle.path_vector.specs.Rules.{Rules};
 ghost use Rattle.chronicle.specs.declared.events.Event.{Event};
+ghost use Rattle.chronicle.specs.Links.{link};
+ghost use Rattle.chronicle.specs.Channels.{channel};
 ghost use Rattle.chronicle.specs.Run.{run};
 ghost use Rattle.cut_laws.specs.Alone.{Alone};
 ghost use Rattle.cut_laws.specs.Joined.{Joined, FrontFits};
+ghost use Rattle.cut_laws.specs.Counted.{queued, takes};
 
 /// What a node said in a session is what its log sends, what it heard is what its log received, and
 /// each entry fits those before it.
@@ -15,10 +20,19 @@ pub fn a_node_says_what_its_log_sends()
         Alone rules net (run rules net events) u }
 {}
 
-/// What was taken of a session begins what was sent in it, and what is left is on its way.
+/// What was taken of a session begins what was sent in it, and what is left of the one that the link
+/// carries is on its way. No node opens a session twice, or one that the link never carried.
 pub fn a_link_keeps_the_order()
     ensures { (rules : Rules) (net : Net) (events : List Event) (v u : ℕ) → IsValid net →
         Joined (run rules net events) v u }
+{}
+
+/// A channel is what was queued in the session that the link carries, without what was taken since the
+/// link came up.
+pub fn a_channel_is_what_was_queued_and_not_taken()
+    ensures { (rules : Rules) (net : Net) (events : List Event) (v u s : ℕ) → IsValid net →
+        let past = run rules net events in link v u past ≡ Up s →
+        channel v u past ≡ drop (takes v u past) (queued v u s past) }
 {}
 
 /// The front item of a channel is the next one that its receiver may enter.
@@ -26,4 +40,16 @@ pub fn a_link_keeps_the_order()
 pub fn the_front_item_is_the_next()
     ensures { (rules : Rules) (net : Net) (events : List Event) (v u : ℕ) → IsValid net →
         FrontFits net (run rules net events) v u }
+{}
+
+/// Both ends see one link.
+pub fn both_ends_see_one_link()
+    ensures { (rules : Rules) (net : Net) (events : List Event) (v u : ℕ) →
+        link v u (run rules net events) ≡ link u v (run rules net events) }
+{}
+
+/// The sessions of a link are no more than the events of a run, and the first one.
+pub fn sessions_are_few()
+    ensures { (rules : Rules) (net : Net) (events : List Event) (a b : ℕ) →
+        number_of (link a b (run rules net events)) ≤ suc (length events) }
 {}

@@ -34,9 +34,35 @@ pub enum Line {
         node: NodeId,
         prefix: Prefix,
     },
+    /// The preference that `node` gives to `nbr` from then on.
+    Prefer {
+        node: NodeId,
+        nbr: NodeId,
+        value: u32,
+    },
     Deliver {
         from: NodeId,
         to: NodeId,
+    },
+    Fail {
+        a: NodeId,
+        b: NodeId,
+    },
+    Restore {
+        a: NodeId,
+        b: NodeId,
+    },
+    Notice {
+        node: NodeId,
+        nbr: NodeId,
+    },
+    Open {
+        node: NodeId,
+        nbr: NodeId,
+    },
+    /// At most so many deliveries, each the next one.
+    Drain {
+        times: u32,
     },
     ShowRib,
     ShowLog,
@@ -47,7 +73,14 @@ pub enum Line {
 pub enum Directive {
     Originate { node: NodeId, prefix: PrefixId },
     Withdraw { node: NodeId, prefix: PrefixId },
+    Prefer { node: NodeId, nbr: NodeId, value: u32 },
     Deliver { from: NodeId, to: NodeId },
+    Fail { a: NodeId, b: NodeId },
+    Restore { a: NodeId, b: NodeId },
+    Notice { node: NodeId, nbr: NodeId },
+    OpenSession { node: NodeId, nbr: NodeId },
+    /// At most so many deliveries, each the next one.
+    Drain { times: u32 },
     ShowRib,
     ShowLog,
 }

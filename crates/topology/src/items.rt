@@ -1,5 +1,5 @@
 //! What goes over a link.
-use crate::{NodeId, Path, PrefixId, Session, Trigger};
+use crate::{Epoch, NodeId, Path, PrefixId, Session, Trigger};
 
 /// One message of a session, in its order.
 #[derive(Debug, Drop)]
@@ -12,6 +12,8 @@ pub enum Item {
         trigger: Trigger,
         path: Option<Path>,
     },
+    /// The sender has opened the session, in this epoch.
+    Hello(Epoch),
 }
 
 /// That an item was sent to a neighbour in a session, with this number.

@@ -8,8 +8,22 @@ pub enum Reason {
     AlreadyOrigin,
     /// The node does not originate the prefix.
     NotOrigin,
+    /// The link is down.
+    LinkDown,
     /// Nothing is on its way from the one node to the other.
     EmptyChannel,
+    /// The addressee does not hold the session that the link carries.
+    WrongSession,
+    /// The link is down already.
+    AlreadyDown,
+    /// The link is up already.
+    AlreadyUp,
+    /// The node holds no session with the neighbour.
+    NotOpen,
+    /// The link carries the session that the node holds.
+    StillUp,
+    /// The node holds a session with the neighbour already.
+    AlreadyOpen,
 }
 
 /// A count that has a limit.

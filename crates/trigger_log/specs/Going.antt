@@ -9,9 +9,11 @@ use Rattle.trigger_log.specs.declared.outgoing.Outgoing.{Outgoing}
 use Rattle.trigger_log.specs.Entries.{Entry, Update, reads}
 use Rattle.trigger_log.specs.Sending.{news, next_number}
 
--- what goes through a session: an update with its number
+-- what goes through a session: an update with its number, or the greeting of an end that has opened
+-- it, with its epoch
 pub data Item : Type 0 where
   News : (number : ℕ) → (update : Update) → Item
+  Hello : (epoch : ℕ) → Item
 
 -- an item as it is sent to w in session s
 pub record Going : Type 0 where
@@ -49,6 +51,7 @@ going_by rules net u h k = spread net u (held (k.read ∷ reads h)) (told rules 
 abbrev pub item_of : Message → Item
 item_of (message.Update prefix seq trigger path) =
     News seq (record { prefix = prefix; triggers = trigger ∷ []; path = path })
+item_of (message.Hello epoch) = Hello epoch
 
 -- an outgoing message, as definitions see it
 abbrev pub going_of : Outgoing → Going

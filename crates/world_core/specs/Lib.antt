@@ -3,5 +3,6 @@ pub mod Fits
 pub mod Effects
 pub mod Limits
 pub mod Matching
+pub mod Waiting
 pub mod Sending
 pub mod Happening

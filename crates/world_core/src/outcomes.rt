@@ -12,6 +12,8 @@ pub enum Effect {
     Logged { node: NodeId, index: u32 },
     /// A message was sent, and is on its way.
     Queued { from: NodeId, to: NodeId },
+    /// A message was sent in a session that the link does not carry, and is lost.
+    Lost { from: NodeId, to: NodeId },
 }
 
 /// What an event did, in the order in which it did it.

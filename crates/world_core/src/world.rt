@@ -120,6 +120,23 @@ impl<P: Policy + Copy> World<P> {
         Some(&self.sites[rank].log)
     }
 
+    /// The links, and what is on its way over them.
+    pub fn links(&self) -> &Links
+        ensures { AreLinks self.now.net (run (P.rules self.now.policy) self.now.net self.now.events) result.now }
+    {
+        &self.links
+    }
+
+    /// The first way, by sender, then receiver, over which a delivery would not be idle. Takes no
+    /// memory, and looks at no channel.
+    pub fn next_delivery(&self) -> Option<(NodeId, NodeId)>
+        ensures { result ≡ option_map (λ (way : Way). (way.from, way.to))
+            (next_delivery self.now.net (run (P.rules self.now.policy) self.now.net self.now.events)) }
+    {
+        let way = self.waiting.first()?;
+        Some((way.from, way.to))
+    }
+
     /// The world after one more event, and what came of it. Stops at a limit exactly where the
     /// event would take a count above its number, unless memory is wanted first. The cost is that of
     /// what the event touches: the node's neighbours, and the prefix.

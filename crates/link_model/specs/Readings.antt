@@ -1,0 +1,38 @@
+-- What a link is like, and what is on its way over it, after a list of acts.
+use Rattle.std.specs.Prelude.{ℕ, Bool, ◌==◌, ◌&&◌, List, [], ◌∷◌, ◌++◌, if◌then◌else◌}
+use Rattle.topology.specs.declared.items.Item.{Item}
+use Rattle.topology.specs.declared.links.LinkState.{LinkState}
+use Rattle.topology.specs.declared.links.LinkState.TheVariants.{Up}
+use Rattle.topology.specs.LinkStates.{are_ends, failed, restored, carries}
+use Rattle.link_model.specs.Acts.{Act, Acts, Push, Take, Fail, Restore}
+
+-- a failure takes the link down, restoring it brings it up in the next session
+abbrev pub state_by : ℕ → ℕ → Act → LinkState → LinkState
+state_by a b (Fail c d) before = if are_ends a b c d then failed before else before
+state_by a b (Restore c d) before = if are_ends a b c d then restored before else before
+state_by a b other before = before
+
+-- the link of a and b: up in session 1 at the start
+abbrev pub state : ℕ → ℕ → Acts → LinkState
+state a b [] = Up 1
+state a b (act ∷ acts) = state_by a b act (state a b acts)
+
+-- the list without its first item
+abbrev pub behind_front : List Item → List Item
+behind_front [] = []
+behind_front (x ∷ xs) = xs
+
+-- an item that is pushed in the session that the link carries goes to the end, a take drops the front
+-- one, and a failure empties both ways
+abbrev pub channel_by : ℕ → ℕ → LinkState → Act → List Item → List Item
+channel_by a b link (Push from to session item) before =
+    if (from == a && to == b) && carries link session then before ++ item ∷ [] else before
+channel_by a b link (Take from to) before = if from == a && to == b then behind_front before else before
+channel_by a b link (Fail c d) before = if are_ends a b c d then [] else before
+channel_by a b link (Restore c d) before = before
+
+-- the items on the way from a to b, the oldest first: those that were pushed in the session that the
+-- link carries, and not taken
+abbrev pub channel : ℕ → ℕ → Acts → List Item
+channel a b [] = []
+channel a b (act ∷ acts) = channel_by a b (state a b acts) act (channel a b acts)
