@@ -25,10 +25,9 @@ note_line status = note_words status ++ 10 ∷ []
 
 -- what the notes tell after a run that ended so
 pub record Noted (notes notes' : Side) (status : Status) : Type 0 where
-  -- the line was written behind what they held, unless one of their calls failed
-  pub told : Appends notes.told notes'.told (note_line status) ⊎ Rose notes.faults notes'.faults
-  -- and a front of it in any case
-  pub front : AppendsFront notes.told notes'.told (note_line status)
+  -- the line was written behind what they held; where one of their calls failed, it may be a front of it
+  pub told : Appends notes.told notes'.told (note_line status)
+      ⊎ (Rose notes.faults notes'.faults × AppendsFront notes.told notes'.told (note_line status))
   -- a run that is done leaves them as they were
   pub silent : status ≡ Done → notes' ≡ notes
   -- the count of their faults never falls
