@@ -1,0 +1,155 @@
+#!/usr/bin/env python3
+"""Measures the program on generated schedules. Not part of the gate.
+
+    bench/bench.py [PROGRAM] [--runs N] [--keep FOLDER]
+
+PROGRAM is the built program, by default crates/consensus_routing/out/consensus_routing.
+For each schedule it prints the events, the seconds of the fastest of N runs, the events a second
+and the peak memory. The schedules are made from fixed seeds, so that each run measures the same.
+"""
+import argparse
+import datetime
+import os
+import platform
+import random
+import resource
+import subprocess
+import sys
+import tempfile
+import time
+
+HERE = os.path.dirname(os.path.abspath(__file__))
+BUILT = os.path.join(HERE, "..", "crates", "consensus_routing", "out", "consensus_routing")
+
+
+def tiers(count, providers, rng):
+    """Nodes 1, 2 and 3 are peers of each other; each later node has some earlier ones as providers."""
+    links = [(1, 2, "peer"), (1, 3, "peer"), (2, 3, "peer")]
+    for node in range(4, count + 1):
+        for provider in sorted(rng.sample(range(1, node), min(providers, node - 1))):
+            links.append((provider, node, "customer"))
+    return links
+
+
+def head(count, links, prefixes):
+    lines = [f"node {n}" + (" consolidator" if n <= 3 else "") for n in range(1, count + 1)]
+    lines += [f"link {a} {b} {relation}" for a, b, relation in links]
+    lines += [f"prefix {p}" for p in prefixes]
+    return lines + ["begin"]
+
+
+def ranges(count):
+    return [f"10.{k}.0.0/16" for k in range(count)]
+
+
+def cold_start():
+    """48 nodes with two providers each announce 60 prefixes at once, and all is delivered."""
+    rng = random.Random(1)
+    prefixes = ranges(60)
+    lines = head(48, tiers(48, 2, rng), prefixes)
+    lines += [f"originate {1 + k * 7 % 48} {p}" for k, p in enumerate(prefixes)]
+    return lines + ["drain 1000000", "show rib"]
+
+
+def flapping_links():
+    """48 nodes with 20 prefixes; one link after the other fails, is noticed, and comes up again."""
+    rng = random.Random(2)
+    prefixes = ranges(20)
+    links = tiers(48, 2, rng)
+    lines = head(48, links, prefixes)
+    lines += [f"originate {1 + k * 5 % 48} {p}" for k, p in enumerate(prefixes)]
+    lines.append("drain 1000000")
+    for _ in range(100):
+        a, b, _ = rng.choice(links[3:])
+        lines += [f"fail {a} {b}", f"notice {a} {b}", f"notice {b} {a}", "drain 30"]
+        lines += [f"restore {a} {b}", f"open {a} {b}", f"open {b} {a}", "drain 1000000"]
+    return lines + ["show rib"]
+
+
+def long_drains():
+    """A chain of 64 nodes, at one end of which a prefix comes and goes; each change goes all the way."""
+    links = [(n, n + 1, "any") for n in range(1, 64)]
+    prefixes = ranges(8)
+    lines = head(64, links, prefixes)
+    for turn in range(120):
+        for prefix in prefixes:
+            lines.append(f"{'originate' if turn % 2 == 0 else 'withdraw'} 1 {prefix}")
+        lines.append("drain 1000000")
+    return lines + ["show rib"]
+
+
+def idle_lines():
+    """A million deliveries by hand over a link with nothing on its way, each of which says so."""
+    lines = head(2, [(1, 2, "any")], ranges(1))
+    return lines + ["deliver 1 2"] * 999_999
+
+
+def long_log():
+    """The text of the logs of a cold start, fifty times."""
+    return cold_start()[:-1] + ["show log"] * 50
+
+
+SCHEDULES = [cold_start, flapping_links, long_drains, idle_lines, long_log]
+
+
+def run(program, text):
+    """The seconds, the peak MiB and the output of one run."""
+    with tempfile.TemporaryFile() as source, tempfile.TemporaryFile() as sink:
+        source.write(text)
+        source.seek(0)
+        before = time.perf_counter()
+        child = subprocess.Popen([program, "replay"], stdin=source, stdout=sink, stderr=subprocess.PIPE)
+        said = child.stderr.read()
+        _, status, used = os.wait4(child.pid, 0)
+        seconds = time.perf_counter() - before
+        child.returncode = os.waitstatus_to_exitcode(status)
+        if child.returncode != 0:
+            sys.exit(f"{program} ended with {child.returncode}: {said.decode().strip()}")
+        sink.seek(0)
+        return seconds, used.ru_maxrss / 1024, sink.read()
+
+
+def text_of(lines):
+    return ("\n".join(lines) + "\n").encode()
+
+
+def events_of(program, lines):
+    """How many events the run has: one for each line that is one, and one for each delivery of a
+    drain, which is an entry that came of an update or a greeting."""
+    words = [line.split()[0] for line in lines[lines.index("begin") + 1:]]
+    by_hand = sum(word not in ("show", "drain") for word in words)
+    if "drain" not in words:
+        return by_hand
+    quiet = [line for line in lines if not line.startswith("show")]
+    log = run(program, text_of(quiet + ["show log"]))[2]
+    taken = sum(b" recv " in line or b" ready " in line for line in log.splitlines())
+    return by_hand + taken - words.count("deliver")
+
+
+def main():
+    asked = argparse.ArgumentParser(description=__doc__, formatter_class=argparse.RawDescriptionHelpFormatter)
+    asked.add_argument("program", nargs="?", default=BUILT)
+    asked.add_argument("--runs", type=int, default=5)
+    asked.add_argument("--keep", help="write the schedules to this folder")
+    asked = asked.parse_args()
+    cores = os.cpu_count()
+    print(f"{datetime.date.today()}, {platform.machine()}, {cores} processors, best of {asked.runs} runs")
+    print("| Schedule | KiB | Events | Seconds | Events a second | MiB |")
+    print("|---|---|---|---|---|---|")
+    for make in SCHEDULES:
+        lines = make()
+        text = text_of(lines)
+        if asked.keep:
+            os.makedirs(asked.keep, exist_ok=True)
+            with open(os.path.join(asked.keep, make.__name__ + ".schedule"), "wb") as file:
+                file.write(text)
+        events = events_of(asked.program, lines)
+        runs = [run(asked.program, text) for _ in range(asked.runs)]
+        seconds = min(r[0] for r in runs)
+        memory = max(r[1] for r in runs)
+        name = make.__name__.replace("_", " ")
+        print(f"| {name} | {len(text) // 1024} | {events} | {seconds:.3f} | {events / seconds:,.0f} | {memory:.0f} |")
+
+
+if __name__ == "__main__":
+    main()
