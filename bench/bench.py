@@ -43,10 +43,11 @@ def ranges(count):
 
 
 def cold_start():
-    """48 nodes with two providers each announce 60 prefixes at once, and all is delivered."""
+    """48 nodes, each with links to four earlier ones, announce 60 prefixes at once: all is delivered."""
     rng = random.Random(1)
     prefixes = ranges(60)
-    lines = head(48, tiers(48, 2, rng), prefixes)
+    links = [(a, b, "any") for a, b, _ in tiers(48, 4, rng)]
+    lines = head(48, links, prefixes)
     lines += [f"originate {1 + k * 7 % 48} {p}" for k, p in enumerate(prefixes)]
     return lines + ["drain 1000000", "show rib"]
 
