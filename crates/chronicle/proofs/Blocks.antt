@@ -1,34 +1,69 @@
 -- What a node's entry, and what it sends then, changes of each reading.
-use Rattle.std.proofs.Common.{ℕ, suc, Bool, true, false, cond, ◌==◌, ◌&&◌, Option, Some, None, List, [], ◌∷◌, ◌++◌, ◌≡◌, refl, sym, ◌∙◌, ap, subst, arith, map, flat_map, append_assoc}
+use Rattle.std.proofs.Common.{ℕ, suc, Bool, true, false, cond, ◌==◌, ◌&&◌, ◌||◌, Option, Some, None, List, [], ◌∷◌, ◌++◌, ◌≡◌, refl, sym, ◌∙◌, ap, subst, arith, map, flat_map, append_assoc}
 use Rattle.std.specs.Prelude.{if◌then◌else◌}
-use Rattle.std.specs.List.{AllByRecursion}
 use Rattle.std.proofs.lemmas.List.{append-nil}
 use Rattle.std.proofs.lemmas.Bool.Decides.{nat_tests}
+use Rattle.topology.specs.declared.names.Scope.TheVariants.{All}
+use Rattle.topology.specs.declared.links.LinkState.{LinkState}
+use Rattle.topology.specs.declared.links.LinkState.TheVariants.{Up, Down}
+use Rattle.topology.specs.LinkStates.{are_ends, failed, restored, carries}
 use Rattle.topology.specs.Lists.{has}
 use Rattle.topology.specs.Paths.{differ}
 use Rattle.topology.specs.Net.{Net, neighbours}
+use Rattle.path_vector.specs.declared.causes.Cause.TheVariants as cause
 use Rattle.path_vector.specs.Rules.{Rules}
-use Rattle.path_vector.specs.History.{held}
-use Rattle.trigger_log.specs.Entries.{Entry, reads, is_session}
-use Rattle.trigger_log.specs.Going.{Item, Going, going_to, going_in, spread, told, going_by, items_to, items_in}
-use Rattle.chronicle.specs.Facts.{Fact, Log, Sent, Took, Chronicle, happen}
+use Rattle.trigger_log.specs.Entries.{Entry, is_session, local}
+use Rattle.trigger_log.specs.Going.{Item, Hello, Going, going_to, going_in, spread, going_by, items_to, items_in}
+use Rattle.chronicle.specs.Facts.{Fact, Log, Sent, Took, Fail, Restore, Chronicle, happen}
 use Rattle.chronicle.specs.Logs.{log_of}
+use Rattle.chronicle.specs.Links.{link, link_by}
 use Rattle.chronicle.specs.Channels.{channel}
 use Rattle.chronicle.specs.Messages.{sent, took}
-use Rattle.chronicle.specs.Steps.{sends, write}
+use Rattle.chronicle.specs.Steps.{sends, write, open_session}
 
 pub same_number : (u : ℕ) → (u == u) ≡ true
 same_number u = grind (arith, nat_tests)
 
--- ---- what is sent changes no log and nothing that was taken, and goes to the ends of the rest
+-- ---- both ends see one link
 
-log_sends : (v u : ℕ) (past : Chronicle) (gs : List Going) → log_of v (happen past (sends u gs)) ≡ log_of v past
-log_sends v u past [] = refl
-log_sends v u past (g ∷ gs) = log_sends v u (Sent u g.to g.session g.item true ∷ past) gs
+ends_swapped : (a b c d : ℕ) → are_ends a b c d ≡ are_ends b a c d
+ends_swapped a b c d = either (c == a && d == b) (c == b && d == a)
+  where
+    either : (s t : Bool) → (s || t) ≡ (t || s)
+    either true true = refl
+    either true false = refl
+    either false true = refl
+    either false false = refl
 
-took_sends : (a b s u : ℕ) (past : Chronicle) (gs : List Going) → took a b s (happen past (sends u gs)) ≡ took a b s past
-took_sends a b s u past [] = refl
-took_sends a b s u past (g ∷ gs) = took_sends a b s u (Sent u g.to g.session g.item true ∷ past) gs
+link_by_swapped : (a b : ℕ) (f : Fact) (before : LinkState) → link_by a b f before ≡ link_by b a f before
+link_by_swapped a b (Log node entry) before = refl
+link_by_swapped a b (Sent from to session item queued) before = refl
+link_by_swapped a b (Took from to session item) before = refl
+link_by_swapped a b (Fail c d) before = ap (λ t. if t then failed before else before) (ends_swapped a b c d)
+link_by_swapped a b (Restore c d) before = ap (λ t. if t then restored before else before) (ends_swapped a b c d)
+
+pub both_ends : (a b : ℕ) (past : Chronicle) → link a b past ≡ link b a past
+both_ends a b [] = refl
+both_ends a b (f ∷ past) = ap (link_by a b f) (both_ends a b past) ∙ link_by_swapped a b f (link b a past)
+
+-- ---- what is sent changes no log, no link and nothing that was taken, and goes to the ends of the rest
+
+-- the items to w that a link takes: those of the session that it carries
+abbrev pub carried : LinkState → ℕ → List Going → List Item
+carried (Up s) w gs = items_in w s gs
+carried (Down s) w gs = []
+
+log_sends : (v u : ℕ) (was now : Chronicle) (gs : List Going) → log_of v (happen now (sends was u gs)) ≡ log_of v now
+log_sends v u was now [] = refl
+log_sends v u was now (g ∷ gs) = log_sends v u was (Sent u g.to g.session g.item (carries (link u g.to was) g.session) ∷ now) gs
+
+took_sends : (a b s u : ℕ) (was now : Chronicle) (gs : List Going) → took a b s (happen now (sends was u gs)) ≡ took a b s now
+took_sends a b s u was now [] = refl
+took_sends a b s u was now (g ∷ gs) = took_sends a b s u was (Sent u g.to g.session g.item (carries (link u g.to was) g.session) ∷ now) gs
+
+pub link_sends : (a b u : ℕ) (was now : Chronicle) (gs : List Going) → link a b (happen now (sends was u gs)) ≡ link a b now
+link_sends a b u was now [] = refl
+link_sends a b u was now (g ∷ gs) = link_sends a b u was (Sent u g.to g.session g.item (carries (link u g.to was) g.session) ∷ now) gs
 
 nothing_more : (c : Bool) (xs : List Item) → xs ≡ xs ++ cond c [] []
 nothing_more true xs = sym (append-nil xs)
@@ -39,22 +74,45 @@ one_more true true xs x ys = append_assoc xs (x ∷ []) ys
 one_more true false xs x ys = refl
 one_more false t xs x ys = refl
 
-queued_more : (c t : Bool) (xs : List Item) (x : Item) (ys : List Item) → cond ((c && t) && true) (xs ++ x ∷ []) xs ++ cond c ys [] ≡ xs ++ cond c (cond t (x ∷ ys) ys) []
-queued_more true true xs x ys = append_assoc xs (x ∷ []) ys
-queued_more true false xs x ys = refl
-queued_more false t xs x ys = refl
+sent_sends : (a b s u : ℕ) (was now : Chronicle) (gs : List Going) → sent a b s (happen now (sends was u gs)) ≡ sent a b s now ++ (if u == a then items_in b s gs else [])
+sent_sends a b s u was now [] = nothing_more (u == a) (sent a b s now)
+sent_sends a b s u was now (g ∷ gs) =
+    sent_sends a b s u was (Sent u g.to g.session g.item (carries (link u g.to was) g.session) ∷ now) gs
+    ∙ one_more (u == a) (g.to == b && g.session == s) (sent a b s now) g.item (items_in b s gs)
 
-channel_sends : (a b u : ℕ) (past : Chronicle) (gs : List Going) → channel a b (happen past (sends u gs)) ≡ channel a b past ++ (if u == a then items_to b gs else [])
-channel_sends a b u past [] = nothing_more (u == a) (channel a b past)
-channel_sends a b u past (g ∷ gs) =
-    channel_sends a b u (Sent u g.to g.session g.item true ∷ past) gs
-    ∙ queued_more (u == a) (g.to == b) (channel a b past) g.item (items_to b gs)
+-- whether an item is queued on the way to b is asked of the link to b
+queued_to : (u b : ℕ) (was : Chronicle) (g : Going) (xs ys : List Item) → cond ((u == u && g.to == b) && carries (link u g.to was) g.session) xs ys ≡ cond (g.to == b && carries (link u b was) g.session) xs ys
+queued_to u b was g xs ys =
+    rw (same_number u)
+    ((elim (g.to == b) as (λ t. (g.to == b) ≡ t → cond (t && carries (link u g.to was) g.session) xs ys ≡ cond (t && carries (link u b was) g.session) xs ys) [
+      | true ↦ λ e. let same : g.to ≡ b = grind (arith, nat_tests) in ap (λ y. cond (carries (link u y was) g.session) xs ys) same
+      | false ↦ λ e. refl
+    ]) refl)
 
-sent_sends : (a b s u : ℕ) (past : Chronicle) (gs : List Going) → sent a b s (happen past (sends u gs)) ≡ sent a b s past ++ (if u == a then items_in b s gs else [])
-sent_sends a b s u past [] = nothing_more (u == a) (sent a b s past)
-sent_sends a b s u past (g ∷ gs) =
-    sent_sends a b s u (Sent u g.to g.session g.item true ∷ past) gs
-    ∙ one_more (u == a) (g.to == b && g.session == s) (sent a b s past) g.item (items_in b s gs)
+turn : (t c : ℕ) → (t == c) ≡ (c == t)
+turn t c = grind (arith, nat_tests)
+
+-- it is taken where it is of the session that the link carries
+taken_by : (l : LinkState) (b : ℕ) (g : Going) (gs : List Going) (xs : List Item) → cond (g.to == b && carries l g.session) (xs ++ g.item ∷ []) xs ++ carried l b gs ≡ xs ++ carried l b (g ∷ gs)
+taken_by (Up s) b g gs xs = rw (turn s g.session) (one_more true (g.to == b && g.session == s) xs g.item (items_in b s gs))
+taken_by (Down s) b g gs xs =
+    elim (g.to == b) as (λ t. cond (t && false) (xs ++ g.item ∷ []) xs ++ [] ≡ xs ++ []) [ true ↦ refl | false ↦ refl ]
+
+channel_own_sends : (u b : ℕ) (was now : Chronicle) (gs : List Going) → channel u b (happen now (sends was u gs)) ≡ channel u b now ++ carried (link u b was) b gs
+channel_own_sends u b was now [] = none (link u b was)
+  where
+    none : (l : LinkState) → channel u b now ≡ channel u b now ++ carried l b []
+    none (Up s) = sym (append-nil (channel u b now))
+    none (Down s) = sym (append-nil (channel u b now))
+channel_own_sends u b was now (g ∷ gs) =
+    channel_own_sends u b was (Sent u g.to g.session g.item (carries (link u g.to was) g.session) ∷ now) gs
+    ∙ (ap (λ r. r ++ carried (link u b was) b gs) (queued_to u b was g (channel u b now ++ g.item ∷ []) (channel u b now))
+    ∙ taken_by (link u b was) b g gs (channel u b now))
+
+channel_other_sends : (a b u : ℕ) (was now : Chronicle) (gs : List Going) → (u == a) ≡ false → channel a b (happen now (sends was u gs)) ≡ channel a b now
+channel_other_sends a b u was now [] e = refl
+channel_other_sends a b u was now (g ∷ gs) e =
+    channel_other_sends a b u was (Sent u g.to g.session g.item (carries (link u g.to was) g.session) ∷ now) gs e ∙ rw e refl
 
 -- ---- what is spread reaches each neighbour in the session that is held with it
 
@@ -166,7 +224,7 @@ module _ (rules : Rules) (net : Net) (u : ℕ) (k : Entry) (past : Chronicle) wh
   -- it adds its entry to the log of its node, and to no other
   pub log_write : (v : ℕ) → log_of v (write rules net u k past) ≡ (if u == v then k ∷ log_of v past else log_of v past)
   unfolding write
-  log_write v = log_sends v u (Log u k ∷ past) out
+  log_write v = log_sends v u past (Log u k ∷ past) out
 
   pub log_own : log_of u (write rules net u k past) ≡ k ∷ log_of u past
   log_own = log_write u ∙ ap (λ b. if b then k ∷ log_of u past else log_of u past) (same_number u)
@@ -176,23 +234,27 @@ module _ (rules : Rules) (net : Net) (u : ℕ) (k : Entry) (past : Chronicle) wh
 
   pub took_write : (a b s : ℕ) → took a b s (write rules net u k past) ≡ took a b s past
   unfolding write
-  took_write a b s = took_sends a b s u (Log u k ∷ past) out
+  took_write a b s = took_sends a b s u past (Log u k ∷ past) out
 
-  -- what goes out goes to the ends of the channels of its node
-  pub channel_own : (w : ℕ) → channel u w (write rules net u k past) ≡ channel u w past ++ items_to w out
+  pub link_write : (a b : ℕ) → link a b (write rules net u k past) ≡ link a b past
   unfolding write
-  channel_own w = channel_sends u w u (Log u k ∷ past) out ∙ ap (λ b. channel u w past ++ (if b then items_to w out else [])) (same_number u)
+  link_write a b = link_sends a b u past (Log u k ∷ past) out
+
+  -- what goes out goes to the ends of the channels of its node, where the links carry it
+  pub channel_own : (w : ℕ) → channel u w (write rules net u k past) ≡ channel u w past ++ carried (link u w past) w out
+  unfolding write
+  channel_own w = channel_own_sends u w past (Log u k ∷ past) out
 
   pub channel_other : (a b : ℕ) → (u == a) ≡ false → channel a b (write rules net u k past) ≡ channel a b past
   unfolding write
-  channel_other a b e =
-      channel_sends a b u (Log u k ∷ past) out ∙ (ap (λ t. channel a b past ++ (if t then items_to b out else [])) e ∙ append-nil (channel a b past))
+  channel_other a b e = channel_other_sends a b u past (Log u k ∷ past) out e
 
   pub sent_own : (w s : ℕ) → sent u w s (write rules net u k past) ≡ sent u w s past ++ items_in w s out
   unfolding write
-  sent_own w s = sent_sends u w s u (Log u k ∷ past) out ∙ ap (λ b. sent u w s past ++ (if b then items_in w s out else [])) (same_number u)
+  sent_own w s = sent_sends u w s u past (Log u k ∷ past) out ∙ ap (λ b. sent u w s past ++ (if b then items_in w s out else [])) (same_number u)
 
   pub sent_other : (a b s : ℕ) → (u == a) ≡ false → sent a b s (write rules net u k past) ≡ sent a b s past
   unfolding write
   sent_other a b s e =
-      sent_sends a b s u (Log u k ∷ past) out ∙ (ap (λ t. sent a b s past ++ (if t then items_in b s out else [])) e ∙ append-nil (sent a b s past))
+      sent_sends a b s u past (Log u k ∷ past) out ∙ (ap (λ t. sent a b s past ++ (if t then items_in b s out else [])) e ∙ append-nil (sent a b s past))
+

@@ -1,5 +1,6 @@
+pub mod Blocks
 pub mod Opened
 pub mod Shown
-mod Line
-mod Square
-mod Reopened
+pub mod Line
+pub mod Square
+pub mod Reopened
