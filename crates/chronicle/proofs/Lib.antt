@@ -1,6 +1,8 @@
 pub mod Blocks
+pub mod Ends
+pub mod Spreading
 pub mod Opened
 pub mod Shown
-pub mod Line
-pub mod Square
-pub mod Reopened
+mod Line
+mod Square
+mod Reopened
