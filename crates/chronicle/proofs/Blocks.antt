@@ -168,17 +168,18 @@ module _ (rules : Rules) (net : Net) (u : ℕ) (k : Entry) (past : Chronicle) wh
 
 -- ---- what an opening changes
 
+-- the greeting that goes out with it
+abbrev pub greeting : ℕ → ℕ → List Going
+greeting v s = record { to = v; session = s; item = Hello 0 } ∷ []
+
 module _ (u v s : ℕ) (past : Chronicle) where
-  -- the entry of an opening, and the greeting that goes out with it
+  -- the entry of an opening
   abbrev pub opening : Entry
   opening = local u (log_of u past) All (cause.Up v s)
 
-  abbrev pub greeting : List Going
-  greeting = record { to = v; session = s; item = Hello 0 } ∷ []
-
   pub log_open : (w : ℕ) → log_of w (open_session u v s past) ≡ (if u == w then opening ∷ log_of w past else log_of w past)
   unfolding open_session
-  log_open w = log_entered u opening greeting past w
+  log_open w = log_entered u opening (greeting v s) past w
 
   pub log_opener : log_of u (open_session u v s past) ≡ opening ∷ log_of u past
   log_opener = log_open u ∙ ap (λ b. if b then opening ∷ log_of u past else log_of u past) (same_number u)
@@ -188,24 +189,24 @@ module _ (u v s : ℕ) (past : Chronicle) where
 
   pub took_open : (a b t : ℕ) → took a b t (open_session u v s past) ≡ took a b t past
   unfolding open_session
-  took_open a b t = took_entered u opening greeting past a b t
+  took_open a b t = took_entered u opening (greeting v s) past a b t
 
   pub link_open : (a b : ℕ) → link a b (open_session u v s past) ≡ link a b past
   unfolding open_session
-  link_open a b = link_entered u opening greeting past a b
+  link_open a b = link_entered u opening (greeting v s) past a b
 
-  pub channel_opener : (w : ℕ) → channel u w (open_session u v s past) ≡ channel u w past ++ carried (link u w past) w greeting
+  pub channel_opener : (w : ℕ) → channel u w (open_session u v s past) ≡ channel u w past ++ carried (link u w past) w (greeting v s)
   unfolding open_session
-  channel_opener w = channel_entered u opening greeting past w
+  channel_opener w = channel_entered u opening (greeting v s) past w
 
   pub channel_not_opener : (a b : ℕ) → (u == a) ≡ false → channel a b (open_session u v s past) ≡ channel a b past
   unfolding open_session
-  channel_not_opener a b e = channel_elsewhere u opening greeting past a b e
+  channel_not_opener a b e = channel_elsewhere u opening (greeting v s) past a b e
 
-  pub sent_opener : (w t : ℕ) → sent u w t (open_session u v s past) ≡ sent u w t past ++ items_in w t greeting
+  pub sent_opener : (w t : ℕ) → sent u w t (open_session u v s past) ≡ sent u w t past ++ items_in w t (greeting v s)
   unfolding open_session
-  sent_opener w t = sent_entered u opening greeting past w t
+  sent_opener w t = sent_entered u opening (greeting v s) past w t
 
   pub sent_not_opener : (a b t : ℕ) → (u == a) ≡ false → sent a b t (open_session u v s past) ≡ sent a b t past
   unfolding open_session
-  sent_not_opener a b t e = sent_elsewhere u opening greeting past a b t e
+  sent_not_opener a b t e = sent_elsewhere u opening (greeting v s) past a b t e

@@ -1,6 +1,13 @@
+mod Updates
 mod Numbering
 mod Listing
 mod Sound
+mod Entering
 mod Writing
+mod Opening
 mod Taking
+mod Failing
 mod Running
+mod Concluding
+mod Few
+mod Counting
