@@ -115,7 +115,7 @@ not_queued_by true q before x (y ∷ ys) e none = absurd (cc e)
 not_queued_by false q before x was e none = none e
 
 -- what was not sent was not queued
-not_queued : (v w s : ℕ) (past : Chronicle) → sent v w s past ≡ [] → queued v w s past ≡ []
+pub not_queued : (v w s : ℕ) (past : Chronicle) → sent v w s past ≡ [] → queued v w s past ≡ []
 not_queued v w s [] e = refl
 not_queued v w s (Log node entry ∷ past) e = not_queued v w s past e
 not_queued v w s (Took from to session item ∷ past) e = not_queued v w s past e

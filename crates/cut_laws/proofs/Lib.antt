@@ -11,3 +11,4 @@ mod Running
 mod Concluding
 mod Few
 mod Counting
+mod Recounting

@@ -31,7 +31,7 @@ use Rattle.cut_laws.proofs.Taking.{take_news, take_hello}
 use Rattle.cut_laws.proofs.Failing.{fail_sound, restore_sound}
 
 module _ (rules : Rules) (net : Net) (valid : IsValid net) where
-  start_sound : Sound rules net []
+  pub start_sound : Sound rules net []
   unfolding outbox
   start_sound = record {
     links = record {

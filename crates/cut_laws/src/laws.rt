@@ -29,6 +29,7 @@ pub fn a_link_keeps_the_order()
 
 /// A channel is what was queued in the session that the link carries, without what was taken since the
 /// link came up.
+#[tactic(auto, using(crate::proofs::Recounting::counted_channel))]
 pub fn a_channel_is_what_was_queued_and_not_taken()
     ensures { (rules : Rules) (net : Net) (events : List Event) (v u s : ℕ) → IsValid net →
         let past = run rules net events in link v u past ≡ Up s →
