@@ -1,5 +1,5 @@
 -- What holds of every run, as the laws say it.
-use Rattle.std.proofs.Common.{ℕ, ◌<◌, List, [], ◌∷◌, ◌≡◌, ◌∙◌, refl, sym, length}
+use Rattle.std.proofs.Common.{ℕ, ◌<◌, List, ◌∷◌, ◌≡◌, ◌∙◌, refl, sym, length}
 use Rattle.topology.specs.declared.links.LinkState.{LinkState}
 use Rattle.topology.specs.declared.links.LinkState.TheVariants.{Up, Down}
 use Rattle.topology.specs.Net.{Net, IsValid}
@@ -13,8 +13,6 @@ use Rattle.chronicle.specs.Run.{run}
 use Rattle.cut_laws.specs.Alone.{Alone}
 use Rattle.cut_laws.specs.Joined.{Joined, FrontFits}
 use Rattle.cut_laws.proofs.Sound.{in_front}
-use Rattle.cut_laws.proofs.Listing.{Tells}
-use Rattle.cut_laws.proofs.Updates.{not_empty}
 use Rattle.chronicle.proofs.Ends.{both_ends}
 use Rattle.cut_laws.proofs.Running.{run_sound}
 

@@ -1,26 +1,19 @@
 -- A channel is what was queued in the session that the link carries, without what was taken since.
-use Rattle.std.proofs.Common.{ℕ, suc, ◌+◌, ◌<◌, Bool, true, false, cond, ◌==◌, ◌&&◌, Option, Some, None, List, [], ◌∷◌, ◌++◌, ◌≡◌, refl, sym, ◌∙◌, ap, ap₂, subst, arith, append_assoc, length, drop, ⊎_elim, ◌⊎◌, inl, inr}
-use Rattle.std.specs.Prelude.{if◌then◌else◌}
+use Rattle.std.proofs.Common.{ℕ, suc, Bool, true, false, cond, ◌==◌, ◌&&◌, List, [], ◌∷◌, ◌++◌, ◌≡◌, refl, sym, ◌∙◌, ap, subst, arith, append_assoc, length}
 use Rattle.std.proofs.lemmas.List.{append-nil, length_push}
-use Rattle.std.proofs.Math.Seq.{drop-append_seam}
 use Rattle.std.proofs.lemmas.Bool.Decides.{nat_tests}
-use Rattle.topology.specs.declared.links.LinkState.{LinkState}
-use Rattle.topology.specs.declared.links.LinkState.TheVariants.{Up, Down}
+use Rattle.topology.specs.declared.links.LinkState.TheVariants.{Up}
 use Rattle.topology.specs.LinkStates.{are_ends, carries}
-use Rattle.topology.specs.Net.{Net}
-use Rattle.path_vector.specs.Rules.{Rules}
 use Rattle.trigger_log.specs.Entries.{Entry}
 use Rattle.trigger_log.specs.Going.{Item, Going, items_in}
-use Rattle.chronicle.specs.Facts.{Chronicle, Fact, Log, Sent, Took, Fail, Restore, happen}
+use Rattle.chronicle.specs.Facts.{Chronicle, Log, Sent, Took, Fail, Restore, happen}
 use Rattle.chronicle.specs.Links.{link}
-use Rattle.chronicle.specs.Channels.{channel}
 use Rattle.chronicle.specs.Messages.{goes, sent, took}
 use Rattle.chronicle.specs.Steps.{sends}
 use Rattle.chronicle.proofs.Blocks.{same_number, entered, took_entered, link_entered, sent_entered, sent_elsewhere}
 use Rattle.cut_laws.specs.Counted.{queued, takes}
-use Rattle.cut_laws.proofs.Updates.{begins_nothing}
-use Rattle.cut_laws.proofs.Sound.{Sound, by_node}
-use Rattle.cut_laws.proofs.Failing.{failed_up, next_is_higher}
+use Rattle.cut_laws.proofs.Sound.{by_node}
+use Rattle.cut_laws.proofs.Failing.{failed_up}
 
 -- all that was sent in the session that the link carries was queued, and all that was taken since the link came up is what was taken of that session
 pub record Counted (past : Chronicle) : Type 0 where
@@ -36,7 +29,7 @@ own_queued u w n was now (g ∷ gs) up =
     own_queued u w n was (Sent u g.to g.session g.item (carries (link u g.to was) g.session) ∷ now) gs up
     ∙ rw (same_number u)
     ((elim (g.to == w && g.session == n) as (λ t. (g.to == w && g.session == n) ≡ t
-      → cond (t && carries (link u g.to was) g.session) (before ++ g.item ∷ []) before ++ items_in w n gs ≡ before ++ cond t (g.item ∷ items_in w n gs) (items_in w n gs)) [
+    → cond (t && carries (link u g.to was) g.session) (before ++ g.item ∷ []) before ++ items_in w n gs ≡ before ++ cond t (g.item ∷ items_in w n gs) (items_in w n gs)) [
       | true ↦ λ e.
           let to : w ≡ g.to = grind (arith, nat_tests) in
           let session : n ≡ g.session = grind (arith, nat_tests) in

@@ -1,5 +1,5 @@
 -- An entry, with what goes out then, keeps all that holds.
-use Rattle.std.proofs.Common.{ℕ, ◌<◌, ◌≤◌, true, false, ◌==◌, None, List, [], ◌∷◌, ◌++◌, ◌≡◌, refl, sym, ◌∙◌, ap, ap₂, subst, append_assoc}
+use Rattle.std.proofs.Common.{ℕ, ◌<◌, ◌≤◌, true, false, ◌==◌, None, List, [], ◌∷◌, ◌++◌, ◌≡◌, sym, ◌∙◌, ap, ap₂, subst, append_assoc}
 use Rattle.std.specs.Prelude.{if◌then◌else◌}
 use Rattle.topology.specs.declared.links.LinkState.TheVariants.{Up, Down}
 use Rattle.topology.specs.LinkStates.{number_of}
@@ -38,12 +38,11 @@ module _ (rules : Rules) (net : Net) (u : ℕ) (k : Entry) (out : List Going) (p
   own_fifo : (w s : ℕ) → Begins (took u w s next) (sent u w s next)
   own_fifo w s =
       let before = links.fifo u w s in
-      let more = items_in w s out in
-      (
+      let more = items_in w s out in (
         before.0 ++ more,
         ap (λ t. t ++ (before.0 ++ more)) (took_entered u k out past u w s)
-        ∙ (sym (append_assoc (took u w s past) before.0 more)
-        ∙ (ap (λ r. r ++ more) before.1 ∙ sym (sent_entered u k out past w s))),
+            ∙ (sym (append_assoc (took u w s past) before.0 more)
+            ∙ (ap (λ r. r ++ more) before.1 ∙ sym (sent_entered u k out past w s))),
       )
 
   other_fifo : (v : ℕ) → (u == v) ≡ false → (w s : ℕ) → Begins (took v w s next) (sent v w s next)

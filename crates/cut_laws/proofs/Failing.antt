@@ -1,13 +1,12 @@
 -- A link that fails or is restored keeps all that holds.
-use Rattle.std.proofs.Common.{ℕ, suc, ◌<◌, ◌≤◌, Bool, true, false, cond, None, List, [], ◌∷◌, ◌++◌, ◌≡◌, ◌⊎◌, inl, inr, ⊎_elim, refl, sym, ◌∙◌, ap, ap₂, subst, arith}
+use Rattle.std.proofs.Common.{ℕ, suc, ◌<◌, ◌≤◌, Bool, true, false, cond, List, [], ◌∷◌, ◌++◌, ◌≡◌, ◌⊎◌, inl, inr, ⊎_elim, refl, sym, ◌∙◌, ap, ap₂, subst, arith}
 use Rattle.std.specs.Prelude.{if◌then◌else◌}
 use Rattle.topology.specs.declared.links.LinkState.{LinkState}
 use Rattle.topology.specs.declared.links.LinkState.TheVariants.{Up, Down}
 use Rattle.topology.specs.LinkStates.{are_ends, failed, restored, number_of}
-use Rattle.topology.specs.Lists.{Begins}
 use Rattle.topology.specs.Net.{Net}
 use Rattle.path_vector.specs.Rules.{Rules}
-use Rattle.path_vector.specs.History.{held, last}
+use Rattle.path_vector.specs.History.{last}
 use Rattle.trigger_log.specs.Entries.{reads}
 use Rattle.trigger_log.specs.Going.{Item}
 use Rattle.chronicle.specs.Facts.{Chronicle, Fail, Restore}
@@ -106,7 +105,7 @@ module _ (rules : Rules) (net : Net) (c d : ℕ) (past : Chronicle) (sound : Sou
         queue = λ v w n e. ⊎_elim
             (λ (up : link v w past ≡ Up n). links.queue v w n up)
             (λ (was : (m : ℕ) × (link v w past ≡ Down m) × (n ≡ suc m)).
-              subst (λ x. took v w x past ++ channel v w past ≡ sent v w x past) (sym was.2) (next_is_empty v w was.0 was.1))
+            subst (λ x. took v w x past ++ channel v w past ≡ sent v w x past) (sym was.2) (next_is_empty v w was.0 was.1))
             (restored_up (are_ends v w c d) (link v w past) n e);
         down = λ v w n e. links.down v w n (restored_down (are_ends v w c d) (link v w past) n e);
       }
@@ -125,7 +124,7 @@ module _ (rules : Rules) (net : Net) (c d : ℕ) (past : Chronicle) (sound : Sou
         below = λ v w n e none. ⊎_elim
             (λ (up : link v w past ≡ Up n). logs.below v w n up none)
             (λ (was : (m : ℕ) × (link v w past ≡ Down m) × (n ≡ suc m)).
-              subst (λ x. last (reads (log_of v past)) w < x) (sym was.2) (next_is_higher v w was.0 was.1))
+            subst (λ x. last (reads (log_of v past)) w < x) (sym was.2) (next_is_higher v w was.0 was.1))
             (restored_up (are_ends v w c d) (link v w past) n e);
       }
 

@@ -1,6 +1,5 @@
 -- A node that opens a session keeps all that holds.
 use Rattle.std.proofs.Common.{ℕ, ◌<◌, ◌≤◌, Bool, true, false, cond, ◌==◌, ◌&&◌, Some, None, List, [], ◌∷◌, ◌++◌, ◌≡◌, refl, sym, ◌∙◌, ap, subst, arith}
-use Rattle.std.specs.Prelude.{if◌then◌else◌}
 use Rattle.std.proofs.lemmas.List.{append-nil}
 use Rattle.std.proofs.lemmas.Bool.Decides.{nat_tests}
 use Rattle.topology.specs.declared.links.LinkState.{LinkState}
@@ -23,7 +22,7 @@ use Rattle.chronicle.specs.Messages.{sent, took, updates}
 use Rattle.chronicle.specs.Steps.{open_session}
 use Rattle.chronicle.proofs.Blocks.{opening, greeting}
 use Rattle.cut_laws.proofs.Updates.{updates_append}
-use Rattle.cut_laws.proofs.Sound.{Linked, Logged, Sound, grown, of_grown}
+use Rattle.cut_laws.proofs.Sound.{Logged, Sound, grown, of_grown}
 use Rattle.cut_laws.proofs.Entering.{Speaks, entered_sound}
 
 -- a greeting is no update

@@ -4,7 +4,7 @@ use Rattle.std.specs.Prelude.{if◌then◌else◌}
 use Rattle.std.proofs.lemmas.List.{append-nil}
 use Rattle.std.proofs.lemmas.Bool.Decides.{nat_tests}
 use Rattle.topology.specs.declared.names.Scope.TheVariants.{All}
-use Rattle.topology.specs.declared.links.LinkState.TheVariants.{Up, Down}
+use Rattle.topology.specs.declared.links.LinkState.TheVariants.{Up}
 use Rattle.topology.specs.LinkStates.{number_of}
 use Rattle.topology.specs.Lists.{Begins}
 use Rattle.topology.specs.Net.{Net, IsValid}

@@ -1,32 +1,26 @@
 -- A node that enters something keeps all that holds.
-use Rattle.std.proofs.Common.{ℕ, ◌<◌, ◌≤◌, true, false, cond, ◌==◌, Option, Some, None, List, [], ◌∷◌, ◌++◌, ◌≡◌, refl, sym, ◌∙◌, ap, ap₂, subst, arith}
-use Rattle.std.specs.Prelude.{if◌then◌else◌}
+use Rattle.std.proofs.Common.{ℕ, ◌<◌, ◌≤◌, true, false, ◌==◌, Option, Some, None, List, [], ◌∷◌, ◌++◌, ◌≡◌, refl, sym, ◌∙◌, ap, ap₂, subst, arith}
 use Rattle.std.proofs.lemmas.List.{append-nil}
 use Rattle.std.proofs.lemmas.Bool.Decides.{nat_tests}
-use Rattle.topology.specs.declared.names.Scope.TheVariants.{All}
 use Rattle.topology.specs.declared.links.LinkState.TheVariants as state
 use Rattle.topology.specs.LinkStates.{number_of}
 use Rattle.topology.specs.Lists.{has}
 use Rattle.topology.specs.Net.{Net, IsValid, neighbours}
 use Rattle.topology.proofs.Neighbours.{differ-neighbours}
-use Rattle.path_vector.specs.declared.causes.Cause.TheVariants.{Up}
 use Rattle.path_vector.specs.Rules.{Rules}
 use Rattle.path_vector.specs.History.{held, last}
-use Rattle.trigger_log.specs.Entries.{Entry, reads, inbox, is_session, next_trigger}
+use Rattle.trigger_log.specs.Entries.{Entry, reads, inbox, is_session}
 use Rattle.trigger_log.specs.Sending.{news, outbox}
 use Rattle.trigger_log.specs.Going.{Item, Going, numbered, told, going_by, items_in}
 use Rattle.trigger_log.specs.Fits.{Fits, AllInherit, CauseFits, Inherits}
 use Rattle.trigger_log.proofs.Holding.{held_is_last, last_grows}
-use Rattle.trigger_log.proofs.Silence.{opening_says_nothing}
 use Rattle.chronicle.specs.Facts.{Chronicle}
 use Rattle.chronicle.specs.Logs.{log_of}
 use Rattle.chronicle.specs.Links.{link}
 use Rattle.chronicle.specs.Messages.{sent, took, updates}
-use Rattle.chronicle.specs.Steps.{write, open_session}
-use Rattle.chronicle.proofs.Blocks.{opening, greeting}
+use Rattle.chronicle.specs.Steps.{write}
 use Rattle.chronicle.proofs.Spreading.{in_session, in_spread, in_stranger}
 use Rattle.cut_laws.proofs.Numbering.{numbered_on}
-use Rattle.cut_laws.proofs.Updates.{updates_append}
 use Rattle.cut_laws.proofs.Sound.{Linked, Logged, Sound, grown, of_grown}
 use Rattle.cut_laws.proofs.Entering.{Speaks, entered_sound}
 
