@@ -1,6 +1,7 @@
 //! Replays schedules of a network whose routers agree on stable tables.
 #![tactic(auto)]
 
+mod notes;
 mod run;
 #[cfg(test)]
 mod tests;
@@ -26,35 +27,18 @@ fn words_of(rt: &HostRuntime) -> Result<Vec<String>, Status> {
     Ok(words)
 }
 
-// Says on standard error why the program ends before its time. Whether that can be written changes
-// nothing, so the answer is left.
-fn tell(rt: &HostRuntime, status: Status) {
-    let _told = match status {
-        Status::Done => return,
-        Status::Usage => rt.eprintln("usage: consensus_routing replay"),
-        Status::NoMemory => rt.eprintln("no memory"),
-        Status::BadSchedule(line, kind) => {
-            let words = kind.words();
-            eprintln!(rt; "bad schedule: line {line}: {words}")
-        }
-        Status::Limit(kind, number) => {
-            let words = kind.words();
-            eprintln!(rt; "limit: {words} {number}")
-        }
-        Status::ReadFault => rt.eprintln("read fault"),
-        Status::WriteFault => rt.eprintln("write fault"),
-    };
-}
-
 fn main(rt: HostRuntime) -> ExitCode {
+    let mut notes = StdSink::new(rt.stderr());
     let status = match words_of(&rt) {
-        Err(status) => status,
+        Err(status) => {
+            notes::tell(&mut notes, &status);
+            status
+        }
         Ok(words) => {
             let mut source = StdSource::new(rt.stdin());
             let mut sink = StdSink::new(rt.stdout());
-            run::run(rt.alloc(), &words, &mut source, &mut sink)
+            run::run(rt.alloc(), &words, &mut source, &mut sink, &mut notes)
         }
     };
-    tell(&rt, status);
     ExitCode::from(status.code())
 }
