@@ -1,0 +1,6 @@
+//! Files and runs as tables.
+mod files;
+mod limits;
+mod lines;
+mod runs;
+mod sizes;
