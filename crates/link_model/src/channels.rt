@@ -1,5 +1,5 @@
 //! One way of a link.
-ghost use Rattle.std.specs.Prelude.{◌≡◌, [], ◌∷◌, ◌++◌, IfOk, OnErr, IfSome, IfNone, if◌then◌else◌};
+ghost use Rattle.std.specs.Prelude.{◌≡◌, [], ◌∷◌, IfOk, OnErr, IfSome, IfNone};
 ghost use Rattle.topology.specs.LinkStates.{carries};
 ghost use Rattle.link_model.specs.Readings.{behind_front};
 ghost use Rattle.link_model.specs.Ways.{unused, emptied, after_push};

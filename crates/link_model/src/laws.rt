@@ -1,5 +1,5 @@
 //! Laws of links. A call of a law brings what it says into the caller's proof.
-ghost use Rattle.std.specs.Prelude.{ℕ, ◌≡◌, ◌≤◌, ◌++◌, ◌∷◌, List, [], false};
+ghost use Rattle.std.specs.Prelude.{ℕ, ◌≡◌, ◌≤◌, ◌++◌, ◌∷◌, [], false};
 ghost use Rattle.topology.specs.declared.items.Item.{Item};
 ghost use Rattle.topology.specs.Lists.{Begins};
 ghost use Rattle.topology.specs.LinkStates.{is_up, number_of};

@@ -11,3 +11,6 @@ pub mod links;
 
 pub use links::Links;
 pub use topology::LinkState;
+
+#[cfg(test)]
+mod tests;

@@ -1,13 +1,13 @@
 //! The links of a network.
-ghost use Rattle.std.specs.Prelude.{ℕ, ◌≡◌, ◌<◌, ◌-◌, ◌^◌, [], ◌∷◌, List, Some, true, false, not, map, slice_get, IfOk, OnErr, IfSome, IfNone};
+ghost use Rattle.std.specs.Prelude.{◌≡◌, ◌<◌, ◌-◌, ◌^◌, [], ◌∷◌, List, Some, true, false, not, slice_get, IfOk, OnErr, IfSome, IfNone};
 ghost use Rattle.topology.specs.declared.items.Item.{Item as Carried};
 ghost use Rattle.topology.specs.Lists.{has};
 ghost use Rattle.topology.specs.Net.{Net, linked};
 ghost use Rattle.topology.specs.LinkStates.{carries, is_up, number_of};
 ghost use Rattle.std.specs.List.Sorted.{IsStrictlyIncreasing};
 ghost use Rattle.link_model.specs.Acts.{Acts, Push, Take, Fail, Restore};
-ghost use Rattle.link_model.specs.Readings.{state, channel, behind_front};
-ghost use Rattle.link_model.specs.Ways.{OneWay, unused, emptied, after_push};
+ghost use Rattle.link_model.specs.Readings.{state, channel};
+ghost use Rattle.link_model.specs.Ways.{emptied};
 ghost use Rattle.link_model.specs.Keeping.{Ways, Keeps, IsPlaced, IsUnused, replaced};
 ghost use Rattle.link_model.specs.Standing.{StandsFor};
 
