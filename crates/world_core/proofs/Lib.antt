@@ -1,11 +1,6 @@
 pub mod Told
 pub mod Near
 pub mod Listed
-pub mod Places
-pub mod Sent
-pub mod Fronts
-pub mod Keeps
-pub mod Fresh
-pub mod Shows
-pub mod Coming
-pub mod Counts
+pub mod Carried
+pub mod Sends
+pub mod Placed
