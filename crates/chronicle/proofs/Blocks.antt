@@ -1,34 +1,45 @@
 -- What a node's entry, and what it sends then, changes of each reading.
-use Rattle.std.proofs.Common.{ℕ, suc, Bool, true, false, cond, ◌==◌, ◌&&◌, Option, Some, None, List, [], ◌∷◌, ◌++◌, ◌≡◌, refl, sym, ◌∙◌, ap, subst, arith, map, flat_map, append_assoc}
+use Rattle.std.proofs.Common.{ℕ, Bool, true, false, cond, ◌==◌, ◌&&◌, List, [], ◌∷◌, ◌++◌, ◌≡◌, refl, sym, ◌∙◌, ap, arith, append_assoc}
 use Rattle.std.specs.Prelude.{if◌then◌else◌}
-use Rattle.std.specs.List.{AllByRecursion}
 use Rattle.std.proofs.lemmas.List.{append-nil}
 use Rattle.std.proofs.lemmas.Bool.Decides.{nat_tests}
-use Rattle.topology.specs.Lists.{has}
-use Rattle.topology.specs.Paths.{differ}
-use Rattle.topology.specs.Net.{Net, neighbours}
+use Rattle.topology.specs.declared.names.Scope.TheVariants.{All}
+use Rattle.topology.specs.declared.links.LinkState.{LinkState}
+use Rattle.topology.specs.declared.links.LinkState.TheVariants.{Up, Down}
+use Rattle.topology.specs.LinkStates.{carries}
+use Rattle.topology.specs.Net.{Net}
+use Rattle.path_vector.specs.declared.causes.Cause.TheVariants as cause
 use Rattle.path_vector.specs.Rules.{Rules}
-use Rattle.path_vector.specs.History.{held}
-use Rattle.trigger_log.specs.Entries.{Entry, reads, is_session}
-use Rattle.trigger_log.specs.Going.{Item, Going, going_to, going_in, spread, told, going_by, items_to, items_in}
-use Rattle.chronicle.specs.Facts.{Fact, Log, Sent, Took, Chronicle, happen}
+use Rattle.trigger_log.specs.Entries.{Entry, local}
+use Rattle.trigger_log.specs.Going.{Item, Hello, Going, going_by, items_in}
+use Rattle.chronicle.specs.Facts.{Log, Sent, Chronicle, happen}
 use Rattle.chronicle.specs.Logs.{log_of}
+use Rattle.chronicle.specs.Links.{link}
 use Rattle.chronicle.specs.Channels.{channel}
 use Rattle.chronicle.specs.Messages.{sent, took}
-use Rattle.chronicle.specs.Steps.{sends, write}
+use Rattle.chronicle.specs.Steps.{sends, write, open_session}
 
 pub same_number : (u : ℕ) → (u == u) ≡ true
 same_number u = grind (arith, nat_tests)
 
--- ---- what is sent changes no log and nothing that was taken, and goes to the ends of the rest
+-- ---- what is sent changes no log, no link and nothing that was taken, and goes to the ends of the rest
 
-log_sends : (v u : ℕ) (past : Chronicle) (gs : List Going) → log_of v (happen past (sends u gs)) ≡ log_of v past
-log_sends v u past [] = refl
-log_sends v u past (g ∷ gs) = log_sends v u (Sent u g.to g.session g.item true ∷ past) gs
+-- the items to w that a link takes: those of the session that it carries
+abbrev pub carried : LinkState → ℕ → List Going → List Item
+carried (Up s) w gs = items_in w s gs
+carried (Down s) w gs = []
 
-took_sends : (a b s u : ℕ) (past : Chronicle) (gs : List Going) → took a b s (happen past (sends u gs)) ≡ took a b s past
-took_sends a b s u past [] = refl
-took_sends a b s u past (g ∷ gs) = took_sends a b s u (Sent u g.to g.session g.item true ∷ past) gs
+log_sends : (v u : ℕ) (was now : Chronicle) (gs : List Going) → log_of v (happen now (sends was u gs)) ≡ log_of v now
+log_sends v u was now [] = refl
+log_sends v u was now (g ∷ gs) = log_sends v u was (Sent u g.to g.session g.item (carries (link u g.to was) g.session) ∷ now) gs
+
+took_sends : (a b s u : ℕ) (was now : Chronicle) (gs : List Going) → took a b s (happen now (sends was u gs)) ≡ took a b s now
+took_sends a b s u was now [] = refl
+took_sends a b s u was now (g ∷ gs) = took_sends a b s u was (Sent u g.to g.session g.item (carries (link u g.to was) g.session) ∷ now) gs
+
+pub link_sends : (a b u : ℕ) (was now : Chronicle) (gs : List Going) → link a b (happen now (sends was u gs)) ≡ link a b now
+link_sends a b u was now [] = refl
+link_sends a b u was now (g ∷ gs) = link_sends a b u was (Sent u g.to g.session g.item (carries (link u g.to was) g.session) ∷ now) gs
 
 nothing_more : (c : Bool) (xs : List Item) → xs ≡ xs ++ cond c [] []
 nothing_more true xs = sym (append-nil xs)
@@ -39,123 +50,81 @@ one_more true true xs x ys = append_assoc xs (x ∷ []) ys
 one_more true false xs x ys = refl
 one_more false t xs x ys = refl
 
-queued_more : (c t : Bool) (xs : List Item) (x : Item) (ys : List Item) → cond ((c && t) && true) (xs ++ x ∷ []) xs ++ cond c ys [] ≡ xs ++ cond c (cond t (x ∷ ys) ys) []
-queued_more true true xs x ys = append_assoc xs (x ∷ []) ys
-queued_more true false xs x ys = refl
-queued_more false t xs x ys = refl
+sent_sends : (a b s u : ℕ) (was now : Chronicle) (gs : List Going) → sent a b s (happen now (sends was u gs)) ≡ sent a b s now ++ (if u == a then items_in b s gs else [])
+sent_sends a b s u was now [] = nothing_more (u == a) (sent a b s now)
+sent_sends a b s u was now (g ∷ gs) =
+    sent_sends a b s u was (Sent u g.to g.session g.item (carries (link u g.to was) g.session) ∷ now) gs
+    ∙ one_more (u == a) (g.to == b && g.session == s) (sent a b s now) g.item (items_in b s gs)
 
-channel_sends : (a b u : ℕ) (past : Chronicle) (gs : List Going) → channel a b (happen past (sends u gs)) ≡ channel a b past ++ (if u == a then items_to b gs else [])
-channel_sends a b u past [] = nothing_more (u == a) (channel a b past)
-channel_sends a b u past (g ∷ gs) =
-    channel_sends a b u (Sent u g.to g.session g.item true ∷ past) gs
-    ∙ queued_more (u == a) (g.to == b) (channel a b past) g.item (items_to b gs)
-
-sent_sends : (a b s u : ℕ) (past : Chronicle) (gs : List Going) → sent a b s (happen past (sends u gs)) ≡ sent a b s past ++ (if u == a then items_in b s gs else [])
-sent_sends a b s u past [] = nothing_more (u == a) (sent a b s past)
-sent_sends a b s u past (g ∷ gs) =
-    sent_sends a b s u (Sent u g.to g.session g.item true ∷ past) gs
-    ∙ one_more (u == a) (g.to == b && g.session == s) (sent a b s past) g.item (items_in b s gs)
-
--- ---- what is spread reaches each neighbour in the session that is held with it
-
--- the items of a session: those for it, where it is the one
-abbrev pub in_session : (ℕ → List Item) → Option ℕ → ℕ → List Item
-in_session items session s = if is_session session s then items s else []
-
--- the items of the session, whichever it is
-abbrev pub in_any : (ℕ → List Item) → Option ℕ → List Item
-in_any items None = []
-in_any items (Some s) = items s
-
-in_append : (w s : ℕ) (gs hs : List Going) → items_in w s (gs ++ hs) ≡ items_in w s gs ++ items_in w s hs
-in_append w s [] hs = refl
-in_append w s (g ∷ gs) hs =
-    elim (g.to == w && g.session == s) as (λ t. cond t (g.item ∷ items_in w s (gs ++ hs)) (items_in w s (gs ++ hs)) ≡ cond t (g.item ∷ items_in w s gs) (items_in w s gs) ++ items_in w s hs) [
-      | true ↦ ap (λ r. g.item ∷ r) (in_append w s gs hs)
-      | false ↦ in_append w s gs hs
-    ]
-
-to_append : (w : ℕ) (gs hs : List Going) → items_to w (gs ++ hs) ≡ items_to w gs ++ items_to w hs
-to_append w [] hs = refl
-to_append w (g ∷ gs) hs =
-    elim (g.to == w) as (λ t. cond t (g.item ∷ items_to w (gs ++ hs)) (items_to w (gs ++ hs)) ≡ cond t (g.item ∷ items_to w gs) (items_to w gs) ++ items_to w hs) [
-      | true ↦ ap (λ r. g.item ∷ r) (to_append w gs hs)
-      | false ↦ to_append w gs hs
-    ]
-
-in_going : (w s v t : ℕ) (items : List Item) → items_in w s (going_to v t items) ≡ (if v == w && t == s then items else [])
-in_going w s v t [] = elim (v == w && t == s) as (λ b. ◌≡◌ {A = List Item} [] (cond b [] [])) [ true ↦ refl | false ↦ refl ]
-in_going w s v t (x ∷ xs) =
-    rw (in_going w s v t xs)
-    (elim (v == w && t == s) as (λ b. cond b (x ∷ cond b xs []) (cond b xs []) ≡ cond b (x ∷ xs) []) [ true ↦ refl | false ↦ refl ])
-
-to_going : (w v t : ℕ) (items : List Item) → items_to w (going_to v t items) ≡ (if v == w then items else [])
-to_going w v t [] = elim (v == w) as (λ b. ◌≡◌ {A = List Item} [] (cond b [] [])) [ true ↦ refl | false ↦ refl ]
-to_going w v t (x ∷ xs) =
-    rw (to_going w v t xs)
-    (elim (v == w) as (λ b. cond b (x ∷ cond b xs []) (cond b xs []) ≡ cond b (x ∷ xs) []) [ true ↦ refl | false ↦ refl ])
-
--- what goes to another neighbour
-in_off : (w s v : ℕ) (items : ℕ → List Item) (session : Option ℕ) → (v == w) ≡ false → items_in w s (going_in v items session) ≡ []
-in_off w s v items None e = refl
-in_off w s v items (Some t) e = in_going w s v t (items t) ∙ rw e refl
-
-to_off : (w v : ℕ) (items : ℕ → List Item) (session : Option ℕ) → (v == w) ≡ false → items_to w (going_in v items session) ≡ []
-to_off w v items None e = refl
-to_off w v items (Some t) e = to_going w v t (items t) ∙ rw e refl
-
-in_own : (w s : ℕ) (items : ℕ → List Item) (session : Option ℕ) → items_in w s (going_in w items session) ≡ in_session items session s
-in_own w s items None = refl
-in_own w s items (Some t) =
-    in_going w s w t (items t) ∙ rw (same_number w)
-    ((elim (t == s) as (λ b. (t == s) ≡ b → cond b (items t) [] ≡ cond b (items s) []) [
-      | true ↦ λ e. let same : t ≡ s = grind (arith, nat_tests) in ap items same
+-- whether an item is queued on the way to b is asked of the link to b
+queued_to : (u b : ℕ) (was : Chronicle) (g : Going) (xs ys : List Item) → cond ((u == u && g.to == b) && carries (link u g.to was) g.session) xs ys ≡ cond (g.to == b && carries (link u b was) g.session) xs ys
+queued_to u b was g xs ys =
+    rw (same_number u)
+    ((elim (g.to == b) as (λ t. (g.to == b) ≡ t → cond (t && carries (link u g.to was) g.session) xs ys ≡ cond (t && carries (link u b was) g.session) xs ys) [
+      | true ↦ λ e. let same : g.to ≡ b = grind (arith, nat_tests) in ap (λ y. cond (carries (link u y was) g.session) xs ys) same
       | false ↦ λ e. refl
     ]) refl)
 
-to_own : (w : ℕ) (items : ℕ → List Item) (session : Option ℕ) → items_to w (going_in w items session) ≡ in_any items session
-to_own w items None = refl
-to_own w items (Some t) = to_going w w t (items t) ∙ rw (same_number w) refl
+turn : (t c : ℕ) → (t == c) ≡ (c == t)
+turn t c = grind (arith, nat_tests)
 
--- a reading of one neighbour, over all of them one after the other
-module _ (read : List Going → List Item) (none : read [] ≡ []) (more : (gs hs : List Going) → read (gs ++ hs) ≡ read gs ++ read hs) (w : ℕ) (f : ℕ → List Going)
-    (off : (v : ℕ) → (v == w) ≡ false → read (f v) ≡ []) where
-  others : (ws : List ℕ) → has ws w ≡ false → read (flat_map f ws) ≡ []
-  others [] off_list = none
-  others (v ∷ vs) off_list = more (f v) (flat_map f vs) ∙ rw (off v (grind (arith, nat_tests)), others vs (grind (arith, nat_tests))) refl
+-- it is taken where it is of the session that the link carries
+taken_by : (l : LinkState) (b : ℕ) (g : Going) (gs : List Going) (xs : List Item) → cond (g.to == b && carries l g.session) (xs ++ g.item ∷ []) xs ++ carried l b gs ≡ xs ++ carried l b (g ∷ gs)
+taken_by (Up s) b g gs xs = rw (turn s g.session) (one_more true (g.to == b && g.session == s) xs g.item (items_in b s gs))
+taken_by (Down s) b g gs xs =
+    elim (g.to == b) as (λ t. cond (t && false) (xs ++ g.item ∷ []) xs ++ [] ≡ xs ++ []) [ true ↦ refl | false ↦ refl ]
 
-  each : (ws : List ℕ) → differ ws ≡ true → has ws w ≡ true → read (flat_map f ws) ≡ read (f w)
-  each [] d m = absurd (cc m)
-  each (v ∷ vs) d m =
-      (elim (v == w) as (λ t. (v == w) ≡ t → read (f v ++ flat_map f vs) ≡ read (f w)) [
-        | true ↦ λ e.
-            let same : v ≡ w = grind (arith, nat_tests) in
-            let gone : has vs w ≡ false = subst (λ y. has vs y ≡ false) same (grind (arith, nat_tests)) in
-            more (f v) (flat_map f vs) ∙ (rw (others vs gone) (append-nil (read (f v)) ∙ ap (λ y. read (f y)) same))
-        | false ↦ λ e.
-            more (f v) (flat_map f vs) ∙ rw (off v e) (each vs (grind (arith, nat_tests)) (grind (arith, nat_tests)))
-      ]) refl
+-- one by one: an item is taken where it is of the session that the link carries
+pub carried_more : (l : LinkState) (w : ℕ) (g : Going) (gs : List Going) → carried l w (g ∷ gs) ≡ (if g.to == w && carries l g.session then g.item ∷ carried l w gs else carried l w gs)
+carried_more (Up s) w g gs = rw (turn s g.session) refl
+carried_more (Down s) w g gs = elim (g.to == w) as (λ t. ◌≡◌ {A = List Item} [] (cond (t && false) (g.item ∷ []) [])) [ true ↦ refl | false ↦ refl ]
 
-module _ (net : Net) (u : ℕ) (session : ℕ → Option ℕ) (items : ℕ → ℕ → List Item) (w : ℕ) where
-  pub in_spread : (s : ℕ) → differ (neighbours net u) ≡ true → has (neighbours net u) w ≡ true → items_in w s (spread net u session items) ≡ in_session (items w) (session w) s
-  unfolding spread
-  in_spread s d m =
-      each (items_in w s) refl (in_append w s) w (λ v. going_in v (items v) (session v)) (λ v off. in_off w s v (items v) (session v) off) (neighbours net u) d m
-      ∙ in_own w s (items w) (session w)
+channel_own_sends : (u b : ℕ) (was now : Chronicle) (gs : List Going) → channel u b (happen now (sends was u gs)) ≡ channel u b now ++ carried (link u b was) b gs
+channel_own_sends u b was now [] = none (link u b was)
+  where
+    none : (l : LinkState) → channel u b now ≡ channel u b now ++ carried l b []
+    none (Up s) = sym (append-nil (channel u b now))
+    none (Down s) = sym (append-nil (channel u b now))
+channel_own_sends u b was now (g ∷ gs) =
+    channel_own_sends u b was (Sent u g.to g.session g.item (carries (link u g.to was) g.session) ∷ now) gs
+    ∙ (ap (λ r. r ++ carried (link u b was) b gs) (queued_to u b was g (channel u b now ++ g.item ∷ []) (channel u b now))
+    ∙ taken_by (link u b was) b g gs (channel u b now))
 
-  pub to_spread : differ (neighbours net u) ≡ true → has (neighbours net u) w ≡ true → items_to w (spread net u session items) ≡ in_any (items w) (session w)
-  unfolding spread
-  to_spread d m =
-      each (items_to w) refl (to_append w) w (λ v. going_in v (items v) (session v)) (λ v off. to_off w v (items v) (session v) off) (neighbours net u) d m
-      ∙ to_own w (items w) (session w)
+channel_other_sends : (a b u : ℕ) (was now : Chronicle) (gs : List Going) → (u == a) ≡ false → channel a b (happen now (sends was u gs)) ≡ channel a b now
+channel_other_sends a b u was now [] e = refl
+channel_other_sends a b u was now (g ∷ gs) e =
+    channel_other_sends a b u was (Sent u g.to g.session g.item (carries (link u g.to was) g.session) ∷ now) gs e ∙ rw e refl
 
-  pub to_stranger : has (neighbours net u) w ≡ false → items_to w (spread net u session items) ≡ []
-  unfolding spread
-  to_stranger out_of = others (items_to w) refl (to_append w) w (λ v. going_in v (items v) (session v)) (λ v off. to_off w v (items v) (session v) off) (neighbours net u) out_of
+-- ---- what an entry, and what goes out with it, changes
 
-  pub in_stranger : (s : ℕ) → has (neighbours net u) w ≡ false → items_in w s (spread net u session items) ≡ []
-  unfolding spread
-  in_stranger s out_of = others (items_in w s) refl (in_append w s) w (λ v. going_in v (items v) (session v)) (λ v off. in_off w s v (items v) (session v) off) (neighbours net u) out_of
+-- u enters k, and then sends these
+abbrev pub entered : ℕ → Entry → List Going → Chronicle → Chronicle
+entered u k out past = happen (Log u k ∷ past) (sends past u out)
+
+module _ (u : ℕ) (k : Entry) (out : List Going) (past : Chronicle) where
+  -- it adds its entry to the log of its node, and to no other
+  pub log_entered : (v : ℕ) → log_of v (entered u k out past) ≡ (if u == v then k ∷ log_of v past else log_of v past)
+  log_entered v = log_sends v u past (Log u k ∷ past) out
+
+  pub took_entered : (a b s : ℕ) → took a b s (entered u k out past) ≡ took a b s past
+  took_entered a b s = took_sends a b s u past (Log u k ∷ past) out
+
+  pub link_entered : (a b : ℕ) → link a b (entered u k out past) ≡ link a b past
+  link_entered a b = link_sends a b u past (Log u k ∷ past) out
+
+  -- what goes out goes to the ends of the channels of its node, where the links carry it
+  pub channel_entered : (w : ℕ) → channel u w (entered u k out past) ≡ channel u w past ++ carried (link u w past) w out
+  channel_entered w = channel_own_sends u w past (Log u k ∷ past) out
+
+  pub channel_elsewhere : (a b : ℕ) → (u == a) ≡ false → channel a b (entered u k out past) ≡ channel a b past
+  channel_elsewhere a b e = channel_other_sends a b u past (Log u k ∷ past) out e
+
+  pub sent_entered : (w s : ℕ) → sent u w s (entered u k out past) ≡ sent u w s past ++ items_in w s out
+  sent_entered w s = sent_sends u w s u past (Log u k ∷ past) out ∙ ap (λ b. sent u w s past ++ (if b then items_in w s out else [])) (same_number u)
+
+  pub sent_elsewhere : (a b s : ℕ) → (u == a) ≡ false → sent a b s (entered u k out past) ≡ sent a b s past
+  sent_elsewhere a b s e =
+      sent_sends a b s u past (Log u k ∷ past) out ∙ (ap (λ t. sent a b s past ++ (if t then items_in b s out else [])) e ∙ append-nil (sent a b s past))
 
 -- ---- what a write changes
 
@@ -163,10 +132,9 @@ module _ (rules : Rules) (net : Net) (u : ℕ) (k : Entry) (past : Chronicle) wh
   abbrev out : List Going
   out = going_by rules net u (log_of u past) k
 
-  -- it adds its entry to the log of its node, and to no other
   pub log_write : (v : ℕ) → log_of v (write rules net u k past) ≡ (if u == v then k ∷ log_of v past else log_of v past)
   unfolding write
-  log_write v = log_sends v u (Log u k ∷ past) out
+  log_write v = log_entered u k out past v
 
   pub log_own : log_of u (write rules net u k past) ≡ k ∷ log_of u past
   log_own = log_write u ∙ ap (λ b. if b then k ∷ log_of u past else log_of u past) (same_number u)
@@ -176,23 +144,69 @@ module _ (rules : Rules) (net : Net) (u : ℕ) (k : Entry) (past : Chronicle) wh
 
   pub took_write : (a b s : ℕ) → took a b s (write rules net u k past) ≡ took a b s past
   unfolding write
-  took_write a b s = took_sends a b s u (Log u k ∷ past) out
+  took_write a b s = took_entered u k out past a b s
 
-  -- what goes out goes to the ends of the channels of its node
-  pub channel_own : (w : ℕ) → channel u w (write rules net u k past) ≡ channel u w past ++ items_to w out
+  pub link_write : (a b : ℕ) → link a b (write rules net u k past) ≡ link a b past
   unfolding write
-  channel_own w = channel_sends u w u (Log u k ∷ past) out ∙ ap (λ b. channel u w past ++ (if b then items_to w out else [])) (same_number u)
+  link_write a b = link_entered u k out past a b
+
+  pub channel_own : (w : ℕ) → channel u w (write rules net u k past) ≡ channel u w past ++ carried (link u w past) w out
+  unfolding write
+  channel_own w = channel_entered u k out past w
 
   pub channel_other : (a b : ℕ) → (u == a) ≡ false → channel a b (write rules net u k past) ≡ channel a b past
   unfolding write
-  channel_other a b e =
-      channel_sends a b u (Log u k ∷ past) out ∙ (ap (λ t. channel a b past ++ (if t then items_to b out else [])) e ∙ append-nil (channel a b past))
+  channel_other a b e = channel_elsewhere u k out past a b e
 
   pub sent_own : (w s : ℕ) → sent u w s (write rules net u k past) ≡ sent u w s past ++ items_in w s out
   unfolding write
-  sent_own w s = sent_sends u w s u (Log u k ∷ past) out ∙ ap (λ b. sent u w s past ++ (if b then items_in w s out else [])) (same_number u)
+  sent_own w s = sent_entered u k out past w s
 
   pub sent_other : (a b s : ℕ) → (u == a) ≡ false → sent a b s (write rules net u k past) ≡ sent a b s past
   unfolding write
-  sent_other a b s e =
-      sent_sends a b s u (Log u k ∷ past) out ∙ (ap (λ t. sent a b s past ++ (if t then items_in b s out else [])) e ∙ append-nil (sent a b s past))
+  sent_other a b s e = sent_elsewhere u k out past a b s e
+
+-- ---- what an opening changes
+
+-- the greeting that goes out with it
+abbrev pub greeting : ℕ → ℕ → List Going
+greeting v s = record { to = v; session = s; item = Hello 0 } ∷ []
+
+module _ (u v s : ℕ) (past : Chronicle) where
+  -- the entry of an opening
+  abbrev pub opening : Entry
+  opening = local u (log_of u past) All (cause.Up v s)
+
+  pub log_open : (w : ℕ) → log_of w (open_session u v s past) ≡ (if u == w then opening ∷ log_of w past else log_of w past)
+  unfolding open_session
+  log_open w = log_entered u opening (greeting v s) past w
+
+  pub log_opener : log_of u (open_session u v s past) ≡ opening ∷ log_of u past
+  log_opener = log_open u ∙ ap (λ b. if b then opening ∷ log_of u past else log_of u past) (same_number u)
+
+  pub log_not_opener : (w : ℕ) → (u == w) ≡ false → log_of w (open_session u v s past) ≡ log_of w past
+  log_not_opener w e = log_open w ∙ ap (λ b. if b then opening ∷ log_of w past else log_of w past) e
+
+  pub took_open : (a b t : ℕ) → took a b t (open_session u v s past) ≡ took a b t past
+  unfolding open_session
+  took_open a b t = took_entered u opening (greeting v s) past a b t
+
+  pub link_open : (a b : ℕ) → link a b (open_session u v s past) ≡ link a b past
+  unfolding open_session
+  link_open a b = link_entered u opening (greeting v s) past a b
+
+  pub channel_opener : (w : ℕ) → channel u w (open_session u v s past) ≡ channel u w past ++ carried (link u w past) w (greeting v s)
+  unfolding open_session
+  channel_opener w = channel_entered u opening (greeting v s) past w
+
+  pub channel_not_opener : (a b : ℕ) → (u == a) ≡ false → channel a b (open_session u v s past) ≡ channel a b past
+  unfolding open_session
+  channel_not_opener a b e = channel_elsewhere u opening (greeting v s) past a b e
+
+  pub sent_opener : (w t : ℕ) → sent u w t (open_session u v s past) ≡ sent u w t past ++ items_in w t (greeting v s)
+  unfolding open_session
+  sent_opener w t = sent_entered u opening (greeting v s) past w t
+
+  pub sent_not_opener : (a b t : ℕ) → (u == a) ≡ false → sent a b t (open_session u v s past) ≡ sent a b t past
+  unfolding open_session
+  sent_not_opener a b t e = sent_elsewhere u opening (greeting v s) past a b t e

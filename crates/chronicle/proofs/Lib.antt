@@ -1,3 +1,7 @@
+pub mod Blocks
+pub mod Ends
+pub mod Spreading
+pub mod Moves
 pub mod Opened
 pub mod Shown
 mod Line

@@ -1,5 +1,5 @@
 -- Three nodes in a line: 1 - 2 - 3.
-use Rattle.std.specs.Prelude.{ℕ, List, [], ◌∷◌, ◌++◌, Option, Some, None, ◌≡◌, refl}
+use Rattle.std.specs.Prelude.{List, [], ◌∷◌, ◌++◌, Some, None, ◌≡◌, refl}
 use Rattle.topology.specs.declared.links.Relation.TheVariants.{Any}
 use Rattle.topology.specs.declared.status.Reason.TheVariants.{AlreadyOrigin, NotOrigin, EmptyChannel}
 use Rattle.topology.specs.Net.{Net}

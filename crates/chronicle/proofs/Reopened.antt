@@ -1,5 +1,5 @@
 -- Two nodes whose link fails, comes up again, and is opened by both ends.
-use Rattle.std.specs.Prelude.{ℕ, zero, suc, Bool, true, false, List, [], ◌∷◌, ◌++◌, Option, Some, None, ◌≡◌, refl}
+use Rattle.std.specs.Prelude.{ℕ, List, [], ◌∷◌, ◌++◌, Some, None, ◌≡◌, refl}
 use Rattle.topology.specs.declared.links.Relation.TheVariants.{Any}
 use Rattle.topology.specs.declared.links.LinkState.TheVariants.{Up as IsUp, Down as IsDown}
 use Rattle.topology.specs.declared.status.Reason.TheVariants.{LinkDown, WrongSession, AlreadyDown, AlreadyUp, NotOpen, StillUp, AlreadyOpen}
@@ -8,17 +8,16 @@ use Rattle.topology.specs.declared.items.Sent.{Sent}
 use Rattle.topology.specs.Net.{Net}
 use Rattle.path_vector.specs.GaoRexford.{gao_rexford}
 use Rattle.path_vector.specs.declared.causes.Cause.TheVariants.{Originate as CauseOriginate, Recv, Down, Up, Ready}
-use Rattle.trigger_log.specs.Entries.{Entry, entry}
+use Rattle.trigger_log.specs.Entries.{entry}
 use Rattle.trigger_log.specs.Going.{Hello}
 use Rattle.chronicle.specs.declared.events.Event.{Event}
 use Rattle.chronicle.specs.declared.events.Event.TheVariants.{Originate, Deliver, Fail, Restore, Notice, OpenSession}
-use Rattle.chronicle.specs.declared.ways.Way.{Way}
 use Rattle.chronicle.specs.Links.{link}
 use Rattle.chronicle.specs.Channels.{channel}
 use Rattle.chronicle.specs.Run.{run}
 use Rattle.chronicle.specs.Deliveries.{next_delivery}
 use Rattle.chronicle.proofs.Opened.{all}
-use Rattle.chronicle.proofs.Shown.{routes, idle, a_link, network, a_trigger, an_update, entries, listed}
+use Rattle.chronicle.proofs.Shown.{idle, a_link, network, a_trigger, entries, listed}
 
 abbrev pair : Net
 pair = network (1 ∷ 2 ∷ []) (a_link 1 2 Any ∷ [])

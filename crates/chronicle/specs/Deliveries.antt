@@ -1,5 +1,5 @@
 -- Which delivery is the next one.
-use Rattle.std.specs.Prelude.{ℕ, Bool, true, false, Option, List, [], ◌∷◌, map, flat_map, find}
+use Rattle.std.specs.Prelude.{ℕ, Bool, false, Option, List, [], ◌∷◌, map, flat_map, find}
 use Rattle.topology.specs.declared.links.LinkState.{LinkState}
 use Rattle.topology.specs.declared.links.LinkState.TheVariants.{Up, Down}
 use Rattle.topology.specs.Lists.{ascending}

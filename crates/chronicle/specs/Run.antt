@@ -1,5 +1,5 @@
 -- The run of a list of events.
-use Rattle.std.specs.Prelude.{ℕ, Bool, true, false, Option, Some, None, List, [], ◌∷◌, fold, if◌then◌else◌}
+use Rattle.std.specs.Prelude.{ℕ, Option, Some, None, List, [], ◌∷◌, fold, if◌then◌else◌}
 use Rattle.topology.specs.declared.names.Scope.TheVariants.{One, All}
 use Rattle.topology.specs.declared.status.Reason.{Reason}
 use Rattle.topology.specs.declared.status.Reason.TheVariants.{AlreadyOrigin, NotOrigin, LinkDown, EmptyChannel, WrongSession, AlreadyDown, AlreadyUp, NotOpen, StillUp, AlreadyOpen}

@@ -1,6 +1,14 @@
+mod Updates
 mod Numbering
 mod Listing
 mod Sound
+mod Entering
 mod Writing
+mod Opening
 mod Taking
+mod Failing
 mod Running
+mod Concluding
+mod Few
+mod Counting
+mod Recounting

@@ -4,24 +4,28 @@ use Rattle.std.specs.List.{AllByRecursion}
 use Rattle.std.proofs.lemmas.List.{append-nil}
 use Rattle.trigger_log.specs.Entries.{Update}
 use Rattle.trigger_log.specs.Going.{Item, News, numbered}
+use Rattle.chronicle.specs.Messages.{updates}
+use Rattle.cut_laws.proofs.Updates.{updates_append, updates_numbered}
 
 numbered_append : (n : ℕ) (xs ys : List Update) → numbered n (xs ++ ys) ≡ numbered n xs ++ numbered (n + length xs) ys
 numbered_append n [] ys = ap (λ m. numbered m ys) (omega arith)
 numbered_append n (x ∷ xs) ys = ap (λ r. News n x ∷ r) (numbered_append (suc n) xs ys ∙ ap (λ m. numbered (suc n) xs ++ numbered m ys) (omega arith))
 
 -- both lists grow, or neither
-pub numbered_on : (t : Bool) (items : List Item) (old new : List Update) → items ≡ numbered 1 old
-    → items ++ cond t (numbered (suc (length old)) new) [] ≡ numbered 1 (cond t (old ++ new) old)
+pub numbered_on : (t : Bool) (items : List Item) (old new : List Update) → updates items ≡ numbered 1 old
+    → updates (items ++ cond t (numbered (suc (length old)) new) []) ≡ numbered 1 (cond t (old ++ new) old)
 numbered_on true items old new e =
-    ap (λ r. r ++ numbered (suc (length old)) new) e
-    ∙ sym (numbered_append 1 old new ∙ ap (λ m. numbered 1 old ++ numbered m new) (omega arith))
-numbered_on false items old new e = append-nil items ∙ e
+    updates_append items (numbered (suc (length old)) new)
+    ∙ (ap₂ (λ a b. a ++ b) e (updates_numbered (suc (length old)) new)
+    ∙ sym (numbered_append 1 old new ∙ ap (λ m. numbered 1 old ++ numbered m new) (omega arith)))
+numbered_on false items old new e = ap updates (append-nil items) ∙ e
 
-pub one_on : (t : Bool) (items : List Item) (old : List Update) (n : ℕ) (x : Update) → items ≡ numbered 1 old
-    → (t ≡ true → n ≡ suc (length old)) → cond t (items ++ News n x ∷ []) items ≡ numbered 1 (old ++ cond t (x ∷ []) [])
+pub one_on : (t : Bool) (items : List Item) (old : List Update) (n : ℕ) (x : Update) → updates items ≡ numbered 1 old
+    → (t ≡ true → n ≡ suc (length old)) → updates (cond t (items ++ News n x ∷ []) items) ≡ numbered 1 (old ++ cond t (x ∷ []) [])
 one_on true items old n x e next =
-    ap₂ (λ r m. r ++ News m x ∷ []) e (next refl)
-    ∙ sym (numbered_append 1 old (x ∷ []) ∙ ap (λ m. numbered 1 old ++ numbered m (x ∷ [])) (omega arith))
+    updates_append items (News n x ∷ [])
+    ∙ (ap₂ (λ r m. r ++ News m x ∷ []) e (next refl)
+    ∙ sym (numbered_append 1 old (x ∷ []) ∙ ap (λ m. numbered 1 old ++ numbered m (x ∷ [])) (omega arith)))
 one_on false items old n x e next = e ∙ ap (numbered 1) (sym (append-nil old))
 
 -- what stands behind numbered ones, where all are numbered

@@ -1,97 +1,103 @@
 -- What holds after each event holds of every run.
-use Rattle.std.proofs.Common.{ℕ, true, false, ◌==◌, List, [], ◌∷◌, ◌++◌, ◌≡◌, refl, ap, subst, arith, fold}
-use Rattle.std.specs.Prelude.{if◌then◌else◌}
+use Rattle.std.proofs.Common.{ℕ, ◌<◌, ◌≤◌, true, false, cond, ◌==◌, Some, None, List, [], ◌∷◌, ◌≡◌, refl, sym, subst, arith}
 use Rattle.std.proofs.lemmas.List.{append-nil}
 use Rattle.std.proofs.lemmas.Bool.Decides.{nat_tests}
-use Rattle.topology.specs.declared.names.Scope.TheVariants.{One}
-use Rattle.topology.specs.declared.status.Reason.TheVariants.{AlreadyOrigin, NotOrigin}
+use Rattle.topology.specs.declared.names.Scope.TheVariants.{One, All}
+use Rattle.topology.specs.declared.links.LinkState.TheVariants.{Up}
+use Rattle.topology.specs.LinkStates.{carries, number_of}
 use Rattle.topology.specs.Net.{Net, IsValid}
 use Rattle.path_vector.specs.declared.causes.Cause.TheVariants as cause
 use Rattle.path_vector.specs.Rules.{Rules}
-use Rattle.path_vector.specs.History.{owns}
+use Rattle.path_vector.specs.History.{held, last}
 use Rattle.trigger_log.specs.Entries.{reads, local, inbox}
-use Rattle.trigger_log.specs.Going.{Item, News}
+use Rattle.trigger_log.specs.Going.{Item, News, Hello}
 use Rattle.trigger_log.specs.Sending.{outbox}
+use Rattle.trigger_log.proofs.Holding.{held_is_last}
 use Rattle.chronicle.specs.declared.events.Event.{Event}
-use Rattle.chronicle.specs.declared.events.Event.TheVariants.{Originate, Withdraw, Deliver}
 use Rattle.chronicle.specs.Facts.{Chronicle}
 use Rattle.chronicle.specs.Logs.{log_of}
+use Rattle.chronicle.specs.Links.{link}
 use Rattle.chronicle.specs.Channels.{channel}
-use Rattle.chronicle.specs.Messages.{sent, took}
-use Rattle.chronicle.specs.Steps.{write}
-use Rattle.chronicle.specs.Run.{Idle, Goes, only_session, delivered, step, chronicle_of, after, run}
-use Rattle.cut_laws.specs.Alone.{Alone}
-use Rattle.cut_laws.specs.Joined.{Joined, FrontFits}
-use Rattle.cut_laws.proofs.Sound.{Sound, in_front}
-use Rattle.cut_laws.proofs.Taking.{local_sound, take_sound}
+use Rattle.chronicle.specs.Steps.{take_item}
+use Rattle.chronicle.specs.Run.{held_with, after, run}
+use Rattle.chronicle.proofs.Moves.{Moves, holds_after, holds_of_run}
+use Rattle.cut_laws.proofs.Sound.{Sound}
+use Rattle.cut_laws.proofs.Writing.{local_sound}
+use Rattle.cut_laws.proofs.Opening.{open_sound}
+use Rattle.cut_laws.proofs.Taking.{take_news, take_hello}
+use Rattle.cut_laws.proofs.Failing.{fail_sound, restore_sound}
 
-module _ (rules : Rules) (net : Net) (valid : IsValid net) where
-  start_sound : Sound rules net []
-  unfolding outbox
-  start_sound = record {
-    links = record { said = λ v w s near. refl; queue = λ v w. refl; elsewhere = λ v w s e. refl; strangers = λ v w far. refl };
-    logs = record { fits = λ v. tt; inherits = λ v. tt; heard = λ v w s. refl; holds = λ v w. refl };
-  }
+pub start_sound : (rules : Rules) (net : Net) → Sound rules net []
+unfolding outbox
+start_sound rules net = record {
+  links = record {
+    said = λ v w s near. refl;
+    strangers = λ v w s far. refl;
+    fresh = λ v w s above. refl;
+    fifo = λ v w s. ([], refl);
+    queue = λ v w n e. refl;
+    down = λ v w n e. refl;
+  };
+  logs = record {
+    fits = λ v. tt;
+    inherits = λ v. tt;
+    heard = λ v w s. refl;
+    bounded = λ v w. omega arith;
+    below = λ v w n e none. absurd (cc none);
+  };
+}
 
-  deliver_sound : (past : Chronicle) (v u : ℕ) (items : List Item) → Sound rules net past → channel v u past ≡ items → Sound rules net (chronicle_of past (delivered rules net past v u items))
-  deliver_sound past v u [] sound e = sound
-  deliver_sound past v u (News n x ∷ rest) sound e = take_sound rules net v u n x rest past sound e valid
+module _ (rules : Rules) (net : Net) (valid : IsValid net) (past : Chronicle) (sound : Sound rules net past) where
+  -- the item in front, in the session that its receiver holds
+  take_sound : (v u s : ℕ) (x : Item) (rest : List Item) → link v u past ≡ Up s → channel v u past ≡ x ∷ rest → held_with u v past ≡ Some s → Sound rules net (take_item rules net v u s x past)
+  take_sound v u s (News n x) rest up front holds = take_news rules net v u s n x rest past sound up front holds valid
+  take_sound v u s (Hello e) rest up front holds = take_hello rules net v u s e rest past sound up front holds valid
 
-  after_sound : (past : Chronicle) (event : Event) → Sound rules net past → Sound rules net (after rules net past event)
-  unfolding after step
-  after_sound past (Originate u p) sound =
-      let k = local u (log_of u past) (One p) cause.Originate in
-      (elim (owns (reads (log_of u past)) p) as (λ t. owns (reads (log_of u past)) p ≡ t → Sound rules net (chronicle_of past (if t then Idle AlreadyOrigin else Goes (write rules net u k past)))) [
-        | true ↦ λ e. sound
-        | false ↦ λ e. local_sound rules net u k past valid sound e refl (λ w s. append-nil (inbox (log_of u past) w s)) (λ w. refl)
+  -- the session that is closed was the newest
+  closed_last : (u v s w : ℕ) → held_with u v past ≡ Some s → cond (v == w) s (last (reads (log_of u past)) w) ≡ last (reads (log_of u past)) w
+  closed_last u v s w holds =
+      let h = reads (log_of u past) in
+      let newest : s ≡ last h v = held_is_last h v s holds in
+      (elim (v == w) as (λ b. (v == w) ≡ b → cond b s (last h w) ≡ last h w) [
+        | true ↦ λ e. subst (λ y. s ≡ last h y) (grind (arith, nat_tests)) newest
+        | false ↦ λ e. refl
       ]) refl
-  after_sound past (Withdraw u p) sound =
-      let k = local u (log_of u past) (One p) cause.Withdraw in
-      (elim (owns (reads (log_of u past)) p) as (λ t. owns (reads (log_of u past)) p ≡ t → Sound rules net (chronicle_of past (if t then Goes (write rules net u k past) else Idle NotOrigin))) [
-        | true ↦ λ e. local_sound rules net u k past valid sound e refl (λ w s. append-nil (inbox (log_of u past) w s)) (λ w. refl)
-        | false ↦ λ e. sound
+
+  -- and it is below the one that the link carries
+  closed_below : (u v s w n : ℕ) → held_with u v past ≡ Some s → carries (link u v past) s ≡ false → link u w past ≡ Up n → cond (v == w) None (held (reads (log_of u past)) w) ≡ None
+      → last (reads (log_of u past)) w < n
+  closed_below u v s w n holds over up =
+      let h = reads (log_of u past) in
+      let newest : s ≡ last h v = held_is_last h v s holds in
+      (elim (v == w) as (λ b. (v == w) ≡ b → cond b None (held h w) ≡ None → last h w < n) [
+        | true ↦ λ e none.
+            let same : w ≡ v = grind (arith, nat_tests) in
+            let here : link u v past ≡ Up n = subst (λ y. link u y past ≡ Up n) same up in
+            let most : last h v ≤ n = subst (λ l. last h v ≤ number_of l) here (sound.logs.bounded u v) in
+            let other : (n == s) ≡ false = subst (λ l. carries l s ≡ false) here over in
+            subst (λ y. last h y < n) (sym same) (grind (arith, nat_tests))
+        | false ↦ λ e none. sound.logs.below u w n up none
       ]) refl
-  after_sound past (Deliver v u) sound = deliver_sound past v u (channel v u past) sound refl
 
-  fold_sound : (past : Chronicle) (events : List Event) → Sound rules net past → Sound rules net (fold (after rules net) past events)
-  fold_sound past [] sound = sound
-  fold_sound past (event ∷ events) sound = fold_sound (after rules net past event) events (after_sound past event sound)
+  after_moves : Moves rules net past (Sound rules net)
+  after_moves =
+      let unheard = λ (u w s : ℕ). append-nil (inbox (log_of u past) w s) in
+      record {
+        rests = sound;
+        originates = λ u p e. local_sound rules net u (local u (log_of u past) (One p) cause.Originate) past valid sound e refl (unheard u) (λ w. refl) (sound.logs.below u);
+        withdraws = λ u p e. local_sound rules net u (local u (log_of u past) (One p) cause.Withdraw) past valid sound e refl (unheard u) (λ w. refl) (sound.logs.below u);
+        prefers = λ u v value. local_sound rules net u (local u (log_of u past) All (cause.Prefer v value)) past valid sound tt refl (unheard u) (λ w. refl) (sound.logs.below u);
+        takes = take_sound;
+        breaks = λ a b s up. fail_sound rules net a b past sound;
+        mends = λ a b s down. restore_sound rules net a b past sound;
+        closes = λ u v s holds over. local_sound rules net u (local u (log_of u past) All (cause.Down v s)) past valid sound holds refl (unheard u)
+            (λ w. closed_last u v s w holds) (λ w n. closed_below u v s w n holds over);
+        opens = λ u v s none up. open_sound rules net u v s past sound up none;
+      }
 
-  run_sound : (events : List Event) → Sound rules net (run rules net events)
-  unfolding run
-  run_sound events = fold_sound [] events start_sound
+  pub after_sound : (event : Event) → Sound rules net (after rules net past event)
+  after_sound event = holds_after rules net past (Sound rules net) after_moves event
 
-pub alone : (rules : Rules) (net : Net) (events : List Event) (u : ℕ) → IsValid net → Alone rules net (run rules net events) u
-alone rules net events u valid =
-    let sound = run_sound rules net valid events in
-    record {
-      fits = sound.logs.fits u;
-      inherits = sound.logs.inherits u;
-      said = sound.links.said u;
-      heard = sound.logs.heard u;
-    }
-
-pub joined : (rules : Rules) (net : Net) (events : List Event) (v u : ℕ) → IsValid net → Joined (run rules net events) v u
-joined rules net events v u valid =
-    let sound = run_sound rules net valid events in
-    let past = run rules net events in
-    record {
-      holds = sound.logs.holds v u;
-      fifo = λ s.
-          (elim (only_session == s) as (λ t. (only_session == s) ≡ t → (rest : List Item) × (took v u s past ++ rest ≡ sent v u s past)) [
-            | true ↦ λ e.
-                let same : only_session ≡ s = grind (arith, nat_tests) in
-                (channel v u past, subst (λ y. took v u y past ++ channel v u past ≡ sent v u y past) same (sound.links.queue v u))
-            | false ↦ λ e. (sent v u s past, ap (λ r. r ++ sent v u s past) (sound.links.elsewhere v u s e))
-          ]) refl;
-      queue = sound.links.queue v u;
-    }
-
-pub front_fits : (rules : Rules) (net : Net) (events : List Event) (v u : ℕ) → IsValid net → FrontFits net (run rules net events) v u
-front_fits rules net events v u valid =
-    let sound = run_sound rules net valid events in
-    let past = run rules net events in
-    record {
-      next = λ n x rest is. (sound.logs.holds u v, (in_front rules net past v u n x rest sound is).0);
-      placed = λ n x rest is. (in_front rules net past v u n x rest sound is).1.1;
-    }
+pub run_sound : (rules : Rules) (net : Net) → IsValid net → (events : List Event) → Sound rules net (run rules net events)
+run_sound rules net valid events =
+    holds_of_run rules net (Sound rules net) (λ past event sound. after_sound rules net valid past sound event) events (start_sound rules net)

@@ -1,103 +1,94 @@
 -- A node that enters something keeps all that holds.
-use Rattle.std.proofs.Common.{ℕ, true, false, ◌==◌, Some, List, [], ◌∷◌, ◌++◌, ◌≡◌, refl, sym, ◌∙◌, ap, ap₂, subst, arith, append_assoc}
-use Rattle.std.specs.Prelude.{if◌then◌else◌}
+use Rattle.std.proofs.Common.{ℕ, ◌<◌, ◌≤◌, true, false, ◌==◌, Option, Some, None, List, [], ◌∷◌, ◌++◌, ◌≡◌, refl, sym, ◌∙◌, ap, ap₂, subst, arith}
+use Rattle.std.proofs.lemmas.List.{append-nil}
 use Rattle.std.proofs.lemmas.Bool.Decides.{nat_tests}
+use Rattle.topology.specs.declared.links.LinkState.TheVariants as state
+use Rattle.topology.specs.LinkStates.{number_of}
 use Rattle.topology.specs.Lists.{has}
 use Rattle.topology.specs.Net.{Net, IsValid, neighbours}
 use Rattle.topology.proofs.Neighbours.{differ-neighbours}
 use Rattle.path_vector.specs.Rules.{Rules}
-use Rattle.path_vector.specs.History.{held}
+use Rattle.path_vector.specs.History.{held, last}
 use Rattle.trigger_log.specs.Entries.{Entry, reads, inbox, is_session}
 use Rattle.trigger_log.specs.Sending.{news, outbox}
-use Rattle.trigger_log.specs.Going.{numbered, told, going_by, items_to, items_in}
-use Rattle.trigger_log.specs.Fits.{Fits, AllInherit}
+use Rattle.trigger_log.specs.Going.{Item, Going, numbered, told, going_by, items_in}
+use Rattle.trigger_log.specs.Fits.{Fits, AllInherit, CauseFits, Inherits}
+use Rattle.trigger_log.proofs.Holding.{held_is_last, last_grows}
 use Rattle.chronicle.specs.Facts.{Chronicle}
 use Rattle.chronicle.specs.Logs.{log_of}
-use Rattle.chronicle.specs.Channels.{channel}
-use Rattle.chronicle.specs.Messages.{sent, took}
+use Rattle.chronicle.specs.Links.{link}
+use Rattle.chronicle.specs.Messages.{sent, took, updates}
 use Rattle.chronicle.specs.Steps.{write}
-use Rattle.chronicle.specs.Run.{only_session}
-use Rattle.chronicle.proofs.Blocks.{same_number, in_session, in_any, in_spread, to_spread, to_stranger, in_stranger, log_write, log_own, log_other, took_write, channel_own, channel_other, sent_own, sent_other}
+use Rattle.chronicle.proofs.Spreading.{in_session, in_spread, in_stranger}
 use Rattle.cut_laws.proofs.Numbering.{numbered_on}
-use Rattle.cut_laws.proofs.Sound.{Linked, Logged, Sound, grown}
+use Rattle.cut_laws.proofs.Sound.{Linked, Logged, Sound, grown, of_grown}
+use Rattle.cut_laws.proofs.Entering.{Speaks, entered_sound}
 
-module _ (rules : Rules) (net : Net) (u : ℕ) (k : Entry) (past : Chronicle) (valid : IsValid net) (links : Linked rules net past) (logs : Logged (grown u k past) past) where
+-- a session that is not held gets nothing
+not_in : (items : ℕ → List Item) (session : Option ℕ) (newest s : ℕ) → ((t : ℕ) → session ≡ Some t → t ≡ newest) → newest < s → in_session items session s ≡ []
+not_in items None newest s held above = refl
+not_in items (Some t) newest s held above =
+    let same : t ≡ newest = held t refl in
+    let other : (t == s) ≡ false = grind (arith, nat_tests) in
+    rw other refl
+
+module _ (rules : Rules) (net : Net) (u : ℕ) (k : Entry) (past : Chronicle) (valid : IsValid net) (links : Linked rules net past) (logs : Logged (grown u k past) past) (fits : Fits (k ∷ log_of u past)) where
   abbrev h : List Entry
   h = log_of u past
 
-  abbrev next : Chronicle
-  next = write rules net u k past
+  abbrev out : List Going
+  out = going_by rules net u h k
 
-  holds_then : (w : ℕ) → held (k.read ∷ reads h) w ≡ Some only_session
-  holds_then w = subst (λ t. held (reads (if t then k ∷ h else h)) w ≡ Some only_session) (same_number u) (logs.holds u w)
-
-  -- what goes to a node goes in the one session
-  alike : (w : ℕ) → items_to w (going_by rules net u h k) ≡ items_in w only_session (going_by rules net u h k)
+  out_near : (w s : ℕ) → has (neighbours net u) w ≡ true → items_in w s out ≡ in_session (told rules net u h k w) (held (k.read ∷ reads h) w) s
   unfolding going_by
-  alike w =
-      let session = held (k.read ∷ reads h) in
-      let items = told rules net u h k in
-      (elim (has (neighbours net u) w) as (λ t. has (neighbours net u) w ≡ t → items_to w (going_by rules net u h k) ≡ items_in w only_session (going_by rules net u h k)) [
-        | true ↦ λ near.
-            let d = differ-neighbours net u valid in
-            to_spread net u session items w d near
-            ∙ (ap (in_any (items w)) (holds_then w)
-            ∙ sym (in_spread net u session items w only_session d near ∙ ap (λ o. in_session (items w) o only_session) (holds_then w)))
-        | false ↦ λ far. to_stranger net u session items w far ∙ sym (in_stranger net u session items w only_session far)
+  out_near w s near = in_spread net u (held (k.read ∷ reads h)) (told rules net u h k) w s (differ-neighbours net u valid) near
+
+  out_far : (w s : ℕ) → has (neighbours net u) w ≡ false → items_in w s out ≡ []
+  unfolding going_by
+  out_far w s far = in_stranger net u (held (k.read ∷ reads h)) (told rules net u h k) w s far
+
+  write_says : (w s : ℕ) → has (neighbours net u) w ≡ true → updates (sent u w s past ++ items_in w s out) ≡ numbered 1 (outbox rules net u (k ∷ h) w s)
+  unfolding outbox
+  write_says w s near =
+      ap (λ r. updates (sent u w s past ++ r)) (out_near w s near)
+      ∙ numbered_on (is_session (held (k.read ∷ reads h) w) s) (sent u w s past) (outbox rules net u h w s) (news rules net u h k w) (links.said u w s near)
+
+  none_above : (w s : ℕ) → last (k.read ∷ reads h) w < s → items_in w s out ≡ []
+  none_above w s above =
+      (elim (has (neighbours net u) w) as (λ t. has (neighbours net u) w ≡ t → items_in w s out ≡ []) [
+        | true ↦ λ near. out_near w s near ∙ not_in (told rules net u h k w) (held (k.read ∷ reads h) w) (last (k.read ∷ reads h) w) s (λ t e. held_is_last (k.read ∷ reads h) w t e) above
+        | false ↦ λ far. out_far w s far
       ]) refl
 
-  own_said : (w s : ℕ) → has (neighbours net u) w ≡ true → sent u w s next ≡ numbered 1 (outbox rules net u (k ∷ h) w s)
-  unfolding going_by outbox
-  own_said w s near =
-      sent_own rules net u k past w s
-      ∙ (ap (λ r. sent u w s past ++ r) (in_spread net u (held (k.read ∷ reads h)) (told rules net u h k) w s (differ-neighbours net u valid) near)
-      ∙ numbered_on (is_session (held (k.read ∷ reads h) w) s) (sent u w s past) (outbox rules net u h w s) (news rules net u h k w) (links.said u w s near))
-
-  own_queue : (w : ℕ) → took u w only_session next ++ channel u w next ≡ sent u w only_session next
-  own_queue w =
-      let out = going_by rules net u h k in
-      ap₂ (λ a b. a ++ b) (took_write rules net u k past u w only_session) (channel_own rules net u k past w)
-      ∙ (sym (append_assoc (took u w only_session past) (channel u w past) (items_to w out))
-      ∙ (ap₂ (λ a b. a ++ b) (links.queue u w) (alike w)
-      ∙ sym (sent_own rules net u k past w only_session)))
-
-  own_stranger : (w : ℕ) → has (neighbours net u) w ≡ false → channel u w next ≡ []
-  unfolding going_by
-  own_stranger w far =
-      channel_own rules net u k past w
-      ∙ ap₂ (λ a b. a ++ b) (links.strangers u w far) (to_stranger net u (held (k.read ∷ reads h)) (told rules net u h k) w far)
-
-  -- the own node, or another
-  by_node : (P : ℕ → Type 0) → P u → ((v : ℕ) → (u == v) ≡ false → P v) → (v : ℕ) → P v
-  by_node P own others v =
-      (elim (u == v) as (λ t. (u == v) ≡ t → P v) [
-        | true ↦ λ e. let same : u ≡ v = grind (arith, nat_tests) in subst P same own
-        | false ↦ λ e. others v e
-      ]) refl
-
-  linked_then : Linked rules net next
-  linked_then = record {
-    said = by_node (λ v. (w s : ℕ) → has (neighbours net v) w ≡ true → sent v w s next ≡ numbered 1 (outbox rules net v (log_of v next) w s))
-        (λ w s near. own_said w s near ∙ ap (λ l. numbered 1 (outbox rules net u l w s)) (sym (log_own rules net u k past)))
-        (λ v e w s near. sent_other rules net u k past v w s e ∙ (links.said v w s near ∙ ap (λ l. numbered 1 (outbox rules net v l w s)) (sym (log_other rules net u k past v e))));
-    queue = by_node (λ v. (w : ℕ) → took v w only_session next ++ channel v w next ≡ sent v w only_session next)
-        own_queue
-        (λ v e w. ap₂ (λ a b. a ++ b) (took_write rules net u k past v w only_session) (channel_other rules net u k past v w e) ∙ (links.queue v w ∙ sym (sent_other rules net u k past v w only_session e)));
-    elsewhere = λ v w s e. took_write rules net u k past v w s ∙ links.elsewhere v w s e;
-    strangers = by_node (λ v. (w : ℕ) → has (neighbours net v) w ≡ false → channel v w next ≡ [])
-        own_stranger
-        (λ v e w far. channel_other rules net u k past v w e ∙ links.strangers v w far);
+  speaks : Speaks rules net u k out past
+  speaks = record {
+    says = write_says;
+    strangers = λ w s far. ap (λ r. updates (sent u w s past ++ r)) (out_far w s far) ∙ (ap updates (append-nil (sent u w s past)) ∙ links.strangers u w s far);
+    fresh = λ w s above.
+        let more = last_grows k h w fits.0 in
+        let before : last (reads h) w < s = omega arith in
+        ap₂ (λ a b. a ++ b) (links.fresh u w s before) (none_above w s above);
   }
 
-  logged_then : Logged (λ v. log_of v next) next
-  logged_then =
-      let now = λ (v : ℕ). sym (log_write rules net u k past v) in
-      record {
-        fits = λ v. subst Fits (now v) (logs.fits v);
-        inherits = λ v. subst (AllInherit v) (now v) (logs.inherits v);
-        heard = λ v w s. took_write rules net u k past w v s ∙ (logs.heard v w s ∙ ap (λ l. numbered 1 (inbox l w s)) (now v));
-        holds = λ v w. subst (λ l. held (reads l) w ≡ Some only_session) (now v) (logs.holds v w);
-      }
+  pub write_sound : Sound rules net (write rules net u k past)
+  unfolding write
+  write_sound = entered_sound rules net u k out past links logs speaks
 
-  pub write_sound : Sound rules net next
-  write_sound = record { links = linked_then; logs = logged_then }
+-- an entry that fits, opens no session and hears nothing
+pub local_sound : (rules : Rules) (net : Net) (u : ℕ) (k : Entry) (past : Chronicle) → IsValid net → Sound rules net past
+    → CauseFits (log_of u past) k.read.scope k.read.cause → Inherits u (log_of u past) k.read.cause k.triggers
+    → ((w s : ℕ) → inbox (k ∷ log_of u past) w s ≡ inbox (log_of u past) w s) → ((w : ℕ) → last (k.read ∷ reads (log_of u past)) w ≡ last (reads (log_of u past)) w)
+    → ((w n : ℕ) → link u w past ≡ state.Up n → held (k.read ∷ reads (log_of u past)) w ≡ None → last (reads (log_of u past)) w < n)
+    → Sound rules net (write rules net u k past)
+local_sound rules net u k past valid sound fit inherit quiet same below =
+    let logs = sound.logs in
+    write_sound rules net u k past valid sound.links (record {
+      fits = of_grown (λ v l. Fits l) u k past (fit, logs.fits u) (λ v e. logs.fits v);
+      inherits = of_grown AllInherit u k past (inherit, logs.inherits u) (λ v e. logs.inherits v);
+      heard = of_grown (λ v l. (w s : ℕ) → updates (took w v s past) ≡ numbered 1 (inbox l w s)) u k past
+          (λ w s. logs.heard u w s ∙ ap (numbered 1) (sym (quiet w s))) (λ v e. logs.heard v);
+      bounded = of_grown (λ v l. (w : ℕ) → last (reads l) w ≤ number_of (link v w past)) u k past
+          (λ w. subst (λ x. x ≤ number_of (link u w past)) (sym (same w)) (logs.bounded u w)) (λ v e. logs.bounded v);
+      below = of_grown (λ v l. (w n : ℕ) → link v w past ≡ state.Up n → held (reads l) w ≡ None → last (reads l) w < n) u k past
+          (λ w n up none. subst (λ x. x < n) (sym (same w)) (below w n up none)) (λ v e. logs.below v);
+    }) (fit, logs.fits u)

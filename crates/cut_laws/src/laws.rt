@@ -14,7 +14,7 @@ ghost use Rattle.cut_laws.specs.Counted.{queued, takes};
 
 /// What a node said in a session is what its log sends, what it heard is what its log received, and
 /// each entry fits those before it.
-#[tactic(auto, using(crate::proofs::Running::alone))]
+#[tactic(auto, using(crate::proofs::Concluding::alone))]
 pub fn a_node_says_what_its_log_sends()
     ensures { (rules : Rules) (net : Net) (events : List Event) (u : ℕ) → IsValid net →
         Alone rules net (run rules net events) u }
@@ -29,6 +29,7 @@ pub fn a_link_keeps_the_order()
 
 /// A channel is what was queued in the session that the link carries, without what was taken since the
 /// link came up.
+#[tactic(auto, using(crate::proofs::Recounting::counted_channel))]
 pub fn a_channel_is_what_was_queued_and_not_taken()
     ensures { (rules : Rules) (net : Net) (events : List Event) (v u s : ℕ) → IsValid net →
         let past = run rules net events in link v u past ≡ Up s →
@@ -36,19 +37,21 @@ pub fn a_channel_is_what_was_queued_and_not_taken()
 {}
 
 /// The front item of a channel is the next one that its receiver may enter.
-#[tactic(auto, using(crate::proofs::Running::front_fits))]
+#[tactic(auto, using(crate::proofs::Concluding::front_fits))]
 pub fn the_front_item_is_the_next()
     ensures { (rules : Rules) (net : Net) (events : List Event) (v u : ℕ) → IsValid net →
         FrontFits net (run rules net events) v u }
 {}
 
 /// Both ends see one link.
+#[tactic(auto, using(crate::proofs::Concluding::one_link))]
 pub fn both_ends_see_one_link()
     ensures { (rules : Rules) (net : Net) (events : List Event) (v u : ℕ) →
         link v u (run rules net events) ≡ link u v (run rules net events) }
 {}
 
 /// The sessions of a link are no more than the events of a run, and the first one.
+#[tactic(auto, using(crate::proofs::Few::sessions_few))]
 pub fn sessions_are_few()
     ensures { (rules : Rules) (net : Net) (events : List Event) (a b : ℕ) →
         number_of (link a b (run rules net events)) ≤ suc (length events) }
