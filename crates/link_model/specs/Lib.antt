@@ -1,3 +1,5 @@
 pub mod Acts
 pub mod Readings
+pub mod Ways
+pub mod Keeping
 pub mod Standing

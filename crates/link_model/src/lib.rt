@@ -5,11 +5,9 @@
 //! the order in which they were pushed.
 #![tactic(auto)]
 
+pub mod channels;
 pub mod laws;
 pub mod links;
 
 pub use links::Links;
 pub use topology::LinkState;
-
-#[cfg(test)]
-mod tests;

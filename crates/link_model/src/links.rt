@@ -1,23 +1,19 @@
 //! The links of a network.
-ghost use Rattle.std.specs.Prelude.{◌≡◌, ◌<◌, ◌-◌, ◌^◌, [], ◌∷◌, List, true, false, IfOk, OnErr, IfSome, IfNone, ◌→◌};
+ghost use Rattle.std.specs.Prelude.{ℕ, ◌≡◌, ◌<◌, ◌-◌, ◌^◌, [], ◌∷◌, List, Some, true, false, not, map, slice_get, IfOk, OnErr, IfSome, IfNone};
 ghost use Rattle.topology.specs.declared.items.Item.{Item as Carried};
+ghost use Rattle.topology.specs.Lists.{has};
 ghost use Rattle.topology.specs.Net.{Net, linked};
 ghost use Rattle.topology.specs.LinkStates.{carries, is_up, number_of};
+ghost use Rattle.std.specs.List.Sorted.{IsStrictlyIncreasing};
 ghost use Rattle.link_model.specs.Acts.{Acts, Push, Take, Fail, Restore};
-ghost use Rattle.link_model.specs.Readings.{state, channel};
+ghost use Rattle.link_model.specs.Readings.{state, channel, behind_front};
+ghost use Rattle.link_model.specs.Ways.{OneWay, unused, emptied, after_push};
+ghost use Rattle.link_model.specs.Keeping.{Ways, Keeps, IsPlaced, IsUnused, replaced};
 ghost use Rattle.link_model.specs.Standing.{StandsFor};
 
+use crate::channels::Channel;
 use std::alloc::Global;
-use std::collections::VecDeque;
 use topology::{Item, LinkState, NoMemory, NodeId, Session, Topology};
-
-/// The way from a node to a neighbour: the state of their link, and the items on their way, the oldest
-/// first.
-#[derive(Drop)]
-pub struct Channel {
-    state: LinkState,
-    items: VecDeque<Item>,
-}
 
 /// The ways from one node to each of its neighbours, ascending.
 #[derive(Drop)]
@@ -34,18 +30,25 @@ pub struct Links {
 }
 
 // The ways from a node, each link up in its session 1, and nothing on its way.
-fn fresh_row(alloc: Global, near: &[NodeId]) -> Result<Row, NoMemory> {
+fn fresh_row(alloc: Global, near: &[NodeId]) -> Result<Row, NoMemory>
+    ensures { IfOk result (λ row. IsUnused near.now row) }
+{
     let mut channels = Vec::with_capacity(alloc, near.len())?;
     for _ in near {
-        channels.push(Channel {
-            state: LinkState::Up(Session::new(1)),
-            items: VecDeque::new(alloc),
-        })?;
+        channels.push(Channel::new(alloc))?;
     }
     Ok(Row {
         near: Vec::from_slice(alloc, near)?,
         channels,
     })
+}
+
+// The place of a node in a list that rises.
+fn place_of(nodes: &[NodeId], node: NodeId) -> Option<usize>
+    ensures some { IfSome result (λ place. slice_get nodes.now place ≡ Some node) }
+    ensures none { IfNone result (IsStrictlyIncreasing nodes.now → has nodes.now node ≡ false) }
+{
+    nodes.binary_search(&node).ok()
 }
 
 impl Links {
@@ -63,6 +66,38 @@ impl Links {
         })
     }
 
+    // The places of a way: that of its row, and that in the row. None where the two have no link.
+    fn locate(&self, from: NodeId, to: NodeId) -> Option<(usize, usize)>
+        ensures some { IfSome result (λ places. IsPlaced self.now from to places.0 places.1) }
+        ensures none { IfNone result ((net : Net) (ways : Ways) → Keeps net self.now ways →
+            linked net from to ≡ false) }
+    {
+        let Some(rank) = place_of(&self.ids, from) else {
+            return None;
+        };
+        let Some(row) = self.rows.get(rank) else {
+            return None;
+        };
+        let Some(place) = place_of(&row.near, to) else {
+            return None;
+        };
+        if place >= row.channels.len() {
+            return None;
+        }
+        Some((rank, place))
+    }
+
+    // The way from one node to another. None where the two have no link.
+    fn way(&self, from: NodeId, to: NodeId) -> Option<&Channel>
+        ensures some { IfSome result (λ channel. (net : Net) (ways : Ways) → Keeps net self.now ways →
+            channel.now ≡ ways from to) }
+        ensures none { IfNone result ((net : Net) (ways : Ways) → Keeps net self.now ways →
+            linked net from to ≡ false) }
+    {
+        let (rank, place) = self.locate(from, to)?;
+        Some(&self.rows[rank].channels[place])
+    }
+
     /// Sends an item on its way in a session. True where it is queued; false where the link does not
     /// carry that session: the item is lost then.
     pub fn push(
@@ -77,34 +112,56 @@ impl Links {
             StandsFor net self.new (Push from to session item ∷ acts)) }
         ensures err { OnErr result (self.new ≡ self.old) }
     {
-        let Some(channel) = self.way_mut(from, to) else {
+        let Some((rank, place)) = self.locate(from, to) else {
             return Ok(false);
         };
-        if channel.state != LinkState::Up(session) {
-            return Ok(false);
+        let queued = self.rows[rank].channels[place].push(session, item)?;
+        Ok(queued)
+    }
+
+    // The way from one node to another is over a link in this state from now on, and what was on it
+    // is lost.
+    fn restart(&mut self, from: NodeId, to: NodeId, state: LinkState)
+        ensures { (net : Net) (ways : Ways) → Keeps net self.old ways → linked net from to ≡ true →
+            Keeps net self.new (replaced from to (emptied state) ways) }
+    {
+        if let Some((rank, place)) = self.locate(from, to) {
+            self.rows[rank].channels[place].restart(state);
         }
-        channel.items.push_back(item)?;
-        Ok(true)
     }
 
     /// The link fails: what is on its way over it, both ways, is lost. False exactly where it is down
     /// already. Takes no memory.
     pub fn fail(&mut self, a: NodeId, b: NodeId) -> bool
-        ensures { (net : Net) (acts : Acts) → StandsFor net self.old acts → linked net a b ≡ true →
+        ensures failed { (net : Net) (acts : Acts) → StandsFor net self.old acts → linked net a b ≡ true →
             (result ≡ is_up (state a b acts)) × StandsFor net self.new (Fail a b ∷ acts) }
         ensures unchanged { result ≡ false → self.new ≡ self.old }
     {
-        todo!()
+        let LinkState::Up(session) = self.state(a, b) else {
+            return false;
+        };
+        self.restart(a, b, LinkState::Down(session));
+        self.restart(b, a, LinkState::Down(session));
+        true
     }
 
     /// The link comes up with the next session. False exactly where it is up already. Takes no memory.
     pub fn restore(&mut self, a: NodeId, b: NodeId) -> bool
-        ensures { (net : Net) (acts : Acts) → StandsFor net self.old acts → linked net a b ≡ true →
+        ensures restored { (net : Net) (acts : Acts) → StandsFor net self.old acts → linked net a b ≡ true →
             number_of (state a b acts) < 2 ^ 32 - 1 →
             (is_up (state a b acts) ≡ not result) × StandsFor net self.new (Restore a b ∷ acts) }
         ensures unchanged { result ≡ false → self.new ≡ self.old }
     {
-        todo!()
+        let LinkState::Down(session) = self.state(a, b) else {
+            return false;
+        };
+        let Some(number) = session.number().checked_add(1) else {
+            return false;
+        };
+        let next = Session::new(number);
+        self.restart(a, b, LinkState::Up(next));
+        self.restart(b, a, LinkState::Up(next));
+        true
     }
 
     /// The state of the link of two nodes. Takes no memory.
@@ -113,7 +170,7 @@ impl Links {
             result ≡ state a b acts }
     {
         match self.way(a, b) {
-            Some(channel) => channel.state,
+            Some(channel) => channel.state(),
             None => LinkState::Down(Session::new(1)),
         }
     }
@@ -125,7 +182,10 @@ impl Links {
         ensures none { IfNone result ((net : Net) (acts : Acts) → StandsFor net self.now acts →
             linked net from to ≡ true → channel from to acts ≡ []) }
     {
-        self.way(from, to)?.items.front()
+        let Some(channel) = self.way(from, to) else {
+            return None;
+        };
+        channel.front()
     }
 
     /// Takes the oldest item on its way from the one node to the other. Takes no memory.
@@ -137,6 +197,9 @@ impl Links {
             linked net from to ≡ true → channel from to acts ≡ []) }
         ensures unchanged { IfNone result (self.new ≡ self.old) }
     {
-        self.way_mut(from, to)?.items.pop_front()
+        let Some((rank, place)) = self.locate(from, to) else {
+            return None;
+        };
+        self.rows[rank].channels[place].pop_front()
     }
 }

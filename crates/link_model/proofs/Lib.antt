@@ -1,0 +1,6 @@
+mod Acting
+mod Places
+mod Keeping
+mod Again
+mod Standing
+mod Fresh

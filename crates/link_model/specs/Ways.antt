@@ -1,0 +1,24 @@
+-- What is kept of the way from a node to a neighbour.
+use Rattle.std.specs.Prelude.{ℕ, List, [], ◌∷◌, ◌++◌, if◌then◌else◌}
+use Rattle.topology.specs.declared.items.Item.{Item}
+use Rattle.topology.specs.declared.links.LinkState.{LinkState}
+use Rattle.topology.specs.declared.links.LinkState.TheVariants.{Up}
+use Rattle.topology.specs.LinkStates.{carries}
+
+-- the state of the link, and the items on their way, the oldest first
+pub record OneWay : Type 0 where
+  pub state : LinkState
+  pub items : List Item
+
+-- nothing on its way over a link in this state
+abbrev pub emptied : LinkState → OneWay
+emptied link = record { state = link; items = [] }
+
+-- each way at the start
+abbrev pub unused : OneWay
+unused = emptied (Up 1)
+
+-- one item more at the end, where the link carries its session
+abbrev pub after_push : ℕ → Item → OneWay → OneWay
+after_push session item way =
+    if carries way.state session then record { state = way.state; items = way.items ++ item ∷ [] } else way

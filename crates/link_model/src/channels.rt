@@ -1,0 +1,85 @@
+//! One way of a link.
+ghost use Rattle.std.specs.Prelude.{◌≡◌, [], ◌∷◌, ◌++◌, IfOk, OnErr, IfSome, IfNone, if◌then◌else◌};
+ghost use Rattle.topology.specs.LinkStates.{carries};
+ghost use Rattle.link_model.specs.Readings.{behind_front};
+ghost use Rattle.link_model.specs.Ways.{unused, emptied, after_push};
+
+use std::alloc::Global;
+use std::collections::VecDeque;
+use std::marker::Model;
+use topology::{Item, LinkState, NoMemory, Session};
+
+/// The way from a node to a neighbour: the state of their link, and the items on their way, the oldest
+/// first.
+#[derive(Drop)]
+pub struct Channel {
+    state: LinkState,
+    items: VecDeque<Item>,
+}
+
+impl Model for Channel {
+    ghost use Rattle.link_model.specs.Ways.{OneWay};
+
+    ghost Value = { OneWay };
+
+    ghost view = { λ c. record { state = c.state; items = c.items.items } };
+}
+
+impl Channel {
+    /// The link is up in its session 1, and nothing is on its way. Takes no memory.
+    pub fn new(alloc: Global) -> Channel
+        ensures { result ≡ unused }
+    {
+        Channel {
+            state: LinkState::Up(Session::new(1)),
+            items: VecDeque::new(alloc),
+        }
+    }
+
+    /// The state of the link.
+    pub fn state(&self) -> LinkState
+        ensures { result ≡ self.now.state }
+    {
+        self.state
+    }
+
+    /// Sends an item on its way in a session. True where it is queued; false where the link does not
+    /// carry that session: the item is lost then.
+    pub fn push(&mut self, session: Session, item: Item) -> Result<bool, NoMemory>
+        ensures ok { IfOk result (λ queued. queued ≡ carries self.old.state session) }
+        ensures new { IfOk result (λ queued. self.new ≡ after_push session item self.old) }
+        ensures err { OnErr result (self.new ≡ self.old) }
+    {
+        if self.state != LinkState::Up(session) {
+            return Ok(false);
+        }
+        self.items.push_back(item)?;
+        Ok(true)
+    }
+
+    /// The link is in this state from now on, and what was on its way is lost. Takes no memory.
+    pub fn restart(&mut self, state: LinkState)
+        ensures { self.new ≡ emptied state }
+    {
+        self.state = state;
+        self.items.clear();
+    }
+
+    /// The oldest item on its way. Takes no memory.
+    pub fn front(&self) -> Option<&Item>
+        ensures some { IfSome result (λ item. self.now.items ≡ item.now ∷ behind_front self.now.items) }
+        ensures none { IfNone result (self.now.items ≡ []) }
+    {
+        self.items.front()
+    }
+
+    /// Takes the oldest item on its way. Takes no memory.
+    pub fn pop_front(&mut self) -> Option<Item>
+        ensures some { IfSome result (λ item. self.old.items ≡ item ∷ self.new.items) }
+        ensures state { self.new.state ≡ self.old.state }
+        ensures none { IfNone result (self.old.items ≡ []) }
+        ensures unchanged { IfNone result (self.new ≡ self.old) }
+    {
+        self.items.pop_front()
+    }
+}
