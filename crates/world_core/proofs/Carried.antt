@@ -4,6 +4,7 @@ use Rattle.std.specs.Prelude.{if◌then◌else◌}
 use Rattle.std.proofs.lemmas.Bool.Decides.{nat_tests}
 use Rattle.std.proofs.lemmas.List.{map-append}
 use Rattle.topology.specs.declared.items.Item.{Item as Message}
+use Rattle.topology.specs.declared.links.LinkState.{LinkState}
 use Rattle.topology.specs.LinkStates.{are_ends, carries, failed, restored}
 use Rattle.topology.specs.Net.{Net}
 use Rattle.trigger_log.specs.Entries.{Entry}
@@ -89,3 +90,15 @@ module _ (net : Net) (past : Chronicle) (old new : Links) (was : AreLinks net pa
 -- an entry changes nothing of the links
 pub logged : (net : Net) (past : Chronicle) (links : Links) (u : ℕ) (k : Entry) → AreLinks net past links → AreLinks net (Log u k ∷ past) links
 logged net past links u k was = record { acts = was.acts; stands = was.stands; states = was.states; items = was.items }
+
+-- what the links say of a link is what the run says
+pub link_read : (net : Net) (past : Chronicle) (links : Links) (was : AreLinks net past links) (a b : ℕ) (l : LinkState) → l ≡ state a b was.acts → link a b past ≡ l
+link_read net past links was a b l is = sym (is ∙ was.states a b)
+
+-- so of the items on a way
+pub front_read : (net : Net) (past : Chronicle) (links : Links) (was : AreLinks net past links) (a b : ℕ) (x : Message) (rest : List Message) → channel a b was.acts ≡ x ∷ rest
+    → channel_of a b past ≡ item_of x ∷ map item_of rest
+front_read net past links was a b x rest is = sym (was.items a b) ∙ ap (map item_of) is
+
+pub empty_read : (net : Net) (past : Chronicle) (links : Links) (was : AreLinks net past links) (a b : ℕ) → channel a b was.acts ≡ [] → channel_of a b past ≡ []
+empty_read net past links was a b is = sym (was.items a b) ∙ ap (map item_of) is

@@ -4,3 +4,7 @@ pub mod Listed
 pub mod Carried
 pub mod Sends
 pub mod Placed
+pub mod Wrote
+pub mod Comes
+pub mod Opened
+pub mod Taken

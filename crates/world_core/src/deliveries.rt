@@ -136,9 +136,9 @@ pub fn deliver<P: Policy + Copy>(
     let LinkState::Up(session) = links.state(from, to) else {
         return Ok(Outcome::Idle(Reason::LinkDown));
     };
-    if links.front(from, to).is_none() {
+    let Some(_) = links.front(from, to) else {
         return Ok(Outcome::Idle(Reason::EmptyChannel));
-    }
+    };
     if !holds(topology, sites, to, from, session) {
         return Ok(Outcome::Idle(Reason::WrongSession));
     }

@@ -1,5 +1,5 @@
 //! After an event the ways that it may have changed are looked at again.
-ghost use Rattle.std.specs.Prelude.{◌≡◌, ◌∷◌, [], List, true, OnOk, IfSome, IsNone, IsTrue, IfNone};
+ghost use Rattle.std.specs.Prelude.{◌≡◌, ◌∷◌, ◌++◌, [], List, true, OnOk, IfSome, IsNone, IsTrue, IfNone};
 ghost use Rattle.topology.specs.Net.{linked};
 ghost use Rattle.chronicle.specs.declared.ways.Way.{Way as Direction};
 ghost use Rattle.chronicle.specs.Facts.{Chronicle};

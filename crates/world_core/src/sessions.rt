@@ -1,5 +1,6 @@
 //! A node closes a session, or opens one.
 ghost use Rattle.std.specs.Prelude.{◌≡◌, true, IfOk};
+ghost use Rattle.topology.specs.LinkStates.{carries};
 ghost use Rattle.topology.specs.Net.{linked};
 ghost use Rattle.chronicle.specs.Facts.{Chronicle};
 ghost use Rattle.world_core.specs.Matching.{Matches};
@@ -13,8 +14,18 @@ use chronicle::Event;
 use link_model::Links;
 use path_vector::{Cause, Policy};
 use std::alloc::Global;
-use topology::{Epoch, Item, LinkState, NoMemory, NodeId, Reason, Scope, Topology};
+use topology::{Epoch, Item, LinkState, NoMemory, NodeId, Reason, Scope, Session, Topology};
 use trigger_log::Outgoing;
+
+// Whether a link in this state carries the session.
+fn carries(link: &LinkState, session: Session) -> bool
+    ensures { result ≡ carries link.now session }
+{
+    match link {
+        LinkState::Up(number) => *number == session,
+        LinkState::Down(_) => false,
+    }
+}
 
 /// The node notices that the link does not carry the session that it holds, and closes it.
 pub fn notice<P: Policy + Copy>(
@@ -34,7 +45,7 @@ pub fn notice<P: Policy + Copy>(
     let Some(session) = log_at(topology, sites, node).held(nbr) else {
         return Ok(Outcome::Idle(Reason::NotOpen));
     };
-    if links.state(node, nbr) == LinkState::Up(session) {
+    if carries(&links.state(node, nbr), session) {
         return Ok(Outcome::Idle(Reason::StillUp));
     }
     let scope = Scope::All;
