@@ -30,7 +30,8 @@ use Rattle.world_core.specs.declared.outcomes.Outcome.{Outcome}
 use Rattle.world_core.specs.declared.outcomes.Outcome.TheVariants as outcome
 use Rattle.world_core.specs.declared.sites.Site.{Site}
 use Rattle.world_core.specs.Effects.{effects, Tells}
-use Rattle.world_core.specs.Matching.{AreLinks, Matches}
+use Rattle.world_core.specs.Matching.{AreLinks, AreSites, Matches}
+use Rattle.world_core.proofs.Placed.{same_sites}
 use Rattle.world_core.specs.Happening.{AreMoving, AreSending, Happens, LinksHappen, Since}
 
 module _ {P : Type 0} (policy : P) (rules : Rules) (net : Net) (past : Chronicle) (event : Event) (sites : List (Site P)) (links : Links) where
@@ -170,3 +171,20 @@ run-none rules net = refl
 -- what was taken shows nothing
 pub since_took : (past : Chronicle) (v u s : ℕ) (x : Item) (list : List Effect) (now : Chronicle) → Since (Took v u s x ∷ past) list now → Since past list now
 since_took past v u s x list now was = subst (λ shown. shown ++ list ≡ effects now) (append-nil (effects past)) was
+
+-- a link that fails or comes up again changes no log
+pub fail_logs : (rules : Rules) (net : Net) (past : Chronicle) (a b u : ℕ) → log_of u (after rules net past (Fail a b)) ≡ log_of u past
+unfolding after step
+fail_logs rules net past a b u = elim (link a b past) as (λ l. log_of u (chronicle_of past (fails past a b l)) ≡ log_of u past) [ Up s ↦ refl | Down s ↦ refl ]
+
+pub restore_logs : (rules : Rules) (net : Net) (past : Chronicle) (a b u : ℕ) → log_of u (after rules net past (Restore a b)) ≡ log_of u past
+unfolding after step
+restore_logs rules net past a b u = elim (link a b past) as (λ l. log_of u (chronicle_of past (restores past a b l)) ≡ log_of u past) [ Up s ↦ refl | Down s ↦ refl ]
+
+pub with_sites : {P : Type 0} (policy : P) (rules : Rules) (net : Net) (past : Chronicle) (event : Event) (sites : List (Site P)) (links : Links) (outcome : Outcome)
+    → ((u : ℕ) → log_of u (after rules net past event) ≡ log_of u past) → AreSites policy rules net past sites → LinksHappen rules net past event links outcome
+    → Happens policy rules net past event sites links outcome
+with_sites policy rules net past event sites links outcome same was happened = record {
+  matches = record { are_sites = same_sites policy rules net past (after rules net past event) sites same was; are_links = happened.are_links };
+  tells = happened.tells;
+}

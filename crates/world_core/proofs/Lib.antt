@@ -8,3 +8,6 @@ pub mod Wrote
 pub mod Comes
 pub mod Opened
 pub mod Taken
+pub mod Changing
+mod WayOrder
+mod FirstWay

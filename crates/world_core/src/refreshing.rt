@@ -19,7 +19,7 @@ use crate::waiting::Waiting;
 use chronicle::{Event, Way};
 use link_model::Links;
 use path_vector::Policy;
-use topology::{LinkState, NoMemory, NodeId, Topology};
+use topology::{LinkState, NoMemory, Topology};
 
 // Whether a delivery over the way would not be idle.
 fn waits<P: Policy + Copy>(
@@ -36,9 +36,9 @@ fn waits<P: Policy + Copy>(
     let LinkState::Up(session) = links.state(way.from, way.to) else {
         return false;
     };
-    if links.front(way.from, way.to).is_none() {
+    let Some(_) = links.front(way.from, way.to) else {
         return false;
-    }
+    };
     let Some(rank) = topology.rank_of(way.to) else {
         return false;
     };
@@ -67,19 +67,20 @@ fn look<P: Policy + Copy>(
     Ok(())
 }
 
-// The two ends of the link of the event, where it is about a link.
-fn ends_of(event: &Event) -> Option<(NodeId, NodeId)>
-    ensures some { IfSome result (λ ends. ways_of event.now ≡ way ends.0 ends.1 ∷ way ends.1 ends.0 ∷ []) }
+// One of the two ways over the link of the event, where it is about a link.
+fn way_of(event: &Event) -> Option<Way>
+    ensures some { IfSome result (λ one. ways_of event.now ≡ one ∷ way one.to one.from ∷ []) }
     ensures none { IfNone result (ways_of event.now ≡ []) }
 {
-    match event {
-        Event::Deliver { from, to } => Some((*from, *to)),
-        Event::Fail { a, b } => Some((*a, *b)),
-        Event::Restore { a, b } => Some((*a, *b)),
-        Event::Notice { node, nbr } => Some((*node, *nbr)),
-        Event::OpenSession { node, nbr } => Some((*node, *nbr)),
-        _ => None,
-    }
+    let (from, to) = match event {
+        Event::Deliver { from, to } => (*from, *to),
+        Event::Fail { a, b } => (*a, *b),
+        Event::Restore { a, b } => (*a, *b),
+        Event::Notice { node, nbr } => (*node, *nbr),
+        Event::OpenSession { node, nbr } => (*node, *nbr),
+        _ => return None,
+    };
+    Some(Way { from, to })
 }
 
 // Looks again at both ways over the link of the event.
@@ -96,11 +97,15 @@ fn look_at_link<P: Policy + Copy>(
         AreWaitingBut topology.now past (ways_of event.now ++ rest) (has_way waiting.old) →
         AreWaitingBut topology.now past rest (has_way waiting.new)) }
 {
-    let Some((a, b)) = ends_of(event) else {
+    let Some(one) = way_of(event) else {
         return Ok(());
     };
-    look(topology, sites, links, &Way { from: a, to: b }, waiting)?;
-    look(topology, sites, links, &Way { from: b, to: a }, waiting)?;
+    let other = Way {
+        from: one.to,
+        to: one.from,
+    };
+    look(topology, sites, links, &one, waiting)?;
+    look(topology, sites, links, &other, waiting)?;
     Ok(())
 }
 
