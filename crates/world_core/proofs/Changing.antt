@@ -62,7 +62,7 @@ ways_append (Logged node index ∷ xs) ys = ways_append xs ys
 ways_append (Queued from to ∷ xs) ys = ap (λ l. way from to ∷ l) (ways_append xs ys)
 ways_append (Lost from to ∷ xs) ys = ways_append xs ys
 
-linked_append : (net : Net) (ws vs : List Way) → AreLinked net ws → AreLinked net vs → AreLinked net (ws ++ vs)
+pub linked_append : (net : Net) (ws vs : List Way) → AreLinked net ws → AreLinked net vs → AreLinked net (ws ++ vs)
 linked_append net [] vs first second = second
 linked_append net (w ∷ ws) vs first second = (first.0, linked_append net ws vs first.1 second)
 

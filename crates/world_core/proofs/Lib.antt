@@ -11,3 +11,6 @@ pub mod Taken
 pub mod Changing
 mod WayOrder
 mod FirstWay
+pub mod Counts
+pub mod Fresh
+pub mod Next

@@ -47,7 +47,7 @@ near_all net u items session (w ∷ ws) near =
     near_append net u (going_in w (items w) (session w)) (flat_map (λ w. going_in w (items w) (session w)) ws)
     (near_in net u w (items w) (session w) near.0) (near_all net u items session ws near.1)
 
-filter_passes : (p : ℕ → Bool) (xs : List ℕ) → AllByRecursion (λ x. p x ≡ true) (filter p xs)
+pub filter_passes : (p : ℕ → Bool) (xs : List ℕ) → AllByRecursion (λ x. p x ≡ true) (filter p xs)
 filter_passes p [] = tt
 filter_passes p (x ∷ xs) = (elim (p x) as (λ b. p x ≡ b → AllByRecursion (λ x. p x ≡ true) (cond b (x ∷ filter p xs) (filter p xs))) [
   | true ↦ λ e. (e, filter_passes p xs)
