@@ -1,29 +1,36 @@
 -- What an entry of one node changes of the counts of all.
-use Rattle.std.proofs.Common.{ℕ, suc, Bool, true, false, ◌+◌, ◌==◌, ◌&&◌, Option, Some, None, List, [], ◌∷◌, ◌≡◌, ◌≤◌, ◌<◌, IsTrue, Result, Err, IfErr, refl, sym, ◌∙◌, ap, ap₂, subst, arith, length, nat_lt, get_or, slice_get}
+use Rattle.std.proofs.Common.{ℕ, suc, Bool, true, false, ◌+◌, ◌-◌, ◌^◌, ◌==◌, ◌&&◌, Option, Some, None, List, [], ◌∷◌, ◌≡◌, ◌≤◌, ◌<◌, IsTrue, Result, Err, IfErr, refl, sym, ◌∙◌, ap, ap₂, subst, arith, length, nat_lt, get_or, slice_get}
 use Rattle.std.specs.Prelude.{nat_le, if◌then◌else◌}
 use Rattle.std.specs.List.{list_any, sum_by}
 use Rattle.std.proofs.lemmas.Bool.Decides.{nat_tests}
 use Rattle.std.proofs.lemmas.List.Sums.{sum_by-cons}
 use Rattle.topology.specs.declared.status.LimitKind.TheVariants.{Events}
 use Rattle.topology.specs.declared.status.Reason.{Reason}
-use Rattle.topology.specs.declared.status.Reason.TheVariants.{AlreadyOrigin, NotOrigin}
+use Rattle.topology.specs.declared.status.Reason.TheVariants.{AlreadyOrigin, NotOrigin, WrongSession, StillUp}
+use Rattle.topology.specs.declared.links.LinkState.{LinkState}
+use Rattle.topology.specs.declared.links.LinkState.TheVariants.{Up, Down}
+use Rattle.topology.specs.declared.names.Scope.TheVariants.{All}
 use Rattle.topology.specs.Lists.{has, ascending}
+use Rattle.topology.specs.LinkStates.{carries}
 use Rattle.topology.specs.Paths.{differ}
-use Rattle.topology.specs.Net.{Net, IsValid}
+use Rattle.topology.specs.Net.{Net, IsValid, linked}
+use Rattle.path_vector.specs.declared.causes.Cause.TheVariants as cause
 use Rattle.path_vector.specs.Rules.{Rules}
-use Rattle.path_vector.specs.History.{owns}
-use Rattle.trigger_log.specs.Entries.{Entry, reads, is_local, locals}
+use Rattle.path_vector.specs.History.{owns, ready}
+use Rattle.trigger_log.specs.Entries.{Entry, local, reads, is_local, is_session, locals}
 use Rattle.trigger_log.specs.Sending.{sent_of}
-use Rattle.trigger_log.specs.Going.{Item, News}
+use Rattle.trigger_log.specs.Going.{Item, News, Hello}
 use Rattle.trigger_log.specs.Standing.{StandsFor}
+use Rattle.link_model.specs.declared.links.Links.{Links}
 use Rattle.chronicle.specs.declared.events.Event.{Event}
-use Rattle.chronicle.specs.declared.events.Event.TheVariants.{Originate, Withdraw, Deliver}
+use Rattle.chronicle.specs.declared.events.Event.TheVariants.{Originate, Withdraw, Prefer, Deliver, Fail, Restore, Notice, OpenSession}
 use Rattle.chronicle.specs.Facts.{Chronicle, Took}
 use Rattle.chronicle.specs.Logs.{log_of}
+use Rattle.chronicle.specs.Links.{link}
 use Rattle.chronicle.specs.Channels.{channel}
-use Rattle.chronicle.specs.Steps.{heard, write, take_item}
-use Rattle.chronicle.specs.Run.{Step, Idle, Goes, only_session, delivered, step, after, run, chronicle_of}
-use Rattle.chronicle.proofs.Blocks.{log_own, log_other}
+use Rattle.chronicle.specs.Steps.{greeted, heard, open_session, write, take_item}
+use Rattle.chronicle.specs.Run.{Step, Idle, Goes, held_with, delivered, noticed, opened, fails, restores, step, after, run, chronicle_of}
+use Rattle.chronicle.proofs.Blocks.{log_own, log_other, log_opener, log_not_opener}
 use Rattle.world_core.specs.Limits.{triggers_of, has_more_entries, has_more_updates, limit_of, most_events, most_triggers, most_entries, most_updates, first_above, above, above_by, StopsAt, Reached}
 use Rattle.world_core.specs.Fits.{fits}
 use Rattle.world_core.specs.Effects.{Tells}
@@ -32,11 +39,12 @@ use Rattle.world_core.specs.declared.outcomes.Outcome.TheVariants as outcome
 use Rattle.world_core.specs.declared.outcomes.Stop.{Stop}
 use Rattle.world_core.specs.declared.outcomes.Stop.TheVariants as stop
 use Rattle.world_core.specs.declared.sites.Site.{Site}
-use Rattle.world_core.specs.Happening.{Happens, node_of, is_own}
+use Rattle.world_core.specs.Happening.{Happens, node_of, next_count}
 use Rattle.world_core.specs.Matching.{IsCounted}
 use Rattle.world_core.proofs.Near.{linked_nodes}
-use Rattle.world_core.proofs.Places.{site_at}
-use Rattle.world_core.proofs.Coming.{begins, ends}
+use Rattle.world_core.proofs.Placed.{site_at}
+use Rattle.world_core.proofs.Told.{same_some}
+use Rattle.world_core.proofs.Comes.{begins, ends}
 
 -- ---- sums and tests over all nodes, where what is read of one has changed
 
@@ -81,49 +89,116 @@ module _ (p q : ℕ → Bool) (u : ℕ) (others : (v : ℕ) → (u == v) ≡ fal
 
 -- ---- what an event changes of the logs
 
--- u made an entry, a local one or not; the other logs are as they were
-pub record Enters (past now : Chronicle) (u : ℕ) (own : Bool) : Type 0 where
-  pub entry : Entry
-  pub log : log_of u now ≡ entry ∷ log_of u past
+-- the log of u has so many local entries more, one at most; the other logs are as they were
+pub record Grows (past now : Chronicle) (u : ℕ) : Type 0 where
+  pub more : ℕ
+  pub few : more ≤ 1
+  pub given : locals (log_of u now) ≡ locals (log_of u past) + more
   pub others : (v : ℕ) → (u == v) ≡ false → log_of v now ≡ log_of v past
-  pub local : is_local entry.read.cause ≡ own
 
-entered : (rules : Rules) (net : Net) (u : ℕ) (k : Entry) (past : Chronicle) → Enters past (write rules net u k past) u (is_local k.read.cause)
-entered rules net u k past = record {
-  entry = k;
-  log = log_own rules net u k past;
-  others = λ v e. log_other rules net u k past v e;
-  local = refl;
+-- where there is no node, all logs are as they were
+abbrev pub GrowsAt : Chronicle → Chronicle → Option ℕ → Type 0
+GrowsAt past now None = (v : ℕ) → log_of v now ≡ log_of v past
+GrowsAt past now (Some u) = Grows past now u
+
+abbrev pub GrowsBy : Chronicle → Option ℕ → Step → Type 0
+GrowsBy past who (Idle reason) = Unit {0}
+GrowsBy past who (Goes now) = GrowsAt past now who
+
+one_more : (own : Bool) (n : ℕ) → (if own then suc n else n) ≡ n + (if own then 1 else 0)
+one_more true n = omega arith
+one_more false n = omega arith
+
+one_at_most : (own : Bool) → (if own then 1 else 0) ≤ 1
+one_at_most true = omega arith
+one_at_most false = omega arith
+
+grown : (past now : Chronicle) (u : ℕ) (k : Entry) → log_of u now ≡ k ∷ log_of u past → ((v : ℕ) → (u == v) ≡ false → log_of v now ≡ log_of v past) → Grows past now u
+grown past now u k own others = record {
+  more = if is_local k.read.cause then 1 else 0;
+  few = one_at_most (is_local k.read.cause);
+  given = ap locals own ∙ one_more (is_local k.read.cause) (locals (log_of u past));
+  others = others;
 }
 
--- so it is where the event is not idle
-abbrev pub EntersBy : Chronicle → ℕ → Bool → Step → Type 0
-EntersBy past u own (Idle reason) = Unit {0}
-EntersBy past u own (Goes now) = Enters past now u own
+entered : (rules : Rules) (net : Net) (u : ℕ) (k : Entry) (past : Chronicle) → Grows past (write rules net u k past) u
+entered rules net u k past = grown past (write rules net u k past) u k (log_own rules net u k past) (λ v e. log_other rules net u k past v e)
 
-taken : (rules : Rules) (net : Net) (past : Chronicle) (v u : ℕ) (items : List Item) → EntersBy past u false (delivered rules net past v u items)
-unfolding take_item
-taken rules net past v u [] = tt
-taken rules net past v u (News n x ∷ rest) =
-    let took = entered rules net u (heard v only_session (News n x)) (Took v u only_session (News n x) ∷ past) in
-    record { entry = took.entry; log = took.log; others = took.others; local = took.local }
+not_grown : (past : Chronicle) (u : ℕ) → Grows past past u
+not_grown past u = record { more = 0; few = omega arith; given = omega arith; others = λ v e. refl }
 
-pub enters : (rules : Rules) (net : Net) (past : Chronicle) (event : Event) → EntersBy past (node_of event) (is_own event) (step rules net past event)
-unfolding step
-enters rules net past (Originate u p) = elim (owns (reads (log_of u past)) p) as (λ t. EntersBy past u true (if t then Idle AlreadyOrigin else Goes (write rules net u (begins rules net past u p) past))) [
-  | true ↦ tt
-  | false ↦ entered rules net u (begins rules net past u p) past
-]
-enters rules net past (Withdraw u p) = elim (owns (reads (log_of u past)) p) as (λ t. EntersBy past u true (if t then Goes (write rules net u (ends rules net past u p) past) else Idle NotOrigin)) [
-  | true ↦ entered rules net u (ends rules net past u p) past
-  | false ↦ tt
-]
-enters rules net past (Deliver v u) = taken rules net past v u (channel v u past)
+-- what was taken of a link is in no log
+grows_took : (past now : Chronicle) (v u s : ℕ) (x : Item) → Grows (Took v u s x ∷ past) now u → Grows past now u
+grows_took past now v u s x g = record { more = g.more; few = g.few; given = g.given; others = g.others }
 
-module _ (rules : Rules) (net : Net) (past : Chronicle) (u : ℕ) (own : Bool) where
-  did_by : (s : Step) (list : List Effect) → Tells past s (outcome.Did list) → EntersBy past u own s → Enters past (chronicle_of past s) u own × (above_by rules net s ≡ above rules net (chronicle_of past s))
-  did_by (Idle reason) list tells entered = absurd tells
-  did_by (Goes now) list tells entered = (entered, refl)
+module _ (rules : Rules) (net : Net) (past : Chronicle) where
+  greeting : (v u s : ℕ) (known : Option ℕ) → Grows past (greeted rules net v u s known past) u
+  greeting v u s (Some t) = not_grown past u
+  greeting v u s None = entered rules net u (local u (log_of u past) All (cause.Ready v s)) past
+
+module _ (rules : Rules) (net : Net) (past : Chronicle) where
+  taking : (v u s : ℕ) (x : Item) → Grows past (take_item rules net v u s x past) u
+  unfolding take_item
+  taking v u s (News n x) =
+      let mid : Chronicle = Took v u s (News n x) ∷ past in
+      grows_took past (write rules net u (heard v s n x) mid) v u s (News n x) (entered rules net u (heard v s n x) mid)
+  taking v u s (Hello e) =
+      let mid : Chronicle = Took v u s (Hello e) ∷ past in
+      grows_took past (greeted rules net v u s (ready (reads (log_of u past)) v) mid) v u s (Hello e) (greeting rules net mid v u s (ready (reads (log_of u past)) v))
+
+  delivering : (v u : ℕ) (l : LinkState) (items : List Item) (session : Option ℕ) → GrowsBy past (Some u) (delivered rules net past v u l items session)
+  delivering v u (Down s) items session = tt
+  delivering v u (Up s) [] session = tt
+  delivering v u (Up s) (x ∷ rest) session =
+      elim (is_session session s) as (λ t. GrowsBy past (Some u) (if t then Goes (take_item rules net v u s x past) else Idle WrongSession)) [
+        | true ↦ taking v u s x
+        | false ↦ tt
+      ]
+
+  noticing : (u v : ℕ) (session : Option ℕ) (l : LinkState) → GrowsBy past (Some u) (noticed rules net past u v session l)
+  noticing u v None l = tt
+  noticing u v (Some s) l =
+      let k = local u (log_of u past) All (cause.Down v s) in
+      elim (carries l s) as (λ t. GrowsBy past (Some u) (if t then Idle StillUp else Goes (write rules net u k past))) [
+        | true ↦ tt
+        | false ↦ entered rules net u k past
+      ]
+
+  opening_grows : (u v : ℕ) (session : Option ℕ) (l : LinkState) → GrowsBy past (Some u) (opened past u v session l)
+  opening_grows u v (Some s) l = tt
+  opening_grows u v None (Down s) = tt
+  opening_grows u v None (Up s) =
+      grown past (open_session u v s past) u (local u (log_of u past) All (cause.Up v s)) (log_opener u v s past) (λ w e. log_not_opener u v s past w e)
+
+  failing : (a b : ℕ) (l : LinkState) → GrowsBy past None (fails past a b l)
+  failing a b (Up s) = λ v. refl
+  failing a b (Down s) = tt
+
+  restoring : (a b : ℕ) (l : LinkState) → GrowsBy past None (restores past a b l)
+  restoring a b (Up s) = tt
+  restoring a b (Down s) = λ v. refl
+
+  grows : (event : Event) → GrowsBy past (node_of event) (step rules net past event)
+  unfolding step
+  grows (Originate u p) = elim (owns (reads (log_of u past)) p) as (λ t. GrowsBy past (Some u) (if t then Idle AlreadyOrigin else Goes (write rules net u (begins rules net past u p) past))) [
+    | true ↦ tt
+    | false ↦ entered rules net u (begins rules net past u p) past
+  ]
+  grows (Withdraw u p) = elim (owns (reads (log_of u past)) p) as (λ t. GrowsBy past (Some u) (if t then Goes (write rules net u (ends rules net past u p) past) else Idle NotOrigin)) [
+    | true ↦ entered rules net u (ends rules net past u p) past
+    | false ↦ tt
+  ]
+  grows (Prefer u v value) = entered rules net u (local u (log_of u past) All (cause.Prefer v value)) past
+  grows (Deliver v u) = delivering v u (link v u past) (channel v u past) (held_with u v past)
+  grows (Fail a b) = failing a b (link a b past)
+  grows (Restore a b) = restoring a b (link a b past)
+  grows (Notice u v) = noticing u v (held_with u v past) (link u v past)
+  grows (OpenSession u v) = opening_grows u v (held_with u v past) (link u v past)
+
+module _ (rules : Rules) (net : Net) (past : Chronicle) (node : Option ℕ) where
+  did_by : (s : Step) (list : List Effect) → Tells past s (outcome.Did list) → GrowsBy past node s → GrowsAt past (chronicle_of past s) node × (above_by rules net s ≡ above rules net (chronicle_of past s))
+  did_by (Idle reason) list tells grown = absurd tells
+  did_by (Goes now) list tells grown = (grown, refl)
 
   idle_by : (s : Step) (told : Reason) (triggers : ℕ) → Tells past s (outcome.Idle told) → IsCounted rules net past triggers → IsCounted rules net (chronicle_of past s) triggers
   idle_by (Idle reason) told triggers tells was = was
@@ -134,30 +209,35 @@ module _ (rules : Rules) (net : Net) (past : Chronicle) (u : ℕ) (own : Bool) w
   within_by (Goes now) e = e
 
 module _ (rules : Rules) (net : Net) (past : Chronicle) (event : Event) where
-  -- an event that did something made an entry
-  pub did_enters : (list : List Effect) → Tells past (step rules net past event) (outcome.Did list)
-      → Enters past (after rules net past event) (node_of event) (is_own event) × (above_by rules net (step rules net past event) ≡ above rules net (after rules net past event))
+  -- what an event that did something left of the logs
+  pub did_grows : (list : List Effect) → Tells past (step rules net past event) (outcome.Did list)
+      → GrowsAt past (after rules net past event) (node_of event) × (above_by rules net (step rules net past event) ≡ above rules net (after rules net past event))
   unfolding after
-  did_enters list tells = did_by rules net past (node_of event) (is_own event) (step rules net past event) list tells (enters rules net past event)
+  did_grows list tells = did_by rules net past (node_of event) (step rules net past event) list tells (grows rules net past event)
 
   -- an idle one left the counts as they were
   pub idle_counted : (told : Reason) (triggers : ℕ) → Tells past (step rules net past event) (outcome.Idle told) → IsCounted rules net past triggers
       → IsCounted rules net (after rules net past event) triggers
   unfolding after
-  idle_counted told triggers tells was = idle_by rules net past (node_of event) (is_own event) (step rules net past event) told triggers tells was
+  idle_counted told triggers tells was = idle_by rules net past (node_of event) (step rules net past event) told triggers tells was
 
   pub within_after : (triggers : ℕ) → IsCounted rules net (after rules net past event) triggers → above_by rules net (step rules net past event) ≡ None
   unfolding after
-  within_after triggers now = within_by rules net past (node_of event) (is_own event) (step rules net past event) now.within
+  within_after triggers now = within_by rules net past (node_of event) (step rules net past event) now.within
 
 both_true : (a b : Bool) → (a && b) ≡ true → a ≡ true
 both_true a b e = grind (arith, nat_tests)
 
 -- the node is one of the network
-pub fits_node : (net : Net) (event : Event) → IsValid net → IsTrue (fits net event) → has net.nodes (node_of event) ≡ true
-fits_node net (Originate u p) valid fit = both_true (has net.nodes u) (nat_lt p (length net.prefixes)) fit
-fits_node net (Withdraw u p) valid fit = both_true (has net.nodes u) (nat_lt p (length net.prefixes)) fit
-fits_node net (Deliver v u) valid fit = (linked_nodes net.nodes net.links v u valid.links_join fit).1
+pub fits_node : (net : Net) (event : Event) (node : ℕ) → IsValid net → IsTrue (fits net event) → node_of event ≡ Some node → has net.nodes node ≡ true
+fits_node net (Originate u p) node valid fit is = rw (← same_some u node is) (both_true (has net.nodes u) (nat_lt p (length net.prefixes)) fit)
+fits_node net (Withdraw u p) node valid fit is = rw (← same_some u node is) (both_true (has net.nodes u) (nat_lt p (length net.prefixes)) fit)
+fits_node net (Prefer u v value) node valid fit is = rw (← same_some u node is) (linked_nodes net.nodes net.links u v valid.links_join (both_true (linked net u v) (nat_le value 1000000) fit)).0
+fits_node net (Deliver v u) node valid fit is = rw (← same_some u node is) (linked_nodes net.nodes net.links v u valid.links_join fit).1
+fits_node net (Fail a b) node valid fit is = absurd (cc is)
+fits_node net (Restore a b) node valid fit is = absurd (cc is)
+fits_node net (Notice u v) node valid fit is = rw (← same_some u node is) (linked_nodes net.nodes net.links u v valid.links_join fit).0
+fits_node net (OpenSession u v) node valid fit is = rw (← same_some u node is) (linked_nodes net.nodes net.links u v valid.links_join fit).0
 
 -- ---- what it changes of the counts
 
@@ -168,23 +248,12 @@ none_above false true c e = absurd (cc e)
 none_above false false true e = absurd (cc e)
 none_above false false false e = (refl, refl, refl)
 
-one_more : (own : Bool) (n : ℕ) → (if own then suc n else n) ≡ n + (if own then 1 else 0)
-one_more true n = omega arith
-one_more false n = omega arith
-
-pub with_own : (own : Bool) (n : ℕ) → (if own then n + 1 else n) ≡ n + (if own then 1 else 0)
-with_own true n = refl
-with_own false n = omega arith
-
-module _ (rules : Rules) (net : Net) (past now : Chronicle) (u : ℕ) (own : Bool) (triggers : ℕ) (valid : IsValid net) (node : has net.nodes u ≡ true) (was : IsCounted rules net past triggers) (enter : Enters past now u own) where
-  total_now : (if own then triggers + 1 else triggers) ≡ triggers_of net now
+module _ (rules : Rules) (net : Net) (past now : Chronicle) (u : ℕ) (triggers : ℕ) (valid : IsValid net) (node : has net.nodes u ≡ true) (was : IsCounted rules net past triggers) (grow : Grows past now u) where
+  total_now : triggers + grow.more ≡ triggers_of net now
   unfolding triggers_of
   total_now =
-      let given : locals (log_of u now) ≡ locals (log_of u past) + (if own then 1 else 0) =
-      rw (enter.log, enter.local) (one_more own (locals (log_of u past))) in
-      with_own own triggers
-      ∙ (ap (λ n. n + (if own then 1 else 0)) was.total
-      ∙ sym (sum_at (λ v. locals (log_of v past)) (λ v. locals (log_of v now)) u (λ v e. ap locals (enter.others v e)) (if own then 1 else 0) net.nodes valid.nodes_differ node given))
+      ap (λ n. n + grow.more) was.total
+      ∙ sym (sum_at (λ v. locals (log_of v past)) (λ v. locals (log_of v now)) u (λ v e. ap locals (grow.others v e)) grow.more net.nodes valid.nodes_differ node grow.given)
 
   before : (nat_lt most_triggers (triggers_of net past) ≡ false) × (has_more_entries net past ≡ false) × (has_more_updates rules net past ≡ false)
   unfolding above
@@ -194,39 +263,81 @@ module _ (rules : Rules) (net : Net) (past now : Chronicle) (u : ℕ) (own : Boo
   unfolding has_more_entries
   entries_now =
       any_at (λ v. nat_lt most_entries (length (log_of v past))) (λ v. nat_lt most_entries (length (log_of v now))) u
-      (λ v e. ap (λ l. nat_lt most_entries (length l)) (enter.others v e)) net.nodes before.1 node
+      (λ v e. ap (λ l. nat_lt most_entries (length l)) (grow.others v e)) net.nodes before.1 node
 
   updates_now : has_more_updates rules net now ≡ nat_lt most_updates (length (sent_of rules net u (log_of u now)))
   unfolding has_more_updates
   updates_now =
       any_at (λ v. nat_lt most_updates (length (sent_of rules net v (log_of v past)))) (λ v. nat_lt most_updates (length (sent_of rules net v (log_of v now)))) u
-      (λ v e. ap (λ l. nat_lt most_updates (length (sent_of rules net v l))) (enter.others v e)) net.nodes before.2 node
+      (λ v e. ap (λ l. nat_lt most_updates (length (sent_of rules net v l))) (grow.others v e)) net.nodes before.2 node
 
-  pub above_now : (total entries updates : ℕ) → total ≡ (if own then triggers + 1 else triggers) → entries ≡ length (log_of u now) → updates ≡ length (sent_of rules net u (log_of u now))
+  pub above_now : (total entries updates : ℕ) → total ≡ triggers + grow.more → entries ≡ length (log_of u now) → updates ≡ length (sent_of rules net u (log_of u now))
       → (total ≡ triggers_of net now) × (first_above (nat_lt most_triggers total) (nat_lt most_entries entries) (nat_lt most_updates updates) ≡ above rules net now)
   unfolding above
   above_now total entries updates is_total is_entries is_updates =
       (is_total ∙ total_now, rw (is_total, is_entries, is_updates, total_now, entries_now, updates_now) refl)
 
+-- what is added to the triggers is what the node gave
+given_now : (past now : Chronicle) (u : ℕ) (grow : Grows past now u) (triggers next before given total : ℕ) → triggers ≤ most_triggers → before ≡ suc (locals (log_of u past)) → next ≡ suc (locals (log_of u now))
+    → given ≡ next - before → (triggers + given < 2 ^ 32 → total ≡ triggers + given) → total ≡ triggers + grow.more
+given_now past now u grow triggers next before given total few was is gives adds =
+    let more : given ≡ grow.more = let by = grow.given in omega (arith, gives, was, is, by) in
+    let small : triggers + given < 2 ^ 32 = let by = grow.few in omega (arith, few, more, by) in
+    adds small ∙ ap (λ n. triggers + n) more
+
+pub next_of : (node : Option ℕ) (u : ℕ) (past : Chronicle) → node ≡ Some u → next_count node past ≡ suc (locals (log_of u past))
+next_of None u past is = absurd (cc is)
+next_of (Some v) u past is = ap (λ w. suc (locals (log_of w past))) (same_some v u is)
+
 -- the same, with the site of the node as it stands after the event
-pub counted_at : {P : Type 0} (policy : P) (rules : Rules) (net : Net) (past : Chronicle) (event : Event) (sites : List (Site P)) (list : List Effect) (site : Site P) (rank node triggers total entries : ℕ) (own : Bool)
-    → IsTrue (fits net event) → IsCounted rules net past triggers → Happens policy rules net past event sites (outcome.Did list)
-    → node ≡ node_of event → own ≡ is_own event → slice_get (ascending net.nodes) rank ≡ Some node → site ≡ get_or sites rank site
-    → total ≡ (if own then triggers + 1 else triggers)
-    → ((u : ℕ) (h : List Entry) → StandsFor policy rules net u site.log h → entries ≡ length h)
+pub counted_at : {P : Type 0} (policy : P) (rules : Rules) (net : Net) (past : Chronicle) (event : Event) (sites : List (Site P)) (links : Links) (list : List Effect) (site : Site P) (rank node triggers before next given total entries : ℕ)
+    → IsTrue (fits net event) → IsCounted rules net past triggers → before ≡ next_count (node_of event) past → Happens policy rules net past event sites links (outcome.Did list)
+    → node_of event ≡ Some node → slice_get (ascending net.nodes) rank ≡ Some node → site ≡ get_or sites rank site
+    → triggers ≤ most_triggers
+    → ((u : ℕ) (h : List Entry) → StandsFor policy rules net u site.log h → (next ≡ suc (locals h)) × (entries ≡ length h))
+    → given ≡ next - before → (triggers + given < 2 ^ 32 → total ≡ triggers + given)
     → (total ≡ triggers_of net (after rules net past event))
     × (first_above (nat_lt most_triggers total) (nat_lt most_entries entries) (nat_lt most_updates site.updates) ≡ above rules net (after rules net past event))
     × (above_by rules net (step rules net past event) ≡ above rules net (after rules net past event))
-counted_at policy rules net past event sites list site rank node triggers total entries own fit was happened is_node is_own_so at is sum count =
+counted_at policy rules net past event sites links list site rank node triggers before next given total entries fit was began happened is_node at is few count gives adds =
     let now = after rules net past event in
-    let u = node_of event in
-    let valid = happened.matches.valid in
-    let there = subst (λ n. slice_get (ascending net.nodes) rank ≡ Some n) is_node at in
-    let here = site_at policy rules net now sites rank u site happened.matches there is in
-    let moved = did_enters rules net past event list happened.tells in
-    let found = above_now rules net past now u (is_own event) triggers valid (fits_node net event valid fit) was moved.0 total entries site.updates
-    (sum ∙ ap (λ t. if t then triggers + 1 else triggers) is_own_so) (count u (log_of u now) here.log) here.updates in
+    let valid = happened.matches.are_sites.valid in
+    let here = site_at policy rules net now sites rank node site happened.matches.are_sites at is in
+    let moved = did_grows rules net past event list happened.tells in
+    let grow : Grows past now node = subst (GrowsAt past now) is_node moved.0 in
+    let counts = count node (log_of node now) here.log in
+    let sum = given_now past now node grow triggers next before given total few (began ∙ next_of (node_of event) node past is_node) counts.0 gives adds in
+    let found = above_now rules net past now node triggers valid (fits_node net event node valid fit is_node) was grow total entries site.updates sum counts.1 here.updates in
     (found.0, found.1, moved.1)
+
+-- an event of no node leaves the counts as they were
+same_sum : (f g : ℕ → ℕ) → ((v : ℕ) → g v ≡ f v) → (xs : List ℕ) → sum_by g xs ≡ sum_by f xs
+same_sum f g same [] = refl
+same_sum f g same (x ∷ xs) = sum_by-cons g x xs ∙ (ap₂ (λ a b. a + b) (same x) (same_sum f g same xs) ∙ sym (sum_by-cons f x xs))
+
+same_any : (p q : ℕ → Bool) → ((v : ℕ) → q v ≡ p v) → (xs : List ℕ) → list_any q xs ≡ list_any p xs
+same_any p q same [] = refl
+same_any p q same (x ∷ xs) = rw (same x, same_any p q same xs) refl
+
+pub counted_same : (rules : Rules) (net : Net) (past now : Chronicle) (triggers : ℕ) → ((v : ℕ) → log_of v now ≡ log_of v past) → IsCounted rules net past triggers → IsCounted rules net now triggers
+unfolding above triggers_of has_more_entries has_more_updates
+counted_same rules net past now triggers same was =
+    let total : triggers_of net now ≡ triggers_of net past = same_sum (λ v. locals (log_of v past)) (λ v. locals (log_of v now)) (λ v. ap locals (same v)) net.nodes in
+    let entries : has_more_entries net now ≡ has_more_entries net past =
+    same_any (λ v. nat_lt most_entries (length (log_of v past))) (λ v. nat_lt most_entries (length (log_of v now))) (λ v. ap (λ l. nat_lt most_entries (length l)) (same v)) net.nodes in
+    let updates : has_more_updates rules net now ≡ has_more_updates rules net past =
+    same_any (λ v. nat_lt most_updates (length (sent_of rules net v (log_of v past)))) (λ v. nat_lt most_updates (length (sent_of rules net v (log_of v now))))
+    (λ v. ap (λ l. nat_lt most_updates (length (sent_of rules net v l))) (same v)) net.nodes in
+    record {
+      total = was.total ∙ sym total;
+      within = rw (total, entries, updates) was.within;
+    }
+
+pub counted_none : (rules : Rules) (net : Net) (past : Chronicle) (event : Event) (list : List Effect) (triggers : ℕ) → node_of event ≡ None → Tells past (step rules net past event) (outcome.Did list)
+    → IsCounted rules net past triggers → IsCounted rules net (after rules net past event) triggers
+counted_none rules net past event list triggers is_none tells was =
+    let moved = did_grows rules net past event list tells in
+    counted_same rules net past (after rules net past event) triggers (subst (GrowsAt past (after rules net past event)) is_none moved.0) was
 
 -- so few are the triggers
 pub few_triggers : (rules : Rules) (net : Net) (past : Chronicle) (triggers : ℕ) → IsCounted rules net past triggers → triggers ≤ most_triggers

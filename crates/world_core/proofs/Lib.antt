@@ -1,11 +1,16 @@
 pub mod Told
 pub mod Near
 pub mod Listed
-pub mod Places
-pub mod Sent
-pub mod Fronts
-pub mod Keeps
-pub mod Fresh
-pub mod Shows
-pub mod Coming
+pub mod Carried
+pub mod Sends
+pub mod Placed
+pub mod Wrote
+pub mod Comes
+pub mod Opened
+pub mod Taken
+pub mod Changing
+mod WayOrder
+mod FirstWay
 pub mod Counts
+pub mod Fresh
+pub mod Next

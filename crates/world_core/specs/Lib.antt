@@ -4,5 +4,7 @@ pub mod Effects
 pub mod Limits
 pub mod Matching
 pub mod Waiting
+pub mod WaySets
 pub mod Sending
 pub mod Happening
+pub mod Refreshing

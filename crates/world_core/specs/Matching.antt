@@ -42,8 +42,8 @@ pub record AreLinks (net : Net) (past : Chronicle) (links : Links) : Type 0 wher
 -- both
 pub record Matches {P : Type 0} (policy : P) (rules : Rules) (net : Net) (past : Chronicle)
     (sites : List (Site P)) (links : Links) : Type 0 where
-  pub sites : AreSites policy rules net past sites
-  pub links : AreLinks net past links
+  pub are_sites : AreSites policy rules net past sites
+  pub are_links : AreLinks net past links
 
 -- so many triggers were given, and no count is above its number
 pub record IsCounted (rules : Rules) (net : Net) (past : Chronicle) (triggers : ℕ) : Type 0 where

@@ -1,12 +1,14 @@
 //! How many events, triggers, entries and items a run may have.
-ghost use Rattle.std.specs.Prelude.{◌≡◌, ◌≤◌, ◌+◌, None, nat_lt, nat_le, length, IsTrue, IfOk, IfErr, IfSome, IfNone, if◌then◌else◌};
+ghost use Rattle.std.specs.Prelude.{◌≡◌, ◌≤◌, ◌+◌, None, nat_lt, nat_le, length, IsTrue, IfOk, IfErr, IfSome, IfNone};
+ghost use Rattle.link_model.specs.declared.links.Links.{Links};
 ghost use Rattle.chronicle.specs.Facts.{Chronicle};
 ghost use Rattle.chronicle.specs.Run.{step, after};
 ghost use Rattle.world_core.specs.Fits.{fits};
-ghost use Rattle.world_core.specs.Happening.{HasPlaces, Happens, node_of, is_own};
+ghost use Rattle.world_core.specs.Happening.{HasPlaces, Happens, node_of, next_count};
 ghost use Rattle.world_core.specs.Limits.{most_events, most_triggers, most_entries, most_updates, first_above, above_by, StopsAt};
-ghost use Rattle.world_core.specs.Matching.{IsCounted};
+ghost use Rattle.world_core.specs.Matching.{AreSites, IsCounted};
 
+use crate::entering::log_at;
 use crate::outcomes::{Outcome, Stop};
 use crate::sites::Site;
 use chronicle::Event;
@@ -22,27 +24,37 @@ const MOST_ENTRIES: u32 = 2_048;
 // The most items that the entries of one node list.
 const MOST_UPDATES: u32 = 16_384;
 
-// The node that makes an entry, where the event is not idle, and whether that is a local one.
-fn entering(event: &Event) -> (NodeId, bool)
-    ensures node { result.0 ≡ node_of event.now }
-    ensures own { result.1 ≡ is_own event.now }
+// The node whose log the event may change.
+fn entering(event: &Event) -> Option<NodeId>
+    ensures { result ≡ node_of event.now }
 {
     match event {
-        Event::Originate { node, .. } => (*node, true),
-        Event::Withdraw { node, .. } => (*node, true),
-        Event::Deliver { to, .. } => (*to, false),
+        Event::Originate { node, .. } => Some(*node),
+        Event::Withdraw { node, .. } => Some(*node),
+        Event::Prefer { node, .. } => Some(*node),
+        Event::Deliver { to, .. } => Some(*to),
+        Event::Fail { .. } => None,
+        Event::Restore { .. } => None,
+        Event::Notice { node, .. } => Some(*node),
+        Event::OpenSession { node, .. } => Some(*node),
     }
 }
 
-// One trigger more where the entry is local.
-fn given(triggers: u32, own: bool) -> u32
-    requires { triggers ≤ most_triggers }
-    ensures { result ≡ (if own then triggers + 1 else triggers) }
+/// The count of the next trigger of the node whose log the event may change: 0 where there is none.
+pub fn next_count<P: Policy + Copy>(
+    topology: &Topology,
+    sites: &Vec<Site<P>>,
+    event: &Event,
+) -> u32
+    requires fits { IsTrue (fits topology.now event.now) }
+    requires places { HasPlaces topology.now sites.now.items }
+    ensures { (policy : P) (past : Chronicle) → AreSites policy (P.rules policy) topology.now past sites.now.items →
+        result ≡ next_count (node_of event.now) past }
 {
-    if own {
-        return triggers + 1;
-    }
-    triggers
+    let Some(node) = entering(event) else {
+        return 0;
+    };
+    log_at(topology, sites, node).next_trigger().count
 }
 
 // The stop at the first of the counts that is above its number, in this order.
@@ -64,34 +76,38 @@ fn reached(triggers: u32, entries: u32, updates: usize) -> Option<Stop>
     None
 }
 
-/// The triggers of all nodes after the event, which came to this. Stops where a count is above its
-/// number then. Only the node that made an entry is looked at: the others are as they were.
+/// The triggers of all nodes after the event, which came to this; `before` is the count of the next
+/// trigger of its node before it. Stops where a count is above its number then. Only the node whose
+/// log the event may change is looked at: the others are as they were.
 pub fn count<P: Policy + Copy>(
     topology: &Topology,
     sites: &Vec<Site<P>>,
     triggers: u32,
+    before: u32,
     event: &Event,
     outcome: &Outcome,
 ) -> Result<u32, Stop>
     requires fits { IsTrue (fits topology.now event.now) }
     requires places { HasPlaces topology.now sites.now.items }
-    requires few { triggers ≤ most_triggers }
-    ensures counted { IfOk result (λ total. (policy : P) (past : Chronicle) →
-        IsCounted (P.rules policy) topology.now past triggers →
-        Happens policy (P.rules policy) topology.now past event.now sites.now.items outcome.now →
+    ensures counted { IfOk result (λ total. (policy : P) (past : Chronicle) (links : Links) →
+        IsCounted (P.rules policy) topology.now past triggers → before ≡ next_count (node_of event.now) past →
+        Happens policy (P.rules policy) topology.now past event.now sites.now.items links outcome.now →
         IsCounted (P.rules policy) topology.now (after (P.rules policy) topology.now past event.now) total) }
-    ensures stopped { IfErr result (λ why. (policy : P) (past : Chronicle) →
-        IsCounted (P.rules policy) topology.now past triggers →
-        Happens policy (P.rules policy) topology.now past event.now sites.now.items outcome.now →
+    ensures stopped { IfErr result (λ why. (policy : P) (past : Chronicle) (links : Links) →
+        IsCounted (P.rules policy) topology.now past triggers → before ≡ next_count (node_of event.now) past →
+        Happens policy (P.rules policy) topology.now past event.now sites.now.items links outcome.now →
         StopsAt (above_by (P.rules policy) topology.now (step (P.rules policy) topology.now past event.now)) why) }
 {
     let Outcome::Did(_) = outcome else {
         return Ok(triggers);
     };
-    let (node, own) = entering(event);
-    let total = given(triggers, own);
+    let Some(node) = entering(event) else {
+        return Ok(triggers);
+    };
     let rank = topology.rank_of(node).unwrap();
     let site = &sites[rank];
+    let given = site.log.next_trigger().count.saturating_sub(before);
+    let total = triggers.saturating_add(given);
     if let Some(stop) = reached(total, site.log.len(), site.updates) {
         return Err(stop);
     }

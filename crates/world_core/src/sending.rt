@@ -1,53 +1,62 @@
-//! What goes out is put on its way.
-ghost use Rattle.std.specs.Prelude.{◌≡◌, [], ◌∷◌, ◌++◌, map, length, OnOk};
-ghost use Rattle.trigger_log.specs.Going.{going_of};
-ghost use Rattle.world_core.specs.Sending.{Grown, Rises, queued_by};
-ghost use Rattle.world_core.specs.declared.outcomes.Effect.TheVariants.{Queued};
+//! What goes out is handed to the links.
+ghost use Rattle.std.specs.Prelude.{◌≡◌, [], ◌∷◌, true, map, OnOk, if◌then◌else◌};
+ghost use Rattle.topology.specs.LinkStates.{carries};
+ghost use Rattle.topology.specs.Net.{Net, linked};
+ghost use Rattle.trigger_log.specs.Going.{going_of, item_of};
+ghost use Rattle.chronicle.specs.Facts.{Chronicle, Sent, happen};
+ghost use Rattle.chronicle.specs.Links.{link};
+ghost use Rattle.chronicle.specs.Steps.{sends};
+ghost use Rattle.world_core.specs.Happening.{AreSending};
+ghost use Rattle.world_core.specs.Sending.{AllNear};
+ghost use Rattle.world_core.specs.declared.outcomes.Effect.TheVariants.{Queued, Lost};
 
 use crate::outcomes::Effect;
-use crate::sites::Channel;
+use link_model::Links;
 use topology::{NoMemory, NodeId};
 use trigger_log::Outgoing;
 
-// Puts a message on its way to its neighbour.
-fn put(
+// What is shown of a message.
+fn shown(from: NodeId, to: NodeId, queued: bool) -> Effect
+    ensures { result ≡ (if queued then Queued from to else Lost from to) }
+{
+    if queued {
+        return Effect::Queued { from, to };
+    }
+    Effect::Lost { from, to }
+}
+
+/// Sends a message: it is queued where the link carries its session, and lost elsewhere.
+pub fn send(
     from: NodeId,
-    near: &[NodeId],
     out: Outgoing,
-    channels: &mut Vec<Channel>,
+    links: &mut Links,
     effects: &mut Vec<Effect>,
 ) -> Result<(), NoMemory>
-    requires width { length channels.old.items ≡ length near.now }
-    ensures channels { OnOk result (Rises near.now →
-        Grown near.now (going_of out ∷ []) channels.old.items channels.new.items) }
-    ensures width { OnOk result (length channels.new.items ≡ length near.now) }
-    ensures effects { OnOk result (effects.new.items ≡ effects.old.items ++ Queued from out.to ∷ []) }
+    ensures { OnOk result ((net : Net) (first past : Chronicle) → linked net from out.to ≡ true →
+        AreSending net first past links.old effects.old.items →
+        AreSending net first
+        (Sent from out.to out.session (item_of out.item) (carries (link from out.to past) out.session) ∷ past)
+        links.new effects.new.items) }
 {
-    effects.push(Effect::Queued { from, to: out.to })?;
-    let Ok(place) = near.binary_search(&out.to) else {
-        return Ok(());
-    };
-    channels[place].items.push_back(out.item)?;
+    let to = out.to;
+    let queued = links.push(from, to, out.session, out.item)?;
+    effects.push(shown(from, to, queued))?;
     Ok(())
 }
 
-/// Puts each message on its way to its neighbour, in their order. `channels` has one for each
-/// neighbour.
-pub fn send(
+/// Sends these messages, in their order.
+pub fn send_all(
     from: NodeId,
-    near: &[NodeId],
     list: Vec<Outgoing>,
-    channels: &mut Vec<Channel>,
+    links: &mut Links,
     effects: &mut Vec<Effect>,
 ) -> Result<(), NoMemory>
-    requires width { length channels.old.items ≡ length near.now }
-    ensures width { OnOk result (length channels.new.items ≡ length near.now) }
-    ensures channels { OnOk result (Rises near.now →
-        Grown near.now (map going_of list.items) channels.old.items channels.new.items) }
-    ensures effects { OnOk result (effects.new.items ≡ effects.old.items ++ queued_by from (map going_of list.items)) }
+    ensures { OnOk result ((net : Net) (first past : Chronicle) → AllNear net from (map going_of list.items) →
+        AreSending net first past links.old effects.old.items →
+        AreSending net first (happen past (sends past from (map going_of list.items))) links.new effects.new.items) }
 {
     for out in list {
-        put(from, near, out, channels, effects)?;
+        send(from, out, links, effects)?;
     }
     Ok(())
 }

@@ -1,19 +1,25 @@
-//! The world: all nodes and channels.
-ghost use Rattle.std.specs.Prelude.{◌≡◌, [], ◌∷◌, ◌++◌, ◌&&◌, false, nat_lt, length, None, IsTrue, IsNone, IfOk, IfErr, IfSome, ◌↔◌};
+//! The world: all nodes and links.
+ghost use Rattle.std.specs.Prelude.{◌≡◌, [], ◌∷◌, ◌++◌, ◌&&◌, false, nat_lt, length, None, IsTrue, IsNone, IfOk, IfErr, IfSome, option_map, ◌↔◌};
 ghost use Rattle.topology.specs.Lists.{has};
+ghost use Rattle.topology.specs.Net.{linked};
 ghost use Rattle.trigger_log.specs.Standing.{StandsFor};
+ghost use Rattle.chronicle.specs.declared.ways.Way.{Way};
+ghost use Rattle.chronicle.specs.Deliveries.{next_delivery};
 ghost use Rattle.chronicle.specs.Logs.{log_of};
 ghost use Rattle.chronicle.specs.Run.{run, step};
 ghost use Rattle.world_core.specs.Fits.{fits};
 ghost use Rattle.world_core.specs.Effects.{Tells};
 ghost use Rattle.world_core.specs.Limits.{limit_of, StopsAt};
-ghost use Rattle.world_core.specs.Matching.{Matches};
+ghost use Rattle.world_core.specs.Matching.{AreLinks, AreSites};
 
-use crate::limits::{MOST_EVENTS, count};
+use crate::limits::{MOST_EVENTS, count, next_count};
 use crate::outcomes::{Outcome, Stop};
+use crate::refreshing::refresh;
 use crate::sites::Site;
 use crate::steps::happen;
+use crate::waiting::Waiting;
 use chronicle::Event;
+use link_model::Links;
 use path_vector::Policy;
 use std::alloc::Global;
 use std::marker::Model;
@@ -21,13 +27,16 @@ use std::rc::Rc;
 use topology::{LimitKind, NoMemory, NodeId, PrefixId, Topology};
 use trigger_log::NodeLog;
 
-/// All nodes and channels of a network, and the events so far.
+/// All nodes and links of a network, and the events so far.
 #[derive(Drop)]
 pub struct World<P: Policy + Copy> {
     alloc: Global,
     topology: Rc<Topology>,
     policy: P,
     sites: Vec<Site<P>>,
+    links: Links,
+    // The ways over which a delivery would not be idle.
+    waiting: Waiting,
     events: Vec<Event>,
     // The triggers that all nodes gave.
     triggers: u32,
@@ -36,6 +45,8 @@ pub struct World<P: Policy + Copy> {
 impl<P: Policy + Copy> Model for World<P> {
     ghost use Rattle.world_core.specs.View.{WorldView};
     ghost use Rattle.world_core.specs.Matching.{Matches, IsCounted};
+    ghost use Rattle.world_core.specs.Waiting.{AreWaiting};
+    ghost use Rattle.world_core.specs.WaySets.{has_way};
     ghost use Rattle.chronicle.specs.Run.{run};
 
     ghost Value = { WorldView P };
@@ -43,9 +54,13 @@ impl<P: Policy + Copy> Model for World<P> {
     ghost view = { λ w. record { policy = w.policy; net = w.topology.value; events = w.events.items } };
 
     ghost invariant = { λ w. let past = run (P.rules w.policy) w.topology.value w.events.items in
-        Matches w.policy (P.rules w.policy) w.topology.value past w.sites.items ×
-        IsCounted (P.rules w.policy) w.topology.value past w.triggers };
+        Matches w.policy (P.rules w.policy) w.topology.value past w.sites.items w.links ×
+        IsCounted (P.rules w.policy) w.topology.value past w.triggers ×
+        AreWaiting w.topology.value past (has_way w.waiting) };
 }
+
+// The highest preference.
+const MOST_PREFERENCE: u32 = 1_000_000;
 
 // The sites of a world in which nothing has happened, by the ranks of the nodes.
 fn fresh_sites<P: Policy + Copy>(
@@ -53,7 +68,7 @@ fn fresh_sites<P: Policy + Copy>(
     topology: &Topology,
     policy: P,
 ) -> Result<Vec<Site<P>>, NoMemory>
-    ensures { IfOk result (λ sites. Matches policy (P.rules policy) topology.now [] sites.items) }
+    ensures { IfOk result (λ sites. AreSites policy (P.rules policy) topology.now [] sites.items) }
 {
     let mut sites = Vec::new(alloc);
     for node in topology.nodes() {
@@ -69,17 +84,27 @@ fn names(topology: &Topology, node: NodeId, prefix: PrefixId) -> bool
     topology.rank_of(node).is_some() && prefix.place() < topology.prefix_count()
 }
 
+// Whether the two have a link.
+fn joined(topology: &Topology, a: NodeId, b: NodeId) -> bool
+    ensures { result ≡ linked topology.now a b }
+{
+    topology.relation(a, b).is_some()
+}
+
 impl<P: Policy + Copy> World<P> {
     /// The world in which nothing has happened.
     pub fn new(alloc: Global, topology: Rc<Topology>, policy: P) -> Result<World<P>, NoMemory>
         ensures { IfOk result (λ world. world ≡ record { policy = policy; net = topology.value; events = [] }) }
     {
         let sites = fresh_sites(alloc, &topology, policy)?;
+        let links = Links::new(alloc, &topology)?;
         Ok(World {
             alloc,
             topology,
             policy,
             sites,
+            links,
+            waiting: Waiting::new(alloc),
             events: Vec::new(alloc),
             triggers: 0,
         })
@@ -106,7 +131,14 @@ impl<P: Policy + Copy> World<P> {
         match event {
             Event::Originate { node, prefix } => names(&self.topology, *node, *prefix),
             Event::Withdraw { node, prefix } => names(&self.topology, *node, *prefix),
-            Event::Deliver { from, to } => self.topology.relation(*from, *to).is_some(),
+            Event::Prefer { node, nbr, value } => {
+                joined(&self.topology, *node, *nbr) && *value <= MOST_PREFERENCE
+            }
+            Event::Deliver { from, to } => joined(&self.topology, *from, *to),
+            Event::Fail { a, b } => joined(&self.topology, *a, *b),
+            Event::Restore { a, b } => joined(&self.topology, *a, *b),
+            Event::Notice { node, nbr } => joined(&self.topology, *node, *nbr),
+            Event::OpenSession { node, nbr } => joined(&self.topology, *node, *nbr),
         }
     }
 
@@ -154,6 +186,8 @@ impl<P: Policy + Copy> World<P> {
             topology,
             policy,
             mut sites,
+            mut links,
+            mut waiting,
             mut events,
             triggers,
         } = self;
@@ -161,8 +195,12 @@ impl<P: Policy + Copy> World<P> {
             return Err(Stop::Limit(LimitKind::Events, MOST_EVENTS));
         }
         cut_laws::laws::the_front_item_is_the_next();
-        let outcome = happen(alloc, &topology, &mut sites, &event)?;
-        let triggers = count(&topology, &sites, triggers, &event, &outcome)?;
+        cut_laws::laws::a_link_keeps_the_order();
+        cut_laws::laws::sessions_are_few();
+        let before = next_count(&topology, &sites, &event);
+        let outcome = happen(alloc, &topology, &mut sites, &mut links, &event)?;
+        let triggers = count(&topology, &sites, triggers, before, &event, &outcome)?;
+        refresh(&topology, &sites, &links, &event, &outcome, &mut waiting)?;
         let Ok(()) = events.push(event) else {
             return Err(Stop::NoMemory);
         };
@@ -171,6 +209,8 @@ impl<P: Policy + Copy> World<P> {
             topology,
             policy,
             sites,
+            links,
+            waiting,
             events,
             triggers,
         };

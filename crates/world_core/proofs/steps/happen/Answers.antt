@@ -1,21 +1,23 @@
-use Rattle.std.proofs.Common.{◌≡◌, ◌<◌, ◌&&◌, true, arith, nat_lt, length}
-use Rattle.std.proofs.lemmas.Result.{IfOk-weaker}
-use Rattle.std.proofs.lemmas.Bool.Decides.{nat_tests}
-use Rattle.topology.specs.Lists.{has}
+use Rattle.chronicle.specs.declared.events.Event.TheVariants.{Fail, Restore}
+use Rattle.world_core.proofs.Comes.{with_sites, fail_logs, restore_logs}
 use Rattle.world_core.proofs.steps.happen.Goals as goal
 
-below_by : (b : _) (p n : _) → (b && nat_lt p n) ≡ true → p < n
-below_by b p n e = grind (arith, nat_tests)
+pub returns-in-Fail : goal.returns-in-Fail
+returns-in-Fail g c policy past was regular =
+    let rules = g.P.Policy.rules policy in
+    let net = c.args.topology.now in
+    let a = c.in-Fail.a in
+    let b = c.in-Fail.b in
+    rw c.in-Fail.is
+    (with_sites policy rules net past (Fail a b) c.args.sites.now.items c.fail.new.links c.fail.result (fail_logs rules net past a b) was.are_sites
+    (c.fail.ensures rules net past (rw c.in-Fail.is at c.requires.fits) was.are_links))
 
-pub returns-in-Originate : goal.returns-in-Originate
-returns-in-Originate g c =
-    let fits = rw c.in-Originate.is at c.requires.fits in
-    IfOk-weaker c.originate.result _ _ (λ outcome h policy past was fronts. rw c.in-Originate.is (h policy past was (below_by (has c.args.topology.now.nodes c.in-Originate.node) c.in-Originate.prefix (length c.args.topology.now.prefixes) fits))) c.originate.ensures
-
-pub returns-in-Withdraw : goal.returns-in-Withdraw
-returns-in-Withdraw g c =
-    let fits = rw c.in-Withdraw.is at c.requires.fits in
-    IfOk-weaker c.withdraw.result _ _ (λ outcome h policy past was fronts. rw c.in-Withdraw.is (h policy past was (below_by (has c.args.topology.now.nodes c.in-Withdraw.node) c.in-Withdraw.prefix (length c.args.topology.now.prefixes) fits))) c.withdraw.ensures
-
-pub returns-in-Deliver : goal.returns-in-Deliver
-returns-in-Deliver g c = IfOk-weaker c.deliver.result _ _ (λ outcome h policy past was fronts. rw c.in-Deliver.is (h policy past was fronts)) c.deliver.ensures
+pub returns-in-Restore : goal.returns-in-Restore
+returns-in-Restore g c policy past was regular =
+    let rules = g.P.Policy.rules policy in
+    let net = c.args.topology.now in
+    let a = c.in-Restore.a in
+    let b = c.in-Restore.b in
+    rw c.in-Restore.is
+    (with_sites policy rules net past (Restore a b) c.args.sites.now.items c.restore.new.links c.restore.result (restore_logs rules net past a b) was.are_sites
+    (c.restore.ensures rules net past (rw c.in-Restore.is at c.requires.fits) was.are_links (regular.few a b)))

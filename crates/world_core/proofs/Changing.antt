@@ -1,0 +1,362 @@
+-- Which ways an event changes.
+use Rattle.std.proofs.Common.{IsTrue, ℕ, suc, Bool, true, false, cond, ◌==◌, ◌&&◌, ◌||◌, Option, Some, None, List, [], ◌∷◌, ◌++◌, ◌≡◌, refl, sym, ◌∙◌, ap, ap₂, subst, arith, map, length, append_assoc}
+use Rattle.std.specs.Prelude.{if◌then◌else◌}
+use Rattle.std.specs.List.{list_any, AllByRecursion}
+use Rattle.std.proofs.lemmas.Bool.Decides.{nat_tests}
+use Rattle.std.proofs.lemmas.List.{append-nil, append_cancel_left}
+use Rattle.topology.specs.declared.links.LinkState.{LinkState}
+use Rattle.topology.specs.declared.links.LinkState.TheVariants.{Up, Down}
+use Rattle.topology.specs.declared.names.Scope.TheVariants.{One, All}
+use Rattle.topology.specs.LinkStates.{are_ends, carries}
+use Rattle.topology.specs.Net.{Net, linked}
+use Rattle.topology.proofs.Neighbours.{linked_sym}
+use Rattle.path_vector.specs.declared.causes.Cause.TheVariants as cause
+use Rattle.path_vector.specs.Rules.{Rules}
+use Rattle.path_vector.specs.History.{held_by, owns, ready}
+use Rattle.trigger_log.specs.Entries.{Entry, local, reads, is_session}
+use Rattle.trigger_log.specs.Going.{Going, Item, News, Hello, going_by}
+use Rattle.chronicle.specs.declared.events.Event.{Event}
+use Rattle.chronicle.specs.declared.events.Event.TheVariants.{Originate, Withdraw, Prefer, Deliver, Fail, Restore, Notice, OpenSession}
+use Rattle.chronicle.specs.declared.ways.Way.{Way}
+use Rattle.chronicle.specs.Facts.{Chronicle, Log, Sent, Took, happen}
+use Rattle.chronicle.specs.Facts as fact
+use Rattle.chronicle.specs.Channels.{channel}
+use Rattle.chronicle.specs.Deliveries.{arrives, may_arrive}
+use Rattle.chronicle.specs.Links.{link}
+use Rattle.chronicle.specs.Logs.{log_of}
+use Rattle.chronicle.specs.Steps.{greeted, heard, open_session, sends, take_item, write}
+use Rattle.chronicle.specs.Run.{Step, Idle, Goes, held_with, delivered, noticed, opened, fails, restores, step, after, chronicle_of}
+use Rattle.topology.specs.declared.status.Reason.{Reason}
+use Rattle.topology.specs.declared.status.Reason.TheVariants.{AlreadyOrigin, NotOrigin, StillUp, WrongSession}
+use Rattle.world_core.specs.declared.outcomes.Outcome.TheVariants as outcome
+use Rattle.world_core.specs.Fits.{fits}
+use Rattle.world_core.specs.Waiting.{AreWaiting, waits}
+use Rattle.world_core.specs.declared.outcomes.Effect.{Effect}
+use Rattle.world_core.specs.declared.outcomes.Effect.TheVariants.{Logged, Queued, Lost}
+use Rattle.world_core.specs.Effects.{effects, effect_by, Tells}
+use Rattle.world_core.specs.Refreshing.{AreLinked, AreWaitingBut, queued_ways, way, ways_of}
+use Rattle.world_core.specs.Sending.{AllNear}
+use Rattle.world_core.specs.WaySets.{same_way}
+use Rattle.world_core.proofs.Sends.{log_sends, link_sends, fact_of, shown_as}
+use Rattle.world_core.proofs.Wrote.{going_near}
+
+-- the way is none of these
+abbrev pub Misses : Way → List Way → Type 0
+Misses one ways = list_any (same_way one) ways ≡ false
+
+-- a delivery over the way comes to the same
+abbrev pub Same : Chronicle → Chronicle → Way → Type 0
+Same past now one = arrives now one.from one.to ≡ arrives past one.from one.to
+
+misses_append : (one : Way) (ws vs : List Way) → Misses one (ws ++ vs) → Misses one ws × Misses one vs
+misses_append one [] vs e = (refl, e)
+misses_append one (w ∷ ws) vs e =
+    let rest = misses_append one ws vs (grind (arith, nat_tests)) in
+    let first : same_way one w ≡ false = grind (arith, nat_tests) in
+    let others = rest.0 in
+    (grind (arith, nat_tests), rest.1)
+
+ways_append : (xs ys : List Effect) → queued_ways (xs ++ ys) ≡ queued_ways xs ++ queued_ways ys
+ways_append [] ys = refl
+ways_append (Logged node index ∷ xs) ys = ways_append xs ys
+ways_append (Queued from to ∷ xs) ys = ap (λ l. way from to ∷ l) (ways_append xs ys)
+ways_append (Lost from to ∷ xs) ys = ways_append xs ys
+
+pub linked_append : (net : Net) (ws vs : List Way) → AreLinked net ws → AreLinked net vs → AreLinked net (ws ++ vs)
+linked_append net [] vs first second = second
+linked_append net (w ∷ ws) vs first second = (first.0, linked_append net ws vs first.1 second)
+
+-- what was shown since, over which ways something was queued, and that a delivery over any other way,
+-- but for these, comes to the same
+pub record Changed (net : Net) (past now : Chronicle) (ways : List Way) : Type 0 where
+  pub tail : List Effect
+  pub shown : effects now ≡ effects past ++ tail
+  pub near : AreLinked net (queued_ways tail)
+  pub kept : (one : Way) → Misses one ways → Misses one (queued_ways tail) → Same past now one
+
+module _ (net : Net) (a b c : Chronicle) (ways : List Way) where
+  both : Changed net a b ways → Changed net b c ways → Changed net a c ways
+  both first second = record {
+    tail = first.tail ++ second.tail;
+    shown = second.shown ∙ (ap (λ l. l ++ second.tail) first.shown ∙ append_assoc (effects a) first.tail second.tail);
+    near = rw (ways_append first.tail second.tail) (linked_append net (queued_ways first.tail) (queued_ways second.tail) first.near second.near);
+    kept = λ one misses queued.
+        let parts = misses_append one (queued_ways first.tail) (queued_ways second.tail) (subst (Misses one) (ways_append first.tail second.tail) queued) in
+        second.kept one misses parts.1 ∙ first.kept one misses parts.0;
+  }
+
+unchanged : (net : Net) (past : Chronicle) (ways : List Way) → Changed net past past ways
+unchanged net past ways = record { tail = []; shown = sym (append-nil (effects past)); near = tt; kept = λ one misses queued. refl }
+
+-- ---- messages
+
+-- what is shown of messages
+abbrev shown_of : Chronicle → ℕ → List Going → List Effect
+shown_of past u gs = map (λ (g : Going). if carries (link u g.to past) g.session then Queued u g.to else Lost u g.to) gs
+
+off_way : (one : Way) (u w : ℕ) (q : Bool) → Misses one (if q then way u w ∷ [] else []) → ((u == one.from && w == one.to) && q) ≡ false
+off_way one u w true e = grind (arith, nat_tests)
+off_way one u w false e = grind (arith, nat_tests)
+
+one_sent : (past : Chronicle) (u w s : ℕ) (x : Item) (q : Bool) (one : Way) → Misses one (if q then way u w ∷ [] else []) → Same past (Sent u w s x q ∷ past) one
+one_sent past u w s x q one e = rw (off_way one u w q e) refl
+
+ways_one : (q : Bool) (u w : ℕ) (list : List Effect) → queued_ways ((if q then Queued u w else Lost u w) ∷ list) ≡ (if q then way u w ∷ [] else []) ++ queued_ways list
+ways_one true u w list = refl
+ways_one false u w list = refl
+
+module _ (net : Net) (first : Chronicle) (u : ℕ) where
+  sends_shown : (past : Chronicle) (gs : List Going) → effects (happen past (sends first u gs)) ≡ effects past ++ shown_of first u gs
+  sends_shown past [] = sym (append-nil (effects past))
+  sends_shown past (g ∷ gs) =
+      let q = carries (link u g.to first) g.session in
+      sends_shown (fact_of first u g ∷ past) gs
+      ∙ (ap (λ l. (effects past ++ l) ++ shown_of first u gs) (sym (shown_as q u g.to))
+      ∙ append_assoc (effects past) ((if q then Queued u g.to else Lost u g.to) ∷ []) (shown_of first u gs))
+
+  sends_near : (gs : List Going) → AllNear net u gs → AreLinked net (queued_ways (shown_of first u gs))
+  sends_near [] near = tt
+  sends_near (g ∷ gs) near =
+      elim (carries (link u g.to first) g.session) as (λ q. AreLinked net (queued_ways ((if q then Queued u g.to else Lost u g.to) ∷ shown_of first u gs))) [
+        | true ↦ (near.0, sends_near gs near.1)
+        | false ↦ sends_near gs near.1
+      ]
+
+  sends_kept : (past : Chronicle) (gs : List Going) (one : Way) → Misses one (queued_ways (shown_of first u gs)) → Same past (happen past (sends first u gs)) one
+  sends_kept past [] one e = refl
+  sends_kept past (g ∷ gs) one e =
+      let q = carries (link u g.to first) g.session in
+      let parts = misses_append one (if q then way u g.to ∷ [] else []) (queued_ways (shown_of first u gs)) (subst (Misses one) (ways_one q u g.to (shown_of first u gs)) e) in
+      sends_kept (fact_of first u g ∷ past) gs one parts.1 ∙ one_sent past u g.to g.session g.item q one parts.0
+
+  pub sends_change : (past : Chronicle) (gs : List Going) (ways : List Way) → AllNear net u gs → Changed net past (happen past (sends first u gs)) ways
+  sends_change past gs ways near = record {
+    tail = shown_of first u gs;
+    shown = sends_shown past gs;
+    near = sends_near gs near;
+    kept = λ one misses queued. sends_kept past gs one queued;
+  }
+
+-- ---- entries
+
+-- the entry changes no session but those of these ways
+abbrev KeepsHeld : ℕ → Entry → List Way → Type 0
+KeepsHeld u k ways = (one : Way) (session : Option ℕ) → Misses one ways → (u == one.to) ≡ true → held_by k.read.cause one.from session ≡ session
+
+held_logged : (past : Chronicle) (u : ℕ) (k : Entry) (ways : List Way) → KeepsHeld u k ways → (one : Way) → Misses one ways
+    → held_with one.to one.from (Log u k ∷ past) ≡ held_with one.to one.from past
+held_logged past u k ways keeps one misses =
+    (elim (u == one.to) as (λ t. (u == one.to) ≡ t → held_with one.to one.from (Log u k ∷ past) ≡ held_with one.to one.from past) [
+      | true ↦ λ e. rw e (keeps one (held_with one.to one.from past) misses e)
+      | false ↦ λ e. rw e refl
+    ]) refl
+
+log_change : (net : Net) (past : Chronicle) (u : ℕ) (k : Entry) (ways : List Way) → KeepsHeld u k ways → Changed net past (Log u k ∷ past) ways
+log_change net past u k ways keeps = record {
+  tail = Logged u (suc (length (log_of u past))) ∷ [];
+  shown = refl;
+  near = tt;
+  kept = λ one misses queued. ap (may_arrive (link one.from one.to past) (channel one.from one.to past)) (held_logged past u k ways keeps one misses);
+}
+
+write_change : (rules : Rules) (net : Net) (past : Chronicle) (u : ℕ) (k : Entry) (ways : List Way) → KeepsHeld u k ways → Changed net past (write rules net u k past) ways
+unfolding write
+write_change rules net past u k ways keeps =
+    both net past (Log u k ∷ past) (happen (Log u k ∷ past) (sends past u (going_by rules net u (log_of u past) k))) ways
+    (log_change net past u k ways keeps)
+    (sends_change net past u (Log u k ∷ past) (going_by rules net u (log_of u past) k) ways (going_near rules net u (log_of u past) k))
+
+-- both ways of a link, and no other
+off_ends : (one : Way) (a b : ℕ) → Misses one (way a b ∷ way b a ∷ []) → ((one.from == a && one.to == b) ≡ false) × ((one.from == b && one.to == a) ≡ false)
+off_ends one a b e = (grind (arith, nat_tests), grind (arith, nat_tests))
+
+off_link : (one : Way) (a b : ℕ) → Misses one (way a b ∷ way b a ∷ []) → are_ends one.from one.to a b ≡ false
+off_link one a b e = let off = off_ends one a b e in let one_off = off.0 in let other_off = off.1 in grind (arith, nat_tests)
+
+off_nbr : (one : Way) (u v : ℕ) → Misses one (way u v ∷ way v u ∷ []) → (u == one.to) ≡ true → (v == one.from) ≡ false
+off_nbr one u v e at = let off = off_ends one u v e in let other_off = off.1 in grind (arith, nat_tests)
+
+took_change : (net : Net) (past : Chronicle) (v u s : ℕ) (x : Item) → Changed net past (Took v u s x ∷ past) (way v u ∷ way u v ∷ [])
+took_change net past v u s x = record {
+  tail = [];
+  shown = refl;
+  near = tt;
+  kept = λ one misses queued.
+      let off = off_ends one v u misses in
+      let first_off = off.0 in
+      let away : (v == one.from && u == one.to) ≡ false = grind (arith, nat_tests) in
+      rw away refl;
+}
+
+fail_change : (net : Net) (past : Chronicle) (a b : ℕ) → Changed net past (fact.Fail a b ∷ past) (way a b ∷ way b a ∷ [])
+fail_change net past a b = record {
+  tail = [];
+  shown = refl;
+  near = tt;
+  kept = λ one misses queued. rw (off_link one a b misses) refl;
+}
+
+restore_change : (net : Net) (past : Chronicle) (a b : ℕ) → Changed net past (fact.Restore a b ∷ past) (way a b ∷ way b a ∷ [])
+restore_change net past a b = record {
+  tail = [];
+  shown = refl;
+  near = tt;
+  kept = λ one misses queued. rw (off_link one a b misses) refl;
+}
+
+-- ---- events
+
+greet_change : (rules : Rules) (net : Net) (past : Chronicle) (v u s : ℕ) (known : Option ℕ) (ways : List Way) → Changed net past (greeted rules net v u s known past) ways
+greet_change rules net past v u s (Some t) ways = unchanged net past ways
+greet_change rules net past v u s None ways = write_change rules net past u (local u (log_of u past) All (cause.Ready v s)) ways (λ one session misses at. refl)
+
+take_change : (rules : Rules) (net : Net) (past : Chronicle) (v u s : ℕ) (x : Item) → Changed net past (take_item rules net v u s x past) (way v u ∷ way u v ∷ [])
+unfolding take_item
+take_change rules net past v u s (News n x) =
+    let mid : Chronicle = Took v u s (News n x) ∷ past in
+    both net past mid (write rules net u (heard v s n x) mid) (way v u ∷ way u v ∷ []) (took_change net past v u s (News n x))
+    (write_change rules net mid u (heard v s n x) (way v u ∷ way u v ∷ []) (λ one session misses at. refl))
+take_change rules net past v u s (Hello e) =
+    let mid : Chronicle = Took v u s (Hello e) ∷ past in
+    both net past mid (greeted rules net v u s (ready (reads (log_of u past)) v) mid) (way v u ∷ way u v ∷ []) (took_change net past v u s (Hello e))
+    (greet_change rules net mid v u s (ready (reads (log_of u past)) v) (way v u ∷ way u v ∷ []))
+
+close_change : (rules : Rules) (net : Net) (past : Chronicle) (u v s : ℕ) → Changed net past (write rules net u (local u (log_of u past) All (cause.Down v s)) past) (way u v ∷ way v u ∷ [])
+close_change rules net past u v s =
+    write_change rules net past u (local u (log_of u past) All (cause.Down v s)) (way u v ∷ way v u ∷ []) (λ one session misses at. rw (off_nbr one u v misses at) refl)
+
+open_change : (net : Net) (past : Chronicle) (u v s : ℕ) → linked net u v ≡ true → Changed net past (open_session u v s past) (way u v ∷ way v u ∷ [])
+unfolding open_session
+open_change net past u v s near =
+    let k = local u (log_of u past) All (cause.Up v s) in
+    let hello : List Going = record { to = v; session = s; item = Hello 0 } ∷ [] in
+    both net past (Log u k ∷ past) (happen (Log u k ∷ past) (sends past u hello)) (way u v ∷ way v u ∷ [])
+    (log_change net past u k (way u v ∷ way v u ∷ []) (λ one session misses at. rw (off_nbr one u v misses at) refl))
+    (sends_change net past u (Log u k ∷ past) hello (way u v ∷ way v u ∷ []) (near, tt))
+
+abbrev pub ChangedBy : Net → Chronicle → List Way → Step → Type 0
+ChangedBy net past ways (Idle reason) = Unit {0}
+ChangedBy net past ways (Goes now) = Changed net past now ways
+
+module _ (rules : Rules) (net : Net) (past : Chronicle) where
+  delivery_change : (v u : ℕ) (l : LinkState) (items : List Item) (session : Option ℕ) → ChangedBy net past (way v u ∷ way u v ∷ []) (delivered rules net past v u l items session)
+  delivery_change v u (Down s) items session = tt
+  delivery_change v u (Up s) [] session = tt
+  delivery_change v u (Up s) (x ∷ rest) session =
+      elim (is_session session s) as (λ t. ChangedBy net past (way v u ∷ way u v ∷ []) (if t then Goes (take_item rules net v u s x past) else Idle WrongSession)) [
+        | true ↦ take_change rules net past v u s x
+        | false ↦ tt
+      ]
+
+  notice_change : (u v : ℕ) (session : Option ℕ) (l : LinkState) → ChangedBy net past (way u v ∷ way v u ∷ []) (noticed rules net past u v session l)
+  notice_change u v None l = tt
+  notice_change u v (Some s) l =
+      elim (carries l s) as (λ t. ChangedBy net past (way u v ∷ way v u ∷ []) (if t then Idle StillUp else Goes (write rules net u (local u (log_of u past) All (cause.Down v s)) past))) [
+        | true ↦ tt
+        | false ↦ close_change rules net past u v s
+      ]
+
+  opening_change : (u v : ℕ) (session : Option ℕ) (l : LinkState) → linked net u v ≡ true → ChangedBy net past (way u v ∷ way v u ∷ []) (opened past u v session l)
+  opening_change u v (Some s) l near = tt
+  opening_change u v None (Down s) near = tt
+  opening_change u v None (Up s) near = open_change net past u v s near
+
+  failing_change : (a b : ℕ) (l : LinkState) → ChangedBy net past (way a b ∷ way b a ∷ []) (fails past a b l)
+  failing_change a b (Up s) = fail_change net past a b
+  failing_change a b (Down s) = tt
+
+  restoring_change : (a b : ℕ) (l : LinkState) → ChangedBy net past (way a b ∷ way b a ∷ []) (restores past a b l)
+  restoring_change a b (Up s) = tt
+  restoring_change a b (Down s) = restore_change net past a b
+
+  event_change : (event : Event) → IsTrue (fits net event) → ChangedBy net past (ways_of event) (step rules net past event)
+  unfolding step
+  event_change (Originate u p) fit =
+      let k = local u (log_of u past) (One p) cause.Originate in
+      elim (owns (reads (log_of u past)) p) as (λ t. ChangedBy net past [] (if t then Idle AlreadyOrigin else Goes (write rules net u k past))) [
+        | true ↦ tt
+        | false ↦ write_change rules net past u k [] (λ one session misses at. refl)
+      ]
+  event_change (Withdraw u p) fit =
+      let k = local u (log_of u past) (One p) cause.Withdraw in
+      elim (owns (reads (log_of u past)) p) as (λ t. ChangedBy net past [] (if t then Goes (write rules net u k past) else Idle NotOrigin)) [
+        | true ↦ write_change rules net past u k [] (λ one session misses at. refl)
+        | false ↦ tt
+      ]
+  event_change (Prefer u v value) fit = write_change rules net past u (local u (log_of u past) All (cause.Prefer v value)) [] (λ one session misses at. refl)
+  event_change (Deliver v u) fit = delivery_change v u (link v u past) (channel v u past) (held_with u v past)
+  event_change (Fail a b) fit = failing_change a b (link a b past)
+  event_change (Restore a b) fit = restoring_change a b (link a b past)
+  event_change (Notice u v) fit = notice_change u v (held_with u v past) (link u v past)
+  event_change (OpenSession u v) fit = opening_change u v (held_with u v past) (link u v past) fit
+
+two_linked : (net : Net) (a b : ℕ) → linked net a b ≡ true → AreLinked net (way a b ∷ way b a ∷ [])
+two_linked net a b near = (near, (linked_sym net b a ∙ near, tt))
+
+ways_linked : (net : Net) (event : Event) → IsTrue (fits net event) → AreLinked net (ways_of event)
+ways_linked net (Originate u p) fit = tt
+ways_linked net (Withdraw u p) fit = tt
+ways_linked net (Prefer u v value) fit = tt
+ways_linked net (Deliver v u) fit = two_linked net v u fit
+ways_linked net (Fail a b) fit = two_linked net a b fit
+ways_linked net (Restore a b) fit = two_linked net a b fit
+ways_linked net (Notice u v) fit = two_linked net u v fit
+ways_linked net (OpenSession u v) fit = two_linked net u v fit
+
+module _ (net : Net) (past : Chronicle) (has : Way → Bool) (was : AreWaiting net past has) where
+  stale_by : (s : Step) (list : List Effect) (ways : List Way) → Tells past s (outcome.Did list) → ChangedBy net past ways s → AreLinked net ways
+      → AreWaitingBut net (chronicle_of past s) (ways ++ queued_ways list) has
+  stale_by (Idle reason) list ways tells change near = absurd tells
+  stale_by (Goes now) list ways tells change near =
+      let same : list ≡ change.tail = append_cancel_left (effects past) list change.tail (tells ∙ change.shown) in
+      rw same
+      (record {
+        near = linked_append net ways (queued_ways change.tail) near change.near;
+        right = λ one misses.
+            let parts = misses_append one ways (queued_ways change.tail) misses in
+            was one ∙ ap (λ b. linked net one.from one.to && b) (sym (change.kept one parts.0 parts.1));
+      })
+
+  idle_by : (s : Step) (told : Reason) → Tells past s (outcome.Idle told) → AreWaiting net (chronicle_of past s) has
+  idle_by (Idle reason) told tells = was
+  idle_by (Goes now) told tells = absurd tells
+
+  -- after an event nothing is known of the ways that it may have changed
+  pub stale : (rules : Rules) (event : Event) (list : List Effect) → IsTrue (fits net event) → Tells past (step rules net past event) (outcome.Did list)
+      → AreWaitingBut net (after rules net past event) (ways_of event ++ queued_ways list) has
+  unfolding after
+  stale rules event list fit tells = stale_by (step rules net past event) list (ways_of event) tells (event_change rules net past event fit) (ways_linked net event fit)
+
+  -- an idle one changed none
+  pub still : (rules : Rules) (event : Event) (told : Reason) → Tells past (step rules net past event) (outcome.Idle told) → AreWaiting net (after rules net past event) has
+  unfolding after
+  still rules event told tells = idle_by (step rules net past event) told tells
+
+-- ---- a way is looked at again
+
+same_ends : (one other : Way) → same_way one other ≡ true → (one.from ≡ other.from) × (one.to ≡ other.to)
+same_ends one other e = (grind (arith, nat_tests), grind (arith, nat_tests))
+
+pub looked : (net : Net) (past : Chronicle) (here : Way) (rest : List Way) (old new : Way → Bool) (waits_so : Bool)
+    → ((other : Way) → new other ≡ (if same_way other here then waits_so else old other))
+    → (linked net here.from here.to ≡ true → waits_so ≡ arrives past here.from here.to)
+    → AreWaitingBut net past (here ∷ rest) old → AreWaitingBut net past rest new
+looked net past here rest old new waits_so puts is was = record {
+  near = was.near.1;
+  right = λ other misses.
+      puts other
+      ∙ ((elim (same_way other here) as (λ t. same_way other here ≡ t → (if t then waits_so else old other) ≡ waits net past other) [
+        | true ↦ λ e.
+            let ends = same_ends other here e in
+            rw (ends.0, ends.1) (rw was.near.0 (is was.near.0))
+        | false ↦ λ e. was.right other (grind (arith, nat_tests))
+      ]) refl);
+}
+
+pub all_known : (net : Net) (past : Chronicle) (has : Way → Bool) → AreWaitingBut net past [] has → AreWaiting net past has
+all_known net past has was = λ one. was.right one refl
+
+-- what a delivery comes to, by what it reads
+pub arrives_is : (past : Chronicle) (v u s : ℕ) (x : Item) (rest : List Item) → link v u past ≡ Up s → channel v u past ≡ x ∷ rest
+    → arrives past v u ≡ is_session (held_with u v past) s
+arrives_is past v u s x rest is at = ap₂ (λ l items. may_arrive l items (held_with u v past)) is at

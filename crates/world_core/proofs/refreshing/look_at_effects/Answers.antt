@@ -1,0 +1,23 @@
+use Rattle.std.proofs.Common.{◌≡◌, ◌≤◌, ◌+◌, ◌∷◌, [], ap, drop, refl, arith, length, subst}
+use Rattle.std.proofs.lemmas.Option.{slice_get_read}
+use Rattle.world_core.specs.Refreshing.{AreWaitingBut, queued_ways}
+use Rattle.world_core.specs.WaySets.{has_way}
+use Rattle.world_core.proofs.Told.{drop_at, drop_end}
+use Rattle.world_core.proofs.refreshing.look_at_effects.Goals as goal
+
+pub loop-effect-preserved : goal.loop-effect-preserved
+loop-effect-preserved g c =
+    let effects = c.args.effects.now in
+    let i = c.loop-effect.effect-index in
+    let here = slice_get_read effects (length effects) i c.effect-item.result refl c.loop-effect-test.true c.effect-item.is in
+    record {
+      known = λ policy past matches was.
+          c.in_ok-look_at_effect.ensures policy past (drop (i + 1) effects) matches
+          (subst (λ l. AreWaitingBut c.args.topology.now past (queued_ways l) (has_way c.loop-effect.waiting)) (drop_at effects i c.effect-item.result here) (c.loop-effect.invariant.known policy past matches was));
+    }
+
+pub returns : goal.returns
+returns g c policy past matches was =
+    let effects = c.args.effects.now in
+    let ends : length effects ≤ c.loop-effect.effect-index = omega arith in
+    subst (λ l. AreWaitingBut c.args.topology.now past (queued_ways l) (has_way c.loop-effect.waiting)) (drop_end effects c.loop-effect.effect-index ends) (c.loop-effect.invariant.known policy past matches was)

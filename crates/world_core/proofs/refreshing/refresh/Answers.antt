@@ -1,0 +1,24 @@
+use Rattle.std.proofs.Common.{◌≡◌, subst, sym, ap}
+use Rattle.world_core.specs.Effects.{Tells}
+use Rattle.world_core.specs.WaySets.{has_way}
+use Rattle.chronicle.specs.Run.{step}
+use Rattle.world_core.specs.Refreshing.{queued_ways, AreWaitingBut}
+use Rattle.chronicle.specs.Run.{after}
+use Rattle.world_core.proofs.Changing.{stale, still, all_known}
+use Rattle.world_core.proofs.refreshing.refresh.Goals as goal
+
+pub returns-in_default : goal.returns-in_default
+returns-in_default g c policy past fit happened was =
+    let rules = g.P.Policy.rules policy in
+    let net = c.args.topology.now in
+    still net past (has_way c.args.waiting.now) was rules c.args.event.now c.in_default.field-0 (rw c.in_default.is at happened.tells)
+
+pub returns : goal.returns
+returns g c policy past fit happened was =
+    let rules = g.P.Policy.rules policy in
+    let net = c.args.topology.now in
+    let now = after rules net past c.args.event.now in
+    let start = stale net past (has_way c.args.waiting.now) was rules c.args.event.now c.in-Did.effects fit (rw c.in-Did.is at happened.tells) in
+    let mid = c.in_ok-look_at_link.ensures policy now (queued_ways c.in-Did.effects) happened.matches start in
+    all_known net now (has_way c.look_at_effects.new.waiting)
+    (c.in_ok-look_at_effects.ensures policy now happened.matches (rw c.as_slice.ensures mid))

@@ -1,0 +1,42 @@
+-- Which ways an event may have changed, and what a set keeps of the others.
+use Rattle.std.specs.Prelude.{ℕ, ◌≡◌, Bool, true, false, List, [], ◌∷◌, ◌++◌, Option, Some, None}
+use Rattle.std.specs.List.{list_any, AllByRecursion}
+use Rattle.topology.specs.Net.{Net, linked}
+use Rattle.chronicle.specs.declared.events.Event.{Event}
+use Rattle.chronicle.specs.declared.events.Event.TheVariants.{Originate, Withdraw, Prefer, Deliver, Fail, Restore, Notice, OpenSession}
+use Rattle.chronicle.specs.declared.ways.Way.{Way}
+use Rattle.chronicle.specs.Facts.{Chronicle}
+use Rattle.world_core.specs.declared.outcomes.Effect.{Effect}
+use Rattle.world_core.specs.declared.outcomes.Effect.TheVariants.{Logged, Queued, Lost}
+use Rattle.world_core.specs.Waiting.{waits}
+use Rattle.world_core.specs.WaySets.{same_way}
+
+abbrev pub way : ℕ → ℕ → Way
+way from to = record { from = from; to = to }
+
+-- both ways over the link of the event, where it is about a link
+abbrev pub ways_of : Event → List Way
+ways_of (Originate node prefix) = []
+ways_of (Withdraw node prefix) = []
+ways_of (Prefer node nbr value) = []
+ways_of (Deliver from to) = way from to ∷ way to from ∷ []
+ways_of (Fail a b) = way a b ∷ way b a ∷ []
+ways_of (Restore a b) = way a b ∷ way b a ∷ []
+ways_of (Notice node nbr) = way node nbr ∷ way nbr node ∷ []
+ways_of (OpenSession node nbr) = way node nbr ∷ way nbr node ∷ []
+
+-- the ways over which something was queued
+abbrev pub queued_ways : List Effect → List Way
+queued_ways [] = []
+queued_ways (Logged node index ∷ list) = queued_ways list
+queued_ways (Queued from to ∷ list) = way from to ∷ queued_ways list
+queued_ways (Lost from to ∷ list) = queued_ways list
+
+-- each way goes over a link
+abbrev pub AreLinked : Net → List Way → Type 0
+AreLinked net ways = AllByRecursion (λ (w : Way). linked net w.from w.to ≡ true) ways
+
+-- the set has each way that waits but for these, of which nothing is known, and no other
+pub record AreWaitingBut (net : Net) (past : Chronicle) (ways : List Way) (has : Way → Bool) : Type 0 where
+  pub near : AreLinked net ways
+  pub right : (one : Way) → list_any (same_way one) ways ≡ false → has one ≡ waits net past one

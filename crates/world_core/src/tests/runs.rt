@@ -1,0 +1,120 @@
+//! Events in short, and runs of them.
+use crate::{Effect, Event, Outcome, World};
+use path_vector::Policy;
+use std::alloc::Global;
+use std::process::Abort;
+use std::rc::Rc;
+use std::test::Fail;
+use topology::{NodeId, Prefix, PrefixId, Reason, Relation, Topology};
+
+/// Nodes in a line: 1 - 2 - .. - `count`.
+pub fn line_of<P: Policy + Copy>(
+    alloc: Global,
+    count: u16,
+    policy: P,
+) -> Result<World<P>, Fail> {
+    let mut topology = Topology::empty(alloc);
+    for node in 1..=count {
+        topology.add_node(NodeId::new(node), false)?;
+    }
+    for node in 2..=count {
+        topology.add_link(NodeId::new(node - 1), NodeId::new(node), Relation::Any)?;
+    }
+    topology.add_prefix(Prefix { bits: 0, len: 0 })?;
+    Ok(World::new(alloc, Rc::new(alloc, topology)?, policy)?)
+}
+
+/// What one of the words for events says of two nodes.
+pub fn event(word: &str, a: u16, b: u16) -> Event {
+    let value = b as u32;
+    let prefix = PrefixId::new(0);
+    let a = NodeId::new(a);
+    let b = NodeId::new(b);
+    match word {
+        "originate" => Event::Originate { node: a, prefix },
+        "withdraw" => Event::Withdraw { node: a, prefix },
+        "prefer" => Event::Prefer {
+            node: a,
+            nbr: b,
+            value,
+        },
+        "fail" => Event::Fail { a, b },
+        "restore" => Event::Restore { a, b },
+        "notice" => Event::Notice { node: a, nbr: b },
+        "open" => Event::OpenSession { node: a, nbr: b },
+        _ => Event::Deliver { from: a, to: b },
+    }
+}
+
+pub fn logged(node: u16, index: u32) -> Effect {
+    let node = NodeId::new(node);
+    Effect::Logged { node, index }
+}
+
+pub fn queued(from: u16, to: u16) -> Effect {
+    let from = NodeId::new(from);
+    let to = NodeId::new(to);
+    Effect::Queued { from, to }
+}
+
+pub fn lost(from: u16, to: u16) -> Effect {
+    let from = NodeId::new(from);
+    let to = NodeId::new(to);
+    Effect::Lost { from, to }
+}
+
+// The number of the ends of the next delivery: 0 where there is none.
+fn next_of<P: Policy + Copy>(world: &World<P>) -> (u16, u16) {
+    match world.next_delivery() {
+        None => (0, 0),
+        Some((from, to)) => (from.number(), to.number()),
+    }
+}
+
+// The world after the event, which does these effects, or nothing for this reason; this is the next
+// delivery then.
+fn after<P: Policy + Copy>(
+    rt: &impl Abort,
+    world: World<P>,
+    event: Event,
+    effects: &[Effect],
+    reason: Option<Reason>,
+    next: (u16, u16),
+) -> Result<World<P>, Fail> {
+    if !world.fits(&event) {
+        assert!(rt; false);
+        return Ok(world);
+    }
+    let (world, outcome) = world.step(event)?;
+    match outcome {
+        Outcome::Did(done) => {
+            assert!(rt; reason.is_none());
+            assert_eq!(rt; done.as_slice(), effects);
+        }
+        Outcome::Idle(why) => assert_eq!(rt; Some(why), reason),
+    }
+    assert_eq!(rt; next_of(&world), next);
+    Ok(world)
+}
+
+/// The world after an event that does this.
+pub fn does<P: Policy + Copy>(
+    rt: &impl Abort,
+    world: World<P>,
+    event: Event,
+    effects: &[Effect],
+    next: (u16, u16),
+) -> Result<World<P>, Fail> {
+    after(rt, world, event, effects, None, next)
+}
+
+/// The world after an event that does nothing.
+pub fn idles<P: Policy + Copy>(
+    rt: &impl Abort,
+    world: World<P>,
+    event: Event,
+    reason: Reason,
+    next: (u16, u16),
+) -> Result<World<P>, Fail> {
+    after(rt, world, event, &[], Some(reason), next)
+}
