@@ -14,3 +14,4 @@ mod FirstWay
 pub mod Counts
 pub mod Fresh
 pub mod Next
+pub mod Lawful
