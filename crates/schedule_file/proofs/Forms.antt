@@ -6,7 +6,7 @@ use Rattle.std.proofs.lemmas.Option.{none-some, same_Some}
 use Rattle.topology.specs.declared.status.BadKind.{BadKind}
 use Rattle.topology.specs.declared.status.BadKind.TheVariants.{NotBuilt, NotHere, WrongCount}
 use Rattle.schedule_file.specs.declared.lines.Line.{Line}
-use Rattle.schedule_file.specs.declared.lines.Line.TheVariants.{Blank, Node, Link, Pref, Prefix, Begin, Originate, Withdraw, Deliver, ShowRib, ShowLog}
+use Rattle.schedule_file.specs.declared.lines.Line.TheVariants.{Blank, Node, Link, Pref, Prefix, Begin, Originate, Withdraw, Prefer, Deliver, Fail, Restore, Notice, Open, Drain, ShowRib, ShowLog}
 use Rattle.schedule_file.specs.declared.words.Words.{Words}
 use Rattle.schedule_file.specs.declared.words.Keyword.{Keyword}
 use Rattle.schedule_file.specs.declared.words.Keyword.TheVariants as keyword
@@ -74,7 +74,13 @@ same_place started k (Prefix p) e = ap (may_stand started) (same_Some keyword.Pr
 same_place started k Begin e = ap (may_stand started) (same_Some keyword.Begin k e)
 same_place started k (Originate node p) e = ap (may_stand started) (same_Some keyword.Originate k e)
 same_place started k (Withdraw node p) e = ap (may_stand started) (same_Some keyword.Withdraw k e)
+same_place started k (Prefer node nbr value) e = ap (may_stand started) (same_Some keyword.Prefer k e)
 same_place started k (Deliver from to) e = ap (may_stand started) (same_Some keyword.Deliver k e)
+same_place started k (Fail a b) e = ap (may_stand started) (same_Some keyword.Fail k e)
+same_place started k (Restore a b) e = ap (may_stand started) (same_Some keyword.Restore k e)
+same_place started k (Notice node nbr) e = ap (may_stand started) (same_Some keyword.Notice k e)
+same_place started k (Open node nbr) e = ap (may_stand started) (same_Some keyword.Open k e)
+same_place started k (Drain times) e = ap (may_stand started) (same_Some keyword.Drain k e)
 same_place started k ShowRib e = ap (may_stand started) (same_Some keyword.Show k e)
 same_place started k ShowLog e = ap (may_stand started) (same_Some keyword.Show k e)
 

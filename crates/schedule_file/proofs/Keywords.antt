@@ -6,7 +6,7 @@ use Rattle.std.proofs.lemmas.Bool.{cases_Bool, cond-true, cond-false}
 use Rattle.std.proofs.lemmas.Option.{none-some, same_Some}
 use Rattle.topology.specs.declared.status.BadKind.TheVariants.{UnknownWord, NotBuilt}
 use Rattle.schedule_file.specs.declared.words.Keyword.{Keyword}
-use Rattle.schedule_file.specs.declared.words.Keyword.TheVariants.{Node, Link, Pref, Prefix, Begin, Originate, Withdraw, Deliver, Show}
+use Rattle.schedule_file.specs.declared.words.Keyword.TheVariants.{Node, Link, Pref, Prefix, Begin, Originate, Withdraw, Prefer, Deliver, Fail, Restore, Notice, Open, Drain, Show}
 use Rattle.schedule_file.specs.Words.{has_word}
 use Rattle.schedule_file.specs.Table.{keyword_text, keywords, keyword_in, later_words}
 use Rattle.schedule_file.specs.Refusals.{fault_by}
@@ -20,7 +20,13 @@ keyword_found Prefix = refl
 keyword_found Begin = refl
 keyword_found Originate = refl
 keyword_found Withdraw = refl
+keyword_found Prefer = refl
 keyword_found Deliver = refl
+keyword_found Fail = refl
+keyword_found Restore = refl
+keyword_found Notice = refl
+keyword_found Open = refl
+keyword_found Drain = refl
 keyword_found Show = refl
 
 passes : {X : Type 0} (p : X → Bool) (xs : List X) (x : X) → find p xs ≡ Some x → p x ≡ true

@@ -1,16 +1,16 @@
 -- Words without a fault spell a line, keyword by keyword.
-use Rattle.std.proofs.Common.{◌≡◌, ℕ, suc, Bool, true, false, List, [], ◌∷◌, length, refl, sym, ap, ap₂, ◌∙◌, subst, inl, inr, arith}
+use Rattle.std.proofs.Common.{◌≡◌, ℕ, suc, ◌≤◌, Bool, true, false, List, [], ◌∷◌, length, refl, sym, ap, ap₂, ◌∙◌, subst, inl, inr, arith}
 use Rattle.std.specs.Prelude.{Option, Some, None, codes, bytes_eq}
 use Rattle.std.specs.Fmt.{decimal}
 use Rattle.std.proofs.lemmas.Bool.{or_cases, false≢true}
 use Rattle.schedule_file.specs.declared.lines.Line.{Line}
-use Rattle.schedule_file.specs.declared.lines.Line.TheVariants.{Blank, Node, Link, Pref, Prefix, Begin, Originate, Withdraw, Deliver, ShowRib, ShowLog}
+use Rattle.schedule_file.specs.declared.lines.Line.TheVariants.{Blank, Node, Link, Pref, Prefix, Begin, Originate, Withdraw, Prefer, Deliver, Fail, Restore, Notice, Open, Drain, ShowRib, ShowLog}
 use Rattle.schedule_file.specs.declared.words.Keyword.{Keyword}
 use Rattle.schedule_file.specs.declared.words.Keyword.TheVariants as keyword
-use Rattle.schedule_file.specs.Spelling.{IsNumber, Spells}
+use Rattle.schedule_file.specs.Spelling.{line_words, IsNumber, InRange, Spells}
 use Rattle.schedule_file.specs.Words.{has_word, number_of, prefix_of, relation_of}
 use Rattle.schedule_file.specs.Table.{Field, keyword_in, keyword_text, spells_field, first_fault, relations, views}
-use Rattle.schedule_file.specs.Table.Field.{NodeNumber, Value, Masked, OneOf, NoWord}
+use Rattle.schedule_file.specs.Table.Field.{NodeNumber, Value, Times, Masked, OneOf, NoWord}
 use Rattle.schedule_file.specs.Grammar.{stands}
 use Rattle.schedule_file.specs.Refusals.{fault_by, word_fault}
 use Rattle.schedule_file.specs.Standing.{word_at}
@@ -79,8 +79,9 @@ link_found started a b r here e =
       here = here;
     }
 
-pref_found : (started : Bool) (a b v : List ℕ) → stands started (Pref (number_of a) (number_of b) (number_of v)) ≡ true → first_fault (NodeNumber ∷ NodeNumber ∷ Value ∷ []) (a ∷ b ∷ v ∷ []) ≡ None → Found started (codes "pref" ∷ a ∷ b ∷ v ∷ [])
-pref_found started a b v here e =
+-- two nodes and a value behind a first word
+value_found : (started : Bool) (text : List ℕ) (line : ℕ → ℕ → ℕ → Line) → ((a b n : ℕ) → line_words (line a b n) ≡ text ∷ decimal a ∷ decimal b ∷ decimal n ∷ []) → ((a b n : ℕ) → IsNumber a × IsNumber b × (n ≤ 1000000) → InRange (line a b n)) → (a b v : List ℕ) → stands started (line (number_of a) (number_of b) (number_of v)) ≡ true → first_fault (NodeNumber ∷ NodeNumber ∷ Value ∷ []) (a ∷ b ∷ v ∷ []) ≡ None → Found started (text ∷ a ∷ b ∷ v ∷ [])
+value_found started text line words range a b v here e =
     let first = none_bad NodeNumber (NodeNumber ∷ Value ∷ []) a (b ∷ v ∷ []) e in
     let second = none_bad NodeNumber (Value ∷ []) b (v ∷ []) first.1 in
     let third = none_bad Value [] v [] second.1 in
@@ -88,8 +89,11 @@ pref_found started a b v here e =
     let q = number_is b second.0 in
     let s = number_spelled 0 1000000 v third.0 in
     record {
-      line = Pref (number_of a) (number_of b) (number_of v);
-      spells = record { spelled = ap₂ (λ x y. codes "pref" ∷ x ∷ y ∷ v ∷ []) p.0 q.0 ∙ ap (λ w. codes "pref" ∷ decimal (number_of a) ∷ decimal (number_of b) ∷ w ∷ []) s.0; in_range = (p.1, q.1, s.2) };
+      line = line (number_of a) (number_of b) (number_of v);
+      spells = record {
+        spelled = ap₂ (λ x y. text ∷ x ∷ y ∷ v ∷ []) p.0 q.0 ∙ ap (λ w. text ∷ decimal (number_of a) ∷ decimal (number_of b) ∷ w ∷ []) s.0 ∙ sym (words (number_of a) (number_of b) (number_of v));
+        in_range = range (number_of a) (number_of b) (number_of v) (p.1, q.1, s.2);
+      };
       here = here;
     }
 
@@ -112,12 +116,22 @@ withdraw_found started n p here e =
     let s = prefix_spelled p (none_bad Masked [] p [] first.1).0 in
     record { line = Withdraw (number_of n) (prefix_of p); spells = record { spelled = ap₂ (λ v w. codes "withdraw" ∷ v ∷ w ∷ []) a.0 s.0; in_range = (a.1, s.1) }; here = here }
 
-deliver_found : (started : Bool) (a b : List ℕ) → stands started (Deliver (number_of a) (number_of b)) ≡ true → first_fault (NodeNumber ∷ NodeNumber ∷ []) (a ∷ b ∷ []) ≡ None → Found started (codes "deliver" ∷ a ∷ b ∷ [])
-deliver_found started a b here e =
+-- two nodes behind a first word
+pair_found : (started : Bool) (text : List ℕ) (line : ℕ → ℕ → Line) → ((a b : ℕ) → line_words (line a b) ≡ text ∷ decimal a ∷ decimal b ∷ []) → ((a b : ℕ) → IsNumber a × IsNumber b → InRange (line a b)) → (a b : List ℕ) → stands started (line (number_of a) (number_of b)) ≡ true → first_fault (NodeNumber ∷ NodeNumber ∷ []) (a ∷ b ∷ []) ≡ None → Found started (text ∷ a ∷ b ∷ [])
+pair_found started text line words range a b here e =
     let first = none_bad NodeNumber (NodeNumber ∷ []) a (b ∷ []) e in
     let p = number_is a first.0 in
     let q = number_is b (none_bad NodeNumber [] b [] first.1).0 in
-    record { line = Deliver (number_of a) (number_of b); spells = record { spelled = ap₂ (λ v w. codes "deliver" ∷ v ∷ w ∷ []) p.0 q.0; in_range = (p.1, q.1) }; here = here }
+    record {
+      line = line (number_of a) (number_of b);
+      spells = record { spelled = ap₂ (λ v w. text ∷ v ∷ w ∷ []) p.0 q.0 ∙ sym (words (number_of a) (number_of b)); in_range = range (number_of a) (number_of b) (p.1, q.1) };
+      here = here;
+    }
+
+drain_found : (started : Bool) (n : List ℕ) → stands started (Drain (number_of n)) ≡ true → first_fault (Times ∷ []) (n ∷ []) ≡ None → Found started (codes "drain" ∷ n ∷ [])
+drain_found started n here e =
+    let p = number_spelled 1 1000000 n (none_bad Times [] n [] e).0 in
+    record { line = Drain (number_of n); spells = record { spelled = ap (λ w. codes "drain" ∷ w ∷ []) p.0; in_range = (p.1, p.2) }; here = here }
 
 show_found : (started : Bool) (view : List ℕ) → started ≡ true → first_fault (OneOf views ∷ []) (view ∷ []) ≡ None → Found started (codes "show" ∷ view ∷ [])
 show_found started view here e =
@@ -151,7 +165,7 @@ found_by keyword.Link started word rest e f =
 found_by keyword.Pref started word rest e f =
     let c = wanted_count 4 (suc (length rest)) (NodeNumber ∷ NodeNumber ∷ Value ∷ []) f.wanted f.counted in
     let shape = three_words rest (omega (arith, c.0)) in
-    at_words started word (codes "pref") rest _ e shape (pref_found started (word_at 0 rest) (word_at 1 rest) (word_at 2 rest) f.here (shaped _ f.wanted rest _ c.1 shape f.fine_words))
+    at_words started word (codes "pref") rest _ e shape (value_found started (codes "pref") Pref (λ _ _ _. refl) (λ _ _ _ h. h) (word_at 0 rest) (word_at 1 rest) (word_at 2 rest) f.here (shaped _ f.wanted rest _ c.1 shape f.fine_words))
 found_by keyword.Prefix started word rest e f =
     let c = wanted_count 2 (suc (length rest)) (Masked ∷ []) f.wanted f.counted in
     let shape = one_word rest (omega (arith, c.0)) in
@@ -168,10 +182,34 @@ found_by keyword.Withdraw started word rest e f =
     let c = wanted_count 3 (suc (length rest)) (NodeNumber ∷ Masked ∷ []) f.wanted f.counted in
     let shape = two_words rest (omega (arith, c.0)) in
     at_words started word (codes "withdraw") rest _ e shape (withdraw_found started (word_at 0 rest) (word_at 1 rest) f.here (shaped _ f.wanted rest _ c.1 shape f.fine_words))
+found_by keyword.Prefer started word rest e f =
+    let c = wanted_count 4 (suc (length rest)) (NodeNumber ∷ NodeNumber ∷ Value ∷ []) f.wanted f.counted in
+    let shape = three_words rest (omega (arith, c.0)) in
+    at_words started word (codes "prefer") rest _ e shape (value_found started (codes "prefer") Prefer (λ _ _ _. refl) (λ _ _ _ h. h) (word_at 0 rest) (word_at 1 rest) (word_at 2 rest) f.here (shaped _ f.wanted rest _ c.1 shape f.fine_words))
 found_by keyword.Deliver started word rest e f =
     let c = wanted_count 3 (suc (length rest)) (NodeNumber ∷ NodeNumber ∷ []) f.wanted f.counted in
     let shape = two_words rest (omega (arith, c.0)) in
-    at_words started word (codes "deliver") rest _ e shape (deliver_found started (word_at 0 rest) (word_at 1 rest) f.here (shaped _ f.wanted rest _ c.1 shape f.fine_words))
+    at_words started word (codes "deliver") rest _ e shape (pair_found started (codes "deliver") Deliver (λ _ _. refl) (λ _ _ h. h) (word_at 0 rest) (word_at 1 rest) f.here (shaped _ f.wanted rest _ c.1 shape f.fine_words))
+found_by keyword.Fail started word rest e f =
+    let c = wanted_count 3 (suc (length rest)) (NodeNumber ∷ NodeNumber ∷ []) f.wanted f.counted in
+    let shape = two_words rest (omega (arith, c.0)) in
+    at_words started word (codes "fail") rest _ e shape (pair_found started (codes "fail") Fail (λ _ _. refl) (λ _ _ h. h) (word_at 0 rest) (word_at 1 rest) f.here (shaped _ f.wanted rest _ c.1 shape f.fine_words))
+found_by keyword.Restore started word rest e f =
+    let c = wanted_count 3 (suc (length rest)) (NodeNumber ∷ NodeNumber ∷ []) f.wanted f.counted in
+    let shape = two_words rest (omega (arith, c.0)) in
+    at_words started word (codes "restore") rest _ e shape (pair_found started (codes "restore") Restore (λ _ _. refl) (λ _ _ h. h) (word_at 0 rest) (word_at 1 rest) f.here (shaped _ f.wanted rest _ c.1 shape f.fine_words))
+found_by keyword.Notice started word rest e f =
+    let c = wanted_count 3 (suc (length rest)) (NodeNumber ∷ NodeNumber ∷ []) f.wanted f.counted in
+    let shape = two_words rest (omega (arith, c.0)) in
+    at_words started word (codes "notice") rest _ e shape (pair_found started (codes "notice") Notice (λ _ _. refl) (λ _ _ h. h) (word_at 0 rest) (word_at 1 rest) f.here (shaped _ f.wanted rest _ c.1 shape f.fine_words))
+found_by keyword.Open started word rest e f =
+    let c = wanted_count 3 (suc (length rest)) (NodeNumber ∷ NodeNumber ∷ []) f.wanted f.counted in
+    let shape = two_words rest (omega (arith, c.0)) in
+    at_words started word (codes "open") rest _ e shape (pair_found started (codes "open") Open (λ _ _. refl) (λ _ _ h. h) (word_at 0 rest) (word_at 1 rest) f.here (shaped _ f.wanted rest _ c.1 shape f.fine_words))
+found_by keyword.Drain started word rest e f =
+    let c = wanted_count 2 (suc (length rest)) (Times ∷ []) f.wanted f.counted in
+    let shape = one_word rest (omega (arith, c.0)) in
+    at_words started word (codes "drain") rest _ e shape (drain_found started (word_at 0 rest) f.here (shaped _ f.wanted rest _ c.1 shape f.fine_words))
 found_by keyword.Show started word rest e f =
     elim (counts (suc (length rest)) (OneOf views ∷ NoWord ∷ []) (OneOf views ∷ []) f.wanted f.counted) [
       | inl c ↦ (let shape = two_words rest (omega (arith, c.0)) in

@@ -6,10 +6,10 @@ use Rattle.topology.specs.declared.building.BuildError.TheVariants as building
 use Rattle.topology.specs.declared.status.BadKind.{BadKind}
 use Rattle.topology.specs.declared.status.BadKind.TheVariants as bad
 use Rattle.topology.specs.Lists.{has}
-use Rattle.topology.specs.Net.{Net, has_prefix, same_prefix}
+use Rattle.topology.specs.Net.{Net, linked, has_prefix, same_prefix}
 use Rattle.topology.specs.Building.{nothing, with_node, with_link, with_pref, with_prefix, node_refusal, link_refusal, pref_refusal, prefix_refusal}
 use Rattle.schedule_file.specs.declared.lines.Line.{Line}
-use Rattle.schedule_file.specs.declared.lines.Line.TheVariants.{Blank, Node, Link, Pref, Prefix, Begin, Originate, Withdraw, Deliver, ShowRib, ShowLog}
+use Rattle.schedule_file.specs.declared.lines.Line.TheVariants.{Blank, Node, Link, Pref, Prefix, Begin, Originate, Withdraw, Prefer, Deliver, Fail, Restore, Notice, Open, Drain, ShowRib, ShowLog}
 use Rattle.schedule_file.specs.declared.lines.Directive.{Directive}
 use Rattle.schedule_file.specs.declared.lines.Directive.TheVariants as directive
 use Rattle.schedule_file.specs.declared.lines.Numbered.{Numbered}
@@ -47,7 +47,13 @@ stands started (Prefix p) = not started
 stands started Begin = not started
 stands started (Originate node p) = started
 stands started (Withdraw node p) = started
+stands started (Prefer node nbr value) = started
 stands started (Deliver from to) = started
+stands started (Fail a b) = started
+stands started (Restore a b) = started
+stands started (Notice node nbr) = started
+stands started (Open node nbr) = started
+stands started (Drain times) = started
 stands started ShowRib = started
 stands started ShowLog = started
 
@@ -73,6 +79,18 @@ origin_fault net node p =
     else if not (has_prefix net p) then Some bad.UnknownPrefix
     else None
 
+-- the first fault of two different nodes with a link
+abbrev pub pair_fault : Net → ℕ → ℕ → Option BadKind
+pair_fault net a b = fault_from (pref_refusal net a b)
+
+-- the first fault of a node and its neighbour; no node has a link with itself, and equal ends are not named
+abbrev pub neighbour_fault : Net → ℕ → ℕ → Option BadKind
+neighbour_fault net node nbr =
+    if not (has net.nodes node) then Some bad.UnknownNode
+    else if not (has net.nodes nbr) then Some bad.UnknownNode
+    else if not (linked net node nbr) then Some bad.NoLink
+    else None
+
 -- the first fault of the names of a line: an unknown node, an unknown prefix, equal ends, no link, what is there already, too many
 abbrev pub name_fault : Net → Line → Option BadKind
 name_fault net (Node id consolidator) = fault_from (node_refusal net id consolidator)
@@ -81,7 +99,12 @@ name_fault net (Pref a b value) = fault_from (pref_refusal net a b)
 name_fault net (Prefix p) = fault_from (prefix_refusal net p)
 name_fault net (Originate node p) = origin_fault net node p
 name_fault net (Withdraw node p) = origin_fault net node p
-name_fault net (Deliver from to) = fault_from (pref_refusal net from to)
+name_fault net (Prefer node nbr value) = neighbour_fault net node nbr
+name_fault net (Deliver from to) = pair_fault net from to
+name_fault net (Fail a b) = pair_fault net a b
+name_fault net (Restore a b) = pair_fault net a b
+name_fault net (Notice node nbr) = pair_fault net node nbr
+name_fault net (Open node nbr) = pair_fault net node nbr
 name_fault net other = None
 
 -- the line may follow these
@@ -97,7 +120,13 @@ place_in p (q ∷ qs) = if same_prefix p q then 0 else suc (place_in p qs)
 abbrev pub directed : Net → Line → List Directive
 directed net (Originate node p) = directive.Originate node (place_in p net.prefixes) ∷ []
 directed net (Withdraw node p) = directive.Withdraw node (place_in p net.prefixes) ∷ []
+directed net (Prefer node nbr value) = directive.Prefer node nbr value ∷ []
 directed net (Deliver from to) = directive.Deliver from to ∷ []
+directed net (Fail a b) = directive.Fail a b ∷ []
+directed net (Restore a b) = directive.Restore a b ∷ []
+directed net (Notice node nbr) = directive.Notice node nbr ∷ []
+directed net (Open node nbr) = directive.OpenSession node nbr ∷ []
+directed net (Drain times) = directive.Drain times ∷ []
 directed net ShowRib = directive.ShowRib ∷ []
 directed net ShowLog = directive.ShowLog ∷ []
 directed net other = []

@@ -7,7 +7,7 @@ use Rattle.topology.specs.Net.{Net}
 use Rattle.schedule_file.specs.declared.lines.Line.{Line}
 use Rattle.schedule_file.specs.declared.lines.Line.TheVariants as form
 use Rattle.schedule_file.specs.declared.words.Keyword.{Keyword}
-use Rattle.schedule_file.specs.declared.words.Keyword.TheVariants.{Node, Link, Pref, Prefix, Begin, Originate, Withdraw, Deliver, Show}
+use Rattle.schedule_file.specs.declared.words.Keyword.TheVariants.{Node, Link, Pref, Prefix, Begin, Originate, Withdraw, Prefer, Deliver, Fail, Restore, Notice, Open, Drain, Show}
 use Rattle.schedule_file.specs.Spelling.{words_by_line, Spells}
 use Rattle.schedule_file.specs.Words.{has_word, number_of, prefix_of, relation_of}
 use Rattle.schedule_file.specs.Table.{Field, keyword_in, later_words, later_views, fields, first_fault}
@@ -22,7 +22,13 @@ is_later other words = false
 abbrev pub may_stand : Bool → Keyword → Bool
 may_stand started Originate = started
 may_stand started Withdraw = started
+may_stand started Prefer = started
 may_stand started Deliver = started
+may_stand started Fail = started
+may_stand started Restore = started
+may_stand started Notice = started
+may_stand started Open = started
+may_stand started Drain = started
 may_stand started Show = started
 may_stand started other = not started
 
@@ -54,7 +60,13 @@ line_by (Some Prefix) (p ∷ []) = Some (form.Prefix (prefix_of p))
 line_by (Some Begin) [] = Some form.Begin
 line_by (Some Originate) (node ∷ p ∷ []) = Some (form.Originate (number_of node) (prefix_of p))
 line_by (Some Withdraw) (node ∷ p ∷ []) = Some (form.Withdraw (number_of node) (prefix_of p))
+line_by (Some Prefer) (node ∷ nbr ∷ value ∷ []) = Some (form.Prefer (number_of node) (number_of nbr) (number_of value))
 line_by (Some Deliver) (from ∷ to ∷ []) = Some (form.Deliver (number_of from) (number_of to))
+line_by (Some Fail) (a ∷ b ∷ []) = Some (form.Fail (number_of a) (number_of b))
+line_by (Some Restore) (a ∷ b ∷ []) = Some (form.Restore (number_of a) (number_of b))
+line_by (Some Notice) (node ∷ nbr ∷ []) = Some (form.Notice (number_of node) (number_of nbr))
+line_by (Some Open) (node ∷ nbr ∷ []) = Some (form.Open (number_of node) (number_of nbr))
+line_by (Some Drain) (times ∷ []) = Some (form.Drain (number_of times))
 line_by (Some Show) (view ∷ []) = Some (if bytes_eq view (codes "rib") then form.ShowRib else form.ShowLog)
 line_by other words = None
 

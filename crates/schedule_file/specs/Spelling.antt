@@ -8,7 +8,7 @@ use Rattle.topology.specs.declared.links.Relation.TheVariants.{Customer, Provide
 use Rattle.topology.specs.declared.prefixes.Prefix.{Prefix as Range}
 use Rattle.topology.specs.Net.{IsPrefix}
 use Rattle.schedule_file.specs.declared.lines.Line.{Line}
-use Rattle.schedule_file.specs.declared.lines.Line.TheVariants.{Blank, Node, Link, Pref, Prefix, Begin, Originate, Withdraw, Deliver, ShowRib, ShowLog}
+use Rattle.schedule_file.specs.declared.lines.Line.TheVariants.{Blank, Node, Link, Pref, Prefix, Begin, Originate, Withdraw, Prefer, Deliver, Fail, Restore, Notice, Open, Drain, ShowRib, ShowLog}
 
 -- the words of each line of a file, none where a line is empty or all comment
 abbrev pub words_by_line : List ℕ → List (List (List ℕ))
@@ -38,7 +38,13 @@ line_words (Prefix p) = codes "prefix" ∷ prefix_text p ∷ []
 line_words Begin = codes "begin" ∷ []
 line_words (Originate node p) = codes "originate" ∷ decimal node ∷ prefix_text p ∷ []
 line_words (Withdraw node p) = codes "withdraw" ∷ decimal node ∷ prefix_text p ∷ []
+line_words (Prefer node nbr value) = codes "prefer" ∷ decimal node ∷ decimal nbr ∷ decimal value ∷ []
 line_words (Deliver from to) = codes "deliver" ∷ decimal from ∷ decimal to ∷ []
+line_words (Fail a b) = codes "fail" ∷ decimal a ∷ decimal b ∷ []
+line_words (Restore a b) = codes "restore" ∷ decimal a ∷ decimal b ∷ []
+line_words (Notice node nbr) = codes "notice" ∷ decimal node ∷ decimal nbr ∷ []
+line_words (Open node nbr) = codes "open" ∷ decimal node ∷ decimal nbr ∷ []
+line_words (Drain times) = codes "drain" ∷ decimal times ∷ []
 line_words ShowRib = codes "show" ∷ codes "rib" ∷ []
 line_words ShowLog = codes "show" ∷ codes "log" ∷ []
 
@@ -60,7 +66,13 @@ InRange (Prefix p) = IsRange p
 InRange Begin = Unit {0}
 InRange (Originate node p) = IsNumber node × IsRange p
 InRange (Withdraw node p) = IsNumber node × IsRange p
+InRange (Prefer node nbr value) = IsNumber node × IsNumber nbr × (value ≤ 1000000)
 InRange (Deliver from to) = IsNumber from × IsNumber to
+InRange (Fail a b) = IsNumber a × IsNumber b
+InRange (Restore a b) = IsNumber a × IsNumber b
+InRange (Notice node nbr) = IsNumber node × IsNumber nbr
+InRange (Open node nbr) = IsNumber node × IsNumber nbr
+InRange (Drain times) = (1 ≤ times) × (times ≤ 1000000)
 InRange ShowRib = Unit {0}
 InRange ShowLog = Unit {0}
 

@@ -7,13 +7,13 @@ use Rattle.topology.specs.declared.status.BadKind.TheVariants as bad
 use Rattle.topology.specs.Net.{Net}
 use Rattle.topology.specs.Building.{node_refusal, link_refusal, pref_refusal, prefix_refusal}
 use Rattle.schedule_file.specs.declared.lines.Line.{Line}
-use Rattle.schedule_file.specs.declared.lines.Line.TheVariants.{Node, Link, Pref, Prefix, Originate, Withdraw, Deliver}
+use Rattle.schedule_file.specs.declared.lines.Line.TheVariants.{Node, Link, Pref, Prefix, Originate, Withdraw, Prefer, Deliver, Fail, Restore, Notice, Open}
 use Rattle.schedule_file.specs.declared.lines.Schedule.{Schedule}
 use Rattle.schedule_file.specs.declared.words.Words.{Words}
 use Rattle.schedule_file.specs.declared.names.Refusal.{Refusal}
 use Rattle.schedule_file.specs.declared.names.Refusal.TheVariants.{NoMemory, Bad}
 use Rattle.schedule_file.specs.Spelling.{Spells}
-use Rattle.schedule_file.specs.Grammar.{net_of, begun, directives_of, allowed, fault_from, origin_fault, name_fault}
+use Rattle.schedule_file.specs.Grammar.{net_of, begun, directives_of, allowed, fault_from, origin_fault, pair_fault, neighbour_fault, name_fault}
 use Rattle.schedule_file.specs.Refusals.{refusal}
 
 -- lists of lines are newest first
@@ -38,12 +38,21 @@ declared_fault net (Pref a b value) = fault_from (pref_refusal net a b)
 declared_fault net (Prefix p) = fault_from (prefix_refusal net p)
 declared_fault net other = None
 
+-- the first fault of the two nodes of a line of the second part
+abbrev pub ends_fault : Net → Line → Option BadKind
+ends_fault net (Prefer node nbr value) = neighbour_fault net node nbr
+ends_fault net (Deliver from to) = pair_fault net from to
+ends_fault net (Fail a b) = pair_fault net a b
+ends_fault net (Restore a b) = pair_fault net a b
+ends_fault net (Notice node nbr) = pair_fault net node nbr
+ends_fault net (Open node nbr) = pair_fault net node nbr
+ends_fault net other = None
+
 -- the first fault of the names of a line of the second part
 abbrev pub directed_fault : Net → Line → Option BadKind
 directed_fault net (Originate node p) = origin_fault net node p
 directed_fault net (Withdraw node p) = origin_fault net node p
-directed_fault net (Deliver from to) = fault_from (pref_refusal net from to)
-directed_fault net other = None
+directed_fault net other = ends_fault net other
 
 -- what the refusal of the network means for the line
 abbrev pub refusal_of : BuildError → Refusal

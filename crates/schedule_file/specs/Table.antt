@@ -4,7 +4,7 @@ use Rattle.std.specs.List.{find}
 use Rattle.topology.specs.declared.status.BadKind.{BadKind}
 use Rattle.topology.specs.declared.status.BadKind.TheVariants.{UnknownWord, WrongCount, BadNumber, BadPrefix}
 use Rattle.schedule_file.specs.declared.words.Keyword.{Keyword}
-use Rattle.schedule_file.specs.declared.words.Keyword.TheVariants.{Node, Link, Pref, Prefix, Begin, Originate, Withdraw, Deliver, Show}
+use Rattle.schedule_file.specs.declared.words.Keyword.TheVariants.{Node, Link, Pref, Prefix, Begin, Originate, Withdraw, Prefer, Deliver, Fail, Restore, Notice, Open, Drain, Show}
 use Rattle.schedule_file.specs.Words.{has_word, spells_number, spells_prefix}
 
 -- the word that a line of this kind begins with
@@ -16,11 +16,18 @@ keyword_text Prefix = codes "prefix"
 keyword_text Begin = codes "begin"
 keyword_text Originate = codes "originate"
 keyword_text Withdraw = codes "withdraw"
+keyword_text Prefer = codes "prefer"
 keyword_text Deliver = codes "deliver"
+keyword_text Fail = codes "fail"
+keyword_text Restore = codes "restore"
+keyword_text Notice = codes "notice"
+keyword_text Open = codes "open"
+keyword_text Drain = codes "drain"
 keyword_text Show = codes "show"
 
 abbrev pub keywords : List Keyword
-keywords = Node ∷ Link ∷ Pref ∷ Prefix ∷ Begin ∷ Originate ∷ Withdraw ∷ Deliver ∷ Show ∷ []
+keywords =
+    Node ∷ Link ∷ Pref ∷ Prefix ∷ Begin ∷ Originate ∷ Withdraw ∷ Prefer ∷ Deliver ∷ Fail ∷ Restore ∷ Notice ∷ Open ∷ Drain ∷ Show ∷ []
 
 -- the kind of line that begins with this word
 abbrev pub keyword_in : List ℕ → Option Keyword
@@ -29,8 +36,8 @@ keyword_in word = find (λ keyword. bytes_eq word (keyword_text keyword)) keywor
 -- words that begin lines of later versions
 abbrev pub later_words : List (List ℕ)
 later_words =
-    codes "prefer" ∷ codes "fail" ∷ codes "notice" ∷ codes "restore" ∷ codes "open" ∷ codes "drain" ∷ codes "snap" ∷ codes "propose"
-    ∷ codes "ctl" ∷ codes "crash" ∷ codes "restart" ∷ codes "hops" ∷ codes "transient" ∷ codes "inject" ∷ codes "hop" ∷ []
+    codes "snap" ∷ codes "propose" ∷ codes "ctl" ∷ codes "crash" ∷ codes "restart" ∷ codes "hops" ∷ codes "transient" ∷ codes "inject"
+    ∷ codes "hop" ∷ []
 
 -- what later versions show
 abbrev pub later_views : List (List ℕ)
@@ -40,6 +47,7 @@ later_views = codes "cut" ∷ codes "closure" ∷ codes "ctl" ∷ codes "tables"
 pub data Field : Type 0 where
   NodeNumber : Field
   Value : Field
+  Times : Field
   Masked : Field
   OneOf : List (List ℕ) → Field
   NoWord : Field
@@ -63,13 +71,20 @@ fields Prefix count = exactly 2 (Masked ∷ []) count
 fields Begin count = exactly 1 [] count
 fields Originate count = exactly 3 (NodeNumber ∷ Masked ∷ []) count
 fields Withdraw count = exactly 3 (NodeNumber ∷ Masked ∷ []) count
+fields Prefer count = exactly 4 (NodeNumber ∷ NodeNumber ∷ Value ∷ []) count
 fields Deliver count = exactly 3 (NodeNumber ∷ NodeNumber ∷ []) count
+fields Fail count = exactly 3 (NodeNumber ∷ NodeNumber ∷ []) count
+fields Restore count = exactly 3 (NodeNumber ∷ NodeNumber ∷ []) count
+fields Notice count = exactly 3 (NodeNumber ∷ NodeNumber ∷ []) count
+fields Open count = exactly 3 (NodeNumber ∷ NodeNumber ∷ []) count
+fields Drain count = exactly 2 (Times ∷ []) count
 fields Show count = if count == 3 then Some (OneOf views ∷ NoWord ∷ []) else exactly 2 (OneOf views ∷ []) count
 
 -- the word is one that may stand there
 abbrev pub spells_field : Field → List ℕ → Bool
 spells_field NodeNumber word = spells_number 1 65535 word
 spells_field Value word = spells_number 0 1000000 word
+spells_field Times word = spells_number 1 1000000 word
 spells_field Masked word = spells_prefix word
 spells_field (OneOf words) word = has_word words word
 spells_field NoWord word = false
@@ -78,6 +93,7 @@ spells_field NoWord word = false
 abbrev pub fault_of : Field → BadKind
 fault_of NodeNumber = BadNumber
 fault_of Value = BadNumber
+fault_of Times = BadNumber
 fault_of Masked = BadPrefix
 fault_of (OneOf words) = UnknownWord
 fault_of NoWord = WrongCount

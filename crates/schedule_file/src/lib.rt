@@ -12,14 +12,26 @@
 //! | `prefix PREFIX` | four numbers from 0 to 255 joined by points, `/`, and a length up to 32 |
 //! | `begin` | ends this part; not needed where nothing follows |
 //!
-//! The second part says what happens: `originate N PREFIX`, `withdraw N PREFIX`, `deliver A B`,
-//! `show rib`, `show log`. Numbers are decimal, without sign and leading zeros.
+//! The second part says what happens:
+//!
+//! | Line | Meaning |
+//! |---|---|
+//! | `originate N PREFIX`, `withdraw N PREFIX` | N announces the prefix, or gives it up |
+//! | `prefer A B V` | the preference, 0 to 1000000, that A gives to its neighbour B from then on |
+//! | `deliver A B` | what is next on its way from A to B arrives |
+//! | `drain N` | at most N deliveries, 1 to 1000000 |
+//! | `fail A B`, `restore A B` | the link of A and B fails, or works again |
+//! | `notice A B` | A notices that its link to B failed |
+//! | `open A B` | A opens a session with B |
+//! | `show rib`, `show log` | writes the routes, or the logs |
+//!
+//! Numbers are decimal, without sign and leading zeros.
 //!
 //! Of several faults of a line the first in this order is named: an unknown first word, or one of
 //! a later version; the wrong side of `begin`; the number of words; from left to right a word, a
 //! number or a prefix that may not stand there; an unknown node, an unknown prefix; equal ends; no
-//! link; what is there already; too many. A third word behind `show rib` or `show log` is one too
-//! many, but a second word that is not known is named first.
+//! link; what is there already; too many. Equal ends of `prefer` are no link. A third word behind
+//! `show rib` or `show log` is one too many, but a second word that is not known is named first.
 #![tactic(auto)]
 
 pub mod laws;

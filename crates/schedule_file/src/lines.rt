@@ -71,16 +71,43 @@ pub enum Line {
 /// A line after `begin`, its names looked up in the network.
 #[derive(Clone, Copy, Debug, PartialEq, Eq)]
 pub enum Directive {
-    Originate { node: NodeId, prefix: PrefixId },
-    Withdraw { node: NodeId, prefix: PrefixId },
-    Prefer { node: NodeId, nbr: NodeId, value: u32 },
-    Deliver { from: NodeId, to: NodeId },
-    Fail { a: NodeId, b: NodeId },
-    Restore { a: NodeId, b: NodeId },
-    Notice { node: NodeId, nbr: NodeId },
-    OpenSession { node: NodeId, nbr: NodeId },
+    Originate {
+        node: NodeId,
+        prefix: PrefixId,
+    },
+    Withdraw {
+        node: NodeId,
+        prefix: PrefixId,
+    },
+    Prefer {
+        node: NodeId,
+        nbr: NodeId,
+        value: u32,
+    },
+    Deliver {
+        from: NodeId,
+        to: NodeId,
+    },
+    Fail {
+        a: NodeId,
+        b: NodeId,
+    },
+    Restore {
+        a: NodeId,
+        b: NodeId,
+    },
+    Notice {
+        node: NodeId,
+        nbr: NodeId,
+    },
+    OpenSession {
+        node: NodeId,
+        nbr: NodeId,
+    },
     /// At most so many deliveries, each the next one.
-    Drain { times: u32 },
+    Drain {
+        times: u32,
+    },
     ShowRib,
     ShowLog,
 }

@@ -1,11 +1,10 @@
 //! Looks up the names of lines in the network.
 ghost use Rattle.std.specs.Prelude.{◌≡◌, None, Some, [], ◌∷◌, ◌++◌, IfOk, OnOk, IfErr};
 ghost use Rattle.std.specs.Option.{option_to_list};
-ghost use Rattle.topology.specs.Building.{pref_refusal};
 ghost use Rattle.schedule_file.specs.declared.names.Refusal.TheVariants.{Bad};
 ghost use Rattle.schedule_file.specs.Spelling.{InRange};
-ghost use Rattle.schedule_file.specs.Grammar.{with_line, place_in, directed, origin_fault, fault_from};
-ghost use Rattle.schedule_file.specs.Standing.{declared_fault, directed_fault, refusal_of, Says};
+ghost use Rattle.schedule_file.specs.Grammar.{with_line, place_in, directed, origin_fault, pair_fault, neighbour_fault};
+ghost use Rattle.schedule_file.specs.Standing.{declared_fault, ends_fault, directed_fault, refusal_of, Says};
 
 use crate::lines::{Directive, Line};
 use topology::laws::relations_are_converse;
@@ -81,25 +80,50 @@ fn origin(topology: &Topology, node: NodeId, prefix: Prefix) -> Result<PrefixId,
 }
 
 // The two are different nodes with a link.
-fn check_pair(topology: &Topology, from: NodeId, to: NodeId) -> Result<(), BadKind>
-    ensures ok { OnOk result (fault_from (pref_refusal topology.now from to) ≡ None) }
-    ensures err { IfErr result
-        (λ kind. fault_from (pref_refusal topology.now from to) ≡ Some kind) }
+fn check_pair(topology: &Topology, a: NodeId, b: NodeId) -> Result<(), BadKind>
+    ensures ok { OnOk result (pair_fault topology.now a b ≡ None) }
+    ensures err { IfErr result (λ kind. pair_fault topology.now a b ≡ Some kind) }
 {
     relations_are_converse();
-    if topology.rank_of(from).is_none() {
+    if topology.rank_of(a).is_none() || topology.rank_of(b).is_none() {
         return Err(BadKind::UnknownNode);
     }
-    if topology.rank_of(to).is_none() {
-        return Err(BadKind::UnknownNode);
-    }
-    if from == to {
+    if a == b {
         return Err(BadKind::SelfLink);
     }
-    if topology.relation(from, to).is_none() {
+    if topology.relation(a, b).is_none() {
         return Err(BadKind::NoLink);
     }
     Ok(())
+}
+
+// The two are nodes with a link. Equal ends have none.
+fn check_neighbour(topology: &Topology, node: NodeId, nbr: NodeId) -> Result<(), BadKind>
+    ensures ok { OnOk result (neighbour_fault topology.now node nbr ≡ None) }
+    ensures err { IfErr result (λ kind. neighbour_fault topology.now node nbr ≡ Some kind) }
+{
+    relations_are_converse();
+    if topology.rank_of(node).is_none() || topology.rank_of(nbr).is_none() {
+        return Err(BadKind::UnknownNode);
+    }
+    if topology.relation(node, nbr).is_none() {
+        return Err(BadKind::NoLink);
+    }
+    Ok(())
+}
+
+// The two nodes of the line have a link, where it names two.
+fn check_ends(topology: &Topology, line: &Line) -> Result<(), BadKind>
+    ensures ok { OnOk result (ends_fault topology.now line.now ≡ None) }
+    ensures err { IfErr result (λ kind. ends_fault topology.now line.now ≡ Some kind) }
+{
+    match line {
+        Line::Prefer { node, nbr, .. } => check_neighbour(topology, *node, *nbr),
+        Line::Deliver { from, to } => check_pair(topology, *from, *to),
+        Line::Fail { a, b } | Line::Restore { a, b } => check_pair(topology, *a, *b),
+        Line::Notice { node, nbr } | Line::Open { node, nbr } => check_pair(topology, *node, *nbr),
+        _ => Ok(()),
+    }
 }
 
 /// What the line directs. A line of the first part directs nothing.
@@ -109,22 +133,23 @@ pub fn look_up(topology: &Topology, line: &Line) -> Result<Option<Directive>, Ba
     ensures fine { OnOk result (directed_fault topology.now line.now ≡ None) }
     ensures err { IfErr result (λ kind. directed_fault topology.now line.now ≡ Some kind) }
 {
-    let directive = match line {
+    check_ends(topology, line)?;
+    let directive = match *line {
         Line::Originate { node, prefix } => Directive::Originate {
-            node: *node,
-            prefix: origin(topology, *node, *prefix)?,
+            node,
+            prefix: origin(topology, node, prefix)?,
         },
         Line::Withdraw { node, prefix } => Directive::Withdraw {
-            node: *node,
-            prefix: origin(topology, *node, *prefix)?,
+            node,
+            prefix: origin(topology, node, prefix)?,
         },
-        Line::Deliver { from, to } => {
-            check_pair(topology, *from, *to)?;
-            Directive::Deliver {
-                from: *from,
-                to: *to,
-            }
-        }
+        Line::Prefer { node, nbr, value } => Directive::Prefer { node, nbr, value },
+        Line::Deliver { from, to } => Directive::Deliver { from, to },
+        Line::Fail { a, b } => Directive::Fail { a, b },
+        Line::Restore { a, b } => Directive::Restore { a, b },
+        Line::Notice { node, nbr } => Directive::Notice { node, nbr },
+        Line::Open { node, nbr } => Directive::OpenSession { node, nbr },
+        Line::Drain { times } => Directive::Drain { times },
         Line::ShowRib => Directive::ShowRib,
         Line::ShowLog => Directive::ShowLog,
         _ => return Ok(None),

@@ -4,14 +4,14 @@ ghost use Rattle.std.specs.Fmt.{decimal};
 ghost use Rattle.topology.specs.declared.status.BadKind.TheVariants.{UnknownWord};
 ghost use Rattle.schedule_file.specs.Spelling.{Spells, prefix_text, IsNumber, IsRange};
 ghost use Rattle.schedule_file.specs.Table.{spells_field, keyword_text, relations, views, fields, first_fault};
-ghost use Rattle.schedule_file.specs.Table.Field.{NodeNumber, Value, Masked, OneOf};
+ghost use Rattle.schedule_file.specs.Table.Field.{NodeNumber, Value, Times, Masked, OneOf};
 ghost use Rattle.schedule_file.specs.Grammar.{stands};
 ghost use Rattle.schedule_file.specs.Refusals.{fault_behind, fault_by, is_later, may_stand, word_fault};
 ghost use Rattle.schedule_file.specs.Standing.{Holds};
 
 use crate::lines::Line;
 use crate::words::{
-    Keyword, Words, is_later_view, keyword_of, node_of, prefix_of, relation_of, value_of,
+    Keyword, Words, is_later_view, keyword_of, node_of, prefix_of, relation_of, times_of, value_of,
 };
 use topology::{BadKind, NodeId, Prefix};
 
@@ -91,6 +91,18 @@ fn origin_of(node: &[u8], prefix: &[u8]) -> Result<(NodeId, Prefix), BadKind>
     Ok((node, prefix))
 }
 
+// The words behind `prefer`.
+fn prefer_line(node: &[u8], nbr: &[u8], value: &[u8]) -> Result<Line, BadKind>
+    ensures ok { IfOk result (Spells (codes "prefer" ∷ node.now ∷ nbr.now ∷ value.now ∷ [])) }
+    ensures err { let wanted = NodeNumber ∷ NodeNumber ∷ Value ∷ [] in
+        IfErr result (λ kind. first_fault wanted (node.now ∷ nbr.now ∷ value.now ∷ []) ≡ Some kind) }
+{
+    let node = node_of(node)?;
+    let nbr = node_of(nbr)?;
+    let value = value_of(value)?;
+    Ok(Line::Prefer { node, nbr, value })
+}
+
 // The words behind `deliver`.
 fn deliver_line(from: &[u8], to: &[u8]) -> Result<Line, BadKind>
     ensures ok { IfOk result (Spells (codes "deliver" ∷ from.now ∷ to.now ∷ [])) }
@@ -100,6 +112,60 @@ fn deliver_line(from: &[u8], to: &[u8]) -> Result<Line, BadKind>
     let from = node_of(from)?;
     let to = node_of(to)?;
     Ok(Line::Deliver { from, to })
+}
+
+// The words behind `fail`.
+fn fail_line(a: &[u8], b: &[u8]) -> Result<Line, BadKind>
+    ensures ok { IfOk result (Spells (codes "fail" ∷ a.now ∷ b.now ∷ [])) }
+    ensures err { IfErr result
+        (λ kind. first_fault (NodeNumber ∷ NodeNumber ∷ []) (a.now ∷ b.now ∷ []) ≡ Some kind) }
+{
+    let a = node_of(a)?;
+    let b = node_of(b)?;
+    Ok(Line::Fail { a, b })
+}
+
+// The words behind `restore`.
+fn restore_line(a: &[u8], b: &[u8]) -> Result<Line, BadKind>
+    ensures ok { IfOk result (Spells (codes "restore" ∷ a.now ∷ b.now ∷ [])) }
+    ensures err { IfErr result
+        (λ kind. first_fault (NodeNumber ∷ NodeNumber ∷ []) (a.now ∷ b.now ∷ []) ≡ Some kind) }
+{
+    let a = node_of(a)?;
+    let b = node_of(b)?;
+    Ok(Line::Restore { a, b })
+}
+
+// The words behind `notice`.
+fn notice_line(node: &[u8], nbr: &[u8]) -> Result<Line, BadKind>
+    ensures ok { IfOk result (Spells (codes "notice" ∷ node.now ∷ nbr.now ∷ [])) }
+    ensures err { IfErr result
+        (λ kind. first_fault (NodeNumber ∷ NodeNumber ∷ []) (node.now ∷ nbr.now ∷ []) ≡ Some kind) }
+{
+    let node = node_of(node)?;
+    let nbr = node_of(nbr)?;
+    Ok(Line::Notice { node, nbr })
+}
+
+// The words behind `open`.
+fn open_line(node: &[u8], nbr: &[u8]) -> Result<Line, BadKind>
+    ensures ok { IfOk result (Spells (codes "open" ∷ node.now ∷ nbr.now ∷ [])) }
+    ensures err { IfErr result
+        (λ kind. first_fault (NodeNumber ∷ NodeNumber ∷ []) (node.now ∷ nbr.now ∷ []) ≡ Some kind) }
+{
+    let node = node_of(node)?;
+    let nbr = node_of(nbr)?;
+    Ok(Line::Open { node, nbr })
+}
+
+// The word behind `drain`.
+fn drain_line(times: &[u8]) -> Result<Line, BadKind>
+    ensures ok { IfOk result (Spells (codes "drain" ∷ times.now ∷ [])) }
+    ensures err { IfErr result
+        (λ kind. first_fault (Times ∷ []) (times.now ∷ []) ≡ Some kind) }
+{
+    let times = times_of(times)?;
+    Ok(Line::Drain { times })
 }
 
 // The word behind `show`.
@@ -122,10 +188,11 @@ fn may_have(keyword: Keyword, count: usize) -> bool
 {
     match keyword {
         Keyword::Node | Keyword::Show => count == 2 || count == 3,
-        Keyword::Link | Keyword::Pref => count == 4,
-        Keyword::Prefix => count == 2,
+        Keyword::Link | Keyword::Pref | Keyword::Prefer => count == 4,
+        Keyword::Prefix | Keyword::Drain => count == 2,
         Keyword::Begin => count == 1,
         Keyword::Originate | Keyword::Withdraw | Keyword::Deliver => count == 3,
+        Keyword::Fail | Keyword::Restore | Keyword::Notice | Keyword::Open => count == 3,
     }
 }
 
@@ -152,7 +219,13 @@ fn line_of(keyword: Keyword, words: &Words<'_>) -> Result<Line, BadKind>
             let (node, prefix) = origin_of(words.second, words.third)?;
             Ok(Line::Withdraw { node, prefix })
         }
+        Keyword::Prefer => prefer_line(words.second, words.third, words.fourth),
         Keyword::Deliver => deliver_line(words.second, words.third),
+        Keyword::Fail => fail_line(words.second, words.third),
+        Keyword::Restore => restore_line(words.second, words.third),
+        Keyword::Notice => notice_line(words.second, words.third),
+        Keyword::Open => open_line(words.second, words.third),
+        Keyword::Drain => drain_line(words.second),
         Keyword::Show => {
             let line = show_line(words.second)?;
             if words.count == 3 {
@@ -168,8 +241,8 @@ fn may_stand(keyword: Keyword, begun: bool) -> bool
     ensures { result ≡ may_stand begun keyword }
 {
     match keyword {
-        Keyword::Originate | Keyword::Withdraw | Keyword::Deliver | Keyword::Show => begun,
-        _ => !begun,
+        Keyword::Node | Keyword::Link | Keyword::Pref | Keyword::Prefix | Keyword::Begin => !begun,
+        _ => begun,
     }
 }
 

@@ -76,10 +76,10 @@ const FILES: [(&[u8], Summary); 24] = [
 ];
 
 // Lines behind the front, and what is wrong with each.
-const OPENING: [(&[u8], BadKind); 42] = [
+const OPENING: [(&[u8], BadKind); 48] = [
     (b"nodes 4", BadKind::UnknownWord),
     (b"consolidator", BadKind::UnknownWord),
-    (b"prefer", BadKind::NotBuilt),
+    (b"snap", BadKind::NotBuilt),
     (b"hop 1 2 3 4 5 6", BadKind::NotBuilt),
     (b"transient x", BadKind::NotBuilt),
     (b"show cut", BadKind::NotBuilt),
@@ -89,6 +89,12 @@ const OPENING: [(&[u8], BadKind); 42] = [
     (b"originate", BadKind::NotHere),
     (b"withdraw 1 10.0.0.0/8", BadKind::NotHere),
     (b"deliver 1 2", BadKind::NotHere),
+    (b"prefer", BadKind::NotHere),
+    (b"fail 1 2", BadKind::NotHere),
+    (b"restore 1 2", BadKind::NotHere),
+    (b"notice 1 2 3", BadKind::NotHere),
+    (b"open 1 x", BadKind::NotHere),
+    (b"drain 0", BadKind::NotHere),
     (b"node", BadKind::WrongCount),
     (b"node 1 2 3", BadKind::WrongCount),
     (b"link 1 2", BadKind::WrongCount),
@@ -122,9 +128,8 @@ const OPENING: [(&[u8], BadKind); 42] = [
 ];
 
 // Lines behind the front and begin, and what is wrong with each.
-const DIRECTING: [(&[u8], BadKind); 26] = [
+const DIRECTING: [(&[u8], BadKind); 25] = [
     (b"prefixes", BadKind::UnknownWord),
-    (b"fail 1 2", BadKind::NotBuilt),
     (b"show tables", BadKind::NotBuilt),
     (b"show closure x y", BadKind::NotBuilt),
     (b"node 1", BadKind::NotHere),
@@ -149,6 +154,52 @@ const DIRECTING: [(&[u8], BadKind); 26] = [
     (b"deliver 9 9", BadKind::UnknownNode),
     (b"deliver 2 2", BadKind::SelfLink),
     (b"deliver 3 2", BadKind::NoLink),
+];
+
+// More of them: preferences, links and what comes later.
+const RUNNING: [(&[u8], BadKind); 42] = [
+    (b"prefer 1 2", BadKind::WrongCount),
+    (b"prefer 1 2 3 4", BadKind::WrongCount),
+    (b"prefer 1 2 1000001", BadKind::BadNumber),
+    (b"prefer 9 0 1", BadKind::BadNumber),
+    (b"prefer 9 1 7", BadKind::UnknownNode),
+    (b"prefer 9 9 7", BadKind::UnknownNode),
+    (b"prefer 1 1 7", BadKind::NoLink),
+    (b"prefer 1 3 7", BadKind::NoLink),
+    (b"fail 1", BadKind::WrongCount),
+    (b"fail 1 2 3", BadKind::WrongCount),
+    (b"fail 9 0", BadKind::BadNumber),
+    (b"fail 9 9", BadKind::UnknownNode),
+    (b"fail 2 2", BadKind::SelfLink),
+    (b"fail 1 3", BadKind::NoLink),
+    (b"restore", BadKind::WrongCount),
+    (b"restore 1 9", BadKind::UnknownNode),
+    (b"restore 3 3", BadKind::SelfLink),
+    (b"restore 3 2", BadKind::NoLink),
+    (b"notice 1 2 x", BadKind::WrongCount),
+    (b"notice 1 65536", BadKind::BadNumber),
+    (b"notice 9 1", BadKind::UnknownNode),
+    (b"notice 1 1", BadKind::SelfLink),
+    (b"notice 3 1", BadKind::NoLink),
+    (b"open 1", BadKind::WrongCount),
+    (b"open 01 2", BadKind::BadNumber),
+    (b"open 9 9", BadKind::UnknownNode),
+    (b"open 2 2", BadKind::SelfLink),
+    (b"open 2 3", BadKind::NoLink),
+    (b"drain", BadKind::WrongCount),
+    (b"drain 1 2", BadKind::WrongCount),
+    (b"drain 0", BadKind::BadNumber),
+    (b"drain 1000001", BadKind::BadNumber),
+    (b"drain -1", BadKind::BadNumber),
+    (b"snap 1", BadKind::NotBuilt),
+    (b"propose", BadKind::NotBuilt),
+    (b"ctl 1 2", BadKind::NotBuilt),
+    (b"crash 1", BadKind::NotBuilt),
+    (b"restart 1", BadKind::NotBuilt),
+    (b"hops 1", BadKind::NotBuilt),
+    (b"transient", BadKind::NotBuilt),
+    (b"inject 1", BadKind::NotBuilt),
+    (b"hop", BadKind::NotBuilt),
 ];
 
 fn has_link(topology: &Topology) -> bool {
@@ -199,7 +250,14 @@ fn names_the_first_bad_line(rt: HostRuntime) {
     for (line, kind) in OPENING {
         check_behind(&rt, rt.alloc(), b"", line, 6, kind);
     }
+}
+
+#[test]
+fn names_the_first_bad_line_behind_begin(rt: HostRuntime) {
     for (line, kind) in DIRECTING {
+        check_behind(&rt, rt.alloc(), b"begin\n", line, 7, kind);
+    }
+    for (line, kind) in RUNNING {
         check_behind(&rt, rt.alloc(), b"begin\n", line, 7, kind);
     }
 }
@@ -227,6 +285,31 @@ fn check_schedule(rt: &impl Abort, schedule: &Schedule) {
         (12, Directive::ShowLog),
         (13, Directive::Withdraw { node: two, prefix }),
         (15, Directive::ShowRib),
+        (
+            16,
+            Directive::Prefer {
+                node: one,
+                nbr: two,
+                value: 0,
+            },
+        ),
+        (17, Directive::Fail { a: one, b: two }),
+        (
+            18,
+            Directive::Notice {
+                node: two,
+                nbr: one,
+            },
+        ),
+        (19, Directive::Restore { a: two, b: one }),
+        (
+            20,
+            Directive::OpenSession {
+                node: one,
+                nbr: two,
+            },
+        ),
+        (21, Directive::Drain { times: 1_000_000 }),
     ];
     assert_eq!(rt; schedule.lines.len(), want.len());
     for (place, (line, directive)) in want.iter().enumerate() {
@@ -238,7 +321,7 @@ fn check_schedule(rt: &impl Abort, schedule: &Schedule) {
     }
 }
 
-// Its directives stand on the lines 9, 11, 12, 13 and 15.
+// Its directives stand on the lines 9, 11, 12, 13 and from 15 on.
 const SCHEDULE: &[u8] = b"node 1 consolidator # one
 node 2
 link 1 2 customer
@@ -253,7 +336,13 @@ deliver 2 1
 show log
 withdraw 2 2.0.0.0/8
 # the end
-show rib";
+show rib
+prefer 1 2 0
+fail 1 2
+notice 2 1
+restore 2 1
+open 1 2
+drain 1000000";
 
 #[test]
 fn reads_a_schedule(rt: HostRuntime) {

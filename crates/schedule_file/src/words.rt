@@ -8,7 +8,7 @@ ghost use Rattle.topology.specs.declared.status.BadKind.TheVariants.{UnknownWord
 ghost use Rattle.schedule_file.specs.Spelling.{prefix_text, relation_text, IsNumber, IsRange};
 ghost use Rattle.schedule_file.specs.Words.{has_word};
 ghost use Rattle.schedule_file.specs.Table.{Field, spells_field, keyword_in, keyword_text, later_words, later_views, relations};
-ghost use Rattle.schedule_file.specs.Table.Field.{NodeNumber, Value, Masked, OneOf};
+ghost use Rattle.schedule_file.specs.Table.Field.{NodeNumber, Value, Times, Masked, OneOf};
 ghost use Rattle.schedule_file.specs.Refusals.{fault_by};
 ghost use Rattle.schedule_file.specs.Standing.{word_at, Holds};
 
@@ -20,13 +20,9 @@ const MAX_NODE: u32 = 65_535;
 
 const MAX_PREFERENCE: u32 = 1_000_000;
 
-const LATER_WORDS: [&[u8]; 15] = [
-    b"prefer",
-    b"fail",
-    b"notice",
-    b"restore",
-    b"open",
-    b"drain",
+const MAX_TIMES: u32 = 1_000_000;
+
+const LATER_WORDS: [&[u8]; 9] = [
     b"snap",
     b"propose",
     b"ctl",
@@ -60,7 +56,13 @@ pub enum Keyword {
     Begin,
     Originate,
     Withdraw,
+    Prefer,
     Deliver,
+    Fail,
+    Restore,
+    Notice,
+    Open,
+    Drain,
     Show,
 }
 
@@ -147,7 +149,13 @@ fn keyword_in(word: &[u8]) -> Option<Keyword>
         b"begin" => Some(Keyword::Begin),
         b"originate" => Some(Keyword::Originate),
         b"withdraw" => Some(Keyword::Withdraw),
+        b"prefer" => Some(Keyword::Prefer),
         b"deliver" => Some(Keyword::Deliver),
+        b"fail" => Some(Keyword::Fail),
+        b"restore" => Some(Keyword::Restore),
+        b"notice" => Some(Keyword::Notice),
+        b"open" => Some(Keyword::Open),
+        b"drain" => Some(Keyword::Drain),
         b"show" => Some(Keyword::Show),
         _ => None,
     }
@@ -195,6 +203,22 @@ pub fn value_of(word: &[u8]) -> Result<u32, BadKind>
         return Err(BadKind::BadNumber);
     };
     Ok(value)
+}
+
+/// How many times, from 1.
+pub fn times_of(word: &[u8]) -> Result<u32, BadKind>
+    ensures ok { IfOk result (λ times. word.now ≡ decimal times) }
+    ensures in_range { IfOk result (λ times. (1 ≤ times) × (times ≤ 1000000)) }
+    ensures err { OnErr result (spells_field Times word.now ≡ false) }
+    ensures kind { IfErr result (λ kind. kind ≡ BadNumber) }
+{
+    let Some(times) = read_number(word, MAX_TIMES) else {
+        return Err(BadKind::BadNumber);
+    };
+    if times == 0 {
+        return Err(BadKind::BadNumber);
+    }
+    Ok(times)
 }
 
 /// A prefix.

@@ -1,0 +1,12 @@
+use Rattle.std.proofs.Common.{◌∙◌, sym, arith}
+use Rattle.std.proofs.lemmas.Fmt.{decimal_injective}
+use Rattle.schedule_file.proofs.Passing.{no_number}
+use Rattle.schedule_file.proofs.words.times_of.Goals as goal
+
+pub returns-in_default-clause-err : goal.returns-in_default-clause-err
+returns-in_default-clause-err c = no_number 1 1000000 c.args.word.now (λ n above below. c.in_default.ensures.none n below)
+
+pub returns-then-times-eq0-clause-err : goal.returns-then-times-eq0-clause-err
+returns-then-times-eq0-clause-err c = no_number 1 1000000 c.args.word.now (λ n above below e.
+    let zero = decimal_injective c.in-Some.times n (omega arith) (omega arith) (sym c.in-Some.ensures.some ∙ e) in
+    omega arith)
