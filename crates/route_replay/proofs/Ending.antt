@@ -1,9 +1,8 @@
 -- What each end of a replay gives of the promise.
-use Rattle.std.proofs.Common.{◌≡◌, ◌≢◌, ℕ, ◌<◌, ◌≤◌, ◌⊎◌, inl, inr, Option, Some, None, IfSome, List, [], ◌∷◌, length, Result, Ok, Err, Bool, true, false, true≢false, cond, nat_lt, nat_le, refl, sym, ap, ◌∙◌, subst, arith}
-use Rattle.std.specs.Option.{option_or}
+use Rattle.std.proofs.Common.{◌≡◌, ◌≢◌, ℕ, zero, suc, ◌++◌, ◌<◌, ◌≤◌, inl, inr, Option, Some, None, IfSome, List, [], ◌∷◌, length, Result, Ok, Err, Bool, true, false, true≢false, cond, nat_lt, nat_le, refl, sym, ap, ◌∙◌, subst, arith}
 use Rattle.std.specs.Io.KnownBytes.{Appends}
 use Rattle.topology.specs.declared.status.Status.{Status}
-use Rattle.topology.specs.declared.status.Status.TheVariants.{Done, Usage, NoMemory, BadSchedule, Limit, ReadFault, WriteFault}
+use Rattle.topology.specs.declared.status.Status.TheVariants.{Done, NoMemory, BadSchedule, Limit, WriteFault}
 use Rattle.topology.specs.declared.status.BadKind.{BadKind}
 use Rattle.topology.specs.declared.status.LimitKind.{LimitKind}
 use Rattle.topology.specs.declared.status.LimitKind.TheVariants as count
@@ -11,20 +10,25 @@ use Rattle.path_vector.specs.GaoRexford.{gao_rexford}
 use Rattle.topology.specs.Net.{Net}
 use Rattle.path_vector.specs.Rules.{Rules}
 use Rattle.chronicle.specs.declared.events.Event.{Event}
+use Rattle.chronicle.specs.declared.events.Event.TheVariants as event
+use Rattle.chronicle.specs.declared.ways.Way.{Way}
+use Rattle.chronicle.specs.Deliveries.{next_delivery}
 use Rattle.chronicle.specs.Run.{Step, Idle, Goes, step, run}
 use Rattle.world_core.specs.Limits.{Reached, most_events, most_triggers, triggers_of, has_more_entries, has_more_updates, first_above, above, above_by, limit_of}
 use Rattle.schedule_file.specs.declared.lines.Numbered.{Numbered}
+use Rattle.schedule_file.specs.declared.lines.Directive.{Directive}
+use Rattle.schedule_file.specs.declared.lines.Directive.TheVariants as directive
 use Rattle.schedule_file.specs.declared.lines.Line.{Line}
 use Rattle.schedule_file.specs.Spelling.{words_by_line}
 use Rattle.schedule_file.specs.Grammar.{Reads, net_of, directives_of}
 use Rattle.schedule_file.specs.Refusals.{FirstBad}
 use Rattle.schedule_file.proofs.Readings.{same_lines, no_bad_line, one_first}
-use Rattle.route_replay.specs.declared.runner.RunEnd.{RunEnd}
-use Rattle.route_replay.specs.declared.runner.RunEnd.TheVariants as end
+use Rattle.route_replay.specs.declared.ends.RunEnd.{RunEnd}
+use Rattle.route_replay.specs.declared.ends.RunEnd.TheVariants as end
 use Rattle.route_replay.specs.Side.{Side}
-use Rattle.route_replay.specs.Text.{event_of, goes_on, text, stop, stop_by, stop_of}
+use Rattle.route_replay.specs.Text.{Course, Leads, Stops, unless, with_event, then_on, drained, course, text, stop, stop_by}
 use Rattle.route_replay.specs.Running.{Runs}
-use Rattle.route_replay.specs.Replayed.{Replayed, Comes, IsRun, IsLimit, ends_early, most_bytes}
+use Rattle.route_replay.specs.Replayed.{Replayed, Comes, IsLimit, ends_early, most_bytes}
 
 -- what a told source gave is what it told
 pub known : (told : Option (List ℕ)) (items : List ℕ) → IfSome told (λ bytes. items ≡ bytes) → (bytes : List ℕ) → told ≡ Some bytes → items ≡ bytes
@@ -106,19 +110,56 @@ limit_not_bytes rules net events e =
       | false ↦ step_not_bytes rules net (step rules net (run rules net events) e)
     ]
 
-directive_not_bytes : (rules : Rules) (net : Net) (events : List Event) (e : Option Event) → NotBytes (stop_by rules net events e)
-directive_not_bytes rules net events None = tt
-directive_not_bytes rules net events (Some e) = limit_not_bytes rules net events e
+-- nor are those of courses
+abbrev StopsNotBytes : Course → Type 0
+StopsNotBytes (Leads events) = Unit {0}
+StopsNotBytes (Stops at) = at.kind ≢ count.Bytes
 
-either_not_bytes : (a b : Option Reached) → NotBytes a → NotBytes b → NotBytes (option_or a b)
-either_not_bytes None b h k = k
-either_not_bytes (Some r) b h k = h
+unless_not_bytes : (o : Option Reached) (events : List Event) → NotBytes o → StopsNotBytes (unless o events)
+unless_not_bytes None events h = tt
+unless_not_bytes (Some reached) events h = h
+
+event_not_bytes : (rules : Rules) (net : Net) (events : List Event) (e : Event) → StopsNotBytes (with_event rules net events e)
+event_not_bytes rules net events e = unless_not_bytes (limit_of rules net events e) (events ++ e ∷ []) (limit_not_bytes rules net events e)
+
+then_not_bytes : (led : Course) (next : List Event → Course) → StopsNotBytes led → ((events : List Event) → StopsNotBytes (next events)) → StopsNotBytes (then_on led next)
+then_not_bytes (Leads events) next h k = k events
+then_not_bytes (Stops at) next h k = h
+
+drained_not_bytes : (rules : Rules) (net : Net) (n : ℕ) (events : List Event) → StopsNotBytes (drained rules net n events)
+drained_not_bytes rules net zero events = tt
+drained_not_bytes rules net (suc n) events =
+    elim (next_delivery net (run rules net events)) as (λ (o : Option Way). StopsNotBytes (elim o [
+      | None ↦ Leads events
+      | Some way ↦ then_on (with_event rules net events (event.Deliver way.from way.to)) (drained rules net n)
+    ])) [
+      | None ↦ tt
+      | Some way ↦ then_not_bytes (with_event rules net events (event.Deliver way.from way.to)) (drained rules net n)
+          (event_not_bytes rules net events (event.Deliver way.from way.to)) (drained_not_bytes rules net n)
+    ]
+
+directive_not_bytes : (rules : Rules) (net : Net) (events : List Event) (d : Directive) → StopsNotBytes (course rules net events d)
+directive_not_bytes rules net events (directive.Originate u p) = event_not_bytes rules net events (event.Originate u p)
+directive_not_bytes rules net events (directive.Withdraw u p) = event_not_bytes rules net events (event.Withdraw u p)
+directive_not_bytes rules net events (directive.Prefer u v x) = event_not_bytes rules net events (event.Prefer u v x)
+directive_not_bytes rules net events (directive.Deliver v u) = event_not_bytes rules net events (event.Deliver v u)
+directive_not_bytes rules net events (directive.Fail a b) = event_not_bytes rules net events (event.Fail a b)
+directive_not_bytes rules net events (directive.Restore a b) = event_not_bytes rules net events (event.Restore a b)
+directive_not_bytes rules net events (directive.Notice u v) = event_not_bytes rules net events (event.Notice u v)
+directive_not_bytes rules net events (directive.OpenSession u v) = event_not_bytes rules net events (event.OpenSession u v)
+directive_not_bytes rules net events (directive.Drain times) = drained_not_bytes rules net times events
+directive_not_bytes rules net events directive.ShowRib = tt
+directive_not_bytes rules net events directive.ShowLog = tt
+
+either_not_bytes : (led : Course) (rest : List Event → Option Reached) → StopsNotBytes led → ((events : List Event) → NotBytes (rest events)) → NotBytes (stop_by led rest)
+either_not_bytes (Leads events) rest h k = k events
+either_not_bytes (Stops at) rest h k = h
 
 stop_not_bytes : (rules : Rules) (net : Net) (events : List Event) (ds : List Numbered) → NotBytes (stop rules net events ds)
 stop_not_bytes rules net events [] = tt
 stop_not_bytes rules net events (d ∷ ds) =
-    either_not_bytes (stop_of rules net events d) (stop rules net (goes_on events (event_of d.directive)) ds)
-    (directive_not_bytes rules net events (event_of d.directive)) (stop_not_bytes rules net (goes_on events (event_of d.directive)) ds)
+    either_not_bytes (course rules net events d.directive) (λ later. stop rules net later ds)
+    (directive_not_bytes rules net events d.directive) (λ later. stop_not_bytes rules net later ds)
 
 not_bytes_of : (o : Option Reached) (r : Reached) → NotBytes o → o ≡ Some r → r.kind ≢ count.Bytes
 not_bytes_of o r h e = subst NotBytes e h

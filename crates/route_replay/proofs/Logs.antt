@@ -1,22 +1,27 @@
 -- One entry of a log after the other.
-use Rattle.std.proofs.Common.{◌≡◌, ℕ, suc, ◌+◌, ◌<◌, Some, List, [], ◌∷◌, ◌++◌, length, take, get_or, refl, sym, ap, ◌∙◌, slice_get, append_assoc, length-append, arith, ◌⊎◌, inl, inr, ⊎_elim}
-use Rattle.std.specs.List.{flat_map}
-use Rattle.std.proofs.lemmas.List.{append-nil, take_more}
-use Rattle.std.proofs.lemmas.Grind.{flat_map-append}
+use Rattle.std.proofs.Common.{◌≡◌, ℕ, zero, suc, Some, List, [], ◌∷◌, ◌++◌, length, refl, sym, ap, ◌∙◌, slice_get, length-append, arith, ◌⊎◌, inl, inr, ⊎_elim}
 use Rattle.topology.specs.Net.{Net}
 use Rattle.path_vector.specs.Rules.{Rules}
 use Rattle.path_vector.specs.History.{Change}
 use Rattle.trigger_log.specs.declared.entries.Entry.{Entry as Shown}
 use Rattle.trigger_log.specs.Entries.{Entry}
 use Rattle.trigger_log.specs.Standing.{Step, steps, Shows}
-use Rattle.world_core.proofs.Fresh.{pushed_at}
 use Rattle.route_replay.specs.LogText.{line_of, entry_line}
-use Rattle.route_replay.proofs.Steps.{at_place}
 
 -- there is one for each entry
 pub length-steps : (h : List Entry) → length (steps h) ≡ length h
 length-steps [] = refl
 length-steps (k ∷ h) = length-append (steps h) (record { before = h; entry = k } ∷ []) ∙ omega (arith, length-steps h)
+
+-- what stands in a list that has grown by one: one of those before, or the new one
+pushed_at : {X : Type 0} (xs : List X) (x : X) (i : ℕ) (y : X) → slice_get (xs ++ x ∷ []) i ≡ Some y → (slice_get xs i ≡ Some y) ⊎ ((i ≡ length xs) × (y ≡ x))
+pushed_at [] x zero y e = inr (refl, cc)
+pushed_at [] x (suc i) y e = absurd (cc e)
+pushed_at (z ∷ xs) x zero y e = inl e
+pushed_at (z ∷ xs) x (suc i) y e = ⊎_elim
+    (λ before. inl before)
+    (λ (last : (i ≡ length xs) × (y ≡ x)). inr (ap suc last.0, last.1))
+    (pushed_at xs x i y e)
 
 -- as many entries are before it as its place says
 pub entries_before : (h : List Entry) (i : ℕ) (step : Step) → slice_get (steps h) i ≡ Some step → length step.before ≡ i
@@ -26,17 +31,6 @@ entries_before (k ∷ h) i step e = ⊎_elim
     (λ (last : (i ≡ length (steps h)) × (step ≡ record { before = h; entry = k })).
     ap (λ (s : Step). length s.before) last.1 ∙ sym (last.0 ∙ length-steps h))
     (pushed_at (steps h) (record { before = h; entry = k }) i step e)
-
--- one more line
-pub line_more : {X : Type 0} (f : X → List ℕ) (xs : List X) (i : ℕ) (x : X) (initial before now : List ℕ) → i < length xs → slice_get xs i ≡ Some x
-    → before ≡ initial ++ flat_map f (take i xs) → now ≡ before ++ f x → now ≡ initial ++ flat_map f (take (i + 1) xs)
-line_more {X = X} f xs i x initial before now inside at so_far more =
-    more ∙ (ap (λ bytes. bytes ++ f x) so_far
-    ∙ (append_assoc initial (flat_map f (take i xs)) (f x)
-    ∙ ap (λ bytes. initial ++ bytes) (
-    ap (λ bytes. flat_map f (take i xs) ++ bytes) (sym (append-nil (f x)))
-    ∙ (sym (flat_map-append f (take i xs) (x ∷ []))
-    ∙ ap (flat_map f) (ap (λ (y : X). take i xs ++ y ∷ []) (at_place xs i x inside at) ∙ sym (take_more xs i x inside))))))
 
 -- the line of what is kept of an entry is that of the entry
 pub shows_line : (rules : Rules) (net : Net) (node : ℕ) (step : Step) (shown : Shown) (index : ℕ) → Shows rules net node step shown → index ≡ suc (length step.before)

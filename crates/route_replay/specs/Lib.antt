@@ -1,4 +1,6 @@
 pub mod Side
+pub mod Ends
+pub mod Gathering
 pub mod LogText
 pub mod Text
 pub mod Running

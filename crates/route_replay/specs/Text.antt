@@ -16,7 +16,6 @@ use Rattle.chronicle.specs.Facts.{Chronicle}
 use Rattle.chronicle.specs.Logs.{log_of}
 use Rattle.chronicle.specs.Run.{Step, Idle, Goes, step, run}
 use Rattle.chronicle.specs.Deliveries.{next_delivery}
-use Rattle.chronicle.specs.declared.ways.Way.{Way}
 use Rattle.world_core.specs.Limits.{Reached, limit_of}
 use Rattle.schedule_file.specs.declared.lines.Directive.{Directive}
 use Rattle.schedule_file.specs.declared.lines.Directive.TheVariants.{Originate, Withdraw, Prefer, Deliver, Fail, Restore, Notice, OpenSession, Drain, ShowRib, ShowLog}

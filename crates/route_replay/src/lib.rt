@@ -1,7 +1,10 @@
 //! Replays a schedule: the text of its run.
 #![tactic(auto)]
 
+pub mod directives;
+pub mod ends;
 pub mod log_text;
+pub mod page;
 pub mod runner;
 pub mod text;
 

@@ -1,51 +1,73 @@
 //! The text of logs.
-ghost use Rattle.std.specs.Prelude.{◌≡◌, [], ◌∷◌, ◌++◌, true, IfOk, OnOk};
+ghost use Rattle.std.specs.Prelude.{◌≡◌, [], ◌∷◌, ◌++◌, true, IfErr, OnOk};
 ghost use Rattle.std.specs.List.{flat_map};
 ghost use Rattle.std.specs.String.{string_bytes};
 ghost use Rattle.topology.specs.Lists.{has};
 ghost use Rattle.path_vector.specs.declared.causes.Cause.TheVariants.{Recv};
 ghost use Rattle.chronicle.specs.Run.{run};
+ghost use Rattle.route_replay.specs.Gathering.{Gathers, Breaks};
+ghost use Rattle.route_replay.specs.Side.{side};
 ghost use Rattle.route_replay.specs.LogText.{trigger_text, scope_text, received_path, received_nodes, further_nodes, session_text, cause_text, item_text, line_of, log_text, logs_text};
 
+use crate::ends::RunEnd;
+use crate::page::spill;
 use crate::text::prefix_words;
 use path_vector::{Cause, Policy};
-use std::alloc::{AllocError, Global};
-use topology::{NoMemory, NodeId, Path, Scope, Sent, Session, Topology, Trigger};
+use route_io::Sink;
+use std::alloc::AllocError;
+use topology::{NodeId, Path, Scope, Sent, Session, Topology, Trigger};
 use trigger_log::Entry;
 use world_core::World;
 
 /// The logs of all nodes.
 #[tactic(auto, unfolding(crate::specs::LogText::logs_text))]
-pub fn logs<P: Policy + Copy>(alloc: Global, world: &World<P>) -> Result<String, NoMemory>
-    ensures { IfOk result (λ text. string_bytes text
-        ≡ logs_text (P.rules world.now.policy) world.now.net (run (P.rules world.now.policy) world.now.net world.now.events)) }
+pub fn logs<P: Policy + Copy, O: Sink>(
+    text: &mut String,
+    world: &World<P>,
+    sink: &mut O,
+) -> Result<(), RunEnd>
+    ensures gathers { OnOk result (Gathers (side (O.held sink.old) (O.faults sink.old)) (side (O.held sink.new) (O.faults sink.new))
+        (string_bytes text.old) (string_bytes text.new)
+        (logs_text (P.rules world.now.policy) world.now.net (run (P.rules world.now.policy) world.now.net world.now.events))) }
+    ensures breaks { IfErr result (Breaks (side (O.held sink.old) (O.faults sink.old)) (side (O.held sink.new) (O.faults sink.new))
+        (string_bytes text.old
+        ++ logs_text (P.rules world.now.policy) world.now.net (run (P.rules world.now.policy) world.now.net world.now.events))) }
+    ensures same_room { O.room sink.new ≡ O.room sink.old }
 {
-    let mut out = String::new(alloc);
     for node in world.topology().nodes() {
-        node_log(&mut out, world, *node)?;
+        node_log(text, world, *node, sink)?;
     }
-    Ok(out)
+    Ok(())
 }
 
 // The log of one node.
 #[tactic(auto, unfolding(crate::specs::LogText::log_text))]
-fn node_log<P: Policy + Copy>(
-    out: &mut String,
+fn node_log<P: Policy + Copy, O: Sink>(
+    text: &mut String,
     world: &World<P>,
     node: NodeId,
-) -> Result<(), NoMemory>
+    sink: &mut O,
+) -> Result<(), RunEnd>
     requires { has world.now.net.nodes node ≡ true }
-    ensures { OnOk result (string_bytes out.new ≡ string_bytes out.old
-        ++ log_text (P.rules world.now.policy) world.now.net (run (P.rules world.now.policy) world.now.net world.now.events) node) }
+    ensures gathers { OnOk result (Gathers (side (O.held sink.old) (O.faults sink.old)) (side (O.held sink.new) (O.faults sink.new))
+        (string_bytes text.old) (string_bytes text.new)
+        (log_text (P.rules world.now.policy) world.now.net (run (P.rules world.now.policy) world.now.net world.now.events) node)) }
+    ensures breaks { IfErr result (Breaks (side (O.held sink.old) (O.faults sink.old)) (side (O.held sink.new) (O.faults sink.new))
+        (string_bytes text.old
+        ++ log_text (P.rules world.now.policy) world.now.net (run (P.rules world.now.policy) world.now.net world.now.events) node)) }
+    ensures same_room { O.room sink.new ≡ O.room sink.old }
 {
     let Some(log) = world.log(node) else {
-        return Err(NoMemory);
+        return Err(RunEnd::NoMemory);
     };
     for place in 0..log.len() {
         let Some(entry) = log.entry(place + 1) else {
-            return Err(NoMemory);
+            return Err(RunEnd::NoMemory);
         };
-        entry_line(out, world.topology(), node, place + 1, entry)?;
+        if entry_line(text, world.topology(), node, place + 1, entry).is_err() {
+            return Err(RunEnd::NoMemory);
+        }
+        spill(text, sink)?;
     }
     Ok(())
 }

@@ -1,5 +1,5 @@
 //! The text of a run.
-ghost use Rattle.std.specs.Prelude.{◌≡◌, [], ◌∷◌, ◌++◌, true, IfOk, OnOk};
+ghost use Rattle.std.specs.Prelude.{◌≡◌, [], ◌∷◌, ◌++◌, true, IfOk, IfErr, OnOk};
 ghost use Rattle.std.specs.String.{string_bytes};
 ghost use Rattle.topology.specs.Lists.{has};
 ghost use Rattle.path_vector.specs.Selection.{Route, path_of};
@@ -8,9 +8,14 @@ ghost use Rattle.chronicle.specs.Facts.{Chronicle};
 ghost use Rattle.chronicle.specs.Run.{run, Step};
 ghost use Rattle.world_core.specs.Effects.{Tells};
 ghost use Rattle.schedule_file.specs.Spelling.{prefix_text};
+ghost use Rattle.route_replay.specs.Gathering.{Gathers, Breaks};
+ghost use Rattle.route_replay.specs.Side.{side};
 ghost use Rattle.route_replay.specs.Text.{reason_words, idle_line, step_text, rib_text, node_text, rib_line, path_text, nodes_text};
 
+use crate::ends::RunEnd;
+use crate::page::spill;
 use path_vector::{Best, Policy};
+use route_io::Sink;
 use std::alloc::{AllocError, Global};
 use topology::{NoMemory, NodeId, Prefix, PrefixId, Reason};
 use world_core::{Outcome, World};
@@ -22,7 +27,14 @@ fn reason_words(reason: Reason) -> &'static str
     match reason {
         Reason::AlreadyOrigin => "already origin",
         Reason::NotOrigin => "not origin",
+        Reason::LinkDown => "link down",
         Reason::EmptyChannel => "empty channel",
+        Reason::WrongSession => "wrong session",
+        Reason::AlreadyDown => "already down",
+        Reason::AlreadyUp => "already up",
+        Reason::NotOpen => "not open",
+        Reason::StillUp => "still up",
+        Reason::AlreadyOpen => "already open",
     }
 }
 
@@ -50,37 +62,54 @@ fn idle_line(alloc: Global, line: u32, reason: Reason) -> Result<String, NoMemor
 
 /// The routes of all nodes to all prefixes.
 #[tactic(auto, unfolding(crate::specs::Text::rib_text))]
-pub fn routes<P: Policy + Copy>(alloc: Global, world: &World<P>) -> Result<String, NoMemory>
-    ensures { IfOk result (λ text. string_bytes text
-        ≡ rib_text (P.rules world.now.policy) world.now.net (run (P.rules world.now.policy) world.now.net world.now.events)) }
+pub fn routes<P: Policy + Copy, O: Sink>(
+    text: &mut String,
+    world: &World<P>,
+    sink: &mut O,
+) -> Result<(), RunEnd>
+    ensures gathers { OnOk result (Gathers (side (O.held sink.old) (O.faults sink.old)) (side (O.held sink.new) (O.faults sink.new))
+        (string_bytes text.old) (string_bytes text.new)
+        (rib_text (P.rules world.now.policy) world.now.net (run (P.rules world.now.policy) world.now.net world.now.events))) }
+    ensures breaks { IfErr result (Breaks (side (O.held sink.old) (O.faults sink.old)) (side (O.held sink.new) (O.faults sink.new))
+        (string_bytes text.old
+        ++ rib_text (P.rules world.now.policy) world.now.net (run (P.rules world.now.policy) world.now.net world.now.events))) }
+    ensures same_room { O.room sink.new ≡ O.room sink.old }
 {
-    let mut out = String::new(alloc);
     for node in world.topology().nodes() {
-        node_routes(&mut out, world, *node)?;
+        node_routes(text, world, *node, sink)?;
     }
-    Ok(out)
+    Ok(())
 }
 
 // The routes of one node.
 #[tactic(auto, unfolding(crate::specs::Text::node_text))]
-fn node_routes<P: Policy + Copy>(
-    out: &mut String,
+fn node_routes<P: Policy + Copy, O: Sink>(
+    text: &mut String,
     world: &World<P>,
     node: NodeId,
-) -> Result<(), NoMemory>
+    sink: &mut O,
+) -> Result<(), RunEnd>
     requires { has world.now.net.nodes node ≡ true }
-    ensures { OnOk result (string_bytes out.new ≡ string_bytes out.old
-        ++ node_text (P.rules world.now.policy) world.now.net (run (P.rules world.now.policy) world.now.net world.now.events) node) }
+    ensures gathers { OnOk result (Gathers (side (O.held sink.old) (O.faults sink.old)) (side (O.held sink.new) (O.faults sink.new))
+        (string_bytes text.old) (string_bytes text.new)
+        (node_text (P.rules world.now.policy) world.now.net (run (P.rules world.now.policy) world.now.net world.now.events) node)) }
+    ensures breaks { IfErr result (Breaks (side (O.held sink.old) (O.faults sink.old)) (side (O.held sink.new) (O.faults sink.new))
+        (string_bytes text.old
+        ++ node_text (P.rules world.now.policy) world.now.net (run (P.rules world.now.policy) world.now.net world.now.events) node)) }
+    ensures same_room { O.room sink.new ≡ O.room sink.old }
 {
     let Some(log) = world.log(node) else {
-        return Err(NoMemory);
+        return Err(RunEnd::NoMemory);
     };
     for place in 0..world.topology().prefix_count() {
         let id = PrefixId::new(place);
         let Some(prefix) = world.topology().prefix(id) else {
-            return Err(NoMemory);
+            return Err(RunEnd::NoMemory);
         };
-        route_line(out, node, &prefix, &log.live().best(id))?;
+        if route_line(text, node, &prefix, &log.live().best(id)).is_err() {
+            return Err(RunEnd::NoMemory);
+        }
+        spill(text, sink)?;
     }
     Ok(())
 }

@@ -1,9 +1,17 @@
-use Rattle.std.proofs.Common.{List, ℕ, sym, ◌∙◌, ap}
+use Rattle.std.proofs.Common.{List, ℕ, ◌++◌, refl, sym, subst, ◌∙◌, ap, ◌≡◌}
+use Rattle.std.specs.List.{flat_map}
+use Rattle.std.specs.String.{string_bytes}
 use Rattle.std.proofs.lemmas.List.{get_or_read}
 use Rattle.topology.specs.Lists.{has, ascending}
 use Rattle.topology.specs.Net.{Net}
 use Rattle.topology.proofs.Ascending.{has-ascending}
 use Rattle.topology.proofs.Sets.{has_at}
+use Rattle.std.proofs.lemmas.Option.{slice_get_read}
+use Rattle.chronicle.specs.Run.{run}
+use Rattle.route_replay.specs.Side.{side}
+use Rattle.route_replay.specs.Gathering.{Breaks}
+use Rattle.route_replay.specs.LogText.{log_text, logs_text}
+use Rattle.route_replay.proofs.Gathered.{handed_on, gathers_step, breaks_step}
 use Rattle.route_replay.proofs.log_text.logs.Goals as goal
 
 -- the node at hand is one of the network
@@ -16,3 +24,34 @@ node_log-requires g c =
     ∙ sym (has-ascending c.topology.result.now.nodes n)
     ∙ ap (λ (ns : List ℕ). has ns n) (sym c.nodes-node-items.ensures.nodes)
     ∙ has_at nodes n c.loop-node.node-index c.loop-node-test.true (sym read)
+
+-- one more node is shown
+pub loop-node-preserved : goal.loop-node-preserved
+loop-node-preserved g c =
+    let world = c.args.world.now in
+    let rules = g.P.Policy.rules world.policy in
+    let nodes = c.nodes-node-items.result.now in
+    let i = c.loop-node.node-index in
+    let n = c.node-item.result in
+    record {
+      gathers = gathers_step (log_text rules world.net (run rules world.net world.events)) nodes i _ _ _ _ _ _ n c.loop-node-test.true
+          (slice_get_read nodes _ i n refl c.loop-node-test.true c.node-item.is) c.loop-node.invariant.gathers c.in_ok-node_log.ensures.gathers;
+      room = c.node_log.ensures.same_room ∙ c.loop-node.invariant.room;
+    }
+
+pub returns-in_err-node_log-clause-breaks : goal.returns-in_err-node_log-clause-breaks
+unfolding logs_text
+returns-in_err-node_log-clause-breaks g c =
+    let world = c.args.world.now in
+    let rules = g.P.Policy.rules world.policy in
+    let shown = log_text rules world.net (run rules world.net world.events) in
+    let nodes = c.nodes-node-items.result.now in
+    let i = c.loop-node.node-index in
+    let n = c.node-item.result in
+    let all : nodes ≡ ascending world.net.nodes = c.nodes-node-items.ensures.nodes ∙ ap (λ (net : Net). ascending net.nodes) c.topology.ensures in
+    handed_on c.from_residual.result _ _ c.from_residual.ensures (λ why same.
+    subst (λ ns. Breaks (side (g.O.Sink.held c.args.sink.now) (g.O.Sink.faults c.args.sink.now)) (side (g.O.Sink.held c.node_log.new.sink) (g.O.Sink.faults c.node_log.new.sink))
+    (string_bytes c.args.text.now ++ flat_map shown ns) why) all
+    (subst (Breaks _ _ (string_bytes c.args.text.now ++ flat_map shown nodes)) (sym same)
+    (breaks_step shown nodes i _ _ _ _ _ n c.in_err-node_log.field-0.0 c.loop-node-test.true (slice_get_read nodes _ i n refl c.loop-node-test.true c.node-item.is)
+    c.loop-node.invariant.gathers c.in_err-node_log.ensures.breaks)))

@@ -1,5 +1,5 @@
 use Rattle.std.proofs.Common.{Ok, Err}
-use Rattle.route_replay.specs.declared.runner.RunEnd.TheVariants.{NoMemory, WriteFault, Limit}
+use Rattle.route_replay.specs.declared.ends.RunEnd.TheVariants.{NoMemory, WriteFault, Limit}
 use Rattle.schedule_file.specs.Grammar.{IsFile}
 use Rattle.schedule_file.specs.Refusals.{FirstBad}
 use Rattle.route_replay.proofs.Ending.{ends_bad, ends_run, known, one_reading_of}

@@ -1,0 +1,9 @@
+-- The end of a run that a world stops.
+use Rattle.world_core.specs.declared.outcomes.Stop.{Stop}
+use Rattle.world_core.specs.declared.outcomes.Stop.TheVariants as stop
+use Rattle.route_replay.specs.declared.ends.RunEnd.{RunEnd}
+use Rattle.route_replay.specs.declared.ends.RunEnd.TheVariants as end
+
+abbrev pub end_of : Stop → RunEnd
+end_of stop.NoMemory = end.NoMemory
+end_of (stop.Limit kind number) = end.Limit kind number
