@@ -12,3 +12,5 @@ mod Concluding
 mod Few
 mod Counting
 mod Recounting
+mod Earliest
+mod Delivering

@@ -1,3 +1,4 @@
 pub mod Alone
 pub mod Joined
 pub mod Counted
+pub mod Delivered

@@ -1,16 +1,21 @@
 //! Laws of every run. A call of a law brings what it says into the caller's proof.
-ghost use Rattle.std.specs.Prelude.{ℕ, suc, ◌≡◌, ◌≤◌, List, length, drop};
+ghost use Rattle.std.specs.Prelude.{ℕ, suc, ◌≡◌, ◌≤◌, true, Some, None, List, length, drop};
 ghost use Rattle.topology.specs.declared.links.LinkState.TheVariants.{Up};
 ghost use Rattle.topology.specs.LinkStates.{number_of};
-ghost use Rattle.topology.specs.Net.{Net, IsValid};
+ghost use Rattle.topology.specs.Net.{Net, IsValid, linked};
 ghost use Rattle.path_vector.specs.Rules.{Rules};
 ghost use Rattle.chronicle.specs.declared.events.Event.{Event};
+ghost use Rattle.chronicle.specs.declared.events.Event.TheVariants.{Deliver};
+ghost use Rattle.chronicle.specs.declared.ways.Way.{Way};
+ghost use Rattle.chronicle.specs.Facts.{Chronicle};
 ghost use Rattle.chronicle.specs.Links.{link};
 ghost use Rattle.chronicle.specs.Channels.{channel};
-ghost use Rattle.chronicle.specs.Run.{run};
+ghost use Rattle.chronicle.specs.Run.{run, step};
+ghost use Rattle.chronicle.specs.Deliveries.{arrives, next_delivery};
 ghost use Rattle.cut_laws.specs.Alone.{Alone};
 ghost use Rattle.cut_laws.specs.Joined.{Joined, FrontFits};
 ghost use Rattle.cut_laws.specs.Counted.{queued, takes};
+ghost use Rattle.cut_laws.specs.Delivered.{Did, Rests, NotBehind};
 
 /// What a node said in a session is what its log sends, what it heard is what its log received, and
 /// each entry fits those before it.
@@ -55,4 +60,19 @@ pub fn both_ends_see_one_link()
 pub fn sessions_are_few()
     ensures { (rules : Rules) (net : Net) (events : List Event) (a b : ℕ) →
         number_of (link a b (run rules net events)) ≤ suc (length events) }
+{}
+
+/// The next delivery does something, and stands first among those that would; where there is none, each
+/// delivery over a link is idle.
+#[tactic(auto, using(crate::proofs::Delivering::next_linked, crate::proofs::Delivering::next_goes, crate::proofs::Delivering::none_rests, crate::proofs::Delivering::next_is_first))]
+pub fn the_next_delivery_does_something()
+    ensures some { (rules : Rules) (net : Net) (past : Chronicle) (way : Way) → IsValid net →
+        next_delivery net past ≡ Some way →
+        (linked net way.from way.to ≡ true) × Did (step rules net past (Deliver way.from way.to)) }
+    ensures none { (rules : Rules) (net : Net) (past : Chronicle) (v u : ℕ) → IsValid net →
+        linked net v u ≡ true → next_delivery net past ≡ None →
+        Rests (step rules net past (Deliver v u)) }
+    ensures first { (net : Net) (past : Chronicle) (way other : Way) → IsValid net →
+        next_delivery net past ≡ Some way → linked net other.from other.to ≡ true →
+        arrives past other.from other.to ≡ true → NotBehind way other }
 {}
