@@ -19,9 +19,9 @@ use Rattle.route_replay.specs.declared.ends.RunEnd.TheVariants.{NoMemory, WriteF
 use Rattle.route_replay.specs.Ends.{end_of}
 use Rattle.route_replay.specs.Side.{Side}
 use Rattle.route_replay.specs.Gathering.{Gathers, Breaks}
-use Rattle.chronicle.specs.Run.{run}
+use Rattle.chronicle.specs.Run.{run, step}
 use Rattle.schedule_file.specs.declared.lines.Numbered.{Numbered}
-use Rattle.route_replay.specs.Text.{Course, Leads, unless, drained, event_of, course, said, said_for, shown}
+use Rattle.route_replay.specs.Text.{Course, Leads, unless, drained, event_of, course, said, said_for, shown, step_text, with_event}
 use Rattle.route_replay.specs.Running.{StopsIn, lines_by, limit_by, Runs}
 use Rattle.route_replay.proofs.Gathered.{gathers_on, breaks_after}
 use Rattle.route_replay.proofs.Runs.{runs_none, runs_gathered, runs_broken, as_err}
@@ -139,6 +139,12 @@ pub handed_none : {T E : Type 0} (r : Result T E) (Q : E → Type 0) (P : T → 
 handed_none r Q P h = let e = err_from_is_err_and r h.1 in rw e.1 tt
 
 module _ (rules : Rules) (net : Net) (events : List Event) (d : Numbered) where
+  -- an event, which is what the directive makes
+  pub event_runs : {T : Type 0} (e : Event) (sink sink' : Side) (r : Result T RunEnd) → event_of d.directive ≡ Some e
+      → Runs sink sink' (lines_by (step_text d.line (step rules net (run rules net events) e)) (with_event rules net events e)) (limit_by (with_event rules net events e)) r
+      → Runs sink sink' (lines_by (said rules net events d) (course rules net events d.directive)) (limit_by (course rules net events d.directive)) r
+  event_runs e sink sink' r is runs = rw is runs
+
   -- a drain that a limit stopped
   pub drain_stopped : {T : Type 0} (sink : Side) (times : ℕ) (why : Stop) (end : RunEnd) → d.directive ≡ directive.Drain times → end ≡ end_of why → StopsIn (drained rules net times events) why
       → Runs {T = T} sink sink (lines_by (said rules net events d) (course rules net events d.directive)) (limit_by (course rules net events d.directive)) (Err end)

@@ -1,6 +1,11 @@
 use Rattle.std.proofs.Common.{refl, sym, ◌∙◌}
-use Rattle.route_replay.proofs.Acts.{handed_runs, handed_none, runs_as, runs_answer, drain_stopped, drain_done, shows_here, show_runs}
+use Rattle.route_replay.proofs.Acts.{handed_runs, handed_none, runs_as, runs_answer, drain_stopped, drain_done, shows_here, show_runs, event_runs}
 use Rattle.route_replay.proofs.directives.advance.Goals as goal
+
+pub returns-in-Some-clause-runs : goal.returns-in-Some-clause-runs
+returns-in-Some-clause-runs g c =
+    let world = c.args.world in
+    event_runs (g.P.Policy.rules world.policy) world.net world.events c.args.numbered.now c.in-Some.event _ _ _ (sym c.event_of.ensures ∙ c.in-Some.is) c.act.ensures.runs
 
 pub returns-in_err-drain-clause-runs : goal.returns-in_err-drain-clause-runs
 returns-in_err-drain-clause-runs g c =

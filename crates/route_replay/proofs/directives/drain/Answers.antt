@@ -1,10 +1,35 @@
-use Rattle.std.proofs.Common.{suc, ◌+◌, ◌-◌, sym, ap, ◌∙◌}
+use Rattle.std.proofs.Common.{zero, suc, ◌+◌, ◌-◌, ◌≡◌, refl, sym, ap, ◌∙◌, arith}
+use Rattle.std.proofs.lemmas.Bool.Decides.{nat_tests}
 use Rattle.chronicle.specs.declared.ways.Way.{Way}
 use Rattle.world_core.specs.View.{WorldView}
 use Rattle.route_replay.specs.Text.{drained}
 use Rattle.route_replay.proofs.Gathered.{handed_on}
 use Rattle.route_replay.proofs.Drains.{way_of, no_way, delivery_fits, drain_ends, drain_goes, drain_stops, stops_as, left_more}
 use Rattle.route_replay.proofs.directives.drain.Goals as goal
+
+pub loop-init : goal.loop-init
+loop-init g c =
+    let rules = g.P.Policy.rules c.args.world.policy in
+    let whole : c.args.times - 0 ≡ c.args.times = omega arith in
+    record {
+      same_policy = refl;
+      same_net = refl;
+      leads = ap (λ n. drained rules c.args.world.net n c.args.world.events) whole;
+    }
+
+-- all deliveries were made
+pub returns-clause-world : goal.returns-clause-world
+returns-clause-world g c =
+    let was = c.loop.invariant in
+    let rules = g.P.Policy.rules c.args.world.policy in
+    let more = c.loop-test.false in
+    let end = c.loop.auto.counter-end in
+    let none : c.args.times - c.loop.counter ≡ zero = grind (arith, nat_tests, more, end) in
+    record {
+      same_policy = was.same_policy;
+      same_net = was.same_net;
+      leads = sym was.leads ∙ ap (λ n. drained rules c.args.world.net n c.loop.world.events) none;
+    }
 
 -- nothing is left to deliver
 pub returns-in_default-clause-world : goal.returns-in_default-clause-world
