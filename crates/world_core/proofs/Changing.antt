@@ -1,7 +1,7 @@
 -- Which ways an event changes.
-use Rattle.std.proofs.Common.{IsTrue, ℕ, suc, Bool, true, false, cond, ◌==◌, ◌&&◌, ◌||◌, Option, Some, None, List, [], ◌∷◌, ◌++◌, ◌≡◌, refl, sym, ◌∙◌, ap, ap₂, subst, arith, map, length, append_assoc}
+use Rattle.std.proofs.Common.{IsTrue, ℕ, suc, Bool, true, false, ◌==◌, ◌&&◌, Option, Some, None, List, [], ◌∷◌, ◌++◌, ◌≡◌, refl, sym, ◌∙◌, ap, ap₂, subst, arith, map, length, append_assoc}
 use Rattle.std.specs.Prelude.{if◌then◌else◌}
-use Rattle.std.specs.List.{list_any, AllByRecursion}
+use Rattle.std.specs.List.{list_any}
 use Rattle.std.proofs.lemmas.Bool.Decides.{nat_tests}
 use Rattle.std.proofs.lemmas.List.{append-nil, append_cancel_left}
 use Rattle.topology.specs.declared.links.LinkState.{LinkState}
@@ -33,11 +33,11 @@ use Rattle.world_core.specs.Fits.{fits}
 use Rattle.world_core.specs.Waiting.{AreWaiting, waits}
 use Rattle.world_core.specs.declared.outcomes.Effect.{Effect}
 use Rattle.world_core.specs.declared.outcomes.Effect.TheVariants.{Logged, Queued, Lost}
-use Rattle.world_core.specs.Effects.{effects, effect_by, Tells}
+use Rattle.world_core.specs.Effects.{effects, Tells}
 use Rattle.world_core.specs.Refreshing.{AreLinked, AreWaitingBut, queued_ways, way, ways_of}
 use Rattle.world_core.specs.Sending.{AllNear}
 use Rattle.world_core.specs.WaySets.{same_way}
-use Rattle.world_core.proofs.Sends.{log_sends, link_sends, fact_of, shown_as}
+use Rattle.world_core.proofs.Sends.{fact_of, shown_as}
 use Rattle.world_core.proofs.Wrote.{going_near}
 
 -- the way is none of these

@@ -24,7 +24,7 @@ use Rattle.chronicle.specs.Logs.{log_of}
 use Rattle.chronicle.specs.Links.{link}
 use Rattle.chronicle.specs.Channels.{channel}
 use Rattle.chronicle.specs.Steps.{write, take_item}
-use Rattle.chronicle.specs.Run.{Step, Idle, Goes, held_with, delivered, noticed, opened, fails, restores, step, after, chronicle_of, run}
+use Rattle.chronicle.specs.Run.{Idle, Goes, held_with, delivered, noticed, opened, fails, restores, step, after, chronicle_of, run}
 use Rattle.world_core.specs.declared.outcomes.Effect.{Effect}
 use Rattle.world_core.specs.declared.outcomes.Outcome.{Outcome}
 use Rattle.world_core.specs.declared.outcomes.Outcome.TheVariants as outcome

@@ -1,5 +1,5 @@
 -- A world in which nothing has happened.
-use Rattle.std.proofs.Common.{ℕ, zero, suc, Bool, true, false, Option, Some, None, List, [], ◌∷◌, ◌++◌, ◌≡◌, ◌⊎◌, inl, inr, ⊎_elim, refl, sym, ◌∙◌, ap, length, slice_get, ◌&&◌}
+use Rattle.std.proofs.Common.{ℕ, zero, suc, Bool, true, false, Some, List, [], ◌∷◌, ◌++◌, ◌≡◌, ◌⊎◌, inl, inr, ⊎_elim, refl, sym, ◌∙◌, ap, length, slice_get, ◌&&◌}
 use Rattle.topology.specs.Net.{Net}
 use Rattle.path_vector.specs.Rules.{Rules}
 use Rattle.link_model.specs.declared.links.Links.{Links}
@@ -7,7 +7,7 @@ use Rattle.link_model.specs.Standing.{StandsFor as LinksStandFor}
 use Rattle.chronicle.specs.declared.ways.Way.{Way}
 use Rattle.world_core.specs.declared.sites.Site.{Site}
 use Rattle.world_core.specs.Matching.{IsSite, AreLinks}
-use Rattle.world_core.specs.Waiting.{AreWaiting, waits}
+use Rattle.world_core.specs.Waiting.{AreWaiting}
 use Rattle.topology.specs.Net.{linked}
 use Rattle.world_core.proofs.Told.{same_some}
 

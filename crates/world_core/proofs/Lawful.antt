@@ -1,5 +1,5 @@
 -- What the laws of runs give an event.
-use Rattle.std.proofs.Common.{ℕ, suc, ◌≡◌, ◌<◌, ◌≤◌, ◌-◌, ◌^◌, arith}
+use Rattle.std.proofs.Common.{ℕ, suc, ◌<◌, ◌≤◌, ◌-◌, ◌^◌, arith}
 use Rattle.topology.specs.LinkStates.{number_of}
 use Rattle.topology.specs.Net.{Net}
 use Rattle.chronicle.specs.Facts.{Chronicle}

@@ -1,5 +1,5 @@
 -- The next delivery is the first way that waits.
-use Rattle.std.proofs.Common.{ℕ, Bool, true, false, cond, ◌&&◌, Option, Some, None, List, [], ◌∷◌, ◌++◌, ◌≡◌, refl, sym, ◌∙◌, ap, arith, find, filter, map, flat_map}
+use Rattle.std.proofs.Common.{ℕ, Bool, true, ◌&&◌, List, [], ◌∷◌, ◌≡◌, refl, sym, ◌∙◌, ap, arith, find, filter, map, flat_map}
 use Rattle.std.specs.List.{AllByRecursion}
 use Rattle.std.proofs.lemmas.Bool.Decides.{nat_tests}
 use Rattle.topology.specs.Lists.{ascending}
@@ -8,7 +8,7 @@ use Rattle.chronicle.specs.declared.ways.Way.{Way}
 use Rattle.chronicle.specs.Facts.{Chronicle}
 use Rattle.chronicle.specs.Deliveries.{arrives, ways, next_delivery}
 use Rattle.world_core.specs.Refreshing.{AreLinked, way}
-use Rattle.world_core.specs.Waiting.{AreWaiting, waits}
+use Rattle.world_core.specs.Waiting.{AreWaiting}
 use Rattle.world_core.proofs.Wrote.{filter_passes}
 use Rattle.world_core.proofs.Changing.{linked_append}
 

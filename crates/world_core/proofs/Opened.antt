@@ -1,5 +1,5 @@
 -- An opening sends nothing but its greeting.
-use Rattle.std.proofs.Common.{ℕ, Option, Some, None, List, [], ◌∷◌, ◌++◌, ◌≡◌, refl, ap, subst, flat_map}
+use Rattle.std.proofs.Common.{ℕ, Option, Some, None, List, [], ◌∷◌, ◌≡◌, refl, ap, subst, flat_map}
 use Rattle.topology.specs.declared.names.Scope.TheVariants.{All}
 use Rattle.topology.specs.LinkStates.{carries}
 use Rattle.topology.specs.Net.{Net, neighbours}
@@ -17,7 +17,6 @@ use Rattle.chronicle.specs.Steps.{sends, write, open_session}
 use Rattle.world_core.specs.declared.outcomes.Effect.{Effect}
 use Rattle.world_core.specs.declared.sites.Site.{Site}
 use Rattle.world_core.specs.Happening.{AreMoving, AreSending}
-use Rattle.world_core.specs.Matching.{Matches}
 use Rattle.world_core.proofs.Placed.{same_sites}
 
 none_of_all : (f : ℕ → List Going) → ((w : ℕ) → f w ≡ []) → (ws : List ℕ) → flat_map f ws ≡ []

@@ -5,7 +5,7 @@ use Rattle.std.proofs.lemmas.Bool.Decides.{nat_tests}
 use Rattle.std.proofs.lemmas.Option.{slice_get_within, slice_get_read}
 use Rattle.topology.specs.Lists.{has, ascending}
 use Rattle.topology.specs.Paths.{differ}
-use Rattle.topology.specs.Net.{Net, IsValid}
+use Rattle.topology.specs.Net.{Net}
 use Rattle.topology.proofs.Ascending.{differ-ascending}
 use Rattle.topology.proofs.Places.{has_placed}
 use Rattle.path_vector.specs.Rules.{Rules}

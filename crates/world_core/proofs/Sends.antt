@@ -1,12 +1,9 @@
 -- What is sent changes no log and no link, and shows whether it was queued or lost.
-use Rattle.std.proofs.Common.{ℕ, Bool, true, false, cond, List, [], ◌∷◌, ◌++◌, ◌≡◌, refl, sym, ◌∙◌, ap, subst, map, append_assoc}
+use Rattle.std.proofs.Common.{ℕ, Bool, true, false, List, [], ◌∷◌, ◌++◌, ◌≡◌, refl, sym, ◌∙◌, ap, subst, map, append_assoc}
 use Rattle.std.specs.Prelude.{if◌then◌else◌}
-use Rattle.std.specs.List.{AllByRecursion}
 use Rattle.std.proofs.lemmas.List.{append-nil}
-use Rattle.topology.specs.declared.links.LinkState.{LinkState}
 use Rattle.topology.specs.LinkStates.{carries}
 use Rattle.topology.specs.Net.{Net, linked}
-use Rattle.trigger_log.specs.Entries.{Entry}
 use Rattle.trigger_log.specs.Going.{Going}
 use Rattle.link_model.specs.declared.links.Links.{Links}
 use Rattle.chronicle.specs.Facts.{Chronicle, Fact, Sent, happen}

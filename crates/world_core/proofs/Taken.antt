@@ -1,5 +1,5 @@
 -- An item is taken.
-use Rattle.std.proofs.Common.{ℕ, Bool, true, false, Option, Some, None, IfSome, List, [], ◌∷◌, ◌≡◌, refl, sym, ◌∙◌, ap, subst, is_some, is_none}
+use Rattle.std.proofs.Common.{ℕ, true, false, Option, Some, None, List, [], ◌∷◌, ◌≡◌, refl, sym, ◌∙◌, ap, subst, is_some}
 use Rattle.std.specs.Prelude.{if◌then◌else◌, option_and_then}
 use Rattle.std.proofs.Common.{arith}
 use Rattle.std.proofs.lemmas.Bool.Decides.{nat_tests}
@@ -12,7 +12,7 @@ use Rattle.topology.specs.Net.{Net, neighbours}
 use Rattle.path_vector.specs.declared.causes.Cause.TheVariants.{Recv, Ready}
 use Rattle.path_vector.specs.Rules.{Rules}
 use Rattle.path_vector.specs.History.{History, held, opened, ready}
-use Rattle.trigger_log.specs.Entries.{Entry, Update, entry, local, reads, is_session}
+use Rattle.trigger_log.specs.Entries.{Update, entry, local, reads, is_session}
 use Rattle.trigger_log.specs.Going.{Item, News, Hello, item_of}
 use Rattle.link_model.specs.declared.links.Links.{Links}
 use Rattle.chronicle.specs.Facts.{Chronicle, Took}
@@ -63,7 +63,7 @@ module _ {P : Type 0} (policy : P) (rules : Rules) (net : Net) (past : Chronicle
 
   pub took_hello : (item : Message) (e : ℕ) (sites entered : List (Site P)) (links sent : Links) (list : List Effect) → item ≡ message.Hello e
       → ((before : Chronicle) → Matches policy rules net before sites links → held_with u v before ≡ Some s
-        → AreMoving policy rules net before (greeted rules net v u s (ready (reads (log_of u before)) v) before) entered sent list)
+      → AreMoving policy rules net before (greeted rules net v u s (ready (reads (log_of u before)) v) before) entered sent list)
       → Matches policy rules net (Took v u s (item_of item) ∷ past) sites links → held_with u v past ≡ Some s
       → AreMoving policy rules net past (take_item rules net v u s (item_of item) past) entered sent list
   unfolding take_item
@@ -79,7 +79,7 @@ module _ {P : Type 0} (policy : P) (rules : Rules) (net : Net) (past : Chronicle
 
   pub took_news : (item : Message) (p n : ℕ) (t : Trigger) (path : Option (List ℕ)) (sites entered : List (Site P)) (links sent : Links) (list : List Effect) → item ≡ message.Update p n t path
       → ((before : Chronicle) → Matches policy rules net before sites links → MayEnter net u (log_of u before) (One p) (Recv v s n path)
-        → AreMoving policy rules net before (write rules net u (entry (t ∷ []) (One p) (Recv v s n path)) before) entered sent list)
+      → AreMoving policy rules net before (write rules net u (entry (t ∷ []) (One p) (Recv v s n path)) before) entered sent list)
       → Matches policy rules net (Took v u s (item_of item) ∷ past) sites links → MayTake item
       → AreMoving policy rules net past (take_item rules net v u s (item_of item) past) entered sent list
   unfolding take_item

@@ -1,6 +1,5 @@
 -- An entry, and what goes out with it.
-use Rattle.std.proofs.Common.{ℕ, suc, Bool, true, false, cond, Option, Some, None, List, [], ◌∷◌, ◌++◌, ◌≡◌, refl, sym, ◌∙◌, ap, subst, length, map, flat_map, filter, set, slice_get}
-use Rattle.std.specs.Prelude.{if◌then◌else◌}
+use Rattle.std.proofs.Common.{ℕ, suc, Bool, true, false, cond, Option, Some, None, List, [], ◌∷◌, ◌++◌, ◌≡◌, refl, subst, length, flat_map, filter, set, slice_get}
 use Rattle.std.specs.List.{AllByRecursion}
 use Rattle.topology.specs.declared.names.Scope.{Scope}
 use Rattle.topology.specs.declared.names.Trigger.{Trigger}
@@ -18,9 +17,8 @@ use Rattle.chronicle.specs.Steps.{sends, write}
 use Rattle.world_core.specs.declared.outcomes.Effect.{Effect}
 use Rattle.world_core.specs.declared.outcomes.Effect.TheVariants.{Logged}
 use Rattle.world_core.specs.declared.sites.Site.{Site}
-use Rattle.world_core.specs.Effects.{effects}
 use Rattle.world_core.specs.Happening.{AreMoving, AreSending}
-use Rattle.world_core.specs.Matching.{IsSite, AreSites, AreLinks, Matches}
+use Rattle.world_core.specs.Matching.{IsSite, AreSites, Matches}
 use Rattle.world_core.specs.Sending.{AllNear}
 use Rattle.world_core.proofs.Carried.{logged}
 use Rattle.world_core.proofs.Sends.{log_sends}

@@ -1,5 +1,5 @@
 -- What an event leaves of the sites and links, and what came of it.
-use Rattle.std.specs.Prelude.{ℕ, suc, ◌≡◌, ◌<◌, ◌-◌, ◌^◌, Option, Some, None, List, [], ◌∷◌, ◌++◌, length}
+use Rattle.std.specs.Prelude.{ℕ, suc, ◌≡◌, ◌<◌, ◌-◌, ◌^◌, Option, Some, None, List, ◌++◌, length}
 use Rattle.topology.specs.declared.names.Scope.{Scope}
 use Rattle.topology.specs.Lists.{ascending}
 use Rattle.topology.specs.LinkStates.{number_of}

@@ -1,5 +1,5 @@
 -- Which ways an event may have changed, and what a set keeps of the others.
-use Rattle.std.specs.Prelude.{ℕ, ◌≡◌, Bool, true, false, List, [], ◌∷◌, ◌++◌, Option, Some, None}
+use Rattle.std.specs.Prelude.{ℕ, ◌≡◌, Bool, true, false, List, [], ◌∷◌}
 use Rattle.std.specs.List.{list_any, AllByRecursion}
 use Rattle.topology.specs.Net.{Net, linked}
 use Rattle.chronicle.specs.declared.events.Event.{Event}

@@ -1,5 +1,5 @@
 -- What goes out, as a user sees it.
-use Rattle.std.specs.Prelude.{ℕ, ◌≡◌, true, List, map, if◌then◌else◌}
+use Rattle.std.specs.Prelude.{ℕ, ◌≡◌, true, List}
 use Rattle.std.specs.List.{AllByRecursion}
 use Rattle.topology.specs.Net.{Net, linked}
 use Rattle.trigger_log.specs.Going.{Going}

@@ -21,9 +21,7 @@ use chronicle::Event;
 use link_model::Links;
 use path_vector::{Cause, Policy};
 use std::alloc::Global;
-use topology::{
-    Item, LinkState, NoMemory, NodeId, Reason, Scope, Session, Topology,
-};
+use topology::{Item, LinkState, NoMemory, NodeId, Reason, Scope, Session, Topology};
 
 // The node is greeted in the session that it holds: it enters that the other end is ready, unless it
 // knows that.
@@ -50,9 +48,7 @@ fn greet<P: Policy + Copy>(
     }
     let scope = Scope::All;
     let cause = Cause::Ready { nbr, session };
-    Ok(enter_own(
-        alloc, topology, sites, links, node, scope, cause,
-    )?)
+    Ok(enter_own(alloc, topology, sites, links, node, scope, cause)?)
 }
 
 // The node takes an item in the session that it holds. An update is entered with its own trigger.
@@ -92,9 +88,7 @@ fn take<P: Policy + Copy>(
                 seq,
                 path,
             };
-            enter(
-                alloc, topology, sites, links, to, trigger, scope, cause,
-            )
+            enter(alloc, topology, sites, links, to, trigger, scope, cause)
         }
     }
 }
@@ -145,8 +139,6 @@ pub fn deliver<P: Policy + Copy>(
     let Some(item) = links.pop_front(from, to) else {
         return Ok(Outcome::Idle(Reason::EmptyChannel));
     };
-    let effects = take(
-        alloc, topology, sites, links, from, to, session, item,
-    )?;
+    let effects = take(alloc, topology, sites, links, from, to, session, item)?;
     Ok(Outcome::Did(Effects::new(effects)))
 }

@@ -80,7 +80,5 @@ pub fn enter_own<P: Policy + Copy>(
         sites.new.items links.new effects.items) }
 {
     let trigger = log_at(topology, sites, node).next_trigger();
-    Ok(enter(
-        alloc, topology, sites, links, node, trigger, scope, cause,
-    )?)
+    Ok(enter(alloc, topology, sites, links, node, trigger, scope, cause)?)
 }

@@ -41,11 +41,7 @@ fn entering(event: &Event) -> Option<NodeId>
 }
 
 /// The count of the next trigger of the node whose log the event may change: 0 where there is none.
-pub fn next_count<P: Policy + Copy>(
-    topology: &Topology,
-    sites: &Vec<Site<P>>,
-    event: &Event,
-) -> u32
+pub fn next_count<P: Policy + Copy>(topology: &Topology, sites: &Vec<Site<P>>, event: &Event) -> u32
     requires fits { IsTrue (fits topology.now event.now) }
     requires places { HasPlaces topology.now sites.now.items }
     ensures { (policy : P) (past : Chronicle) → AreSites policy (P.rules policy) topology.now past sites.now.items →

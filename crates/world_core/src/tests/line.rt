@@ -8,15 +8,33 @@ use topology::{NodeId, Reason};
 
 // Two idle events, then node 1 begins to originate.
 fn begin(rt: &impl Abort, world: World<GaoRexford>) -> Result<World<GaoRexford>, Fail> {
-    let world = idles(rt, world, event("deliver", 1, 2), Reason::EmptyChannel, (0, 0))?;
-    let world = idles(rt, world, event("withdraw", 1, 0), Reason::NotOrigin, (0, 0))?;
+    let world = idles(
+        rt,
+        world,
+        event("deliver", 1, 2),
+        Reason::EmptyChannel,
+        (0, 0),
+    )?;
+    let world = idles(
+        rt,
+        world,
+        event("withdraw", 1, 0),
+        Reason::NotOrigin,
+        (0, 0),
+    )?;
     let begun = [logged(1, 1), queued(1, 2)];
     does(rt, world, event("originate", 1, 0), &begun, (1, 2))
 }
 
 // Node 2 hears of it and tells both neighbours.
 fn tell(rt: &impl Abort, world: World<GaoRexford>) -> Result<World<GaoRexford>, Fail> {
-    let world = idles(rt, world, event("originate", 1, 0), Reason::AlreadyOrigin, (1, 2))?;
+    let world = idles(
+        rt,
+        world,
+        event("originate", 1, 0),
+        Reason::AlreadyOrigin,
+        (1, 2),
+    )?;
     let told = [logged(2, 1), queued(2, 1), queued(2, 3)];
     let world = does(rt, world, event("deliver", 1, 2), &told, (2, 1))?;
     does(rt, world, event("prefer", 3, 2), &[logged(3, 1)], (2, 1))
@@ -37,7 +55,13 @@ fn a_line_of_three(rt: HostRuntime) -> Result<(), Fail> {
 #[test]
 fn what_is_lost(rt: HostRuntime) -> Result<(), Fail> {
     let world = line_of(rt.alloc(), 3, GaoRexford)?;
-    let world = does(&rt, world, event("originate", 1, 0), &[logged(1, 1), queued(1, 2)], (1, 2))?;
+    let world = does(
+        &rt,
+        world,
+        event("originate", 1, 0),
+        &[logged(1, 1), queued(1, 2)],
+        (1, 2),
+    )?;
     let world = does(&rt, world, event("fail", 3, 2), &[], (1, 2))?;
     let told = [logged(2, 1), queued(2, 1), lost(2, 3)];
     let world = does(&rt, world, event("deliver", 1, 2), &told, (2, 1))?;

@@ -8,11 +8,7 @@ use std::test::Fail;
 use topology::{NodeId, Prefix, PrefixId, Reason, Relation, Topology};
 
 /// Nodes in a line: 1 - 2 - .. - `count`.
-pub fn line_of<P: Policy + Copy>(
-    alloc: Global,
-    count: u16,
-    policy: P,
-) -> Result<World<P>, Fail> {
+pub fn line_of<P: Policy + Copy>(alloc: Global, count: u16, policy: P) -> Result<World<P>, Fail> {
     let mut topology = Topology::empty(alloc);
     for node in 1..=count {
         topology.add_node(NodeId::new(node), false)?;

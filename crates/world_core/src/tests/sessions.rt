@@ -54,9 +54,21 @@ fn notice_alone(rt: &impl Abort, world: World<ShortestAll>) -> Result<World<Shor
 
 // Node 2 follows.
 fn follow(rt: &impl Abort, world: World<ShortestAll>) -> Result<World<ShortestAll>, Fail> {
-    let world = idles(rt, world, event("deliver", 1, 2), Reason::WrongSession, (0, 0))?;
+    let world = idles(
+        rt,
+        world,
+        event("deliver", 1, 2),
+        Reason::WrongSession,
+        (0, 0),
+    )?;
     let world = does(rt, world, event("notice", 2, 1), &[logged(2, 1)], (0, 0))?;
-    let world = idles(rt, world, event("deliver", 1, 2), Reason::WrongSession, (0, 0))?;
+    let world = idles(
+        rt,
+        world,
+        event("deliver", 1, 2),
+        Reason::WrongSession,
+        (0, 0),
+    )?;
     let opened = [logged(2, 2), queued(2, 1)];
     let world = does(rt, world, event("open", 2, 1), &opened, (1, 2))?;
     does(rt, world, event("deliver", 1, 2), &[logged(2, 3)], (2, 1))

@@ -1,4 +1,4 @@
-use Rattle.std.proofs.Common.{◌≡◌, ◌∷◌, [], refl, sym, ◌∙◌, ap, map, subst, true, false}
+use Rattle.std.proofs.Common.{◌≡◌, [], refl, sym, ◌∙◌, map, subst, true}
 use Rattle.topology.specs.declared.links.LinkState.TheVariants.{Up, Down}
 use Rattle.topology.specs.declared.status.Reason.TheVariants.{LinkDown, EmptyChannel, WrongSession}
 use Rattle.topology.proofs.Neighbours.{neighbours_mutual}

@@ -1,4 +1,3 @@
-use Rattle.std.proofs.Common.{◌≡◌}
 use Rattle.std.proofs.lemmas.Result.{IfOk-weaker}
 use Rattle.world_core.proofs.Taken.{took_hello, took_news}
 use Rattle.world_core.proofs.deliveries.take.Goals as goal

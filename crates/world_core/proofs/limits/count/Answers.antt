@@ -1,4 +1,4 @@
-use Rattle.std.proofs.Common.{◌<◌, ◌+◌, ◌^◌, ◌∙◌, sym, ap, subst, arith, length}
+use Rattle.std.proofs.Common.{◌<◌, ◌∙◌, sym, ap, subst, arith, length}
 use Rattle.world_core.specs.Limits.{StopsAt}
 use Rattle.world_core.specs.Happening.{Happens}
 use Rattle.world_core.proofs.Near.{is_ranked}
@@ -32,12 +32,12 @@ returns-in-Some-reached-clause-stopped g c policy past links was began happened 
     let net = c.args.topology.now in
     let at = rw c.unwrap-rank.ensures at c.rank_of.ensures.some in
     let found = counted_at policy rules net past c.args.event.now c.args.sites.now.items links c.in-Did.field-0 c.index-site.result.now c.unwrap-rank.result c.in-Some.node
-        c.args.triggers c.args.before c.next_trigger.result.count c.saturating_sub-given.result c.saturating_add-total.result c.len.result
-        c.requires.fits was began (subst (Happens policy rules net past c.args.event.now c.args.sites.now.items links) c.in-Did.is happened)
-        (sym c.entering.ensures ∙ c.in-Some.is) at c.index-site.ensures (few_triggers rules net past c.args.triggers was)
-        (λ u h stands. (ap (λ t. t.count) (c.next_trigger.ensures policy net u h stands), c.len.ensures policy net u h stands))
-        c.saturating_sub-given.ensures
-        (λ small. let adds = c.saturating_add-total.ensures in omega (arith, adds, small)) in
+    c.args.triggers c.args.before c.next_trigger.result.count c.saturating_sub-given.result c.saturating_add-total.result c.len.result
+    c.requires.fits was began (subst (Happens policy rules net past c.args.event.now c.args.sites.now.items links) c.in-Did.is happened)
+    (sym c.entering.ensures ∙ c.in-Some.is) at c.index-site.ensures (few_triggers rules net past c.args.triggers was)
+    (λ u h stands. (ap (λ t. t.count) (c.next_trigger.ensures policy net u h stands), c.len.ensures policy net u h stands))
+    c.saturating_sub-given.ensures
+    (λ small. let adds = c.saturating_add-total.ensures in omega (arith, adds, small)) in
     subst (λ limit. StopsAt limit c.in-Some-reached.stop) (found.1 ∙ sym found.2) c.in-Some-reached.ensures.some
 
 pub returns-clause-counted : goal.returns-clause-counted
@@ -46,10 +46,10 @@ returns-clause-counted g c policy past links was began happened =
     let net = c.args.topology.now in
     let at = rw c.unwrap-rank.ensures at c.rank_of.ensures.some in
     let found = counted_at policy rules net past c.args.event.now c.args.sites.now.items links c.in-Did.field-0 c.index-site.result.now c.unwrap-rank.result c.in-Some.node
-        c.args.triggers c.args.before c.next_trigger.result.count c.saturating_sub-given.result c.saturating_add-total.result c.len.result
-        c.requires.fits was began (subst (Happens policy rules net past c.args.event.now c.args.sites.now.items links) c.in-Did.is happened)
-        (sym c.entering.ensures ∙ c.in-Some.is) at c.index-site.ensures (few_triggers rules net past c.args.triggers was)
-        (λ u h stands. (ap (λ t. t.count) (c.next_trigger.ensures policy net u h stands), c.len.ensures policy net u h stands))
-        c.saturating_sub-given.ensures
-        (λ small. let adds = c.saturating_add-total.ensures in omega (arith, adds, small)) in
+    c.args.triggers c.args.before c.next_trigger.result.count c.saturating_sub-given.result c.saturating_add-total.result c.len.result
+    c.requires.fits was began (subst (Happens policy rules net past c.args.event.now c.args.sites.now.items links) c.in-Did.is happened)
+    (sym c.entering.ensures ∙ c.in-Some.is) at c.index-site.ensures (few_triggers rules net past c.args.triggers was)
+    (λ u h stands. (ap (λ t. t.count) (c.next_trigger.ensures policy net u h stands), c.len.ensures policy net u h stands))
+    c.saturating_sub-given.ensures
+    (λ small. let adds = c.saturating_add-total.ensures in omega (arith, adds, small)) in
     record { total = found.0; within = sym found.1 ∙ c.in_default-reached.ensures.none }

@@ -1,7 +1,5 @@
 use Rattle.std.proofs.Common.{sym, ◌∙◌, ap}
-use Rattle.trigger_log.specs.Entries.{next_trigger}
 use Rattle.chronicle.specs.Logs.{log_of}
-use Rattle.world_core.specs.Happening.{next_count}
 use Rattle.world_core.proofs.Counts.{fits_node, next_of}
 use Rattle.world_core.proofs.limits.next_count.Goals as goal
 

@@ -1,4 +1,4 @@
-use Rattle.std.proofs.Common.{◌≡◌, ◌<◌, ◌-◌, ◌^◌, Bool, not, true, false, [], ◌∷◌, ◌∙◌, sym, refl, ap, subst}
+use Rattle.std.proofs.Common.{◌≡◌, ◌<◌, ◌-◌, ◌^◌, not, true, false, [], ◌∷◌, ◌∙◌, sym, refl, ap, subst}
 use Rattle.topology.specs.declared.status.Reason.TheVariants.{AlreadyUp}
 use Rattle.topology.specs.LinkStates.{is_up, number_of}
 use Rattle.chronicle.specs.declared.events.Event.TheVariants.{Restore}

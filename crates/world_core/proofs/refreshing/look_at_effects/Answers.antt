@@ -1,4 +1,4 @@
-use Rattle.std.proofs.Common.{◌≡◌, ◌≤◌, ◌+◌, ◌∷◌, [], ap, drop, refl, arith, length, subst}
+use Rattle.std.proofs.Common.{◌≤◌, ◌+◌, drop, refl, arith, length, subst}
 use Rattle.std.proofs.lemmas.Option.{slice_get_read}
 use Rattle.world_core.specs.Refreshing.{AreWaitingBut, queued_ways}
 use Rattle.world_core.specs.WaySets.{has_way}

@@ -1,4 +1,4 @@
-use Rattle.std.proofs.Common.{◌≡◌, drop}
+use Rattle.std.proofs.Common.{drop}
 use Rattle.chronicle.specs.Facts.{Chronicle}
 use Rattle.world_core.specs.Matching.{Matches}
 use Rattle.world_core.specs.Refreshing.{AreWaitingBut, queued_ways}

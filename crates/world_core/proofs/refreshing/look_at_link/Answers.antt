@@ -1,4 +1,4 @@
-use Rattle.std.proofs.Common.{[], ◌∷◌, ◌++◌, subst}
+use Rattle.std.proofs.Common.{◌∷◌, ◌++◌, subst}
 use Rattle.world_core.specs.Refreshing.{AreWaitingBut, way}
 use Rattle.world_core.specs.WaySets.{has_way}
 use Rattle.world_core.proofs.refreshing.look_at_link.Goals as goal

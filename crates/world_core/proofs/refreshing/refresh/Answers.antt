@@ -1,8 +1,5 @@
-use Rattle.std.proofs.Common.{◌≡◌, subst, sym, ap}
-use Rattle.world_core.specs.Effects.{Tells}
 use Rattle.world_core.specs.WaySets.{has_way}
-use Rattle.chronicle.specs.Run.{step}
-use Rattle.world_core.specs.Refreshing.{queued_ways, AreWaitingBut}
+use Rattle.world_core.specs.Refreshing.{queued_ways}
 use Rattle.chronicle.specs.Run.{after}
 use Rattle.world_core.proofs.Changing.{stale, still, all_known}
 use Rattle.world_core.proofs.refreshing.refresh.Goals as goal

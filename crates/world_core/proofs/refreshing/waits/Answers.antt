@@ -1,4 +1,4 @@
-use Rattle.std.proofs.Common.{◌≡◌, ◌<◌, false, refl, sym, ◌∙◌, ap, map, arith, length, true≢false}
+use Rattle.std.proofs.Common.{◌<◌, refl, sym, ◌∙◌, ap, map, arith, length, true≢false}
 use Rattle.topology.proofs.Neighbours.{neighbours_mutual}
 use Rattle.trigger_log.specs.Entries.{is_session}
 use Rattle.trigger_log.specs.Going.{item_of}

@@ -1,4 +1,4 @@
-use Rattle.std.proofs.Common.{Some, None, ◌∙◌, sym, refl}
+use Rattle.std.proofs.Common.{None, ◌∙◌, sym, refl}
 use Rattle.topology.specs.declared.names.Scope.TheVariants.{All}
 use Rattle.topology.specs.declared.status.Reason.TheVariants.{NotOpen, StillUp}
 use Rattle.path_vector.specs.declared.causes.Cause.TheVariants as cause

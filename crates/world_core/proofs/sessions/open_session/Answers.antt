@@ -1,5 +1,4 @@
-use Rattle.std.proofs.Common.{◌≡◌, Some, None, [], ◌∷◌, ◌∙◌, sym, refl}
-use Rattle.topology.specs.declared.names.Scope.TheVariants.{All}
+use Rattle.std.proofs.Common.{◌≡◌, None, [], ◌∷◌, ◌∙◌, sym}
 use Rattle.topology.specs.declared.links.LinkState.TheVariants.{Up, Down}
 use Rattle.topology.specs.declared.status.Reason.TheVariants.{LinkDown, AlreadyOpen}
 use Rattle.trigger_log.specs.Entries.{next_trigger}

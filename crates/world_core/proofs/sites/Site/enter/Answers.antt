@@ -1,4 +1,4 @@
-use Rattle.std.proofs.Common.{[], ◌∷◌, ◌+◌, ◌∙◌, ap, suc, length}
+use Rattle.std.proofs.Common.{[], ◌∷◌, ◌+◌, ◌∙◌, ap}
 use Rattle.trigger_log.specs.Entries.{entry}
 use Rattle.chronicle.specs.Logs.{log_of}
 use Rattle.world_core.proofs.Listed.{added}

@@ -41,8 +41,8 @@ count-requires-clause-places g c =
     let valid = c.self.invariant.0.are_sites.valid in
     let short : length events < most_events = omega arith in
     let regular =
-        regular_of net past (length events) short (λ v u. c.the_front_item_is_the_next.ensures rules net events v u valid) (λ v u. c.a_link_keeps_the_order.ensures rules net events v u valid)
-        (c.sessions_are_few.ensures rules net events) in
+    regular_of net past (length events) short (λ v u. c.the_front_item_is_the_next.ensures rules net events v u valid) (λ v u. c.a_link_keeps_the_order.ensures rules net events v u valid)
+    (c.sessions_are_few.ensures rules net events) in
     let happened = (rw c.deref-2.ensures at c.in_ok-outcome.ensures) policy past c.self.invariant.0 regular in
     rw c.deref-3.ensures (places_of policy rules net (after rules net past c.args.event) c.happen.new.sites.items happened.matches.are_sites)
 
@@ -56,8 +56,8 @@ returns-in_err-triggers-clause-stopped g c =
     let valid = c.self.invariant.0.are_sites.valid in
     let short : length events < most_events = omega arith in
     let regular =
-        regular_of net past (length events) short (λ v u. c.the_front_item_is_the_next.ensures rules net events v u valid) (λ v u. c.a_link_keeps_the_order.ensures rules net events v u valid)
-        (c.sessions_are_few.ensures rules net events) in
+    regular_of net past (length events) short (λ v u. c.the_front_item_is_the_next.ensures rules net events v u valid) (λ v u. c.a_link_keeps_the_order.ensures rules net events v u valid)
+    (c.sessions_are_few.ensures rules net events) in
     let happened = (rw c.deref-2.ensures at c.in_ok-outcome.ensures) policy past c.self.invariant.0 regular in
     let before = (rw c.deref.ensures at c.next_count-before.ensures) policy past c.self.invariant.0.are_sites in
     let stops = (rw c.deref-3.ensures at c.in_err-triggers.ensures.stopped) policy past c.happen.new.links c.self.invariant.1 before happened in
@@ -74,8 +74,8 @@ refresh-requires g c =
     let valid = c.self.invariant.0.are_sites.valid in
     let short : length events < most_events = omega arith in
     let regular =
-        regular_of net past (length events) short (λ v u. c.the_front_item_is_the_next.ensures rules net events v u valid) (λ v u. c.a_link_keeps_the_order.ensures rules net events v u valid)
-        (c.sessions_are_few.ensures rules net events) in
+    regular_of net past (length events) short (λ v u. c.the_front_item_is_the_next.ensures rules net events v u valid) (λ v u. c.a_link_keeps_the_order.ensures rules net events v u valid)
+    (c.sessions_are_few.ensures rules net events) in
     let happened = (rw c.deref-2.ensures at c.in_ok-outcome.ensures) policy past c.self.invariant.0 regular in
     rw c.deref-4.ensures (places_of policy rules net (after rules net past c.args.event) c.happen.new.sites.items happened.matches.are_sites)
 
@@ -89,8 +89,8 @@ invariant_of-world g c =
     let valid = c.self.invariant.0.are_sites.valid in
     let short : length events < most_events = omega arith in
     let regular =
-        regular_of net past (length events) short (λ v u. c.the_front_item_is_the_next.ensures rules net events v u valid) (λ v u. c.a_link_keeps_the_order.ensures rules net events v u valid)
-        (c.sessions_are_few.ensures rules net events) in
+    regular_of net past (length events) short (λ v u. c.the_front_item_is_the_next.ensures rules net events v u valid) (λ v u. c.a_link_keeps_the_order.ensures rules net events v u valid)
+    (c.sessions_are_few.ensures rules net events) in
     let happened = (rw c.deref-2.ensures at c.in_ok-outcome.ensures) policy past c.self.invariant.0 regular in
     let before = (rw c.deref.ensures at c.next_count-before.ensures) policy past c.self.invariant.0.are_sites in
     let counted = (rw c.deref-3.ensures at c.in_ok-triggers.ensures.counted) policy past c.happen.new.links c.self.invariant.1 before happened in
@@ -108,8 +108,8 @@ returns-clause-within g c =
     let valid = c.self.invariant.0.are_sites.valid in
     let short : length events < most_events = omega arith in
     let regular =
-        regular_of net past (length events) short (λ v u. c.the_front_item_is_the_next.ensures rules net events v u valid) (λ v u. c.a_link_keeps_the_order.ensures rules net events v u valid)
-        (c.sessions_are_few.ensures rules net events) in
+    regular_of net past (length events) short (λ v u. c.the_front_item_is_the_next.ensures rules net events v u valid) (λ v u. c.a_link_keeps_the_order.ensures rules net events v u valid)
+    (c.sessions_are_few.ensures rules net events) in
     let happened = (rw c.deref-2.ensures at c.in_ok-outcome.ensures) policy past c.self.invariant.0 regular in
     let before = (rw c.deref.ensures at c.next_count-before.ensures) policy past c.self.invariant.0.are_sites in
     let counted = (rw c.deref-3.ensures at c.in_ok-triggers.ensures.counted) policy past c.happen.new.links c.self.invariant.1 before happened in
@@ -125,7 +125,7 @@ returns-clause-outcome g c =
     let valid = c.self.invariant.0.are_sites.valid in
     let short : length events < most_events = omega arith in
     let regular =
-        regular_of net past (length events) short (λ v u. c.the_front_item_is_the_next.ensures rules net events v u valid) (λ v u. c.a_link_keeps_the_order.ensures rules net events v u valid)
-        (c.sessions_are_few.ensures rules net events) in
+    regular_of net past (length events) short (λ v u. c.the_front_item_is_the_next.ensures rules net events v u valid) (λ v u. c.a_link_keeps_the_order.ensures rules net events v u valid)
+    (c.sessions_are_few.ensures rules net events) in
     let happened = (rw c.deref-2.ensures at c.in_ok-outcome.ensures) policy past c.self.invariant.0 regular in
     rw (← c.self.view_is) happened.tells
