@@ -4,15 +4,14 @@
     bench/bench.py [PROGRAM] [--runs N] [--keep FOLDER]
 
 PROGRAM is the built program, by default crates/consensus_routing/out/consensus_routing.
-For each schedule it prints the events, the seconds of the fastest of N runs, the events a second
-and the peak memory. The schedules are made from fixed seeds, so that each run measures the same.
+For each schedule it prints the events, the seconds of the fastest of N runs (reading the file and
+writing the text among them), the events a second and the peak memory, as /usr/bin/time tells it. The schedules are made from fixed seeds, so that each run measures the same.
 """
 import argparse
 import datetime
 import os
 import platform
 import random
-import resource
 import subprocess
 import sys
 import tempfile
@@ -93,21 +92,20 @@ def long_log():
 SCHEDULES = [cold_start, flapping_links, long_drains, idle_lines, long_log]
 
 
-def run(program, text):
-    """The seconds, the peak MiB and the output of one run."""
-    with tempfile.TemporaryFile() as source, tempfile.TemporaryFile() as sink:
+def run(program, text, wanted=False):
+    """The seconds and the peak MiB of one run, and its output where it is wanted."""
+    with tempfile.TemporaryFile() as source, tempfile.TemporaryFile() as sink, tempfile.NamedTemporaryFile("r") as peak:
         source.write(text)
         source.seek(0)
+        # a small process starts the program: the system counts the memory of whoever starts it too
+        words = ["/usr/bin/time", "-o", peak.name, "-f", "%M", program, "replay"]
         before = time.perf_counter()
-        child = subprocess.Popen([program, "replay"], stdin=source, stdout=sink, stderr=subprocess.PIPE)
-        said = child.stderr.read()
-        _, status, used = os.wait4(child.pid, 0)
+        done = subprocess.run(words, stdin=source, stdout=sink, stderr=subprocess.PIPE, check=False)
         seconds = time.perf_counter() - before
-        child.returncode = os.waitstatus_to_exitcode(status)
-        if child.returncode != 0:
-            sys.exit(f"{program} ended with {child.returncode}: {said.decode().strip()}")
+        if done.returncode != 0:
+            sys.exit(f"{program} ended with {done.returncode}: {done.stderr.decode().strip()}")
         sink.seek(0)
-        return seconds, used.ru_maxrss / 1024, sink.read()
+        return seconds, int(peak.read()) / 1024, sink.read() if wanted else b""
 
 
 def text_of(lines):
@@ -122,7 +120,7 @@ def events_of(program, lines):
     if "drain" not in words:
         return by_hand
     quiet = [line for line in lines if not line.startswith("show")]
-    log = run(program, text_of(quiet + ["show log"]))[2]
+    log = run(program, text_of(quiet + ["show log"]), wanted=True)[2]
     taken = sum(b" recv " in line or b" ready " in line for line in log.splitlines())
     return by_hand + taken - words.count("deliver")
 
