@@ -4,3 +4,4 @@ mod limits;
 mod lines;
 mod runs;
 mod sizes;
+mod unrest;

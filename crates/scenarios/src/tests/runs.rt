@@ -10,7 +10,7 @@ use topology::{BadKind, Status};
 pub fn outcome(alloc: Global, file: &str) -> Result<(Status, String), Fail> {
     let content = Vec::from_slice(alloc, file.as_bytes())?;
     let mut source = MemSource::new(content, Vec::new(alloc));
-    let mut sink = MemSink::new(vec![in alloc; 0; 4096]?, Vec::new(alloc));
+    let mut sink = MemSink::new(vec![in alloc; 0; 16384]?, Vec::new(alloc));
     let status = replay(alloc, &mut source, &mut sink);
     let text = String::from_utf8(Vec::from_slice(alloc, sink.held())?)?;
     Ok((status, text))
