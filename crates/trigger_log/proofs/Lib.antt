@@ -19,5 +19,6 @@ pub mod Speaking
 pub mod Rounds
 pub mod Finding
 pub mod AllMarks
+pub mod QuietTurns
 pub mod Entering
 pub mod Reading

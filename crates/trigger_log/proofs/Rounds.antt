@@ -82,7 +82,7 @@ module _ (rules : Rules) (net : Net) (u : ℕ) (h : List Entry) (k : Entry) (w :
   older_count s below =
       count_other rules net u k h w s (λ e. let same : s ≡ newest = held_is_last (k.read ∷ reads h) w s e in absurd (omega arith)) (older_open s below)
 
-  is_mark : (s n : ℕ) (mark : SessionMark) → n ≡ sent_count rules net u (k ∷ h) w s → Says (k ∷ h) w s n mark → IsMark rules net u (k ∷ h) w s mark
+  pub is_mark : (s n : ℕ) (mark : SessionMark) → n ≡ sent_count rules net u (k ∷ h) w s → Says (k ∷ h) w s n mark → IsMark rules net u (k ∷ h) w s mark
   is_mark s n mark e says =
       record { nbr = says.nbr; session = says.session; is_opened = says.is_opened; sent = says.sent ∙ e; received = says.received; down = says.down }
 

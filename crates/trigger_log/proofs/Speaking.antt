@@ -148,12 +148,12 @@ filter_none f [] none = refl
 filter_none f (x ∷ xs) none = rw (none x) (filter_none f xs none)
 
 -- no news where w is not ready after the entry
-unready_news : (rules : Rules) (net : Net) (u : ℕ) (h : List Entry) (k : Entry) (w : ℕ) → ready (k.read ∷ reads h) w ≡ None → news rules net u h k w ≡ []
+pub unready_news : (rules : Rules) (net : Net) (u : ℕ) (h : List Entry) (k : Entry) (w : ℕ) → ready (k.read ∷ reads h) w ≡ None → news rules net u h k w ≡ []
 unfolding news changed
 unready_news rules net u h k w e =
     ap (map (update_of rules net u h k w)) (filter_none (changed rules net u (reads h) k.read w) (places net) (λ p. rw e refl))
 
-not_closed : (cause : Cause) (w t : ℕ) → ends_with cause w ≡ false → closes cause w t ≡ false
+pub not_closed : (cause : Cause) (w t : ℕ) → ends_with cause w ≡ false → closes cause w t ≡ false
 not_closed Originate w t e = refl
 not_closed Withdraw w t e = refl
 not_closed (Recv v s seq path) w t e = refl
@@ -172,7 +172,7 @@ ended_by (Prefer v x) w e = absurd (cc e)
 ended_by (Down v s) w e = (s, ap (λ n. Down n s) (same_number v w e))
 
 module _ (rules : Rules) (net : Net) (u : ℕ) (h : List Entry) (k : Entry) (w : ℕ) (fits : Fits (k ∷ h)) where
-  close_none : (a : Option ℕ) → ends_with k.read.cause w ≡ false → close_sent rules net u h k w a ≡ []
+  pub close_none : (a : Option ℕ) → ends_with k.read.cause w ≡ false → close_sent rules net u h k w a ≡ []
   close_none None e = refl
   close_none (Some t) e = rw (not_closed k.read.cause w t e) refl
 
@@ -205,11 +205,11 @@ module _ (rules : Rules) (net : Net) (u : ℕ) (h : List Entry) (k : Entry) (w :
             ∙ ap (going_in w (told rules net u h k w)) (sym holds)))));
       }
 
-  updates_none : (a : Option ℕ) → news rules net u h k w ≡ [] → updates_sent rules net u h k w a ≡ []
+  pub updates_none : (a : Option ℕ) → news rules net u h k w ≡ [] → updates_sent rules net u h k w a ≡ []
   updates_none None e = refl
   updates_none (Some t) e = ap (sent_from w t (next_number rules net u h w t)) e
 
-  going_none : (a : Option ℕ) → news rules net u h k w ≡ [] → going_in w (told rules net u h k w) a ≡ []
+  pub going_none : (a : Option ℕ) → news rules net u h k w ≡ [] → going_in w (told rules net u h k w) a ≡ []
   going_none None e = refl
   going_none (Some t) e = ap (λ l. going_to w t (numbered (next_number rules net u h w t) l)) e
 

@@ -8,3 +8,4 @@ pub mod Standing
 pub mod Offered
 pub mod Telling
 pub mod Marked
+pub mod Quiet

@@ -7,6 +7,7 @@ pub mod log;
 mod marking;
 mod offers;
 pub mod outgoing;
+mod quiet;
 pub mod sessions;
 mod telling;
 mod turns;

@@ -30,7 +30,8 @@ fn same_slice(a: &[NodeId], b: &[NodeId]) -> bool
     }
 }
 
-fn same(a: Option<&Path>, b: Option<&Path>) -> bool
+/// Whether both are the same path, or both none.
+pub fn same(a: Option<&Path>, b: Option<&Path>) -> bool
     ensures { result ≡ same_path (option_copied a.entry) (option_copied b.entry) }
 {
     match (a, b) {

@@ -12,6 +12,7 @@ ghost use Rattle.trigger_log.specs.Offered.{prefixes_of};
 ghost use Rattle.trigger_log.specs.Marked.{Says, Enters, Spoken, ToldTo, ends_with, readies};
 
 use crate::outgoing::Outgoing;
+use crate::quiet::is_quiet;
 use crate::sessions::{SessionMark, Sessions};
 use crate::telling::{Listener, Turn, tell};
 use path_vector::{Cause, Policy, RouteState};
@@ -117,8 +118,8 @@ fn tell_at<P: Policy + Copy>(
     Ok(())
 }
 
-/// Lists what the entry says to each neighbour, ascending, and counts it.
-pub fn tell_all<P: Policy + Copy>(
+// Lists what the entry says to each neighbour, ascending, and counts it.
+fn tell_each<P: Policy + Copy>(
     routes: &RouteState<P>,
     sessions: &mut Sessions,
     near: &[NodeId],
@@ -137,4 +138,27 @@ pub fn tell_all<P: Policy + Copy>(
         tell_at(routes, sessions, place, turn, sent, outgoing)?;
     }
     Ok(())
+}
+
+/// Lists what the entry says to each neighbour, ascending, and counts it. Nothing is looked at
+/// where the entry has nothing to say.
+pub fn tell_all<P: Policy + Copy>(
+    routes: &RouteState<P>,
+    sessions: &mut Sessions,
+    near: &[NodeId],
+    turn: &Turn<'_>,
+    sent: &mut Vec<Sent>,
+    outgoing: &mut Vec<Outgoing>,
+) -> Result<(), NoMemory>
+    requires same_prefixes { prefixes_of turn.now.before.now ≡ prefixes_of turn.now.after.now }
+    ensures { OnOk result ((policy : P) (net : Net) (u : ℕ) (h : List Entry) (k : Entry) (sent_first : List Sent)
+        (out_first : List Outgoing) → Enters policy (P.rules policy) net u h k routes.now turn.now →
+        near.now ≡ neighbours net u →
+        ToldTo (P.rules policy) net u h k 0 sessions.old sent_first sent.old.items out_first outgoing.old.items →
+        ToldTo (P.rules policy) net u h k (length near.now) sessions.new sent_first sent.new.items out_first outgoing.new.items) }
+{
+    if is_quiet(turn) {
+        return Ok(());
+    }
+    tell_each(routes, sessions, near, turn, sent, outgoing)
 }

@@ -1,10 +1,8 @@
-use Rattle.std.proofs.Common.{◌≡◌, ap, arith, length}
-use Rattle.topology.specs.Net.{neighbours}
-use Rattle.trigger_log.proofs.Rounds.{some_at}
+use Rattle.std.proofs.Common.{length}
+use Rattle.trigger_log.proofs.QuietTurns.{told_quiet}
 use Rattle.trigger_log.proofs.turns.tell_all.Goals as goal
 
-pub loop-place-preserved : goal.loop-place-preserved
-loop-place-preserved g c = λ policy net u h k sent out enters near was.
-    let long : length c.args.near.now ≡ length (neighbours net u) = ap length near in
-    let next = some_at (neighbours net u) c.loop-place.place (omega arith) in
-    c.in_ok-tell_at.ensures policy net u h k next.0 sent out enters next.1 (c.loop-place.invariant policy net u h k sent out enters near was)
+pub returns-then-is_quiet : goal.returns-then-is_quiet
+returns-then-is_quiet g c = λ policy net u h k sent out enters near was.
+    told_quiet policy (g.P.Policy.rules policy) net u h k c.args.routes.now c.args.turn.now enters (c.is_quiet.ensures.0 c.if-is_quiet.true)
+    (length c.args.near.now) c.args.sessions.now sent c.args.sent.now.items out c.args.outgoing.now.items was

@@ -4,7 +4,7 @@ use Rattle.topology.specs.Net.{Net, neighbours}
 use Rattle.trigger_log.specs.declared.outgoing.Outgoing.{Outgoing}
 use Rattle.trigger_log.specs.Entries.{Entry}
 use Rattle.trigger_log.specs.Marked.{Enters, ToldTo}
-use Rattle.trigger_log.proofs.turns.tell_all.Given as goal
+use Rattle.trigger_log.proofs.turns.tell_each.Given as goal
 
 abbrev pub invariant-loop-place : goal.invariant-loop-place
 invariant-loop-place g l = (policy : _) (net : Net) (u : ℕ) (h : List Entry) (k : Entry) (sent : List Sent) (out : List Outgoing) → Enters policy (g.P.Policy.rules policy) net u h k l.routes l.turn → l.near ≡ neighbours net u

@@ -1,0 +1,165 @@
+-- An entry that changes no best route and turns no session says nothing.
+use Rattle.std.proofs.Common.{ℕ, ◌+◌, Bool, true, false, not, Option, Some, None, List, [], ◌∷◌, ◌++◌, ◌≡◌, ◌≢◌, ◌↔◌, refl, sym, ◌∙◌, ap, subst, arith, length, map, filter, flat_map, take, ⊎_elim}
+use Rattle.std.specs.Prelude.{if◌then◌else◌, is_some}
+use Rattle.std.proofs.lemmas.Bool.{cases_eq}
+use Rattle.std.proofs.lemmas.Option.{same_Some}
+use Rattle.topology.specs.declared.items.Sent.{Sent}
+use Rattle.topology.specs.Lists.{same_path}
+use Rattle.topology.specs.Net.{Net, neighbours, relation}
+use Rattle.path_vector.specs.declared.causes.Cause.{Cause}
+use Rattle.path_vector.specs.declared.causes.Cause.TheVariants.{Originate, Withdraw, Recv, Down, Up, Ready, Prefer}
+use Rattle.path_vector.specs.declared.state.Chosen.{Chosen}
+use Rattle.path_vector.specs.declared.state.RouteState.{RouteState}
+use Rattle.path_vector.specs.declared.policy.Learned.{Learned}
+use Rattle.path_vector.specs.Rules.{Rules}
+use Rattle.path_vector.specs.History.{held, ready}
+use Rattle.path_vector.specs.Selection.{Route, Nowhere, best, path_of}
+use Rattle.path_vector.specs.Offers.{exported, learned, may_tell, offer, offered_route}
+use Rattle.path_vector.specs.Answers.{Copies}
+use Rattle.path_vector.proofs.Changes.{same_path_is, same_path_self}
+use Rattle.trigger_log.specs.declared.offers.Offer.{Offer}
+use Rattle.trigger_log.specs.declared.outgoing.Outgoing.{Outgoing}
+use Rattle.trigger_log.specs.declared.sessions.SessionMark.{SessionMark}
+use Rattle.trigger_log.specs.declared.sessions.Sessions.{Sessions}
+use Rattle.trigger_log.specs.declared.telling.Turn.{Turn}
+use Rattle.trigger_log.specs.Entries.{Entry, Update, reads}
+use Rattle.trigger_log.specs.Sending.{close_sent, news, sent_count, sent_to, update_of}
+use Rattle.trigger_log.specs.Going.{going_in, going_of, told}
+use Rattle.trigger_log.specs.Sessions.{AreMarks, IsMark, ever}
+use Rattle.trigger_log.specs.Offered.{AreChosen, differs, prefixes_of, updates_over}
+use Rattle.trigger_log.specs.Marked.{AreMarked, Enters, Says, ToldTo, ends_with, readies}
+use Rattle.trigger_log.specs.Quiet.{IsQuiet, turns_session}
+use Rattle.trigger_log.proofs.Closings.{count_held, count_other}
+use Rattle.trigger_log.proofs.Speaking.{close_none, going_none, knew, not_closed, over_scope, unready_news, updates_none}
+use Rattle.trigger_log.proofs.Rounds.{is_mark}
+use Rattle.trigger_log.proofs.Zips.{zip_map}
+
+-- ---- equal best routes
+
+pub equal_offers : (a b : Offer) (t : Bool) (x y : Option (List ℕ)) → t ≡ same_path x y → x ≡ a.chosen.path → y ≡ b.chosen.path → a.prefix ≡ b.prefix → a.chosen.learned ≡ b.chosen.learned
+    → (t ≡ true) ↔ (a ≡ b)
+equal_offers a b t x y is x_is y_is prefix learnt =
+    let tests : t ≡ same_path a.chosen.path b.chosen.path = is ∙ (ap (λ z. same_path z y) x_is ∙ ap (same_path a.chosen.path) y_is) in
+    ((λ e. equal prefix (same_path_is a.chosen.path b.chosen.path (sym tests ∙ e)) learnt), (λ e. tests ∙ (ap (λ (o : Offer). same_path a.chosen.path o.chosen.path) (sym e) ∙ same_path_self a.chosen.path)))
+  where
+    made : ℕ → Option (List ℕ) → Option Learned → Offer
+    made prefix path learnt = record { prefix = prefix; chosen = record { path = path; learned = learnt } }
+
+    equal : a.prefix ≡ b.prefix → a.chosen.path ≡ b.chosen.path → a.chosen.learned ≡ b.chosen.learned → a ≡ b
+    equal prefix path learnt =
+        ap (λ n. made n a.chosen.path a.chosen.learned) prefix ∙ (ap (λ p. made b.prefix p a.chosen.learned) path ∙ ap (made b.prefix b.chosen.path) learnt)
+
+-- ---- a cause that turns no session
+
+not_ended : (cause : Cause) (w : ℕ) → turns_session cause ≡ false → ends_with cause w ≡ false
+not_ended Originate w e = refl
+not_ended Withdraw w e = refl
+not_ended (Recv v s seq path) w e = refl
+not_ended (Down v s) w e = absurd (cc e)
+not_ended (Up v s) w e = refl
+not_ended (Ready v s) w e = refl
+not_ended (Prefer v x) w e = refl
+
+not_readied : (cause : Cause) (w : ℕ) → turns_session cause ≡ false → readies cause w ≡ false
+not_readied Originate w e = refl
+not_readied Withdraw w e = refl
+not_readied (Recv v s seq path) w e = refl
+not_readied (Down v s) w e = refl
+not_readied (Up v s) w e = refl
+not_readied (Ready v s) w e = absurd (cc e)
+not_readied (Prefer v x) w e = refl
+
+-- ---- equal routes are offered alike
+
+module _ (rules : Rules) (net : Net) (u w : ℕ) where
+  exported_path : (route : Route) → path_of u (exported rules net u w route) ≡ (if may_tell rules (learned net u route) (relation net u w) then path_of u route else None)
+  exported_path route =
+      elim (may_tell rules (learned net u route) (relation net u w)) as (λ b. path_of u (if b then route else Nowhere) ≡ (if b then path_of u route else None)) [ true ↦ refl | false ↦ refl ]
+
+  same_exported : (chosen : Chosen) (a b : Route) → Copies net u chosen a → Copies net u chosen b → path_of u (exported rules net u w a) ≡ path_of u (exported rules net u w b)
+  same_exported chosen a b of_a of_b =
+      exported_path a
+      ∙ (ap (λ l. if may_tell rules l (relation net u w) then path_of u a else None) (sym of_a.learnt ∙ of_b.learnt)
+      ∙ (ap (λ p. if may_tell rules (learned net u b) (relation net u w) then p else None) (sym of_a.path ∙ of_b.path)
+      ∙ sym (exported_path b)))
+
+module _ (rules : Rules) (net : Net) (u : ℕ) (h : List Entry) (k : Entry) (w : ℕ) where
+  same_offered : (o : Offer) → Copies net u o.chosen (best rules net u (reads h) o.prefix) → Copies net u o.chosen (best rules net u (k.read ∷ reads h) o.prefix)
+      → differs rules net u h k true w o.prefix ≡ false
+  unfolding offered_route
+  same_offered o before after =
+      ap not (ap (same_path (offer rules net u (k.read ∷ reads h) o.prefix w)) (same_exported rules net u w o.chosen (best rules net u (reads h) o.prefix) (best rules net u (k.read ∷ reads h) o.prefix) before after)
+      ∙ same_path_self (offer rules net u (k.read ∷ reads h) o.prefix w))
+
+  none_differs : (offers : List Offer) → AreChosen rules net u (reads h) offers → AreChosen rules net u (k.read ∷ reads h) offers
+      → filter (differs rules net u h k true w) (prefixes_of offers) ≡ []
+  none_differs [] before after = refl
+  none_differs (o ∷ offers) before after = rw (same_offered o before.0 after.0) (none_differs offers before.1 after.1)
+
+  none_over : (offers : List Offer) → AreChosen rules net u (reads h) offers → AreChosen rules net u (k.read ∷ reads h) offers
+      → updates_over rules net u h k true w (prefixes_of offers) ≡ []
+  none_over offers before after = ap (map (update_of rules net u h k w)) (none_differs offers before after)
+
+flat_none : {A : Type 0} (f : ℕ → List A) (ns : List ℕ) → ((n : ℕ) → f n ≡ []) → flat_map f ns ≡ []
+flat_none f [] none = refl
+flat_none f (n ∷ ns) none = ap (λ l. l ++ flat_map f ns) (none n) ∙ flat_none f ns none
+
+module _ {P : Type 0} (policy : P) (rules : Rules) (net : Net) (u : ℕ) (h : List Entry) (k : Entry) (routes : RouteState P) (turn : Turn)
+    (enters : Enters policy rules net u h k routes turn) (quiet : IsQuiet turn) where
+  turns_none : turns_session k.read.cause ≡ false
+  turns_none = ap turns_session enters.cause ∙ quiet.0
+
+  none_in : (w : ℕ) (a : Option ℕ) → ready (k.read ∷ reads h) w ≡ a → news rules net u h k w ≡ []
+  none_in w None e = unready_news rules net u h k w e
+  none_in w (Some s) e =
+      let knows : is_some (ready (reads h) w) ≡ true = (knew k h w s enters.fitting e).1 ∙ ap not (not_readied k.read.cause w turns_none) in
+      let before : AreChosen rules net u (reads h) turn.after.now = subst (AreChosen rules net u (reads h)) quiet.1 enters.before in
+      sym (over_scope rules net u h k w s enters.fitting e enters.placed)
+      ∙ (ap (updates_over rules net u h k (is_some (ready (reads h) w)) w) (sym enters.covers)
+      ∙ (ap (λ b. updates_over rules net u h k b w (prefixes_of turn.after.now)) knows
+      ∙ none_over rules net u h k w turn.after.now before enters.after))
+
+  -- there is no news for any neighbour
+  no_news : (w : ℕ) → news rules net u h k w ≡ []
+  no_news w = none_in w (ready (k.read ∷ reads h) w) refl
+
+  open_still : (w : ℕ) → ends_with k.read.cause w ≡ false
+  open_still w = not_ended k.read.cause w turns_none
+
+  nothing_sent : (w : ℕ) → sent_to rules net u h k w ≡ []
+  nothing_sent w =
+      ap (λ l. l ++ close_sent rules net u h k w (ready (reads h) w)) (updates_none rules net u h k w enters.fitting (held (k.read ∷ reads h) w) (no_news w))
+      ∙ close_none rules net u h k w enters.fitting (ready (reads h) w) (open_still w)
+
+  nothing_told : (w : ℕ) → going_in w (told rules net u h k w) (held (k.read ∷ reads h) w) ≡ []
+  nothing_told w = going_none rules net u h k w enters.fitting (held (k.read ∷ reads h) w) (no_news w)
+
+  -- no session has more items than before
+  count_in : (w s : ℕ) (a : Option ℕ) → held (k.read ∷ reads h) w ≡ a → sent_count rules net u (k ∷ h) w s ≡ sent_count rules net u h w s
+  count_in w s None e = count_other rules net u k h w s (λ f. absurd (cc (e, f))) (not_closed k.read.cause w s (open_still w))
+  count_in w s (Some t) e = ⊎_elim
+      (λ (same : t ≡ s). count_held rules net u k h w s (e ∙ ap (λ n. Some n) same) ∙ (ap (λ (l : List Update). sent_count rules net u h w s + length l) (no_news w) ∙ omega arith))
+      (λ (other : t ≢ s). count_other rules net u k h w s (λ f. other (same_Some t s (sym e ∙ f))) (not_closed k.read.cause w s (open_still w)))
+      (cases_eq t s)
+
+  as_before : (w s : ℕ) → sent_count rules net u h w s ≡ sent_count rules net u (k ∷ h) w s
+  as_before w s = sym (count_in w s (held (k.read ∷ reads h) w) refl)
+
+  quiet_row : (w : ℕ) (row : List SessionMark) → AreMarked rules net u h k w row → AreMarks rules net u (k ∷ h) w row
+  quiet_row w row was =
+      zip_map (λ s mark. Says (k ∷ h) w s (sent_count rules net u h w s) mark) (IsMark rules net u (k ∷ h) w)
+      (λ s mark says. is_mark rules net u h k w enters.fitting s (sent_count rules net u h w s) mark (as_before w s) says) (ever (k ∷ h) w) row was
+
+  -- all are told where none is
+  pub told_quiet : (n : ℕ) (sessions : Sessions) (sent all : List Sent) (out all_out : List Outgoing) → ToldTo rules net u h k 0 sessions sent all out all_out
+      → ToldTo rules net u h k n sessions sent all out all_out
+  told_quiet n sessions sent all out all_out was = record {
+    rows = was.rows;
+    kept = was.kept;
+    width = was.width;
+    done = λ j w row below near found. quiet_row w row (was.rest j w row (omega arith) near found);
+    rest = λ j w row above near found. was.rest j w row (omega arith) near found;
+    sent = was.sent ∙ ap (λ l. sent ++ l) (sym (flat_none (sent_to rules net u h k) (take n (neighbours net u)) nothing_sent));
+    out = was.out
+        ∙ ap (λ l. map going_of out ++ l) (sym (flat_none (λ w. going_in w (told rules net u h k w) (held (k.read ∷ reads h) w)) (take n (neighbours net u)) nothing_told));
+  }

@@ -1,0 +1,15 @@
+-- The entries that say nothing to any neighbour.
+use Rattle.std.specs.Prelude.{◌≡◌, Bool, true, false}
+use Rattle.path_vector.specs.declared.causes.Cause.{Cause}
+use Rattle.path_vector.specs.declared.causes.Cause.TheVariants.{Down, Ready}
+use Rattle.trigger_log.specs.declared.telling.Turn.{Turn}
+
+-- the cause ends a session, or makes one ready
+abbrev pub turns_session : Cause → Bool
+turns_session (Down v s) = true
+turns_session (Ready v s) = true
+turns_session other = false
+
+-- the entry turns no session, and the best routes after it are those before it
+abbrev pub IsQuiet : Turn → Type 0
+IsQuiet turn = (turns_session turn.cause.now ≡ false) × (turn.before.now ≡ turn.after.now)
