@@ -167,25 +167,25 @@ write_change rules net past u k ways keeps =
     (sends_change net past u (Log u k ∷ past) (going_by rules net u (log_of u past) k) ways (going_near rules net u (log_of u past) k))
 
 -- both ways of a link, and no other
-off_ends : (one : Way) (a b : ℕ) → Misses one (way a b ∷ way b a ∷ []) → ((one.from == a && one.to == b) ≡ false) × ((one.from == b && one.to == a) ≡ false)
-off_ends one a b e = (grind (arith, nat_tests), grind (arith, nat_tests))
-
 off_link : (one : Way) (a b : ℕ) → Misses one (way a b ∷ way b a ∷ []) → are_ends one.from one.to a b ≡ false
-off_link one a b e = let off = off_ends one a b e in let one_off = off.0 in let other_off = off.1 in grind (arith, nat_tests)
+off_link one a b e =
+    let off : (one.from == a && one.to == b) ≡ false = grind (arith, nat_tests) in
+    let other_off : (one.from == b && one.to == a) ≡ false = grind (arith, nat_tests) in
+    grind (arith, nat_tests)
 
-off_nbr : (one : Way) (u v : ℕ) → Misses one (way u v ∷ way v u ∷ []) → (u == one.to) ≡ true → (v == one.from) ≡ false
-off_nbr one u v e at = let off = off_ends one u v e in let other_off = off.1 in grind (arith, nat_tests)
+-- one way of a link, and no other
+off_way_to : (one : Way) (v u : ℕ) → Misses one (way v u ∷ []) → (v == one.from && u == one.to) ≡ false
+off_way_to one v u e = grind (arith, nat_tests)
 
-took_change : (net : Net) (past : Chronicle) (v u s : ℕ) (x : Item) → Changed net past (Took v u s x ∷ past) (way v u ∷ way u v ∷ [])
+off_nbr : (one : Way) (u v : ℕ) → Misses one (way v u ∷ []) → (u == one.to) ≡ true → (v == one.from) ≡ false
+off_nbr one u v e at = let off = off_way_to one v u e in grind (arith, nat_tests)
+
+took_change : (net : Net) (past : Chronicle) (v u s : ℕ) (x : Item) → Changed net past (Took v u s x ∷ past) (way v u ∷ [])
 took_change net past v u s x = record {
   tail = [];
   shown = refl;
   near = tt;
-  kept = λ one misses queued.
-      let off = off_ends one v u misses in
-      let first_off = off.0 in
-      let away : (v == one.from && u == one.to) ≡ false = grind (arith, nat_tests) in
-      rw away refl;
+  kept = λ one misses queued. rw (off_way_to one v u misses) refl;
 }
 
 fail_change : (net : Net) (past : Chronicle) (a b : ℕ) → Changed net past (fact.Fail a b ∷ past) (way a b ∷ way b a ∷ [])
@@ -210,53 +210,53 @@ greet_change : (rules : Rules) (net : Net) (past : Chronicle) (v u s : ℕ) (kno
 greet_change rules net past v u s (Some t) ways = unchanged net past ways
 greet_change rules net past v u s None ways = write_change rules net past u (local u (log_of u past) All (cause.Ready v s)) ways (λ one session misses at. refl)
 
-take_change : (rules : Rules) (net : Net) (past : Chronicle) (v u s : ℕ) (x : Item) → Changed net past (take_item rules net v u s x past) (way v u ∷ way u v ∷ [])
+take_change : (rules : Rules) (net : Net) (past : Chronicle) (v u s : ℕ) (x : Item) → Changed net past (take_item rules net v u s x past) (way v u ∷ [])
 unfolding take_item
 take_change rules net past v u s (News n x) =
     let mid : Chronicle = Took v u s (News n x) ∷ past in
-    both net past mid (write rules net u (heard v s n x) mid) (way v u ∷ way u v ∷ []) (took_change net past v u s (News n x))
-    (write_change rules net mid u (heard v s n x) (way v u ∷ way u v ∷ []) (λ one session misses at. refl))
+    both net past mid (write rules net u (heard v s n x) mid) (way v u ∷ []) (took_change net past v u s (News n x))
+    (write_change rules net mid u (heard v s n x) (way v u ∷ []) (λ one session misses at. refl))
 take_change rules net past v u s (Hello e) =
     let mid : Chronicle = Took v u s (Hello e) ∷ past in
-    both net past mid (greeted rules net v u s (ready (reads (log_of u past)) v) mid) (way v u ∷ way u v ∷ []) (took_change net past v u s (Hello e))
-    (greet_change rules net mid v u s (ready (reads (log_of u past)) v) (way v u ∷ way u v ∷ []))
+    both net past mid (greeted rules net v u s (ready (reads (log_of u past)) v) mid) (way v u ∷ []) (took_change net past v u s (Hello e))
+    (greet_change rules net mid v u s (ready (reads (log_of u past)) v) (way v u ∷ []))
 
-close_change : (rules : Rules) (net : Net) (past : Chronicle) (u v s : ℕ) → Changed net past (write rules net u (local u (log_of u past) All (cause.Down v s)) past) (way u v ∷ way v u ∷ [])
+close_change : (rules : Rules) (net : Net) (past : Chronicle) (u v s : ℕ) → Changed net past (write rules net u (local u (log_of u past) All (cause.Down v s)) past) (way v u ∷ [])
 close_change rules net past u v s =
-    write_change rules net past u (local u (log_of u past) All (cause.Down v s)) (way u v ∷ way v u ∷ []) (λ one session misses at. rw (off_nbr one u v misses at) refl)
+    write_change rules net past u (local u (log_of u past) All (cause.Down v s)) (way v u ∷ []) (λ one session misses at. rw (off_nbr one u v misses at) refl)
 
-open_change : (net : Net) (past : Chronicle) (u v s : ℕ) → linked net u v ≡ true → Changed net past (open_session u v s past) (way u v ∷ way v u ∷ [])
+open_change : (net : Net) (past : Chronicle) (u v s : ℕ) → linked net u v ≡ true → Changed net past (open_session u v s past) (way v u ∷ [])
 unfolding open_session
 open_change net past u v s near =
     let k = local u (log_of u past) All (cause.Up v s) in
     let hello : List Going = record { to = v; session = s; item = Hello 0 } ∷ [] in
-    both net past (Log u k ∷ past) (happen (Log u k ∷ past) (sends past u hello)) (way u v ∷ way v u ∷ [])
-    (log_change net past u k (way u v ∷ way v u ∷ []) (λ one session misses at. rw (off_nbr one u v misses at) refl))
-    (sends_change net past u (Log u k ∷ past) hello (way u v ∷ way v u ∷ []) (near, tt))
+    both net past (Log u k ∷ past) (happen (Log u k ∷ past) (sends past u hello)) (way v u ∷ [])
+    (log_change net past u k (way v u ∷ []) (λ one session misses at. rw (off_nbr one u v misses at) refl))
+    (sends_change net past u (Log u k ∷ past) hello (way v u ∷ []) (near, tt))
 
 abbrev pub ChangedBy : Net → Chronicle → List Way → Step → Type 0
 ChangedBy net past ways (Idle reason) = Unit {0}
 ChangedBy net past ways (Goes now) = Changed net past now ways
 
 module _ (rules : Rules) (net : Net) (past : Chronicle) where
-  delivery_change : (v u : ℕ) (l : LinkState) (items : List Item) (session : Option ℕ) → ChangedBy net past (way v u ∷ way u v ∷ []) (delivered rules net past v u l items session)
+  delivery_change : (v u : ℕ) (l : LinkState) (items : List Item) (session : Option ℕ) → ChangedBy net past (way v u ∷ []) (delivered rules net past v u l items session)
   delivery_change v u (Down s) items session = tt
   delivery_change v u (Up s) [] session = tt
   delivery_change v u (Up s) (x ∷ rest) session =
-      elim (is_session session s) as (λ t. ChangedBy net past (way v u ∷ way u v ∷ []) (if t then Goes (take_item rules net v u s x past) else Idle WrongSession)) [
+      elim (is_session session s) as (λ t. ChangedBy net past (way v u ∷ []) (if t then Goes (take_item rules net v u s x past) else Idle WrongSession)) [
         | true ↦ take_change rules net past v u s x
         | false ↦ tt
       ]
 
-  notice_change : (u v : ℕ) (session : Option ℕ) (l : LinkState) → ChangedBy net past (way u v ∷ way v u ∷ []) (noticed rules net past u v session l)
+  notice_change : (u v : ℕ) (session : Option ℕ) (l : LinkState) → ChangedBy net past (way v u ∷ []) (noticed rules net past u v session l)
   notice_change u v None l = tt
   notice_change u v (Some s) l =
-      elim (carries l s) as (λ t. ChangedBy net past (way u v ∷ way v u ∷ []) (if t then Idle StillUp else Goes (write rules net u (local u (log_of u past) All (cause.Down v s)) past))) [
+      elim (carries l s) as (λ t. ChangedBy net past (way v u ∷ []) (if t then Idle StillUp else Goes (write rules net u (local u (log_of u past) All (cause.Down v s)) past))) [
         | true ↦ tt
         | false ↦ close_change rules net past u v s
       ]
 
-  opening_change : (u v : ℕ) (session : Option ℕ) (l : LinkState) → linked net u v ≡ true → ChangedBy net past (way u v ∷ way v u ∷ []) (opened past u v session l)
+  opening_change : (u v : ℕ) (session : Option ℕ) (l : LinkState) → linked net u v ≡ true → ChangedBy net past (way v u ∷ []) (opened past u v session l)
   opening_change u v (Some s) l near = tt
   opening_change u v None (Down s) near = tt
   opening_change u v None (Up s) near = open_change net past u v s near
@@ -297,11 +297,11 @@ ways_linked : (net : Net) (event : Event) → IsTrue (fits net event) → AreLin
 ways_linked net (Originate u p) fit = tt
 ways_linked net (Withdraw u p) fit = tt
 ways_linked net (Prefer u v value) fit = tt
-ways_linked net (Deliver v u) fit = two_linked net v u fit
+ways_linked net (Deliver v u) fit = (fit, tt)
 ways_linked net (Fail a b) fit = two_linked net a b fit
 ways_linked net (Restore a b) fit = two_linked net a b fit
-ways_linked net (Notice u v) fit = two_linked net u v fit
-ways_linked net (OpenSession u v) fit = two_linked net u v fit
+ways_linked net (Notice u v) fit = (linked_sym net v u ∙ fit, tt)
+ways_linked net (OpenSession u v) fit = (linked_sym net v u ∙ fit, tt)
 
 module _ (net : Net) (past : Chronicle) (has : Way → Bool) (was : AreWaiting net past has) where
   stale_by : (s : Step) (list : List Effect) (ways : List Way) → Tells past s (outcome.Did list) → ChangedBy net past ways s → AreLinked net ways

@@ -14,16 +14,23 @@ use Rattle.world_core.specs.WaySets.{same_way}
 abbrev pub way : ℕ → ℕ → Way
 way from to = record { from = from; to = to }
 
--- both ways over the link of the event, where it is about a link
+-- the event fails or restores its link
+abbrev pub is_outage : Event → Bool
+is_outage (Fail a b) = true
+is_outage (Restore a b) = true
+is_outage event = false
+
+-- the ways over the link of the event on which a delivery may come to something else: both where the
+-- link changes, else the way to the node that takes the item, or that opens or closes its session
 abbrev pub ways_of : Event → List Way
 ways_of (Originate node prefix) = []
 ways_of (Withdraw node prefix) = []
 ways_of (Prefer node nbr value) = []
-ways_of (Deliver from to) = way from to ∷ way to from ∷ []
+ways_of (Deliver from to) = way from to ∷ []
 ways_of (Fail a b) = way a b ∷ way b a ∷ []
 ways_of (Restore a b) = way a b ∷ way b a ∷ []
-ways_of (Notice node nbr) = way node nbr ∷ way nbr node ∷ []
-ways_of (OpenSession node nbr) = way node nbr ∷ way nbr node ∷ []
+ways_of (Notice node nbr) = way nbr node ∷ []
+ways_of (OpenSession node nbr) = way nbr node ∷ []
 
 -- the ways over which something was queued
 abbrev pub queued_ways : List Effect → List Way

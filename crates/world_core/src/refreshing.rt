@@ -1,5 +1,5 @@
 //! After an event the ways that it may have changed are looked at again.
-ghost use Rattle.std.specs.Prelude.{◌≡◌, ◌∷◌, ◌++◌, [], List, true, OnOk, IfSome, IsNone, IsTrue, IfNone};
+ghost use Rattle.std.specs.Prelude.{◌≡◌, ◌∷◌, ◌++◌, [], List, true, OnOk, IfSome, IsNone, IsTrue, IfNone, if◌then◌else◌};
 ghost use Rattle.topology.specs.Net.{linked};
 ghost use Rattle.chronicle.specs.declared.ways.Way.{Way as Direction};
 ghost use Rattle.chronicle.specs.Facts.{Chronicle};
@@ -9,7 +9,7 @@ ghost use Rattle.world_core.specs.declared.outcomes.Effect.{Effect as Told};
 ghost use Rattle.world_core.specs.Fits.{fits};
 ghost use Rattle.world_core.specs.Matching.{Matches};
 ghost use Rattle.world_core.specs.Happening.{HasPlaces, Happens};
-ghost use Rattle.world_core.specs.Refreshing.{AreWaitingBut, queued_ways, ways_of, way};
+ghost use Rattle.world_core.specs.Refreshing.{AreWaitingBut, is_outage, queued_ways, ways_of, way};
 ghost use Rattle.world_core.specs.Waiting.{AreWaiting};
 ghost use Rattle.world_core.specs.WaySets.{has_way};
 
@@ -67,23 +67,32 @@ fn look<P: Policy + Copy>(
     Ok(())
 }
 
-// One of the two ways over the link of the event, where it is about a link.
+// The way over the link of the event, where it is about a link, on which a delivery may come to
+// something else: to the node that takes the item, or that opens or closes its session. One of the two
+// where the link changes.
 fn way_of(event: &Event) -> Option<Way>
-    ensures some { IfSome result (λ one. ways_of event.now ≡ one ∷ way one.to one.from ∷ []) }
+    ensures some { IfSome result (λ one. ways_of event.now ≡ one ∷ (if is_outage event.now then way one.to one.from ∷ [] else [])) }
     ensures none { IfNone result (ways_of event.now ≡ []) }
 {
     let (from, to) = match event {
         Event::Deliver { from, to } => (*from, *to),
         Event::Fail { a, b } => (*a, *b),
         Event::Restore { a, b } => (*a, *b),
-        Event::Notice { node, nbr } => (*node, *nbr),
-        Event::OpenSession { node, nbr } => (*node, *nbr),
+        Event::Notice { node, nbr } => (*nbr, *node),
+        Event::OpenSession { node, nbr } => (*nbr, *node),
         _ => return None,
     };
     Some(Way { from, to })
 }
 
-// Looks again at both ways over the link of the event.
+// Whether the event fails or restores its link.
+fn is_outage(event: &Event) -> bool
+    ensures { result ≡ is_outage event.now }
+{
+    matches!(event, Event::Fail { .. } | Event::Restore { .. })
+}
+
+// Looks again at the ways over the link of the event that it may have changed.
 fn look_at_link<P: Policy + Copy>(
     topology: &Topology,
     sites: &Vec<Site<P>>,
@@ -97,15 +106,17 @@ fn look_at_link<P: Policy + Copy>(
         AreWaitingBut topology.now past (ways_of event.now ++ rest) (has_way waiting.old) →
         AreWaitingBut topology.now past rest (has_way waiting.new)) }
 {
-    let Some(one) = way_of(event) else {
+    let Some(way) = way_of(event) else {
         return Ok(());
     };
-    let other = Way {
-        from: one.to,
-        to: one.from,
-    };
-    look(topology, sites, links, &one, waiting)?;
-    look(topology, sites, links, &other, waiting)?;
+    look(topology, sites, links, &way, waiting)?;
+    if is_outage(event) {
+        let back = Way {
+            from: way.to,
+            to: way.from,
+        };
+        look(topology, sites, links, &back, waiting)?;
+    }
     Ok(())
 }
 
@@ -155,7 +166,8 @@ fn look_at_effects<P: Policy + Copy>(
 }
 
 /// The ways that wait after the event, which came to this. Only those are looked at that the event
-/// may have changed: both ways over its link, and those over which something was queued.
+/// may have changed: one way over its link, or both where the link changes, and those over which
+/// something was queued.
 pub fn refresh<P: Policy + Copy>(
     topology: &Topology,
     sites: &Vec<Site<P>>,
