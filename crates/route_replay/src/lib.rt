@@ -4,6 +4,7 @@
 pub mod directives;
 pub mod ends;
 pub mod log_text;
+mod numbers;
 pub mod page;
 pub mod runner;
 pub mod text;

@@ -1,5 +1,5 @@
 //! The text of logs.
-ghost use Rattle.std.specs.Prelude.{◌≡◌, [], ◌∷◌, ◌++◌, true, IfErr, OnOk};
+ghost use Rattle.std.specs.Prelude.{◌≡◌, [], ◌∷◌, ◌++◌, true, codes, decimal, IfErr, OnOk};
 ghost use Rattle.std.specs.List.{flat_map};
 ghost use Rattle.std.specs.String.{string_bytes};
 ghost use Rattle.topology.specs.Lists.{has};
@@ -11,6 +11,7 @@ ghost use Rattle.route_replay.specs.LogText.{trigger_text, scope_text, received_
 
 use crate::ends::RunEnd;
 use crate::page::spill;
+use crate::numbers::push_number;
 use crate::text::prefix_words;
 use path_vector::{Cause, Policy};
 use route_io::Sink;
@@ -83,25 +84,49 @@ fn entry_line(
     ensures { OnOk result (string_bytes out.new ≡ string_bytes out.old
         ++ line_of topology.now node index (entry.now.trigger ∷ []) entry.now.scope entry.now.cause entry.now.sent) }
 {
-    let number = node.number();
-    write!(out, "log {number} {index}: ")?;
+    place_words(out, node, index)?;
     trigger_words(out, &entry.trigger)?;
-    out.push_str(" ")?;
-    scope_words(out, topology, &entry.scope)?;
-    out.push_str(" ")?;
-    cause_words(out, &entry.cause)?;
+    change_words(out, topology, &entry.scope, &entry.cause)?;
     sent_words(out, entry.sent.as_slice())?;
-    out.push_str("\n")?;
+    out.push('\n')?;
     Ok(())
+}
+
+// The node, and the place of the entry in its log.
+fn place_words(out: &mut String, node: NodeId, index: u32) -> Result<(), AllocError>
+    ensures { OnOk result (string_bytes out.new
+        ≡ string_bytes out.old ++ codes "log " ++ decimal node ++ codes " " ++ decimal index ++ codes ": ") }
+{
+    out.push_str("log ")?;
+    push_number(out, node.number())?;
+    out.push(' ')?;
+    push_number(out, index)?;
+    out.push_str(": ")?;
+    Ok(())
+}
+
+// The scope and the cause, each after a space.
+fn change_words(
+    out: &mut String,
+    topology: &Topology,
+    scope: &Scope,
+    cause: &Cause,
+) -> Result<(), AllocError>
+    ensures { OnOk result (string_bytes out.new
+        ≡ string_bytes out.old ++ codes " " ++ scope_text topology.now scope.now ++ codes " " ++ cause_text cause.now) }
+{
+    out.push(' ')?;
+    scope_words(out, topology, scope)?;
+    out.push(' ')?;
+    cause_words(out, cause)
 }
 
 fn trigger_words(out: &mut String, trigger: &Trigger) -> Result<(), AllocError>
     ensures { OnOk result (string_bytes out.new ≡ string_bytes out.old ++ trigger_text trigger.now) }
 {
-    let number = trigger.node.number();
-    let count = trigger.count;
-    write!(out, "{number}.{count}")?;
-    Ok(())
+    push_number(out, trigger.node.number())?;
+    out.push('.')?;
+    push_number(out, trigger.count)
 }
 
 fn scope_words(out: &mut String, topology: &Topology, scope: &Scope) -> Result<(), AllocError>
@@ -134,8 +159,10 @@ fn cause_words(out: &mut String, cause: &Cause) -> Result<(), AllocError>
         Cause::Up { nbr, session } => session_words(out, "up ", *nbr, *session)?,
         Cause::Ready { nbr, session } => session_words(out, "ready ", *nbr, *session)?,
         Cause::Prefer { nbr, value } => {
-            let number = nbr.number();
-            write!(out, "prefer {number} {value}")?;
+            out.push_str("prefer ")?;
+            push_number(out, nbr.number())?;
+            out.push(' ')?;
+            push_number(out, *value)?;
         }
     }
     Ok(())
@@ -150,11 +177,10 @@ fn session_words(
 ) -> Result<(), AllocError>
     ensures { OnOk result (string_bytes out.new ≡ string_bytes out.old ++ word.now ++ session_text nbr session) }
 {
-    let nbr = nbr.number();
-    let session = session.number();
     out.push_str(word)?;
-    write!(out, "{nbr}/{session}")?;
-    Ok(())
+    push_number(out, nbr.number())?;
+    out.push('/')?;
+    push_number(out, session.number())
 }
 
 fn received_words(
@@ -167,7 +193,9 @@ fn received_words(
     ensures { OnOk result (string_bytes out.new ≡ string_bytes out.old ++ cause_text (Recv from session seq path.now)) }
 {
     session_words(out, "recv ", from, session)?;
-    write!(out, "/{seq} ")?;
+    out.push('/')?;
+    push_number(out, seq)?;
+    out.push(' ')?;
     match path {
         None => out.push_str("none")?,
         Some(path) => path_words(out, path.nodes())?,
@@ -182,8 +210,7 @@ fn path_words(out: &mut String, nodes: &[NodeId]) -> Result<(), AllocError>
     let [first, further @ ..] = nodes else {
         return Ok(());
     };
-    let number = first.number();
-    write!(out, "{number}")?;
+    push_number(out, first.number())?;
     further_words(out, further)
 }
 
@@ -191,8 +218,8 @@ fn further_words(out: &mut String, nodes: &[NodeId]) -> Result<(), AllocError>
     ensures { OnOk result (string_bytes out.new ≡ string_bytes out.old ++ further_nodes nodes.now) }
 {
     for node in nodes {
-        let number = node.number();
-        write!(out, "-{number}")?;
+        out.push('-')?;
+        push_number(out, node.number())?;
     }
     Ok(())
 }
@@ -202,8 +229,8 @@ fn sent_words(out: &mut String, items: &[Sent]) -> Result<(), AllocError>
 {
     for item in items {
         session_words(out, " > ", item.to, item.session)?;
-        let seq = item.seq;
-        write!(out, "/{seq}")?;
+        out.push('/')?;
+        push_number(out, item.seq)?;
     }
     Ok(())
 }

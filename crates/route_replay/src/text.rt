@@ -1,5 +1,5 @@
 //! The text of a run.
-ghost use Rattle.std.specs.Prelude.{◌≡◌, [], ◌∷◌, ◌++◌, true, IfOk, IfErr, OnOk};
+ghost use Rattle.std.specs.Prelude.{◌≡◌, [], ◌∷◌, ◌++◌, true, codes, decimal, IfOk, IfErr, OnOk};
 ghost use Rattle.std.specs.String.{string_bytes};
 ghost use Rattle.topology.specs.Lists.{has};
 ghost use Rattle.path_vector.specs.Selection.{Route, path_of};
@@ -13,6 +13,7 @@ ghost use Rattle.route_replay.specs.Side.{side};
 ghost use Rattle.route_replay.specs.Text.{reason_words, idle_line, step_text, rib_text, node_text, rib_line, path_text, nodes_text};
 
 use crate::ends::RunEnd;
+use crate::numbers::push_number;
 use crate::page::spill;
 use path_vector::{Best, Policy};
 use route_io::Sink;
@@ -54,9 +55,10 @@ fn idle_line(alloc: Global, line: u32, reason: Reason) -> Result<String, NoMemor
     ensures { IfOk result (λ text. string_bytes text ≡ idle_line line reason) }
 {
     let mut out = String::new(alloc);
-    write!(out, "{line}: idle ")?;
+    push_number(&mut out, line)?;
+    out.push_str(": idle ")?;
     out.push_str(reason_words(reason))?;
-    out.push_str("\n")?;
+    out.push('\n')?;
     Ok(out)
 }
 
@@ -123,12 +125,13 @@ fn route_line(
     ensures { (route : Route) → Shows node best.now route →
         OnOk result (string_bytes out.new ≡ string_bytes out.old ++ rib_line node prefix.now (path_of node route)) }
 {
-    let number = node.number();
-    write!(out, "rib {number} ")?;
+    out.push_str("rib ")?;
+    push_number(out, node.number())?;
+    out.push(' ')?;
     prefix_words(out, prefix)?;
-    out.push_str(":")?;
+    out.push(':')?;
     route_words(out, node, best)?;
-    out.push_str("\n")?;
+    out.push('\n')?;
     Ok(())
 }
 
@@ -137,14 +140,20 @@ fn route_line(
 pub(crate) fn prefix_words(out: &mut String, prefix: &Prefix) -> Result<(), AllocError>
     ensures { OnOk result (string_bytes out.new ≡ string_bytes out.old ++ prefix_text prefix.now) }
 {
-    let a = prefix.bits / 16_777_216 % 256;
-    let b = prefix.bits / 65_536 % 256;
-    let c = prefix.bits / 256 % 256;
-    let d = prefix.bits % 256;
-    let len = prefix.len;
-    write!(out, "{a}.{b}.")?;
-    write!(out, "{c}.{d}/{len}")?;
-    Ok(())
+    two_numbers(out, prefix.bits / 16_777_216 % 256, prefix.bits / 65_536 % 256)?;
+    out.push('.')?;
+    two_numbers(out, prefix.bits / 256 % 256, prefix.bits % 256)?;
+    out.push('/')?;
+    push_number(out, prefix.len)
+}
+
+// Two numbers, joined by a point.
+fn two_numbers(out: &mut String, first: u32, second: u32) -> Result<(), AllocError>
+    ensures { OnOk result (string_bytes out.new ≡ string_bytes out.old ++ decimal first ++ codes "." ++ decimal second) }
+{
+    push_number(out, first)?;
+    out.push('.')?;
+    push_number(out, second)
 }
 
 fn route_words(out: &mut String, node: NodeId, best: &Best<'_>) -> Result<(), AllocError>
@@ -165,9 +174,8 @@ fn route_words(out: &mut String, node: NodeId, best: &Best<'_>) -> Result<(), Al
 fn node_words(out: &mut String, node: NodeId) -> Result<(), AllocError>
     ensures { OnOk result (string_bytes out.new ≡ string_bytes out.old ++ nodes_text (node ∷ [])) }
 {
-    let number = node.number();
-    write!(out, " {number}")?;
-    Ok(())
+    out.push(' ')?;
+    push_number(out, node.number())
 }
 
 fn path_words(out: &mut String, nodes: &[NodeId]) -> Result<(), AllocError>
