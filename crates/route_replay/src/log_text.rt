@@ -10,8 +10,8 @@ ghost use Rattle.route_replay.specs.Side.{side};
 ghost use Rattle.route_replay.specs.LogText.{trigger_text, scope_text, received_path, received_nodes, further_nodes, session_text, cause_text, item_text, line_of, log_text, logs_text};
 
 use crate::ends::RunEnd;
+use crate::numbers::{push_node, push_number};
 use crate::page::spill;
-use crate::numbers::push_number;
 use crate::text::prefix_words;
 use path_vector::{Cause, Policy};
 use route_io::Sink;
@@ -98,7 +98,7 @@ fn place_words(out: &mut String, node: NodeId, index: u32) -> Result<(), AllocEr
         ≡ string_bytes out.old ++ codes "log " ++ decimal node ++ codes " " ++ decimal index ++ codes ": ") }
 {
     out.push_str("log ")?;
-    push_number(out, node.number())?;
+    push_node(out, node)?;
     out.push(' ')?;
     push_number(out, index)?;
     out.push_str(": ")?;
@@ -124,7 +124,7 @@ fn change_words(
 fn trigger_words(out: &mut String, trigger: &Trigger) -> Result<(), AllocError>
     ensures { OnOk result (string_bytes out.new ≡ string_bytes out.old ++ trigger_text trigger.now) }
 {
-    push_number(out, trigger.node.number())?;
+    push_node(out, trigger.node)?;
     out.push('.')?;
     push_number(out, trigger.count)
 }
@@ -160,7 +160,7 @@ fn cause_words(out: &mut String, cause: &Cause) -> Result<(), AllocError>
         Cause::Ready { nbr, session } => session_words(out, "ready ", *nbr, *session)?,
         Cause::Prefer { nbr, value } => {
             out.push_str("prefer ")?;
-            push_number(out, nbr.number())?;
+            push_node(out, *nbr)?;
             out.push(' ')?;
             push_number(out, *value)?;
         }
@@ -178,7 +178,7 @@ fn session_words(
     ensures { OnOk result (string_bytes out.new ≡ string_bytes out.old ++ word.now ++ session_text nbr session) }
 {
     out.push_str(word)?;
-    push_number(out, nbr.number())?;
+    push_node(out, nbr)?;
     out.push('/')?;
     push_number(out, session.number())
 }
@@ -210,7 +210,7 @@ fn path_words(out: &mut String, nodes: &[NodeId]) -> Result<(), AllocError>
     let [first, further @ ..] = nodes else {
         return Ok(());
     };
-    push_number(out, first.number())?;
+    push_node(out, *first)?;
     further_words(out, further)
 }
 
@@ -219,7 +219,7 @@ fn further_words(out: &mut String, nodes: &[NodeId]) -> Result<(), AllocError>
 {
     for node in nodes {
         out.push('-')?;
-        push_number(out, node.number())?;
+        push_node(out, *node)?;
     }
     Ok(())
 }

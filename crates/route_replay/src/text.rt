@@ -13,7 +13,7 @@ ghost use Rattle.route_replay.specs.Side.{side};
 ghost use Rattle.route_replay.specs.Text.{reason_words, idle_line, step_text, rib_text, node_text, rib_line, path_text, nodes_text};
 
 use crate::ends::RunEnd;
-use crate::numbers::push_number;
+use crate::numbers::{push_node, push_number};
 use crate::page::spill;
 use path_vector::{Best, Policy};
 use route_io::Sink;
@@ -126,7 +126,7 @@ fn route_line(
         OnOk result (string_bytes out.new ≡ string_bytes out.old ++ rib_line node prefix.now (path_of node route)) }
 {
     out.push_str("rib ")?;
-    push_number(out, node.number())?;
+    push_node(out, node)?;
     out.push(' ')?;
     prefix_words(out, prefix)?;
     out.push(':')?;
@@ -140,11 +140,15 @@ fn route_line(
 pub(crate) fn prefix_words(out: &mut String, prefix: &Prefix) -> Result<(), AllocError>
     ensures { OnOk result (string_bytes out.new ≡ string_bytes out.old ++ prefix_text prefix.now) }
 {
-    two_numbers(out, prefix.bits / 16_777_216 % 256, prefix.bits / 65_536 % 256)?;
+    two_numbers(
+        out,
+        prefix.bits / 16_777_216 % 256,
+        prefix.bits / 65_536 % 256,
+    )?;
     out.push('.')?;
     two_numbers(out, prefix.bits / 256 % 256, prefix.bits % 256)?;
     out.push('/')?;
-    push_number(out, prefix.len)
+    push_number(out, u32::from(prefix.len))
 }
 
 // Two numbers, joined by a point.
@@ -175,7 +179,7 @@ fn node_words(out: &mut String, node: NodeId) -> Result<(), AllocError>
     ensures { OnOk result (string_bytes out.new ≡ string_bytes out.old ++ nodes_text (node ∷ [])) }
 {
     out.push(' ')?;
-    push_number(out, node.number())
+    push_node(out, node)
 }
 
 fn path_words(out: &mut String, nodes: &[NodeId]) -> Result<(), AllocError>
