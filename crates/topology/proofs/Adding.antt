@@ -8,12 +8,14 @@ use Rattle.std.proofs.lemmas.List.Sums.{sum_by-cons, sum_by_push}
 use Rattle.std.proofs.lemmas.List.Folds.{list_any-append}
 use Rattle.topology.specs.Lists.{has, put_ascending}
 use Rattle.topology.specs.Paths.{differ}
-use Rattle.topology.specs.Net.{Net, PrefersLinked, joins, linked, prefers, neighbours, same_prefix, has_prefix, JoinsNodes, IsValid}
-use Rattle.topology.specs.Building.{nothing, with_node, with_link, with_pref, with_prefix, put_preference, node_refusal, link_refusal, pref_refusal}
+use Rattle.topology.specs.Net.{Net, PrefersLinked, joins, linked, prefers, neighbours, same_prefix, has_prefix, JoinsNodes, IsValid, Leads}
+use Rattle.topology.specs.Building.{nothing, with_node, with_link, with_pref, with_prefix, with_hops, with_scheme, put_preference, node_refusal, link_refusal, pref_refusal, scheme_refusal}
 use Rattle.topology.specs.Tables.{Keeps}
 use Rattle.topology.specs.declared.building.BuildError.TheVariants.{DuplicateNode, UnknownNode, DuplicateLink, SelfLink, TooMany, NoLink}
 use Rattle.topology.specs.declared.links.Link.{Link}
 use Rattle.topology.specs.declared.links.Pref.{Pref}
+use Rattle.topology.specs.declared.names.Scheme.{Scheme}
+use Rattle.topology.specs.declared.names.Scheme.TheVariants.{Deflect, Detour, Backup}
 use Rattle.topology.specs.declared.prefixes.Prefix.{Prefix}
 use Rattle.topology.proofs.Tests.{and_left, and_right, and_both, or_left, or_right, or_none, or_first, or_second, or_false, or_comm, not_true, not_false, same_sym, same_is, same_not, same_refl}
 use Rattle.topology.proofs.Ascending.{absent, each_weaker}
@@ -94,6 +96,11 @@ no_member : (ns : List ℕ) (id : ℕ) (members : List ℕ) → AllByRecursion (
 no_member ns id [] h new = refl
 no_member ns id (m ∷ ms) h new = or_none (m == id) (has ms id) (same_sym m id ∙ absent id m ns new h.0) (no_member ns id ms h.1 new)
 
+still_leads : (nodes : List ℕ) (id : ℕ) (scheme : Scheme) → Leads nodes scheme → Leads (nodes ++ id ∷ []) scheme
+still_leads nodes id Deflect h = h
+still_leads nodes id (Detour n) h = has_more nodes id n h
+still_leads nodes id Backup h = h
+
 valid-node : (net : Net) (id : ℕ) (consolidator : Bool) → IsValid net → (0 < id) × (id < 2 ^ 16) → has net.nodes id ≡ false → length net.nodes < 64 → (consolidator ≡ true → length net.consolidators < 7) → IsValid (with_node net id consolidator)
 valid-node net id consolidator v fits new few few_consolidators = record {
   nodes_differ = differ-append net.nodes id v.nodes_differ new;
@@ -111,6 +118,8 @@ valid-node net id consolidator v fits new few few_consolidators = record {
   preferences_fit = each_weaker _ _ (λ p f. record { linked_with = f.linked_with; small = f.small }) net.preferences v.preferences_fit;
   one_preference_each = v.one_preference_each;
   prefixes_differ = v.prefixes_differ;
+  few_hops = v.few_hops;
+  scheme_fits = still_leads net.nodes id net.scheme v.scheme_fits;
   few_nodes = omega (arith, length_push net.nodes id);
   few_links = v.few_links;
   few_prefixes = v.few_prefixes;
@@ -164,6 +173,8 @@ valid-link net link v from to apart new few = record {
   preferences_fit = each_weaker _ _ (λ p f. record { linked_with = linked-link net link p.a p.b ∙ or_first (linked net p.a p.b) (joins p.a p.b link) f.linked_with; small = f.small }) net.preferences v.preferences_fit;
   one_preference_each = v.one_preference_each;
   prefixes_differ = v.prefixes_differ;
+  few_hops = v.few_hops;
+  scheme_fits = v.scheme_fits;
   few_nodes = v.few_nodes;
   few_links = omega (arith, length_push net.links link);
   few_prefixes = v.few_prefixes;
@@ -267,6 +278,8 @@ keeps-pref net lists pref k small free = record {
         (each_weaker _ _ (λ p f. record { linked_with = f.linked_with; small = f.small }) net.preferences k.valid.preferences_fit);
     one_preference_each = λ u v. count_put u v pref net.preferences (k.valid.one_preference_each u v);
     prefixes_differ = k.valid.prefixes_differ;
+    few_hops = k.valid.few_hops;
+    scheme_fits = k.valid.scheme_fits;
     few_nodes = k.valid.few_nodes;
     few_links = k.valid.few_links;
     few_prefixes = k.valid.few_prefixes;
@@ -302,6 +315,8 @@ valid-prefix net p v new few = record {
   preferences_fit = each_weaker _ _ (λ p f. record { linked_with = f.linked_with; small = f.small }) net.preferences v.preferences_fit;
   one_preference_each = v.one_preference_each;
   prefixes_differ = λ q. one_more (same_prefix q) (same_prefix p) net.prefixes p new (λ e r. same_one p q r e) (v.prefixes_differ q);
+  few_hops = v.few_hops;
+  scheme_fits = v.scheme_fits;
   few_nodes = v.few_nodes;
   few_links = v.few_links;
   few_prefixes = omega (arith, length_push net.prefixes p);
@@ -312,5 +327,68 @@ pub keeps-prefix : (net : Net) (lists : List (List ℕ)) (p : Prefix) → Keeps 
 unfolding neighbours
 keeps-prefix net lists p k new few = record {
   valid = valid-prefix net p k.valid new few;
+  near = k.near;
+}
+
+-- hops and scheme
+
+valid-hops : (net : Net) (hops : ℕ) → IsValid net → hops < 2 ^ 16 → IsValid (with_hops net hops)
+valid-hops net hops v few = record {
+  nodes_differ = v.nodes_differ;
+  numbers = v.numbers;
+  consolidators_differ = v.consolidators_differ;
+  consolidators_are_nodes = v.consolidators_are_nodes;
+  links_join = v.links_join;
+  one_link_a_pair = v.one_link_a_pair;
+  preferences_fit = each_weaker _ _ (λ p f. record { linked_with = f.linked_with; small = f.small }) net.preferences v.preferences_fit;
+  one_preference_each = v.one_preference_each;
+  prefixes_differ = v.prefixes_differ;
+  few_hops = few;
+  scheme_fits = v.scheme_fits;
+  few_nodes = v.few_nodes;
+  few_links = v.few_links;
+  few_prefixes = v.few_prefixes;
+  few_consolidators = v.few_consolidators;
+}
+
+pub keeps-hops : (net : Net) (lists : List (List ℕ)) (hops : ℕ) → Keeps net lists → hops < 2 ^ 16 → Keeps (with_hops net hops) lists
+unfolding neighbours
+keeps-hops net lists hops k few = record {
+  valid = valid-hops net hops k.valid few;
+  near = k.near;
+}
+
+leads_there : (net : Net) (scheme : Scheme) → scheme_refusal net scheme ≡ None → Leads net.nodes scheme
+leads_there net Deflect e = tt
+leads_there net (Detour n) e = found (has net.nodes n) (UnknownNode n) e
+  where
+    found : {X : Type 0} (t : Bool) (x : X) → ◌≡◌ {A = Option X} (if t then None else Some x) None → t ≡ true
+    found true x e = refl
+    found false x e = cc
+leads_there net Backup e = tt
+
+valid-scheme : (net : Net) (scheme : Scheme) → IsValid net → Leads net.nodes scheme → IsValid (with_scheme net scheme)
+valid-scheme net scheme v fits = record {
+  nodes_differ = v.nodes_differ;
+  numbers = v.numbers;
+  consolidators_differ = v.consolidators_differ;
+  consolidators_are_nodes = v.consolidators_are_nodes;
+  links_join = v.links_join;
+  one_link_a_pair = v.one_link_a_pair;
+  preferences_fit = each_weaker _ _ (λ p f. record { linked_with = f.linked_with; small = f.small }) net.preferences v.preferences_fit;
+  one_preference_each = v.one_preference_each;
+  prefixes_differ = v.prefixes_differ;
+  few_hops = v.few_hops;
+  scheme_fits = fits;
+  few_nodes = v.few_nodes;
+  few_links = v.few_links;
+  few_prefixes = v.few_prefixes;
+  few_consolidators = v.few_consolidators;
+}
+
+pub keeps-scheme : (net : Net) (lists : List (List ℕ)) (scheme : Scheme) → Keeps net lists → scheme_refusal net scheme ≡ None → Keeps (with_scheme net scheme) lists
+unfolding neighbours
+keeps-scheme net lists scheme k free = record {
+  valid = valid-scheme net scheme k.valid (leads_there net scheme free);
   near = k.near;
 }

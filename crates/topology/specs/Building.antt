@@ -4,13 +4,15 @@ use Rattle.topology.specs.Lists.{has}
 use Rattle.topology.specs.Net.{Net, linked, prefers, has_prefix}
 use Rattle.topology.specs.declared.links.Link.{Link}
 use Rattle.topology.specs.declared.links.Pref.{Pref}
+use Rattle.topology.specs.declared.names.Scheme.{Scheme}
+use Rattle.topology.specs.declared.names.Scheme.TheVariants.{Deflect, Detour, Backup}
 use Rattle.topology.specs.declared.prefixes.Prefix.{Prefix}
 use Rattle.topology.specs.declared.building.BuildError.{BuildError}
 use Rattle.topology.specs.declared.building.BuildError.TheVariants.{DuplicateNode, UnknownNode, DuplicateLink, SelfLink, DuplicatePrefix, TooMany, NoMemory, NoLink}
 
--- nothing was added
+-- nothing was added: packets make 128 moves at most off the tables, and deflect
 abbrev pub nothing : Net
-nothing = record { nodes = []; consolidators = []; links = []; preferences = []; prefixes = [] }
+nothing = record { nodes = []; consolidators = []; links = []; preferences = []; prefixes = []; hops = 128; scheme = Deflect }
 
 -- the node at the end of the nodes, and of the consolidators where it is one
 abbrev pub with_node : Net → ℕ → Bool → Net
@@ -32,6 +34,12 @@ put_preference pref (p ∷ ps) = if prefers pref.a pref.b p then pref ∷ ps els
 
 abbrev pub with_pref : Net → Pref → Net
 with_pref net pref = record net { preferences = put_preference pref net.preferences }
+
+abbrev pub with_hops : Net → ℕ → Net
+with_hops net hops = record net { hops = hops }
+
+abbrev pub with_scheme : Net → Scheme → Net
+with_scheme net scheme = record net { scheme = scheme }
 
 -- why a node is not added: the first that holds
 abbrev pub node_refusal : Net → ℕ → Bool → Option BuildError
@@ -66,6 +74,12 @@ prefix_refusal net p =
     if has_prefix net p then Some DuplicatePrefix
     else if nat_le 256 (length net.prefixes) then Some TooMany
     else None
+
+-- why a scheme is not set: the node of a detour is none of the network
+abbrev pub scheme_refusal : Net → Scheme → Option BuildError
+scheme_refusal net Deflect = None
+scheme_refusal net (Detour n) = if has net.nodes n then None else Some (UnknownNode n)
+scheme_refusal net Backup = None
 
 -- the answer is the refusal where there is one, else Ok unless memory runs out
 abbrev pub AnswersBy : {T : Type 0} → Result T BuildError → Option BuildError → Type 0

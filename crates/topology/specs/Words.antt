@@ -3,7 +3,7 @@ use Rattle.std.specs.Prelude.{ℕ, List, codes}
 use Rattle.topology.specs.declared.status.BadKind.{BadKind}
 use Rattle.topology.specs.declared.status.BadKind.TheVariants.{UnknownWord, NotBuilt, NotHere, WrongCount, BadNumber, BadPrefix, UnknownNode, UnknownPrefix, SelfLink, NoLink, DuplicateNode, DuplicateLink, DuplicatePrefix, TooMany}
 use Rattle.topology.specs.declared.status.LimitKind.{LimitKind}
-use Rattle.topology.specs.declared.status.LimitKind.TheVariants.{Bytes, Events, Triggers, Entries, Updates}
+use Rattle.topology.specs.declared.status.LimitKind.TheVariants.{Bytes, Events, Epochs, Triggers, Entries, Updates}
 
 -- what is wrong with a line
 abbrev pub bad_words : BadKind → List ℕ
@@ -26,6 +26,7 @@ bad_words TooMany = codes "too many"
 abbrev pub limit_words : LimitKind → List ℕ
 limit_words Bytes = codes "bytes"
 limit_words Events = codes "events"
+limit_words Epochs = codes "epochs"
 limit_words Triggers = codes "triggers"
 limit_words Entries = codes "entries"
 limit_words Updates = codes "updates"

@@ -1,5 +1,8 @@
 //! What goes over a link.
+ghost use Rattle.std.specs.Prelude.{◌≡◌};
+
 use crate::{Epoch, NodeId, Path, PrefixId, Session, Trigger};
+use std::marker::Model;
 
 /// One message of a session, in its order.
 #[derive(Debug, Drop)]
@@ -12,6 +15,8 @@ pub enum Item {
         trigger: Trigger,
         path: Option<Path>,
     },
+    /// The sender has raised its epoch to this one.
+    Marker(Epoch),
     /// The sender has opened the session, in this epoch.
     Hello(Epoch),
 }
@@ -22,4 +27,35 @@ pub struct Sent {
     pub to: NodeId,
     pub session: Session,
     pub seq: u32,
+}
+
+/// The items that an entry sent: by neighbour ascending, then by prefix in file order. A `close`
+/// stands at its neighbour's place.
+#[derive(Debug, Drop)]
+pub struct SentItems {
+    list: Vec<Sent>,
+}
+
+impl Model for SentItems {
+    ghost use Rattle.std.specs.Prelude.{List};
+    ghost use Rattle.topology.specs.declared.items.Sent.{Sent};
+
+    ghost Value = { List Sent };
+
+    ghost view = { λ s. s.list.items };
+}
+
+impl SentItems {
+    /// The list of these items. Takes no memory.
+    pub fn new(list: Vec<Sent>) -> SentItems
+        ensures { result ≡ list.items }
+    {
+        SentItems { list }
+    }
+
+    pub fn as_slice(&self) -> &[Sent]
+        ensures { result.now ≡ self.now }
+    {
+        &self.list
+    }
 }

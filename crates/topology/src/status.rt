@@ -1,6 +1,8 @@
 //! How runs and single events end.
 ghost use Rattle.std.specs.Prelude.{◌≡◌};
 
+use crate::Ballot;
+
 /// Why an event did nothing.
 #[derive(Clone, Copy, Debug, PartialEq, Eq)]
 pub enum Reason {
@@ -24,6 +26,24 @@ pub enum Reason {
     StillUp,
     /// The node holds a session with the neighbour already.
     AlreadyOpen,
+    /// The update is not the next one of the held session.
+    WrongSeq { expected: u32, got: u32 },
+    /// The session is not above the last one that was held with the neighbour.
+    OldSession,
+    /// The node is no consolidator.
+    NotConsolidator,
+    /// The node knows the decision of the epoch.
+    Decided,
+    /// The node holds no report of the epoch.
+    NoReport,
+    /// The sender's report is held, the sender is counted, or the ballot is accepted already.
+    Duplicate,
+    /// The node promised this ballot.
+    Promised(Ballot),
+    /// The node neither prepares nor gathers the ballot.
+    StaleBallot,
+    /// No round is above that of this ballot.
+    NoRound(Ballot),
 }
 
 /// A count that has a limit.
@@ -33,6 +53,8 @@ pub enum LimitKind {
     Bytes,
     /// The events of a run, idle ones among them.
     Events,
+    /// The epochs of one node.
+    Epochs,
     /// The triggers of all nodes.
     Triggers,
     /// The entries of one node.
@@ -51,6 +73,7 @@ impl LimitKind {
         match self {
             LimitKind::Bytes => "bytes",
             LimitKind::Events => "events",
+            LimitKind::Epochs => "epochs",
             LimitKind::Triggers => "triggers",
             LimitKind::Entries => "entries",
             LimitKind::Updates => "updates",

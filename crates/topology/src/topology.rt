@@ -1,13 +1,13 @@
 //! A network: its nodes, links and prefixes, in the order in which they were added.
 ghost use Rattle.std.specs.Prelude.{◌≡◌, ◌^◌, ◌<◌, ◌≤◌, ◌↔◌, false, None, Some, IfErr, IfOk, OnOk, OnErr, IfSome, IsNone, find, length, slice_get, option_map};
 ghost use Rattle.topology.specs.Lists.{ascending, has, put_ascending};
-ghost use Rattle.topology.specs.Net.{neighbours, relation, file_preference, prefers, has_prefix, IsValid, IsPrefix};
-ghost use Rattle.topology.specs.Building.{nothing, with_node, with_link, with_pref, with_prefix, node_refusal, link_refusal, pref_refusal, prefix_refusal, AnswersBy};
+ghost use Rattle.topology.specs.Net.{neighbours, relation, file_preference, prefers, has_prefix, IsValid, IsPrefix, Leads};
+ghost use Rattle.topology.specs.Building.{nothing, with_node, with_link, with_pref, with_prefix, with_hops, with_scheme, node_refusal, link_refusal, pref_refusal, prefix_refusal, scheme_refusal, AnswersBy};
 
 use crate::node_set::insert_ascending;
 use crate::{
     BuildError, Link, LinkTable, NoMemory, NodeId, NodeSet, Pref, PrefTable, Prefix, PrefixId,
-    Relation,
+    Relation, Scheme,
 };
 use indexmap::IndexSet;
 use std::alloc::Global;
@@ -23,6 +23,8 @@ const DEFAULT_PREFERENCE: u32 = 100;
 
 const MAX_PREFIXES: usize = 256;
 
+const DEFAULT_HOPS: u16 = 128;
+
 /// A network. It starts empty, and what is added stays.
 #[derive(Drop)]
 pub struct Topology {
@@ -33,6 +35,8 @@ pub struct Topology {
     links: LinkTable,
     preferences: PrefTable,
     prefixes: IndexSet<Prefix>,
+    hops: u16,
+    scheme: Scheme,
     alloc: Global,
 }
 
@@ -44,9 +48,9 @@ impl Model for Topology {
 
     ghost use Rattle.topology.specs.Tables.{Keeps};
 
-    ghost view = { λ t. record { nodes = t.nodes.nodes; consolidators = t.consolidators.nodes; links = t.links; preferences = t.preferences; prefixes = t.prefixes.keys } };
+    ghost view = { λ t. record { nodes = t.nodes.nodes; consolidators = t.consolidators.nodes; links = t.links; preferences = t.preferences; prefixes = t.prefixes.keys; hops = t.hops; scheme = t.scheme } };
 
-    ghost invariant = { λ t. Keeps (record { nodes = t.nodes.nodes; consolidators = t.consolidators.nodes; links = t.links; preferences = t.preferences; prefixes = t.prefixes.keys }) (map (λ near. near.items) t.neighbours.items) };
+    ghost invariant = { λ t. Keeps (record { nodes = t.nodes.nodes; consolidators = t.consolidators.nodes; links = t.links; preferences = t.preferences; prefixes = t.prefixes.keys; hops = t.hops; scheme = t.scheme }) (map (λ near. near.items) t.neighbours.items) };
 }
 
 // An equal list with one node more.
@@ -59,7 +63,8 @@ fn with_ascending(nodes: &[NodeId], id: NodeId, alloc: Global) -> Result<Vec<Nod
 }
 
 impl Topology {
-    /// A network without nodes. Takes no memory.
+    /// A network without nodes, where a packet makes at most 128 moves off the stable tables, and
+    /// deflects. Takes no memory.
     pub fn empty(alloc: Global) -> Topology
         ensures { result ≡ nothing }
     {
@@ -70,6 +75,8 @@ impl Topology {
             links: LinkTable::empty(alloc),
             preferences: PrefTable::empty(alloc),
             prefixes: IndexSet::new(alloc),
+            hops: DEFAULT_HOPS,
+            scheme: Scheme::Deflect,
             alloc,
         }
     }
@@ -201,6 +208,57 @@ impl Topology {
         }
         let (place, _) = self.prefixes.insert_full(prefix)?;
         Ok(PrefixId::new(place as u16))
+    }
+
+    /// Sets how many moves a packet may make that has left the stable tables.
+    pub fn set_hops(&mut self, hops: u16)
+        ensures { self.new ≡ with_hops self.old hops }
+    {
+        self.hops = hops;
+    }
+
+    // Whether packets may go on by the scheme.
+    fn check_scheme(&self, scheme: &Scheme) -> Result<(), BuildError>
+        ensures ok { OnOk result (scheme_refusal self.now scheme.now ≡ None) }
+        ensures err { IfErr result (λ e. scheme_refusal self.now scheme.now ≡ Some e) }
+    {
+        match scheme {
+            Scheme::Detour(node) => {
+                if self.nodes.contains(*node) {
+                    Ok(())
+                } else {
+                    Err(BuildError::UnknownNode(*node))
+                }
+            }
+            Scheme::Deflect | Scheme::Backup => Ok(()),
+        }
+    }
+
+    /// Sets the scheme by which a packet goes on that has left the stable tables. The node of a
+    /// detour is one of the network.
+    pub fn set_scheme(&mut self, scheme: Scheme) -> Result<(), BuildError>
+        ensures ok { OnOk result (self.new ≡ with_scheme self.old scheme) }
+        ensures refused { AnswersBy result (scheme_refusal self.old scheme) }
+        ensures err { OnErr result (self.new ≡ self.old) }
+    {
+        self.check_scheme(&scheme)?;
+        self.scheme = scheme;
+        Ok(())
+    }
+
+    /// How many moves a packet may make that has left the stable tables.
+    pub fn hops(&self) -> u16
+        ensures { result ≡ self.now.hops }
+    {
+        self.hops
+    }
+
+    /// The scheme by which a packet goes on that has left the stable tables.
+    pub fn scheme(&self) -> Scheme
+        ensures scheme { result ≡ self.now.scheme }
+        ensures fits { Leads self.now.nodes result }
+    {
+        self.scheme
     }
 
     /// The nodes, ascending.
