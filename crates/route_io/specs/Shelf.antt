@@ -1,6 +1,6 @@
 -- Room in memory, of which a front is taken.
 use Rattle.std.specs.Prelude.{ℕ, ◌≡◌, ◌<◌, ◌+◌, ◌-◌, List, length, IfSome}
-use Rattle.std.specs.declared.option.Option.{Option}
+use Rattle.route_io.specs.Views.{SinkView}
 
 -- the bytes that were taken, and how many can be taken in all
 pub record Shelf : Type 0 where
@@ -15,7 +15,7 @@ free shelf = shelf.size - length shelf.held
 abbrev pub FindsNoRoom : Shelf → List ℕ → Type 0
 FindsNoRoom shelf piece = (0 < length piece) × (free shelf ≡ 0)
 
--- where both are told, what is held and the piece are more than the room
-abbrev pub ExceedsRoom : Option ℕ → Option (List ℕ) → List ℕ → Type 0
-ExceedsRoom room held piece =
-    IfSome room (λ size. IfSome held (λ xs. size < length xs + length piece))
+-- where both are told, what the sink holds and the piece are more than its room
+abbrev pub ExceedsRoom : SinkView → List ℕ → Type 0
+ExceedsRoom sink piece =
+    IfSome sink.room (λ size. IfSome sink.held (λ xs. size < length xs + length piece))

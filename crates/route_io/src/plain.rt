@@ -18,7 +18,8 @@ pub struct PlainSource {
 impl PlainSource {
     /// All of `content` is to come.
     pub fn new(content: Vec<u8>) -> PlainSource
-        ensures { ⟦<PlainSource as Source>⟧.left result ≡ Some content.items }
+        ensures { ⟦<PlainSource as Source>⟧.seen result ≡
+            record { left = Some content.items; faults = 0 } }
     {
         PlainSource {
             content: Content::new(content),
@@ -27,9 +28,7 @@ impl PlainSource {
 }
 
 impl Source for PlainSource {
-    ghost left = { λ s. Some s.content };
-
-    ghost faults = { λ _. 0 };
+    ghost seen = { λ s. record { left = Some s.content; faults = 0 } };
 
     fn read(&mut self, buf: &mut [u8]) -> Result<usize, Failed>
         ensures bound { ReadsAtMost result buf.new }
@@ -53,9 +52,8 @@ pub struct PlainSink {
 impl PlainSink {
     /// Nothing is held, and as many bytes can be taken as `room` is long.
     pub fn new(room: Vec<u8>) -> PlainSink
-        ensures held { ⟦<PlainSink as Sink>⟧.held result ≡ Some [] }
-        ensures room { ⟦<PlainSink as Sink>⟧.room result ≡ Some (length room.items) }
-        ensures faults { ⟦<PlainSink as Sink>⟧.faults result ≡ 0 }
+        ensures { ⟦<PlainSink as Sink>⟧.seen result ≡
+            record { held = Some []; room = Some (length room.items); faults = 0 } }
     {
         PlainSink {
             room: Room::new(room),
@@ -65,18 +63,15 @@ impl PlainSink {
 
     /// The bytes that were taken.
     pub fn held(&self) -> &[u8]
-        ensures { ⟦<PlainSink as Sink>⟧.held self.now ≡ Some result.now }
+        ensures { (⟦<PlainSink as Sink>⟧.seen self.now).held ≡ Some result.now }
     {
         self.room.held()
     }
 }
 
 impl Sink for PlainSink {
-    ghost held = { λ s. Some s.room.held };
-
-    ghost room = { λ s. Some s.room.size };
-
-    ghost faults = { λ s. s.faults };
+    ghost seen = { λ s.
+        record { held = Some s.room.held; room = Some s.room.size; faults = s.faults } };
 
     fn write(&mut self, piece: &[u8]) -> Result<usize, Failed>
         ensures some { 0 < length piece.now → IfOk result (λ n. 0 < n) }

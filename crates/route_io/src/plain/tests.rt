@@ -15,8 +15,7 @@ fn read_plain(alloc: Global, source: &mut PlainSource, max: usize) -> Result<Vec
 
 // Over a plain sink a write fails only where the bytes are more than the room.
 fn write_plain(sink: &mut PlainSink, piece: &[u8]) -> Result<(), Failed>
-    ensures { OnErr result (ExceedsRoom (⟦<PlainSink as Sink>⟧.room sink.old)
-        (⟦<PlainSink as Sink>⟧.held sink.old) piece.now) }
+    ensures { OnErr result (ExceedsRoom (⟦<PlainSink as Sink>⟧.seen sink.old) piece.now) }
 {
     write_all(sink, piece)
 }

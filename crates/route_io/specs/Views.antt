@@ -1,0 +1,14 @@
+-- A source and a sink, as promises see them.
+use Rattle.std.specs.Prelude.{ℕ, Option, List}
+
+-- a source: the bytes that are still to come, where told, and how many of its calls have failed
+pub record SourceView : Type 0 where
+  pub left : Option (List ℕ)
+  pub faults : ℕ
+
+-- a sink: the bytes that it took and how many it can hold in all, where told, and how many of its
+-- calls have failed
+pub record SinkView : Type 0 where
+  pub held : Option (List ℕ)
+  pub room : Option ℕ
+  pub faults : ℕ
