@@ -1,5 +1,5 @@
 -- The text of a prefix: its parts, and that it spells one prefix.
-use Rattle.std.proofs.Common.{◌≡◌, ℕ, ◌+◌, ◌*◌, ◌/◌, ◌%◌, ◌-◌, ◌<◌, ◌≤◌, ◌^◌, List, ◌∷◌, ◌++◌, append_assoc, refl, sym, ap, ap₂, ◌∙◌, arith}
+use Rattle.std.proofs.Common.{◌≡◌, ℕ, ◌+◌, ◌*◌, ◌/◌, ◌%◌, ◌-◌, ◌<◌, ◌≤◌, ◌^◌, List, ◌∷◌, ◌++◌, append_assoc, sym, ap, ◌∙◌, arith}
 use Rattle.std.specs.Fmt.{decimal}
 use Rattle.topology.specs.declared.prefixes.Prefix.{Prefix as Range}
 use Rattle.schedule_file.specs.Spelling.{prefix_text, IsRange}
@@ -81,13 +81,3 @@ masked_by p n bits len r b l e =
     let shift = one_shl (32 - len) 64 (omega arith) in
     let masked : p.bits % 2 ^ (32 - p.len) ≡ 0 = r.1.masked in
     ap (λ m. n % m) shift ∙ ap (λ m. m % 2 ^ (32 - len)) (e ∙ sym b) ∙ ap (λ k. p.bits % 2 ^ (32 - k)) (sym l) ∙ masked
-
--- prefixes that are spelled alike are one
-pub same_prefix_text : (p q : Range) → IsRange p → IsRange q → prefix_text p ≡ prefix_text q → p ≡ q
-same_prefix_text p q h k e =
-    let first = reads_first q (prefix_text p) (p.bits / 2 ^ 24 % 256) (from_second p.bits p.len) e (omega arith) (text_by_parts p) in
-    let second = reads_second q (from_second p.bits p.len) (p.bits / 2 ^ 16 % 256) (from_third p.bits p.len) first.1 (omega arith) refl in
-    let third = reads_third q (from_third p.bits p.len) (p.bits / 2 ^ 8 % 256) (from_fourth p.bits p.len) second.1 (omega arith) refl in
-    let fourth = reads_fourth q (from_fourth p.bits p.len) (p.bits % 256) (decimal p.len) third.1 (omega arith) refl in
-    let same = reads_prefix q (p.bits / 2 ^ 24 % 256) (p.bits / 2 ^ 16 % 256) (p.bits / 2 ^ 8 % 256) (p.bits % 256) p.len k h.1.short first.0 second.0 third.0 fourth.0 fourth.1 in
-    ap₂ (λ bits len. record { bits = bits; len = len }) (bits_from p.bits h.0 ∙ sym same.0) (sym same.1)

@@ -4,7 +4,7 @@ use Rattle.std.specs.Prelude.{Option, Some, None}
 use Rattle.std.specs.List.{list_any}
 use Rattle.std.proofs.lemmas.List.{drop_more, take-append-drop}
 use Rattle.std.proofs.lemmas.Bool.{or_parts, eq-eqb, false≢true}
-use Rattle.schedule_file.specs.Cutting.{joined}
+use Rattle.schedule_file.specs.Cutting.{uncut}
 
 -- the mark is not there
 abbrev pub Lacks : ℕ → List ℕ → Type 0
@@ -37,7 +37,7 @@ no_cut mark [] r (c ∷ g) k e =
 no_cut mark (b ∷ f) r (c ∷ g) k e = no_cut mark f r g (tail_lacks mark c g k) (let q : f ++ mark ∷ r ≡ g = cc in q)
 
 -- what a cut gives of a list that has the mark behind a front without it
-pub cut_is : (mark : ℕ) (front f r : List ℕ) (rest : Option (List ℕ)) → Lacks mark front → Lacks mark f → joined mark front rest ≡ f ++ mark ∷ r → (front ≡ f) × (rest ≡ Some r)
+pub cut_is : (mark : ℕ) (front f r : List ℕ) (rest : Option (List ℕ)) → Lacks mark front → Lacks mark f → uncut mark front rest ≡ f ++ mark ∷ r → (front ≡ f) × (rest ≡ Some r)
 cut_is mark front f r None h k e = absurd (no_cut mark f r front h (sym e))
 cut_is mark front f r (Some s) h k e = let same = same_cut mark front f s r h k e in (same.0, ap Some same.1)
 

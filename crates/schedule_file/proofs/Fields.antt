@@ -1,12 +1,13 @@
--- The table: fields that are wanted, and the first that a word does not spell.
-use Rattle.std.proofs.Common.{◌≡◌, ℕ, suc, ◌==◌, Bool, true, false, not, List, ◌∷◌, length, refl, sym, ◌∙◌, inl, inr}
-use Rattle.std.specs.Prelude.{Option, Some, None, ◌⊎◌, if◌then◌else◌}
-use Rattle.std.proofs.lemmas.Bool.{cases_Bool, cond-true, cond-false, eqb-true, not_from_true, not_from_false}
-use Rattle.std.proofs.lemmas.Option.{none-some, same_Some}
+-- The fields that are wanted, and the first that a word does not spell.
+use Rattle.std.proofs.Common.{◌≡◌, ℕ, suc, Bool, true, false, not, List, [], ◌∷◌, length, refl, sym, ap, ◌∙◌, subst}
+use Rattle.std.specs.Prelude.{Option, Some, None}
+use Rattle.std.specs.Option.{option_or}
+use Rattle.std.proofs.lemmas.Bool.{cond-true, cond-false, not_from_true, not_from_false}
+use Rattle.std.proofs.lemmas.Option.{none-some}
 use Rattle.topology.specs.declared.status.BadKind.TheVariants.{NotBuilt, NotHere, WrongCount}
-use Rattle.schedule_file.specs.declared.words.Keyword.{Keyword}
-use Rattle.schedule_file.specs.Table.{Field, exactly, fields, spells_field, fault_of, first_fault}
-use Rattle.schedule_file.specs.Refusals.{is_later, may_stand, fault_behind, fault_by}
+use Rattle.schedule_file.specs.declared.table.Keyword.{Keyword}
+use Rattle.schedule_file.specs.Table.{Field, spells_field, fault_of, first_fault, shape_of, may_stand, may_have, fields}
+use Rattle.schedule_file.specs.Refusals.{is_later, form_fault, fault_by}
 
 -- a word that spells its field has no fault, and the others decide
 pub fine : (field : Field) (wanted : List Field) (word : List ℕ) (words : List (List ℕ)) → spells_field field word ≡ true → first_fault (field ∷ wanted) (word ∷ words) ≡ first_fault wanted words
@@ -15,51 +16,110 @@ fine field wanted word words e = cond-true (spells_field field word) (first_faul
 pub bad : (field : Field) (wanted : List Field) (word : List ℕ) (words : List (List ℕ)) → spells_field field word ≡ false → first_fault (field ∷ wanted) (word ∷ words) ≡ Some (fault_of field)
 bad field wanted word words e = cond-false (spells_field field word) (first_fault wanted words) (Some (fault_of field)) e
 
--- where nothing is wrong, each word spells its field
-pub none_bad : (field : Field) (wanted : List Field) (word : List ℕ) (words : List (List ℕ)) → first_fault (field ∷ wanted) (word ∷ words) ≡ None → (spells_field field word ≡ true) × (first_fault wanted words ≡ None)
-none_bad field wanted word words e =
-    elim (cases_Bool (spells_field field word)) [
-      | inl t ↦ (t, sym (fine field wanted word words t) ∙ e)
-      | inr f ↦ absurd (none-some (fault_of field) (sym e ∙ bad field wanted word words f))
-    ]
+-- where nothing is wrong, there is a word for the first field, which it spells, and nothing is wrong with the others
+pub record First (field : Field) (wanted : List Field) (words : List (List ℕ)) : Type 0 where
+  pub word : List ℕ
+  pub rest : List (List ℕ)
+  pub are : words ≡ word ∷ rest
+  pub spells : spells_field field word ≡ true
+  pub others : first_fault wanted rest ≡ None
 
-pub wanted_count : (wanted count : ℕ) (want found : List Field) → exactly wanted want count ≡ Some found → (count ≡ wanted) × (want ≡ found)
-wanted_count wanted count want found e =
-    elim (cases_Bool (count == wanted)) [
-      | inl t ↦ (eqb-true count wanted t, same_Some want found (sym (cond-true (count == wanted) (Some want) None t) ∙ e))
-      | inr f ↦ absurd (none-some found (sym (cond-false (count == wanted) (Some want) None f) ∙ e))
-    ]
+first_from : (field : Field) (wanted : List Field) (word : List ℕ) (words : List (List ℕ)) (test : Bool) → spells_field field word ≡ test → first_fault (field ∷ wanted) (word ∷ words) ≡ None → First field wanted (word ∷ words)
+first_from field wanted word words true t e =
+    record { word = word; rest = words; are = refl; spells = t; others = sym (fine field wanted word words t) ∙ e }
+first_from field wanted word words false t e = absurd (none-some (fault_of field) (sym e ∙ bad field wanted word words t))
 
--- three words, or two
-pub counts : (count : ℕ) (three two found : List Field) → (if count == 3 then Some three else exactly 2 two count) ≡ Some found → ((count ≡ 3) × (three ≡ found)) ⊎ ((count ≡ 2) × (two ≡ found))
-counts count three two found e =
-    elim (cases_Bool (count == 3)) [
-      | inl t ↦ inl (eqb-true count 3 t, same_Some three found (sym (cond-true (count == 3) (Some three) (exactly 2 two count) t) ∙ e))
-      | inr f ↦ inr (wanted_count 2 count two found (sym (cond-false (count == 3) (Some three) (exactly 2 two count) f) ∙ e))
-    ]
+pub first : (field : Field) (wanted : List Field) (words : List (List ℕ)) → first_fault (field ∷ wanted) words ≡ None → First field wanted words
+first field wanted [] e = absurd (none-some WrongCount (sym e))
+first field wanted (word ∷ words) e = first_from field wanted word words (spells_field field word) refl e
 
--- a line on its side of begin, with as many words as are wanted, has the fault of its fields
-pub by_fields : (started : Bool) (word : List ℕ) (keyword : Keyword) (words : List (List ℕ)) → is_later keyword words ≡ false → may_stand started keyword ≡ true → fault_by started word (Some keyword) words ≡ fault_behind (fields keyword (suc (length words))) words
-by_fields started word keyword words now here =
-    cond-false (is_later keyword words) (Some NotBuilt) _ now ∙ cond-false (not (may_stand started keyword)) (Some NotHere) _ (not_from_true (may_stand started keyword) here)
+pub head_spells : (field : Field) (wanted : List Field) (word : List ℕ) (words : List (List ℕ)) → first_fault (field ∷ wanted) (word ∷ words) ≡ None → spells_field field word ≡ true
+head_spells field wanted word words e =
+    let a = first field wanted (word ∷ words) e in
+    let same : a.word ≡ word = (let q : word ∷ words ≡ a.word ∷ a.rest = a.are in cc) in
+    subst (λ w. spells_field field w ≡ true) same a.spells
+
+-- where no field is wanted and nothing is wrong, there is no word
+pub none_left : (words : List (List ℕ)) → first_fault [] words ≡ None → words ≡ []
+none_left [] e = refl
+none_left (word ∷ words) e = absurd (none-some WrongCount (sym e))
+
+pub record One (field : Field) (words : List (List ℕ)) : Type 0 where
+  pub word : List ℕ
+  pub are : words ≡ word ∷ []
+  pub spells : spells_field field word ≡ true
+
+pub one : (field : Field) (words : List (List ℕ)) → first_fault (field ∷ []) words ≡ None → One field words
+one field words e =
+    let a = first field [] words e in
+    record { word = a.word; are = a.are ∙ ap (λ ws. a.word ∷ ws) (none_left a.rest a.others); spells = a.spells }
+
+pub record Two (field other : Field) (words : List (List ℕ)) : Type 0 where
+  pub word : List ℕ
+  pub next : List ℕ
+  pub are : words ≡ word ∷ next ∷ []
+  pub spells : spells_field field word ≡ true
+  pub spells_next : spells_field other next ≡ true
+
+pub two : (field other : Field) (words : List (List ℕ)) → first_fault (field ∷ other ∷ []) words ≡ None → Two field other words
+two field other words e =
+    let a = first field (other ∷ []) words e in
+    let b = one other a.rest a.others in
+    record { word = a.word; next = b.word; are = a.are ∙ ap (λ ws. a.word ∷ ws) b.are; spells = a.spells; spells_next = b.spells }
+
+pub record Three (field other last : Field) (words : List (List ℕ)) : Type 0 where
+  pub word : List ℕ
+  pub next : List ℕ
+  pub end : List ℕ
+  pub are : words ≡ word ∷ next ∷ end ∷ []
+  pub spells : spells_field field word ≡ true
+  pub spells_next : spells_field other next ≡ true
+  pub spells_end : spells_field last end ≡ true
+
+pub three : (field other last : Field) (words : List (List ℕ)) → first_fault (field ∷ other ∷ last ∷ []) words ≡ None → Three field other last words
+three field other last words e =
+    let a = first field (other ∷ last ∷ []) words e in
+    let b = two other last a.rest a.others in
+    record {
+      word = a.word;
+      next = b.word;
+      end = b.next;
+      are = a.are ∙ ap (λ ws. a.word ∷ ws) b.are;
+      spells = a.spells;
+      spells_next = b.spells;
+      spells_end = b.spells_next;
+    }
+
+-- the form of a line has no fault exactly where each of its tests passes
+pub good_form : (started : Bool) (k : Keyword) (words : List (List ℕ)) → is_later k words ≡ false → may_stand started (shape_of k) ≡ true → may_have (shape_of k) (suc (length words)) ≡ true → form_fault started k words ≡ None
+good_form started k words now here count =
+    cond-false (is_later k words) (Some NotBuilt) _ now
+    ∙ cond-false (not (may_stand started (shape_of k))) (Some NotHere) _ (not_from_true (may_stand started (shape_of k)) here)
+    ∙ cond-false (not (may_have (shape_of k) (suc (length words)))) (Some WrongCount) None (not_from_true (may_have (shape_of k) (suc (length words))) count)
+
+pub later_form : (started : Bool) (k : Keyword) (words : List (List ℕ)) → is_later k words ≡ true → form_fault started k words ≡ Some NotBuilt
+later_form started k words later = cond-true (is_later k words) (Some NotBuilt) _ later
+
+pub away_form : (started : Bool) (k : Keyword) (words : List (List ℕ)) → is_later k words ≡ false → may_stand started (shape_of k) ≡ false → form_fault started k words ≡ Some NotHere
+away_form started k words now away =
+    cond-false (is_later k words) (Some NotBuilt) _ now
+    ∙ cond-true (not (may_stand started (shape_of k))) (Some NotHere) _ (not_from_false (may_stand started (shape_of k)) away)
+
+stands_from : (started : Bool) (k : Keyword) (words : List (List ℕ)) (later here : Bool) → is_later k words ≡ later → may_stand started (shape_of k) ≡ here → form_fault started k words ≡ None → here ≡ true
+stands_from started k words true here l h e = absurd (none-some NotBuilt (sym e ∙ later_form started k words l))
+stands_from started k words false true l h e = refl
+stands_from started k words false false l h e = absurd (none-some NotHere (sym e ∙ away_form started k words l h))
 
 -- what holds of a line that begins with a keyword and has no fault
-pub record Fits (started : Bool) (keyword : Keyword) (words : List (List ℕ)) : Type 0 where
-  pub here : may_stand started keyword ≡ true
-  pub wanted : List Field
-  pub counted : fields keyword (suc (length words)) ≡ Some wanted
-  pub fine_words : first_fault wanted words ≡ None
+pub record Fits (started : Bool) (k : Keyword) (words : List (List ℕ)) : Type 0 where
+  pub here : may_stand started (shape_of k) ≡ true
+  pub fine_words : first_fault (fields k words) words ≡ None
 
-fits_count : (started : Bool) (keyword : Keyword) (words : List (List ℕ)) (found : Option (List Field)) → may_stand started keyword ≡ true → fields keyword (suc (length words)) ≡ found → fault_behind found words ≡ None → Fits started keyword words
-fits_count started keyword words None here e f = absurd (none-some WrongCount (sym f))
-fits_count started keyword words (Some wanted) here e f = record { here = here; wanted = wanted; counted = e; fine_words = f }
+neither : {A : Type 0} (x y : Option A) → option_or x y ≡ None → (x ≡ None) × (y ≡ None)
+neither None y e = (refl, e)
+neither (Some a) y e = absurd (none-some a (sym e))
 
-pub fits : (started : Bool) (word : List ℕ) (keyword : Keyword) (words : List (List ℕ)) → fault_by started word (Some keyword) words ≡ None → Fits started keyword words
-fits started word keyword words e =
-    elim (cases_Bool (is_later keyword words)) [
-      | inl t ↦ absurd (none-some NotBuilt (sym e ∙ cond-true (is_later keyword words) (Some NotBuilt) _ t))
-      | inr now ↦ elim (cases_Bool (may_stand started keyword)) [
-        | inl here ↦ fits_count started keyword words (fields keyword (suc (length words))) here refl (sym (by_fields started word keyword words now here) ∙ e)
-        | inr f ↦ absurd (none-some NotHere (sym e ∙ (cond-false (is_later keyword words) (Some NotBuilt) _ now ∙ cond-true (not (may_stand started keyword)) (Some NotHere) _ (not_from_false (may_stand started keyword) f))))
-      ]
-    ]
+pub fits : (started : Bool) (word : List ℕ) (k : Keyword) (words : List (List ℕ)) → fault_by started word (Some k) words ≡ None → Fits started k words
+fits started word k words e =
+    let both = neither (form_fault started k words) (first_fault (fields k words) words) e in
+    record { here = stands_from started k words (is_later k words) (may_stand started (shape_of k)) refl refl both.0; fine_words = both.1 }

@@ -1,33 +1,44 @@
--- The first word of a line.
+-- The first word of a line, and the word behind show.
 use Rattle.std.proofs.Common.{◌≡◌, ◌≢◌, ℕ, Bool, true, false, List, [], ◌∷◌, refl, sym, ap, ◌∙◌, inl, inr}
 use Rattle.std.specs.Prelude.{Some, None, bytes_eq}
 use Rattle.std.specs.List.{find}
 use Rattle.std.proofs.lemmas.Bool.{cases_Bool, cond-true, cond-false}
 use Rattle.std.proofs.lemmas.Option.{none-some, same_Some}
 use Rattle.topology.specs.declared.status.BadKind.TheVariants.{UnknownWord, NotBuilt}
-use Rattle.schedule_file.specs.declared.words.Keyword.{Keyword}
-use Rattle.schedule_file.specs.declared.words.Keyword.TheVariants.{Node, Link, Pref, Prefix, Begin, Originate, Withdraw, Prefer, Deliver, Fail, Restore, Notice, Open, Drain, Show}
+use Rattle.schedule_file.specs.declared.table.Keyword.{Keyword}
+use Rattle.schedule_file.specs.declared.table.Keyword.TheVariants.{Node, Link, Pref, Prefix, Begin, Origin, Single, Pair, Prefer, Drain, Show}
+use Rattle.schedule_file.specs.declared.table.OriginEvent.TheVariants.{Originate}
+use Rattle.schedule_file.specs.declared.table.NodeEvent.TheVariants.{Snap}
+use Rattle.schedule_file.specs.declared.table.PairEvent.TheVariants.{Deliver}
+use Rattle.schedule_file.specs.declared.table.PlainView.TheVariants.{Rib}
+use Rattle.schedule_file.specs.declared.table.EpochView.TheVariants.{Cut}
+use Rattle.schedule_file.specs.declared.table.View.{View}
+use Rattle.schedule_file.specs.declared.table.View.TheVariants.{Plain, OfEpoch}
 use Rattle.schedule_file.specs.Words.{has_word}
-use Rattle.schedule_file.specs.Table.{keyword_text, keywords, keyword_in, later_words}
+use Rattle.schedule_file.specs.Table.{keyword_text, keywords, keyword_in, view_text, views, view_in, later_words}
 use Rattle.schedule_file.specs.Refusals.{fault_by}
 use Rattle.schedule_file.proofs.Passing.{word_is, other_word}
 
+-- each keyword is found by its word; a new one needs no clause
 pub keyword_found : (k : Keyword) → keyword_in (keyword_text k) ≡ Some k
 keyword_found Node = refl
 keyword_found Link = refl
 keyword_found Pref = refl
 keyword_found Prefix = refl
 keyword_found Begin = refl
-keyword_found Originate = refl
-keyword_found Withdraw = refl
+keyword_found (Origin Originate) = refl
+keyword_found (Origin event) = refl
+keyword_found (Single Snap) = refl
+keyword_found (Pair Deliver) = refl
+keyword_found (Pair event) = refl
 keyword_found Prefer = refl
-keyword_found Deliver = refl
-keyword_found Fail = refl
-keyword_found Restore = refl
-keyword_found Notice = refl
-keyword_found Open = refl
 keyword_found Drain = refl
 keyword_found Show = refl
+
+pub view_found : (v : View) → view_in (view_text v) ≡ Some v
+view_found (Plain Rib) = refl
+view_found (Plain view) = refl
+view_found (OfEpoch Cut) = refl
 
 passes : {X : Type 0} (p : X → Bool) (xs : List X) (x : X) → find p xs ≡ Some x → p x ≡ true
 passes p [] x e = absurd (none-some x e)
@@ -44,8 +55,14 @@ none_passes p (x ∷ xs) h = cond-false (p x) (Some x) (find p xs) (h x) ∙ non
 pub keyword_is : (word : List ℕ) (k : Keyword) → keyword_in word ≡ Some k → word ≡ keyword_text k
 keyword_is word k e = word_is word (keyword_text k) (passes (λ k. bytes_eq word (keyword_text k)) keywords k e)
 
+pub view_is : (word : List ℕ) (v : View) → view_in word ≡ Some v → word ≡ view_text v
+view_is word v e = word_is word (view_text v) (passes (λ v. bytes_eq word (view_text v)) views v e)
+
 pub no_keyword : (word : List ℕ) → ((k : Keyword) → word ≢ keyword_text k) → keyword_in word ≡ None
 no_keyword word none = none_passes (λ k. bytes_eq word (keyword_text k)) keywords (λ k. other_word word (keyword_text k) (none k))
+
+pub no_view : (word : List ℕ) → ((v : View) → word ≢ view_text v) → view_in word ≡ None
+no_view word none = none_passes (λ v. bytes_eq word (view_text v)) views (λ v. other_word word (view_text v) (none v))
 
 -- another word is always a fault
 pub other_is_bad : {P : Type 0} (started : Bool) (word : List ℕ) (words : List (List ℕ)) → fault_by started word None words ≡ None → P

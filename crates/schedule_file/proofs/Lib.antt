@@ -11,3 +11,4 @@ mod Asking
 mod Places
 mod Steps
 pub mod Readings
+mod Following

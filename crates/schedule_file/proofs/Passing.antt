@@ -1,8 +1,7 @@
 -- The tests of single words pass exactly where the word is a spelling.
 use Rattle.std.proofs.Common.{◌≡◌, ◌≢◌, ℕ, ◌-◌, ◌/◌, ◌%◌, ◌<◌, ◌≤◌, ◌^◌, ◌==◌, ◌&&◌, ◌||◌, Bool, true, false, List, [], ◌∷◌, ◌++◌, refl, sym, ap, ◌∙◌, inl, inr, arith}
 use Rattle.std.specs.Prelude.{codes, nat_le, nat_lt, bytes_eq, map}
-use Rattle.std.specs.List.{All, list_any, slice_split, onto_first}
-use Rattle.std.proofs.lemmas.List.Elements.{All-head, All-tail}
+use Rattle.std.specs.List.{list_any, slice_split, onto_first}
 use Rattle.std.specs.Fmt.{decimal}
 use Rattle.std.specs.Str.Parse.{AllDigits}
 use Rattle.std.proofs.lemmas.Bool.{cases_Bool, cond-true, cond-false, and_parts, and_from, or_parts, or_from, or_cases, or_left, ne_eqb, false≢true}
@@ -182,8 +181,26 @@ only_word w word e = elim (or_cases (bytes_eq word w) false e) [ inl a ↦ word_
 pub has_only : (w : List ℕ) → has_word (w ∷ []) w ≡ true
 has_only w = or_left (bytes_eq w w) false (same_word w w refl)
 
--- a word that is none of the list
-pub has_other : (words : List (List ℕ)) (word : List ℕ) → All (λ w. word ≢ w) words → has_word words word ≡ false
-has_other [] word h = refl
-has_other (w ∷ words) word h =
-    or_from (bytes_eq word w) (has_word words word) (other_word word w (All-head (λ w. word ≢ w) w words h)) (has_other words word (All-tail (λ w. word ≢ w) w words h))
+-- a word that names a relation
+pub relation_is : (word : List ℕ) (r : Relation) → word ≡ relation_text r → r ≡ relation_of word
+relation_is word r e = sym (ap relation_of e ∙ relation_of_text r)
+
+pub relation_among : (word : List ℕ) (r : Relation) → word ≡ relation_text r → has_word relations word ≡ true
+relation_among word r e = ap (has_word relations) e ∙ relation_known r
+
+-- a word that spells a number, or a prefix, has it
+pub value_is : (word : List ℕ) (n : ℕ) → n < 2 ^ 64 → word ≡ decimal n → n ≡ number_of word
+value_is word n small e = sym (ap number_of e ∙ decimal_value n small)
+
+pub prefix_is : (word : List ℕ) (p : Range) → IsRange p → word ≡ prefix_text p → p ≡ prefix_of word
+prefix_is word p h e = sym (ap prefix_of e ∙ prefix_of_text p h)
+
+pub prefix_fine : (word : List ℕ) (p : Range) → IsRange p → word ≡ prefix_text p → spells_prefix word ≡ true
+prefix_fine word p h e = ap spells_prefix e ∙ spells_text p h
+
+none_of : (word : List ℕ) → ((r : Relation) → word ≢ relation_text r) → (rs : List Relation) → has_word (map relation_text rs) word ≡ false
+none_of word none [] = refl
+none_of word none (r ∷ rs) = or_from (bytes_eq word (relation_text r)) (has_word (map relation_text rs) word) (other_word word (relation_text r) (none r)) (none_of word none rs)
+
+pub no_relation : (word : List ℕ) → ((r : Relation) → word ≢ relation_text r) → has_word relations word ≡ false
+no_relation word none = none_of word none (Customer ∷ Provider ∷ Peer ∷ Any ∷ [])

@@ -9,7 +9,8 @@ use Rattle.text_lines.specs.Readings.{Reading, IsNextLine, lines_left}
 use Rattle.topology.specs.declared.status.BadKind.{BadKind}
 use Rattle.schedule_file.specs.declared.lines.Line.{Line}
 use Rattle.schedule_file.specs.declared.lines.Schedule.{Schedule}
-use Rattle.schedule_file.specs.Spelling.{words_by_line, Spells}
+use Rattle.schedule_file.specs.Spelling.{words_by_line}
+use Rattle.schedule_file.specs.Lines.{Spells}
 use Rattle.schedule_file.specs.Grammar.{allowed, Reads, net_of, directives_of, IsFile}
 use Rattle.schedule_file.specs.Refusals.{refusal, BadAt, FirstBad}
 use Rattle.schedule_file.proofs.Spellings.{one_line}

@@ -1,228 +1,153 @@
 -- Words without a fault spell a line, keyword by keyword.
-use Rattle.std.proofs.Common.{◌≡◌, ℕ, suc, ◌≤◌, Bool, true, false, List, [], ◌∷◌, length, refl, sym, ap, ap₂, ◌∙◌, subst, inl, inr, arith}
-use Rattle.std.specs.Prelude.{Option, Some, None, codes, bytes_eq}
+use Rattle.std.proofs.Common.{◌≡◌, ℕ, Bool, true, List, [], ◌∷◌, refl, sym, ap, ap₂, ◌∙◌, subst, arith}
+use Rattle.std.specs.Prelude.{Option, Some, None, is_some, codes}
+use Rattle.std.proofs.lemmas.Option.{none-some}
 use Rattle.std.specs.Fmt.{decimal}
-use Rattle.std.proofs.lemmas.Bool.{or_cases, false≢true}
-use Rattle.schedule_file.specs.declared.lines.Line.{Line}
-use Rattle.schedule_file.specs.declared.lines.Line.TheVariants.{Blank, Node, Link, Pref, Prefix, Begin, Originate, Withdraw, Prefer, Deliver, Fail, Restore, Notice, Open, Drain, ShowRib, ShowLog}
-use Rattle.schedule_file.specs.declared.words.Keyword.{Keyword}
-use Rattle.schedule_file.specs.declared.words.Keyword.TheVariants as keyword
-use Rattle.schedule_file.specs.Spelling.{line_words, IsNumber, InRange, Spells}
-use Rattle.schedule_file.specs.Words.{has_word, number_of, prefix_of, relation_of}
-use Rattle.schedule_file.specs.Table.{Field, keyword_in, keyword_text, spells_field, first_fault, relations, views}
-use Rattle.schedule_file.specs.Table.Field.{NodeNumber, Value, Times, Masked, OneOf, NoWord}
+use Rattle.std.proofs.lemmas.Bool.{false≢true}
+use Rattle.topology.specs.declared.status.BadKind.TheVariants.{WrongCount}
+use Rattle.schedule_file.specs.declared.table.Keyword.{Keyword}
+use Rattle.schedule_file.specs.declared.table.Keyword.TheVariants as keyword
+use Rattle.schedule_file.specs.declared.table.View.{View}
+use Rattle.schedule_file.specs.declared.table.View.TheVariants.{Plain, OfEpoch}
+use Rattle.schedule_file.specs.Spelling.{IsNumber}
+use Rattle.schedule_file.specs.Lines.{line_words, InRange, Spells}
+use Rattle.schedule_file.specs.Words.{number_of}
+use Rattle.schedule_file.specs.Table.{keyword_in, keyword_text, origin_text, node_text, pair_text, view_in, view_fields, spells_field, first_fault, relations}
+use Rattle.schedule_file.specs.Table.Field.{NodeNumber, Value, Times, Masked, OneOf, Viewed, EpochNumber}
 use Rattle.schedule_file.specs.Grammar.{stands}
-use Rattle.schedule_file.specs.Refusals.{fault_by, word_fault}
-use Rattle.schedule_file.specs.Standing.{word_at}
-use Rattle.schedule_file.proofs.Passing.{number_spelled, prefix_spelled, relation_spelled, only_word, word_is}
-use Rattle.schedule_file.proofs.Fields.{Fits, fits, none_bad, wanted_count, counts}
-use Rattle.schedule_file.proofs.Keywords.{keyword_is, other_is_bad}
+use Rattle.schedule_file.specs.Refusals.{fault_by, word_fault, shown_by, line_by, line_from, line_of}
+use Rattle.schedule_file.proofs.Passing.{number_spelled, prefix_spelled, relation_spelled, only_word}
+use Rattle.schedule_file.proofs.Fields.{Fits, fits, head_spells, one, two, three, none_left}
+use Rattle.schedule_file.proofs.Keywords.{keyword_is, view_is, other_is_bad}
 
--- so many words
-pub no_words : (ws : List (List ℕ)) → length ws ≡ 0 → ws ≡ []
-no_words [] h = refl
-no_words (a ∷ ws) h = absurd (omega arith)
-
-pub one_word : (ws : List (List ℕ)) → length ws ≡ 1 → ws ≡ word_at 0 ws ∷ []
-one_word [] h = absurd (omega arith)
-one_word (a ∷ ws) h = ap (λ vs. a ∷ vs) (no_words ws (omega arith))
-
-pub two_words : (ws : List (List ℕ)) → length ws ≡ 2 → ws ≡ word_at 0 ws ∷ word_at 1 ws ∷ []
-two_words [] h = absurd (omega arith)
-two_words (a ∷ ws) h = ap (λ vs. a ∷ vs) (one_word ws (omega arith))
-
-pub three_words : (ws : List (List ℕ)) → length ws ≡ 3 → ws ≡ word_at 0 ws ∷ word_at 1 ws ∷ word_at 2 ws ∷ []
-three_words [] h = absurd (omega arith)
-three_words (a ∷ ws) h = ap (λ vs. a ∷ vs) (two_words ws (omega arith))
-
--- the words spell a line in its place
-pub record Found (started : Bool) (words : List (List ℕ)) : Type 0 where
-  pub line : Line
-  pub spells : Spells words line
-  pub here : stands started line ≡ true
-
-at_words : (started : Bool) (word first : List ℕ) (rest words : List (List ℕ)) → word ≡ first → rest ≡ words → Found started (first ∷ words) → Found started (word ∷ rest)
-at_words started word first rest words e f h =
-    subst (Found started) (sym (ap₂ (λ w ws. w ∷ ws) e f)) h
+-- the words behind a keyword spell their line, in its place
+pub record Found (started : Bool) (k : Keyword) (rest : List (List ℕ)) : Type 0 where
+  pub spelled : keyword_text k ∷ rest ≡ line_words (line_by k rest)
+  pub in_range : InRange (line_by k rest)
+  pub here : stands started (line_by k rest) ≡ true
 
 number_is : (word : List ℕ) → spells_field NodeNumber word ≡ true → (word ≡ decimal (number_of word)) × IsNumber (number_of word)
 number_is word e = let p = number_spelled 1 65535 word e in (p.0, (omega (arith, p.1), omega (arith, p.2)))
 
-node_found : (started : Bool) (id : List ℕ) → stands started (Node (number_of id) false) ≡ true → first_fault (NodeNumber ∷ []) (id ∷ []) ≡ None → Found started (codes "node" ∷ id ∷ [])
-node_found started id here e =
-    let a = number_is id (none_bad NodeNumber [] id [] e).0 in
-    let is = a.0 in
-    record { line = Node (number_of id) false; spells = record { spelled = ap (λ w. codes "node" ∷ w ∷ []) is; in_range = a.1 }; here = here }
+-- the same of what show asks for
+record Shown (started : Bool) (word : List ℕ) (view : Option View) (rest : List (List ℕ)) : Type 0 where
+  spelled : codes "show" ∷ word ∷ rest ≡ line_words (shown_by view (word ∷ rest))
+  in_range : InRange (shown_by view (word ∷ rest))
+  here : stands started (shown_by view (word ∷ rest)) ≡ true
 
-consolidator_found : (started : Bool) (id mark : List ℕ) → stands started (Node (number_of id) true) ≡ true → first_fault (NodeNumber ∷ OneOf (codes "consolidator" ∷ []) ∷ []) (id ∷ mark ∷ []) ≡ None → Found started (codes "node" ∷ id ∷ mark ∷ [])
-consolidator_found started id mark here e =
-    let first = none_bad NodeNumber (OneOf (codes "consolidator" ∷ []) ∷ []) id (mark ∷ []) e in
-    let second = none_bad (OneOf (codes "consolidator" ∷ [])) [] mark [] first.1 in
-    let a = number_is id first.0 in
-    record {
-      line = Node (number_of id) true;
-      spells = record { spelled = ap₂ (λ w v. codes "node" ∷ w ∷ v ∷ []) a.0 (only_word (codes "consolidator") mark second.0); in_range = a.1 };
+shown : (started : Bool) (word : List ℕ) (view : Option View) (rest : List (List ℕ)) → started ≡ true → view_in word ≡ view → first_fault (view_fields view) (word ∷ rest) ≡ None → Shown started word view rest
+shown started word None rest here e f = absurd (false≢true (sym (ap is_some e) ∙ head_spells Viewed [] word rest f))
+shown started word (Some (Plain view)) rest here e f =
+    let a = one Viewed (word ∷ rest) f in
+    let none : rest ≡ [] = (let q : word ∷ rest ≡ a.word ∷ [] = a.are in cc) in
+    record { spelled = ap₂ (λ w ws. codes "show" ∷ w ∷ ws) (view_is word (Plain view) e) none; in_range = tt; here = here }
+shown started word (Some (OfEpoch view)) rest here e f =
+    let w = two Viewed EpochNumber (word ∷ rest) f in
+    let epoch = number_spelled 1 32 w.next w.spells_next in
+    let first : word ≡ w.word = (let q : word ∷ rest ≡ w.word ∷ w.next ∷ [] = w.are in cc) in
+    let more : rest ≡ w.next ∷ [] = (let q : word ∷ rest ≡ w.word ∷ w.next ∷ [] = w.are in cc) in
+    subst (Shown started word (Some (OfEpoch view))) (sym more) (record {
+      spelled = ap₂ (λ v n. codes "show" ∷ v ∷ n ∷ []) (view_is word (OfEpoch view) e) epoch.0;
+      in_range = (epoch.1, epoch.2);
       here = here;
-    }
+    })
 
-link_found : (started : Bool) (a b r : List ℕ) → stands started (Link (number_of a) (number_of b) (relation_of r)) ≡ true → first_fault (NodeNumber ∷ NodeNumber ∷ OneOf relations ∷ []) (a ∷ b ∷ r ∷ []) ≡ None → Found started (codes "link" ∷ a ∷ b ∷ r ∷ [])
-link_found started a b r here e =
-    let first = none_bad NodeNumber (NodeNumber ∷ OneOf relations ∷ []) a (b ∷ r ∷ []) e in
-    let second = none_bad NodeNumber (OneOf relations ∷ []) b (r ∷ []) first.1 in
-    let third = none_bad (OneOf relations) [] r [] second.1 in
-    let p = number_is a first.0 in
-    let q = number_is b second.0 in
-    let s = relation_spelled r third.0 in
-    record {
-      line = Link (number_of a) (number_of b) (relation_of r);
-      spells = record { spelled = ap₂ (λ v w. codes "link" ∷ v ∷ w ∷ r ∷ []) p.0 q.0 ∙ ap (λ w. codes "link" ∷ decimal (number_of a) ∷ decimal (number_of b) ∷ w ∷ []) s; in_range = (p.1, q.1) };
-      here = here;
-    }
+shown_first : (started : Bool) (rest : List (List ℕ)) → Fits started keyword.Show rest → Found started keyword.Show rest
+shown_first started [] f = absurd (none-some WrongCount (sym f.fine_words))
+shown_first started (word ∷ rest) f =
+    let s = shown started word (view_in word) rest f.here refl f.fine_words in
+    record { spelled = s.spelled; in_range = s.in_range; here = s.here }
 
--- two nodes and a value behind a first word
-value_found : (started : Bool) (text : List ℕ) (line : ℕ → ℕ → ℕ → Line) → ((a b n : ℕ) → line_words (line a b n) ≡ text ∷ decimal a ∷ decimal b ∷ decimal n ∷ []) → ((a b n : ℕ) → IsNumber a × IsNumber b × (n ≤ 1000000) → InRange (line a b n)) → (a b v : List ℕ) → stands started (line (number_of a) (number_of b) (number_of v)) ≡ true → first_fault (NodeNumber ∷ NodeNumber ∷ Value ∷ []) (a ∷ b ∷ v ∷ []) ≡ None → Found started (text ∷ a ∷ b ∷ v ∷ [])
-value_found started text line words range a b v here e =
-    let first = none_bad NodeNumber (NodeNumber ∷ Value ∷ []) a (b ∷ v ∷ []) e in
-    let second = none_bad NodeNumber (Value ∷ []) b (v ∷ []) first.1 in
-    let third = none_bad Value [] v [] second.1 in
-    let p = number_is a first.0 in
-    let q = number_is b second.0 in
-    let s = number_spelled 0 1000000 v third.0 in
-    record {
-      line = line (number_of a) (number_of b) (number_of v);
-      spells = record {
-        spelled = ap₂ (λ x y. text ∷ x ∷ y ∷ v ∷ []) p.0 q.0 ∙ ap (λ w. text ∷ decimal (number_of a) ∷ decimal (number_of b) ∷ w ∷ []) s.0 ∙ sym (words (number_of a) (number_of b) (number_of v));
-        in_range = range (number_of a) (number_of b) (number_of v) (p.1, q.1, s.2);
-      };
-      here = here;
-    }
+node_first : (started : Bool) (rest : List (List ℕ)) → Fits started keyword.Node rest → Found started keyword.Node rest
+node_first started [] f = absurd (none-some WrongCount (sym f.fine_words))
+node_first started (id ∷ []) f =
+    let w = one NodeNumber (id ∷ []) f.fine_words in
+    let a = number_is w.word w.spells in
+    subst (Found started keyword.Node) (sym w.are) (record { spelled = ap (λ v. codes "node" ∷ v ∷ []) a.0; in_range = a.1; here = f.here })
+node_first started (id ∷ mark ∷ others) f =
+    let w = two NodeNumber (OneOf (codes "consolidator" ∷ [])) (id ∷ mark ∷ others) f.fine_words in
+    let a = number_is w.word w.spells in
+    let marked = only_word (codes "consolidator") w.next w.spells_next in
+    subst (Found started keyword.Node) (sym w.are) (record { spelled = ap₂ (λ v m. codes "node" ∷ v ∷ m ∷ []) a.0 marked; in_range = a.1; here = f.here })
 
-prefix_found : (started : Bool) (p : List ℕ) → stands started (Prefix (prefix_of p)) ≡ true → first_fault (Masked ∷ []) (p ∷ []) ≡ None → Found started (codes "prefix" ∷ p ∷ [])
-prefix_found started p here e =
-    let s = prefix_spelled p (none_bad Masked [] p [] e).0 in
-    record { line = Prefix (prefix_of p); spells = record { spelled = ap (λ w. codes "prefix" ∷ w ∷ []) s.0; in_range = s.1 }; here = here }
+pub found_by : (k : Keyword) (started : Bool) (rest : List (List ℕ)) → Fits started k rest → Found started k rest
+found_by keyword.Node started rest f = node_first started rest f
+found_by keyword.Link started rest f =
+    let w = three NodeNumber NodeNumber (OneOf relations) rest f.fine_words in
+    let a = number_is w.word w.spells in
+    let b = number_is w.next w.spells_next in
+    subst (Found started keyword.Link) (sym w.are) (record {
+      spelled = ap₂ (λ v u. codes "link" ∷ v ∷ u ∷ w.end ∷ []) a.0 b.0
+          ∙ ap (λ r. codes "link" ∷ decimal (number_of w.word) ∷ decimal (number_of w.next) ∷ r ∷ []) (relation_spelled w.end w.spells_end);
+      in_range = (a.1, b.1);
+      here = f.here;
+    })
+found_by keyword.Pref started rest f =
+    let w = three NodeNumber NodeNumber Value rest f.fine_words in
+    let a = number_is w.word w.spells in
+    let b = number_is w.next w.spells_next in
+    let v = number_spelled 0 1000000 w.end w.spells_end in
+    subst (Found started keyword.Pref) (sym w.are) (record {
+      spelled = ap₂ (λ x y. codes "pref" ∷ x ∷ y ∷ w.end ∷ []) a.0 b.0
+          ∙ ap (λ x. codes "pref" ∷ decimal (number_of w.word) ∷ decimal (number_of w.next) ∷ x ∷ []) v.0;
+      in_range = (a.1, b.1, v.2);
+      here = f.here;
+    })
+found_by keyword.Prefix started rest f =
+    let w = one Masked rest f.fine_words in
+    let p = prefix_spelled w.word w.spells in
+    subst (Found started keyword.Prefix) (sym w.are) (record { spelled = ap (λ v. codes "prefix" ∷ v ∷ []) p.0; in_range = p.1; here = f.here })
+found_by keyword.Begin started rest f =
+    subst (Found started keyword.Begin) (sym (none_left rest f.fine_words)) (record { spelled = refl; in_range = tt; here = f.here })
+found_by (keyword.Origin event) started rest f =
+    let w = two NodeNumber Masked rest f.fine_words in
+    let a = number_is w.word w.spells in
+    let p = prefix_spelled w.next w.spells_next in
+    subst (Found started (keyword.Origin event)) (sym w.are) (record { spelled = ap₂ (λ x y. origin_text event ∷ x ∷ y ∷ []) a.0 p.0; in_range = (a.1, p.1); here = f.here })
+found_by (keyword.Single event) started rest f =
+    let w = one NodeNumber rest f.fine_words in
+    let a = number_is w.word w.spells in
+    subst (Found started (keyword.Single event)) (sym w.are) (record { spelled = ap (λ v. node_text event ∷ v ∷ []) a.0; in_range = a.1; here = f.here })
+found_by (keyword.Pair event) started rest f =
+    let w = two NodeNumber NodeNumber rest f.fine_words in
+    let a = number_is w.word w.spells in
+    let b = number_is w.next w.spells_next in
+    subst (Found started (keyword.Pair event)) (sym w.are) (record { spelled = ap₂ (λ x y. pair_text event ∷ x ∷ y ∷ []) a.0 b.0; in_range = (a.1, b.1); here = f.here })
+found_by keyword.Prefer started rest f =
+    let w = three NodeNumber NodeNumber Value rest f.fine_words in
+    let a = number_is w.word w.spells in
+    let b = number_is w.next w.spells_next in
+    let v = number_spelled 0 1000000 w.end w.spells_end in
+    subst (Found started keyword.Prefer) (sym w.are) (record {
+      spelled = ap₂ (λ x y. codes "prefer" ∷ x ∷ y ∷ w.end ∷ []) a.0 b.0
+          ∙ ap (λ x. codes "prefer" ∷ decimal (number_of w.word) ∷ decimal (number_of w.next) ∷ x ∷ []) v.0;
+      in_range = (a.1, b.1, v.2);
+      here = f.here;
+    })
+found_by keyword.Drain started rest f =
+    let w = one Times rest f.fine_words in
+    let n = number_spelled 1 1000000 w.word w.spells in
+    subst (Found started keyword.Drain) (sym w.are) (record { spelled = ap (λ v. codes "drain" ∷ v ∷ []) n.0; in_range = (n.1, n.2); here = f.here })
+found_by keyword.Show started rest f = shown_first started rest f
 
-originate_found : (started : Bool) (n p : List ℕ) → stands started (Originate (number_of n) (prefix_of p)) ≡ true → first_fault (NodeNumber ∷ Masked ∷ []) (n ∷ p ∷ []) ≡ None → Found started (codes "originate" ∷ n ∷ p ∷ [])
-originate_found started n p here e =
-    let first = none_bad NodeNumber (Masked ∷ []) n (p ∷ []) e in
-    let a = number_is n first.0 in
-    let s = prefix_spelled p (none_bad Masked [] p [] first.1).0 in
-    record { line = Originate (number_of n) (prefix_of p); spells = record { spelled = ap₂ (λ v w. codes "originate" ∷ v ∷ w ∷ []) a.0 s.0; in_range = (a.1, s.1) }; here = here }
+-- words without a fault spell their line, in its place
+pub record InPlace (started : Bool) (words : List (List ℕ)) : Type 0 where
+  pub spells : Spells words (line_of words)
+  pub here : stands started (line_of words) ≡ true
 
-withdraw_found : (started : Bool) (n p : List ℕ) → stands started (Withdraw (number_of n) (prefix_of p)) ≡ true → first_fault (NodeNumber ∷ Masked ∷ []) (n ∷ p ∷ []) ≡ None → Found started (codes "withdraw" ∷ n ∷ p ∷ [])
-withdraw_found started n p here e =
-    let first = none_bad NodeNumber (Masked ∷ []) n (p ∷ []) e in
-    let a = number_is n first.0 in
-    let s = prefix_spelled p (none_bad Masked [] p [] first.1).0 in
-    record { line = Withdraw (number_of n) (prefix_of p); spells = record { spelled = ap₂ (λ v w. codes "withdraw" ∷ v ∷ w ∷ []) a.0 s.0; in_range = (a.1, s.1) }; here = here }
+-- the same where the keyword of the first word is known
+record From (started : Bool) (word : List ℕ) (k : Option Keyword) (rest : List (List ℕ)) : Type 0 where
+  spells : Spells (word ∷ rest) (line_from k rest)
+  here : stands started (line_from k rest) ≡ true
 
--- two nodes behind a first word
-pair_found : (started : Bool) (text : List ℕ) (line : ℕ → ℕ → Line) → ((a b : ℕ) → line_words (line a b) ≡ text ∷ decimal a ∷ decimal b ∷ []) → ((a b : ℕ) → IsNumber a × IsNumber b → InRange (line a b)) → (a b : List ℕ) → stands started (line (number_of a) (number_of b)) ≡ true → first_fault (NodeNumber ∷ NodeNumber ∷ []) (a ∷ b ∷ []) ≡ None → Found started (text ∷ a ∷ b ∷ [])
-pair_found started text line words range a b here e =
-    let first = none_bad NodeNumber (NodeNumber ∷ []) a (b ∷ []) e in
-    let p = number_is a first.0 in
-    let q = number_is b (none_bad NodeNumber [] b [] first.1).0 in
-    record {
-      line = line (number_of a) (number_of b);
-      spells = record { spelled = ap₂ (λ v w. text ∷ v ∷ w ∷ []) p.0 q.0 ∙ sym (words (number_of a) (number_of b)); in_range = range (number_of a) (number_of b) (p.1, q.1) };
-      here = here;
-    }
-
-drain_found : (started : Bool) (n : List ℕ) → stands started (Drain (number_of n)) ≡ true → first_fault (Times ∷ []) (n ∷ []) ≡ None → Found started (codes "drain" ∷ n ∷ [])
-drain_found started n here e =
-    let p = number_spelled 1 1000000 n (none_bad Times [] n [] e).0 in
-    record { line = Drain (number_of n); spells = record { spelled = ap (λ w. codes "drain" ∷ w ∷ []) p.0; in_range = (p.1, p.2) }; here = here }
-
-show_found : (started : Bool) (view : List ℕ) → started ≡ true → first_fault (OneOf views ∷ []) (view ∷ []) ≡ None → Found started (codes "show" ∷ view ∷ [])
-show_found started view here e =
-    let known = (none_bad (OneOf views) [] view [] e).0 in
-    elim (or_cases (bytes_eq view (codes "rib")) (has_word (codes "log" ∷ []) view) known) [
-      | inl a ↦ record { line = ShowRib; spells = record { spelled = ap (λ w. codes "show" ∷ w ∷ []) (word_is view (codes "rib") a); in_range = tt }; here = here }
-      | inr a ↦ record { line = ShowLog; spells = record { spelled = ap (λ w. codes "show" ∷ w ∷ []) (only_word (codes "log") view a); in_range = tt }; here = here }
-    ]
-
-no_third : {P : Type 0} (view other : List ℕ) → first_fault (OneOf views ∷ NoWord ∷ []) (view ∷ other ∷ []) ≡ None → P
-no_third view other e =
-    let second = (none_bad (OneOf views) (NoWord ∷ []) view (other ∷ []) e).1 in
-    absurd (false≢true (none_bad NoWord [] other [] second).0)
-
--- the fault of the words that are wanted, at words of this shape
-shaped : (want wanted : List Field) (rest words : List (List ℕ)) → want ≡ wanted → rest ≡ words → first_fault wanted rest ≡ None → first_fault want words ≡ None
-shaped want wanted rest words e f h = ap₂ first_fault e (sym f) ∙ h
-
-pub found_by : (k : Keyword) (started : Bool) (word : List ℕ) (rest : List (List ℕ)) → word ≡ keyword_text k → Fits started k rest → Found started (word ∷ rest)
-found_by keyword.Node started word rest e f =
-    elim (counts (suc (length rest)) (NodeNumber ∷ OneOf (codes "consolidator" ∷ []) ∷ []) (NodeNumber ∷ []) f.wanted f.counted) [
-      | inl c ↦ (let shape = two_words rest (omega (arith, c.0)) in
-          at_words started word (codes "node") rest _ e shape (consolidator_found started (word_at 0 rest) (word_at 1 rest) f.here (shaped _ f.wanted rest _ c.1 shape f.fine_words)))
-      | inr c ↦ (let shape = one_word rest (omega (arith, c.0)) in
-          at_words started word (codes "node") rest _ e shape (node_found started (word_at 0 rest) f.here (shaped _ f.wanted rest _ c.1 shape f.fine_words)))
-    ]
-found_by keyword.Link started word rest e f =
-    let c = wanted_count 4 (suc (length rest)) (NodeNumber ∷ NodeNumber ∷ OneOf relations ∷ []) f.wanted f.counted in
-    let shape = three_words rest (omega (arith, c.0)) in
-    at_words started word (codes "link") rest _ e shape (link_found started (word_at 0 rest) (word_at 1 rest) (word_at 2 rest) f.here (shaped _ f.wanted rest _ c.1 shape f.fine_words))
-found_by keyword.Pref started word rest e f =
-    let c = wanted_count 4 (suc (length rest)) (NodeNumber ∷ NodeNumber ∷ Value ∷ []) f.wanted f.counted in
-    let shape = three_words rest (omega (arith, c.0)) in
-    at_words started word (codes "pref") rest _ e shape (value_found started (codes "pref") Pref (λ _ _ _. refl) (λ _ _ _ h. h) (word_at 0 rest) (word_at 1 rest) (word_at 2 rest) f.here (shaped _ f.wanted rest _ c.1 shape f.fine_words))
-found_by keyword.Prefix started word rest e f =
-    let c = wanted_count 2 (suc (length rest)) (Masked ∷ []) f.wanted f.counted in
-    let shape = one_word rest (omega (arith, c.0)) in
-    at_words started word (codes "prefix") rest _ e shape (prefix_found started (word_at 0 rest) f.here (shaped _ f.wanted rest _ c.1 shape f.fine_words))
-found_by keyword.Begin started word rest e f =
-    let c = wanted_count 1 (suc (length rest)) [] f.wanted f.counted in
-    let shape = no_words rest (omega (arith, c.0)) in
-    at_words started word (codes "begin") rest [] e shape (record { line = Begin; spells = record { spelled = refl; in_range = tt }; here = f.here })
-found_by keyword.Originate started word rest e f =
-    let c = wanted_count 3 (suc (length rest)) (NodeNumber ∷ Masked ∷ []) f.wanted f.counted in
-    let shape = two_words rest (omega (arith, c.0)) in
-    at_words started word (codes "originate") rest _ e shape (originate_found started (word_at 0 rest) (word_at 1 rest) f.here (shaped _ f.wanted rest _ c.1 shape f.fine_words))
-found_by keyword.Withdraw started word rest e f =
-    let c = wanted_count 3 (suc (length rest)) (NodeNumber ∷ Masked ∷ []) f.wanted f.counted in
-    let shape = two_words rest (omega (arith, c.0)) in
-    at_words started word (codes "withdraw") rest _ e shape (withdraw_found started (word_at 0 rest) (word_at 1 rest) f.here (shaped _ f.wanted rest _ c.1 shape f.fine_words))
-found_by keyword.Prefer started word rest e f =
-    let c = wanted_count 4 (suc (length rest)) (NodeNumber ∷ NodeNumber ∷ Value ∷ []) f.wanted f.counted in
-    let shape = three_words rest (omega (arith, c.0)) in
-    at_words started word (codes "prefer") rest _ e shape (value_found started (codes "prefer") Prefer (λ _ _ _. refl) (λ _ _ _ h. h) (word_at 0 rest) (word_at 1 rest) (word_at 2 rest) f.here (shaped _ f.wanted rest _ c.1 shape f.fine_words))
-found_by keyword.Deliver started word rest e f =
-    let c = wanted_count 3 (suc (length rest)) (NodeNumber ∷ NodeNumber ∷ []) f.wanted f.counted in
-    let shape = two_words rest (omega (arith, c.0)) in
-    at_words started word (codes "deliver") rest _ e shape (pair_found started (codes "deliver") Deliver (λ _ _. refl) (λ _ _ h. h) (word_at 0 rest) (word_at 1 rest) f.here (shaped _ f.wanted rest _ c.1 shape f.fine_words))
-found_by keyword.Fail started word rest e f =
-    let c = wanted_count 3 (suc (length rest)) (NodeNumber ∷ NodeNumber ∷ []) f.wanted f.counted in
-    let shape = two_words rest (omega (arith, c.0)) in
-    at_words started word (codes "fail") rest _ e shape (pair_found started (codes "fail") Fail (λ _ _. refl) (λ _ _ h. h) (word_at 0 rest) (word_at 1 rest) f.here (shaped _ f.wanted rest _ c.1 shape f.fine_words))
-found_by keyword.Restore started word rest e f =
-    let c = wanted_count 3 (suc (length rest)) (NodeNumber ∷ NodeNumber ∷ []) f.wanted f.counted in
-    let shape = two_words rest (omega (arith, c.0)) in
-    at_words started word (codes "restore") rest _ e shape (pair_found started (codes "restore") Restore (λ _ _. refl) (λ _ _ h. h) (word_at 0 rest) (word_at 1 rest) f.here (shaped _ f.wanted rest _ c.1 shape f.fine_words))
-found_by keyword.Notice started word rest e f =
-    let c = wanted_count 3 (suc (length rest)) (NodeNumber ∷ NodeNumber ∷ []) f.wanted f.counted in
-    let shape = two_words rest (omega (arith, c.0)) in
-    at_words started word (codes "notice") rest _ e shape (pair_found started (codes "notice") Notice (λ _ _. refl) (λ _ _ h. h) (word_at 0 rest) (word_at 1 rest) f.here (shaped _ f.wanted rest _ c.1 shape f.fine_words))
-found_by keyword.Open started word rest e f =
-    let c = wanted_count 3 (suc (length rest)) (NodeNumber ∷ NodeNumber ∷ []) f.wanted f.counted in
-    let shape = two_words rest (omega (arith, c.0)) in
-    at_words started word (codes "open") rest _ e shape (pair_found started (codes "open") Open (λ _ _. refl) (λ _ _ h. h) (word_at 0 rest) (word_at 1 rest) f.here (shaped _ f.wanted rest _ c.1 shape f.fine_words))
-found_by keyword.Drain started word rest e f =
-    let c = wanted_count 2 (suc (length rest)) (Times ∷ []) f.wanted f.counted in
-    let shape = one_word rest (omega (arith, c.0)) in
-    at_words started word (codes "drain") rest _ e shape (drain_found started (word_at 0 rest) f.here (shaped _ f.wanted rest _ c.1 shape f.fine_words))
-found_by keyword.Show started word rest e f =
-    elim (counts (suc (length rest)) (OneOf views ∷ NoWord ∷ []) (OneOf views ∷ []) f.wanted f.counted) [
-      | inl c ↦ (let shape = two_words rest (omega (arith, c.0)) in
-          no_third (word_at 0 rest) (word_at 1 rest) (shaped _ f.wanted rest _ c.1 shape f.fine_words))
-      | inr c ↦ (let shape = one_word rest (omega (arith, c.0)) in
-          at_words started word (codes "show") rest _ e shape (show_found started (word_at 0 rest) f.here (shaped _ f.wanted rest _ c.1 shape f.fine_words)))
-    ]
-
-found_first : (started : Bool) (word : List ℕ) (rest : List (List ℕ)) (k : Option Keyword) → keyword_in word ≡ k → fault_by started word k rest ≡ None → Found started (word ∷ rest)
+found_first : (started : Bool) (word : List ℕ) (rest : List (List ℕ)) (k : Option Keyword) → keyword_in word ≡ k → fault_by started word k rest ≡ None → From started word k rest
 found_first started word rest None e f = other_is_bad started word rest f
-found_first started word rest (Some k) e f = found_by k started word rest (keyword_is word k e) (fits started word k rest f)
+found_first started word rest (Some k) e f =
+    let found = found_by k started rest (fits started word k rest f) in
+    record { spells = record { spelled = ap (λ w. w ∷ rest) (keyword_is word k e) ∙ found.spelled; in_range = found.in_range }; here = found.here }
 
--- words without a fault spell a line in its place
-pub found : (started : Bool) (words : List (List ℕ)) → word_fault started words ≡ None → Found started words
-found started [] e = record { line = Blank; spells = record { spelled = refl; in_range = tt }; here = refl }
-found started (word ∷ rest) e = found_first started word rest (keyword_in word) refl e
+pub found : (started : Bool) (words : List (List ℕ)) → word_fault started words ≡ None → InPlace started words
+found started [] e = record { spells = record { spelled = refl; in_range = tt }; here = refl }
+found started (word ∷ rest) e =
+    let from = found_first started word rest (keyword_in word) refl e in
+    record { spells = from.spells; here = from.here }

@@ -1,21 +1,31 @@
 -- A line in its place has no fault in its words, and is read back from them. So words spell one line.
-use Rattle.std.proofs.Common.{◌≡◌, ℕ, ◌≤◌, Bool, true, false, List, [], ◌∷◌, refl, sym, ap, ap₂, ◌∙◌, arith}
-use Rattle.std.specs.Prelude.{Some, None, codes}
+use Rattle.std.proofs.Common.{◌≡◌, ℕ, suc, ◌≤◌, Bool, true, false, List, [], ◌∷◌, length, refl, sym, ap, ap₂, ◌∙◌, arith}
+use Rattle.std.specs.Prelude.{None, codes}
+use Rattle.std.specs.Option.{option_or}
 use Rattle.std.specs.Fmt.{decimal}
-use Rattle.std.proofs.lemmas.Option.{same_Some}
-use Rattle.topology.specs.declared.prefixes.Prefix.{Prefix as Range}
 use Rattle.schedule_file.specs.declared.lines.Line.{Line}
-use Rattle.schedule_file.specs.declared.lines.Line.TheVariants.{Blank, Node, Link, Pref, Prefix, Begin, Originate, Withdraw, Prefer, Deliver, Fail, Restore, Notice, Open, Drain, ShowRib, ShowLog}
-use Rattle.schedule_file.specs.declared.words.Keyword.TheVariants as keyword
-use Rattle.schedule_file.specs.Spelling.{line_words, prefix_text, relation_text, IsNumber, IsRange, InRange, Spells}
-use Rattle.schedule_file.specs.Words.{number_of, relation_of}
-use Rattle.schedule_file.specs.Table.{spells_field, first_fault, relations}
-use Rattle.schedule_file.specs.Table.Field.{NodeNumber, Value, Times, Masked, OneOf}
+use Rattle.schedule_file.specs.declared.lines.Line.TheVariants.{Blank, Begin, Declares, Directs}
+use Rattle.schedule_file.specs.declared.lines.Declaration.{Declaration}
+use Rattle.schedule_file.specs.declared.lines.Declaration.TheVariants.{Node, Link, Pref, Prefix}
+use Rattle.schedule_file.specs.declared.lines.Instruction.{Instruction}
+use Rattle.schedule_file.specs.declared.lines.Instruction.TheVariants.{Origin, Single, Pair, Prefer, Drain, Show, ShowEpoch}
+use Rattle.schedule_file.specs.declared.table.Keyword.{Keyword}
+use Rattle.schedule_file.specs.declared.table.Keyword.TheVariants as keyword
+use Rattle.schedule_file.specs.declared.table.EpochView.TheVariants.{Cut}
+use Rattle.schedule_file.specs.declared.table.PlainView.{PlainView}
+use Rattle.schedule_file.specs.declared.table.PlainView.TheVariants.{Rib}
+use Rattle.schedule_file.specs.declared.table.View.TheVariants.{Plain, OfEpoch}
+use Rattle.schedule_file.specs.Spelling.{prefix_text, relation_text, IsNumber}
+use Rattle.schedule_file.specs.Lines.{declaring, declared_words, directing, directed_words, line_words, DeclaresInRange, DirectsInRange, InRange, Spells}
+use Rattle.schedule_file.specs.Words.{has_word, number_of, relation_of}
+use Rattle.schedule_file.specs.Table.{Field, keyword_text, plain_text, epoch_text, view_in, later_views, shape_of, may_stand, may_have, fields, view_fields, spells_field, first_fault, relations}
+use Rattle.schedule_file.specs.Table.Field.{NodeNumber, Value, Times, Masked, OneOf, Viewed, EpochNumber}
 use Rattle.schedule_file.specs.Grammar.{stands}
-use Rattle.schedule_file.specs.Refusals.{word_fault, line_of}
+use Rattle.schedule_file.specs.Refusals.{is_later, fault_by, word_fault, shown_by, line_by, line_from, line_of}
 use Rattle.schedule_file.proofs.Numbers.{decimal_value}
 use Rattle.schedule_file.proofs.Passing.{spells_decimal, spells_text, prefix_of_text, relation_of_text, relation_known, has_only}
-use Rattle.schedule_file.proofs.Fields.{by_fields, fine}
+use Rattle.schedule_file.proofs.Fields.{fine, good_form}
+use Rattle.schedule_file.proofs.Keywords.{keyword_found, view_found}
 
 node_fine : (n : ℕ) → IsNumber n → spells_field NodeNumber (decimal n) ≡ true
 node_fine n h = spells_decimal 1 65535 n (omega (arith, h.0)) (omega (arith, h.1)) (omega (arith, h.1))
@@ -26,91 +36,145 @@ value_fine n h = spells_decimal 0 1000000 n (omega arith) h (omega arith)
 times_fine : (n : ℕ) → 1 ≤ n → n ≤ 1000000 → spells_field Times (decimal n) ≡ true
 times_fine n h k = spells_decimal 1 1000000 n h k (omega arith)
 
-two_nodes : (a b : ℕ) → IsNumber a → IsNumber b → first_fault (NodeNumber ∷ NodeNumber ∷ []) (decimal a ∷ decimal b ∷ []) ≡ None
-two_nodes a b h k =
-    fine NodeNumber (NodeNumber ∷ []) (decimal a) (decimal b ∷ []) (node_fine a h) ∙ fine NodeNumber [] (decimal b) [] (node_fine b k)
+epoch_fine : (n : ℕ) → 1 ≤ n → n ≤ 32 → spells_field EpochNumber (decimal n) ≡ true
+epoch_fine n h k = spells_decimal 1 32 n h k (omega arith)
 
-nodes_and_value : (a b value : ℕ) → IsNumber a → IsNumber b → value ≤ 1000000 → first_fault (NodeNumber ∷ NodeNumber ∷ Value ∷ []) (decimal a ∷ decimal b ∷ decimal value ∷ []) ≡ None
-nodes_and_value a b value h k l =
-    fine NodeNumber (NodeNumber ∷ Value ∷ []) (decimal a) (decimal b ∷ decimal value ∷ []) (node_fine a h)
-    ∙ fine NodeNumber (Value ∷ []) (decimal b) (decimal value ∷ []) (node_fine b k)
-    ∙ fine Value [] (decimal value) [] (value_fine value l)
+-- words that spell their fields
+one_fine : (f : Field) (a : List ℕ) → spells_field f a ≡ true → first_fault (f ∷ []) (a ∷ []) ≡ None
+one_fine f a h = fine f [] a [] h
 
-node_and_prefix : (node : ℕ) (p : Range) → IsNumber node → IsRange p → first_fault (NodeNumber ∷ Masked ∷ []) (decimal node ∷ prefix_text p ∷ []) ≡ None
-node_and_prefix node p h k =
-    fine NodeNumber (Masked ∷ []) (decimal node) (prefix_text p ∷ []) (node_fine node h) ∙ fine Masked [] (prefix_text p) [] (spells_text p k)
+two_fine : (f g : Field) (a b : List ℕ) → spells_field f a ≡ true → spells_field g b ≡ true → first_fault (f ∷ g ∷ []) (a ∷ b ∷ []) ≡ None
+two_fine f g a b h k = fine f (g ∷ []) a (b ∷ []) h ∙ one_fine g b k
+
+three_fine : (f g x : Field) (a b c : List ℕ) → spells_field f a ≡ true → spells_field g b ≡ true → spells_field x c ≡ true → first_fault (f ∷ g ∷ x ∷ []) (a ∷ b ∷ c ∷ []) ≡ None
+three_fine f g x a b c h k l = fine f (g ∷ x ∷ []) a (b ∷ c ∷ []) h ∙ two_fine g x b c k l
+
+-- the words behind a keyword are as many as it may have, and each may stand there
+record Fine (k : Keyword) (words : List (List ℕ)) : Type 0 where
+  now : is_later k words ≡ false
+  counted : may_have (shape_of k) (suc (length words)) ≡ true
+  fine_words : first_fault (fields k words) words ≡ None
+
+fine_declaration : (d : Declaration) → DeclaresInRange d → Fine (declaring d) (declared_words d)
+fine_declaration (Node id false) h = record { now = refl; counted = refl; fine_words = one_fine NodeNumber (decimal id) (node_fine id h) }
+fine_declaration (Node id true) h = record {
+  now = refl;
+  counted = refl;
+  fine_words = two_fine NodeNumber (OneOf (codes "consolidator" ∷ [])) (decimal id) (codes "consolidator") (node_fine id h) (has_only (codes "consolidator"));
+}
+fine_declaration (Link a b relation) h = record {
+  now = refl;
+  counted = refl;
+  fine_words = three_fine NodeNumber NodeNumber (OneOf relations) (decimal a) (decimal b) (relation_text relation) (node_fine a h.0) (node_fine b h.1) (relation_known relation);
+}
+fine_declaration (Pref a b value) h = record {
+  now = refl;
+  counted = refl;
+  fine_words = three_fine NodeNumber NodeNumber Value (decimal a) (decimal b) (decimal value) (node_fine a h.0) (node_fine b h.1) (value_fine value h.2);
+}
+fine_declaration (Prefix p) h = record { now = refl; counted = refl; fine_words = one_fine Masked (prefix_text p) (spells_text p h) }
+
+-- what is shown is of this version
+plain_now : (view : PlainView) → has_word later_views (plain_text view) ≡ false
+plain_now Rib = refl
+plain_now view = refl
+
+plain_fine : (view : PlainView) → first_fault (view_fields (view_in (plain_text view))) (plain_text view ∷ []) ≡ None
+plain_fine Rib = refl
+plain_fine view = refl
+
+fine_instruction : (i : Instruction) → DirectsInRange i → Fine (directing i) (directed_words i)
+fine_instruction (Origin event node p) h = record {
+  now = refl;
+  counted = refl;
+  fine_words = two_fine NodeNumber Masked (decimal node) (prefix_text p) (node_fine node h.0) (spells_text p h.1);
+}
+fine_instruction (Single event node) h = record { now = refl; counted = refl; fine_words = one_fine NodeNumber (decimal node) (node_fine node h) }
+fine_instruction (Pair event a b) h = record {
+  now = refl;
+  counted = refl;
+  fine_words = two_fine NodeNumber NodeNumber (decimal a) (decimal b) (node_fine a h.0) (node_fine b h.1);
+}
+fine_instruction (Prefer node nbr value) h = record {
+  now = refl;
+  counted = refl;
+  fine_words = three_fine NodeNumber NodeNumber Value (decimal node) (decimal nbr) (decimal value) (node_fine node h.0) (node_fine nbr h.1) (value_fine value h.2);
+}
+fine_instruction (Drain times) h = record { now = refl; counted = refl; fine_words = one_fine Times (decimal times) (times_fine times h.0 h.1) }
+fine_instruction (Show view) h = record { now = plain_now view; counted = refl; fine_words = plain_fine view }
+fine_instruction (ShowEpoch Cut epoch) h = record {
+  now = refl;
+  counted = refl;
+  fine_words = two_fine Viewed EpochNumber (codes "cut") (decimal epoch) refl (epoch_fine epoch h.0 h.1);
+}
+
+-- a line stands where lines of its keyword do
+declares_here : (started : Bool) (d : Declaration) → stands started (Declares d) ≡ may_stand started (shape_of (declaring d))
+declares_here started (Node id consolidator) = refl
+declares_here started (Link a b relation) = refl
+declares_here started (Pref a b value) = refl
+declares_here started (Prefix p) = refl
+
+directs_here : (started : Bool) (i : Instruction) → stands started (Directs i) ≡ may_stand started (shape_of (directing i))
+directs_here started (Origin event node p) = refl
+directs_here started (Single event node) = refl
+directs_here started (Pair event a b) = refl
+directs_here started (Prefer node nbr value) = refl
+directs_here started (Drain times) = refl
+directs_here started (Show view) = refl
+directs_here started (ShowEpoch view epoch) = refl
+
+by_keyword : (started : Bool) (k : Keyword) (words : List (List ℕ)) → may_stand started (shape_of k) ≡ true → Fine k words → word_fault started (keyword_text k ∷ words) ≡ None
+by_keyword started k words here f =
+    ap (λ found. fault_by started (keyword_text k) found words) (keyword_found k)
+    ∙ ap (λ fault. option_or fault (first_fault (fields k words) words)) (good_form started k words f.now here f.counted)
+    ∙ f.fine_words
 
 pub fine_line : (started : Bool) (line : Line) → InRange line → stands started line ≡ true → word_fault started (line_words line) ≡ None
 fine_line started Blank h s = refl
-fine_line started (Node id false) h s =
-    by_fields started (codes "node") keyword.Node (decimal id ∷ []) refl s ∙ fine NodeNumber [] (decimal id) [] (node_fine id h)
-fine_line started (Node id true) h s =
-    by_fields started (codes "node") keyword.Node (decimal id ∷ codes "consolidator" ∷ []) refl s
-    ∙ fine NodeNumber (OneOf (codes "consolidator" ∷ []) ∷ []) (decimal id) (codes "consolidator" ∷ []) (node_fine id h)
-    ∙ fine (OneOf (codes "consolidator" ∷ [])) [] (codes "consolidator") [] (has_only (codes "consolidator"))
-fine_line started (Link a b relation) h s =
-    by_fields started (codes "link") keyword.Link (decimal a ∷ decimal b ∷ relation_text relation ∷ []) refl s
-    ∙ fine NodeNumber (NodeNumber ∷ OneOf relations ∷ []) (decimal a) (decimal b ∷ relation_text relation ∷ []) (node_fine a h.0)
-    ∙ fine NodeNumber (OneOf relations ∷ []) (decimal b) (relation_text relation ∷ []) (node_fine b h.1)
-    ∙ fine (OneOf relations) [] (relation_text relation) [] (relation_known relation)
-fine_line started (Pref a b value) h s =
-    by_fields started (codes "pref") keyword.Pref (decimal a ∷ decimal b ∷ decimal value ∷ []) refl s ∙ nodes_and_value a b value h.0 h.1 h.2
-fine_line started (Prefix p) h s =
-    by_fields started (codes "prefix") keyword.Prefix (prefix_text p ∷ []) refl s ∙ fine Masked [] (prefix_text p) [] (spells_text p h)
-fine_line started Begin h s = by_fields started (codes "begin") keyword.Begin [] refl s
-fine_line started (Originate node p) h s =
-    by_fields started (codes "originate") keyword.Originate (decimal node ∷ prefix_text p ∷ []) refl s ∙ node_and_prefix node p h.0 h.1
-fine_line started (Withdraw node p) h s =
-    by_fields started (codes "withdraw") keyword.Withdraw (decimal node ∷ prefix_text p ∷ []) refl s ∙ node_and_prefix node p h.0 h.1
-fine_line started (Prefer node nbr value) h s =
-    by_fields started (codes "prefer") keyword.Prefer (decimal node ∷ decimal nbr ∷ decimal value ∷ []) refl s ∙ nodes_and_value node nbr value h.0 h.1 h.2
-fine_line started (Deliver from to) h s =
-    by_fields started (codes "deliver") keyword.Deliver (decimal from ∷ decimal to ∷ []) refl s ∙ two_nodes from to h.0 h.1
-fine_line started (Fail a b) h s =
-    by_fields started (codes "fail") keyword.Fail (decimal a ∷ decimal b ∷ []) refl s ∙ two_nodes a b h.0 h.1
-fine_line started (Restore a b) h s =
-    by_fields started (codes "restore") keyword.Restore (decimal a ∷ decimal b ∷ []) refl s ∙ two_nodes a b h.0 h.1
-fine_line started (Notice node nbr) h s =
-    by_fields started (codes "notice") keyword.Notice (decimal node ∷ decimal nbr ∷ []) refl s ∙ two_nodes node nbr h.0 h.1
-fine_line started (Open node nbr) h s =
-    by_fields started (codes "open") keyword.Open (decimal node ∷ decimal nbr ∷ []) refl s ∙ two_nodes node nbr h.0 h.1
-fine_line started (Drain times) h s =
-    by_fields started (codes "drain") keyword.Drain (decimal times ∷ []) refl s ∙ fine Times [] (decimal times) [] (times_fine times h.0 h.1)
-fine_line started ShowRib h s = by_fields started (codes "show") keyword.Show (codes "rib" ∷ []) refl s
-fine_line started ShowLog h s = by_fields started (codes "show") keyword.Show (codes "log" ∷ []) refl s
+fine_line started Begin h s = by_keyword started keyword.Begin [] s (record { now = refl; counted = refl; fine_words = refl })
+fine_line started (Declares d) h s = by_keyword started (declaring d) (declared_words d) (sym (declares_here started d) ∙ s) (fine_declaration d h)
+fine_line started (Directs i) h s = by_keyword started (directing i) (directed_words i) (sym (directs_here started i) ∙ s) (fine_instruction i h)
 
 value_back : (n : ℕ) → IsNumber n → number_of (decimal n) ≡ n
 value_back n h = decimal_value n (omega (arith, h.1))
 
-pub read_back : (line : Line) → InRange line → line_of (line_words line) ≡ Some line
+declared_back : (d : Declaration) → DeclaresInRange d → line_by (declaring d) (declared_words d) ≡ Declares d
+declared_back (Node id false) h = ap (λ n. Declares (Node n false)) (value_back id h)
+declared_back (Node id true) h = ap (λ n. Declares (Node n true)) (value_back id h)
+declared_back (Link a b relation) h =
+    ap₂ (λ m n. Declares (Link m n (relation_of (relation_text relation)))) (value_back a h.0) (value_back b h.1) ∙ ap (λ r. Declares (Link a b r)) (relation_of_text relation)
+declared_back (Pref a b value) h =
+    ap₂ (λ m n. Declares (Pref m n (number_of (decimal value)))) (value_back a h.0) (value_back b h.1) ∙ ap (λ n. Declares (Pref a b n)) (decimal_value value (omega (arith, h.2)))
+declared_back (Prefix p) h = ap (λ q. Declares (Prefix q)) (prefix_of_text p h)
+
+directed_back : (i : Instruction) → DirectsInRange i → line_by (directing i) (directed_words i) ≡ Directs i
+directed_back (Origin event node p) h = ap₂ (λ n q. Directs (Origin event n q)) (value_back node h.0) (prefix_of_text p h.1)
+directed_back (Single event node) h = ap (λ n. Directs (Single event n)) (value_back node h)
+directed_back (Pair event a b) h = ap₂ (λ m n. Directs (Pair event m n)) (value_back a h.0) (value_back b h.1)
+directed_back (Prefer node nbr value) h =
+    ap₂ (λ m n. Directs (Prefer m n (number_of (decimal value)))) (value_back node h.0) (value_back nbr h.1) ∙ ap (λ n. Directs (Prefer node nbr n)) (decimal_value value (omega (arith, h.2)))
+directed_back (Drain times) h = ap (λ n. Directs (Drain n)) (decimal_value times (omega (arith, h.1)))
+directed_back (Show view) h = ap (λ v. shown_by v (plain_text view ∷ [])) (view_found (Plain view))
+directed_back (ShowEpoch view epoch) h =
+    ap (λ v. shown_by v (epoch_text view ∷ decimal epoch ∷ [])) (view_found (OfEpoch view))
+    ∙ ap (λ n. Directs (ShowEpoch view n)) (decimal_value epoch (omega (arith, h.1)))
+
+from_keyword : (k : Keyword) (words : List (List ℕ)) → line_of (keyword_text k ∷ words) ≡ line_by k words
+from_keyword k words = ap (λ found. line_from found words) (keyword_found k)
+
+pub read_back : (line : Line) → InRange line → line_of (line_words line) ≡ line
 read_back Blank h = refl
-read_back (Node id false) h = ap (λ n. Some (Node n false)) (value_back id h)
-read_back (Node id true) h = ap (λ n. Some (Node n true)) (value_back id h)
-read_back (Link a b relation) h =
-    ap₂ (λ m n. Some (Link m n (relation_of (relation_text relation)))) (value_back a h.0) (value_back b h.1) ∙ ap (λ r. Some (Link a b r)) (relation_of_text relation)
-read_back (Pref a b value) h =
-    ap₂ (λ m n. Some (Pref m n (number_of (decimal value)))) (value_back a h.0) (value_back b h.1) ∙ ap (λ n. Some (Pref a b n)) (decimal_value value (omega (arith, h.2)))
-read_back (Prefix p) h = ap (λ q. Some (Prefix q)) (prefix_of_text p h)
-read_back Begin h = refl
-read_back (Originate node p) h = ap₂ (λ n q. Some (Originate n q)) (value_back node h.0) (prefix_of_text p h.1)
-read_back (Withdraw node p) h = ap₂ (λ n q. Some (Withdraw n q)) (value_back node h.0) (prefix_of_text p h.1)
-read_back (Prefer node nbr value) h =
-    ap₂ (λ m n. Some (Prefer m n (number_of (decimal value)))) (value_back node h.0) (value_back nbr h.1) ∙ ap (λ n. Some (Prefer node nbr n)) (decimal_value value (omega (arith, h.2)))
-read_back (Deliver from to) h = ap₂ (λ m n. Some (Deliver m n)) (value_back from h.0) (value_back to h.1)
-read_back (Fail a b) h = ap₂ (λ m n. Some (Fail m n)) (value_back a h.0) (value_back b h.1)
-read_back (Restore a b) h = ap₂ (λ m n. Some (Restore m n)) (value_back a h.0) (value_back b h.1)
-read_back (Notice node nbr) h = ap₂ (λ m n. Some (Notice m n)) (value_back node h.0) (value_back nbr h.1)
-read_back (Open node nbr) h = ap₂ (λ m n. Some (Open m n)) (value_back node h.0) (value_back nbr h.1)
-read_back (Drain times) h = ap (λ n. Some (Drain n)) (decimal_value times (omega (arith, h.1)))
-read_back ShowRib h = refl
-read_back ShowLog h = refl
+read_back Begin h = from_keyword keyword.Begin []
+read_back (Declares d) h = from_keyword (declaring d) (declared_words d) ∙ declared_back d h
+read_back (Directs i) h = from_keyword (directing i) (directed_words i) ∙ directed_back i h
 
 -- the same of words that spell a line
 pub fine_words : (started : Bool) (words : List (List ℕ)) (line : Line) → Spells words line → stands started line ≡ true → word_fault started words ≡ None
 fine_words started words line h s = ap (word_fault started) h.spelled ∙ fine_line started line h.in_range s
 
-pub line_read : (words : List (List ℕ)) (line : Line) → Spells words line → line_of words ≡ Some line
+pub line_read : (words : List (List ℕ)) (line : Line) → Spells words line → line_of words ≡ line
 line_read words line h = ap line_of h.spelled ∙ read_back line h.in_range
 
 pub one_line : (words : List (List ℕ)) (line other : Line) → Spells words line → Spells words other → line ≡ other
-one_line words line other h k = same_Some line other (sym (line_read words line h) ∙ line_read words other k)
+one_line words line other h k = sym (line_read words line h) ∙ line_read words other k

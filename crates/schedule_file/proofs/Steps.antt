@@ -7,12 +7,12 @@ use Rattle.std.proofs.lemmas.Option.{none-some}
 use Rattle.topology.specs.declared.status.BadKind.{BadKind}
 use Rattle.schedule_file.specs.declared.lines.Line.{Line}
 use Rattle.schedule_file.specs.declared.lines.Schedule.{Schedule}
-use Rattle.schedule_file.specs.Spelling.{Spells}
+use Rattle.schedule_file.specs.Lines.{Spells}
 use Rattle.schedule_file.specs.Grammar.{begun, net_of, stands, name_fault, allowed}
-use Rattle.schedule_file.specs.Refusals.{word_fault, line_of, fault_in, refusal}
+use Rattle.schedule_file.specs.Refusals.{word_fault, line_of, refusal}
 use Rattle.schedule_file.specs.declared.names.Refusal.{Refusal}
 use Rattle.schedule_file.specs.declared.names.Refusal.TheVariants.{Bad}
-use Rattle.schedule_file.specs.Standing.{Says, Refuses, RefusesLine}
+use Rattle.schedule_file.specs.Standing.{NamesFault, Refuses, RefusesLine}
 use Rattle.schedule_file.proofs.Spellings.{fine_words, line_read}
 use Rattle.schedule_file.proofs.Shapes.{found}
 
@@ -23,7 +23,7 @@ neither (Some a) y e = absurd (none-some a (sym e))
 is_none_of : {A : Type 0} (x : Option A) → x ≡ None → is_none x ≡ true
 is_none_of x e = ap is_none e
 
-none_of : {A : Type 0} (x : Option A) → is_none x ≡ true → x ≡ None
+pub none_of : {A : Type 0} (x : Option A) → is_none x ≡ true → x ≡ None
 none_of None e = refl
 none_of (Some a) e = let q : false ≡ true = e in absurd (false≢true q)
 
@@ -31,16 +31,16 @@ none_of (Some a) e = let q : false ≡ true = e in absurd (false≢true q)
 pub names_decide : (earlier : List Line) (words : List (List ℕ)) (line : Line) → Spells words line → stands (begun earlier) line ≡ true → refusal earlier words ≡ name_fault (net_of earlier) line
 unfolding refusal
 names_decide earlier words line h s =
-    ap (λ fault. option_or fault (fault_in (net_of earlier) (line_of words))) (fine_words (begun earlier) words line h s) ∙ ap (fault_in (net_of earlier)) (line_read words line h)
+    ap (λ fault. option_or fault (name_fault (net_of earlier) (line_of words))) (fine_words (begun earlier) words line h s) ∙ ap (name_fault (net_of earlier)) (line_read words line h)
 
 -- a fault of the words is the first
 pub words_decide : (earlier : List Line) (words : List (List ℕ)) (kind : BadKind) → word_fault (begun earlier) words ≡ Some kind → refusal earlier words ≡ Some kind
 unfolding refusal
-words_decide earlier words kind e = ap (λ fault. option_or fault (fault_in (net_of earlier) (line_of words))) e
+words_decide earlier words kind e = ap (λ fault. option_or fault (name_fault (net_of earlier) (line_of words))) e
 
 no_word_fault : (earlier : List Line) (words : List (List ℕ)) → refusal earlier words ≡ None → word_fault (begun earlier) words ≡ None
 unfolding refusal
-no_word_fault earlier words e = (neither (word_fault (begun earlier) words) (fault_in (net_of earlier) (line_of words)) e).0
+no_word_fault earlier words e = (neither (word_fault (begun earlier) words) (name_fault (net_of earlier) (line_of words)) e).0
 
 pub allowed_from : (earlier : List Line) (line : Line) → stands (begun earlier) line ≡ true → name_fault (net_of earlier) line ≡ None → allowed earlier line ≡ true
 allowed_from earlier line s e = and_from (stands (begun earlier) line) (is_none (name_fault (net_of earlier) line)) s (is_none_of (name_fault (net_of earlier) line) e)
@@ -49,7 +49,7 @@ allowed_from earlier line s e = and_from (stands (begun earlier) line) (is_none 
 pub allowed_line : (earlier : List Line) (words : List (List ℕ)) → refusal earlier words ≡ None → (line : Line) × Spells words line × IsTrue (allowed earlier line)
 allowed_line earlier words e =
     let at = found (begun earlier) words (no_word_fault earlier words e) in
-    (at.line, at.spells, allowed_from earlier at.line at.here (sym (names_decide earlier words at.line at.spells at.here) ∙ e))
+    (line_of words, at.spells, allowed_from earlier (line_of words) at.here (sym (names_decide earlier words (line_of words) at.spells at.here) ∙ e))
 
 -- where an allowed line is spelled, nothing is wrong
 pub nothing_wrong : (earlier : List Line) (words : List (List ℕ)) (line : Line) → Spells words line → IsTrue (allowed earlier line) → refusal earlier words ≡ None
@@ -63,8 +63,8 @@ refused_none earlier words h = nothing_wrong earlier words h.0 h.1 h.2
 -- what a step refuses, it refuses after all lines that the schedule stands for
 pub words_refused : (schedule : Schedule) (started : Bool) (words : List (List ℕ)) (kind : BadKind) (why : Refusal) → why ≡ Bad kind → word_fault started words ≡ Some kind → RefusesLine schedule started words why
 words_refused schedule started words kind why same e = λ earlier after.
-    subst (λ w. Says w (refusal earlier words)) (sym same) (words_decide earlier words kind (ap (λ b. word_fault b words) (sym after.start) ∙ e))
+    subst (λ w. NamesFault w (refusal earlier words)) (sym same) (words_decide earlier words kind (ap (λ b. word_fault b words) (sym after.start) ∙ e))
 
 pub names_refused : (schedule : Schedule) (started : Bool) (words : List (List ℕ)) (line : Line) (why : Refusal) → Spells words line → stands started line ≡ true → Refuses schedule started line why → RefusesLine schedule started words why
 names_refused schedule started words line why h s refuses = λ earlier after.
-    subst (Says why) (sym (names_decide earlier words line h (ap (λ b. stands b line) (sym after.start) ∙ s))) (refuses earlier after)
+    subst (NamesFault why) (sym (names_decide earlier words line h (ap (λ b. stands b line) (sym after.start) ∙ s))) (refuses earlier after)

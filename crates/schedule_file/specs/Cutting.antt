@@ -4,11 +4,11 @@ use Rattle.std.specs.List.{list_any}
 use Rattle.schedule_file.specs.declared.prefixes.Cut.{Cut}
 
 -- the whole of the bytes, where no mark is there, or the mark and what is behind it
-abbrev pub joined : ℕ → List ℕ → Option (List ℕ) → List ℕ
-joined mark front None = front
-joined mark front (Some rest) = front ++ mark ∷ rest
+abbrev pub uncut : ℕ → List ℕ → Option (List ℕ) → List ℕ
+uncut mark front None = front
+uncut mark front (Some rest) = front ++ mark ∷ rest
 
 -- the mark is not in front, and front and rest are the bytes
 pub record Cuts (mark : ℕ) (bytes : List ℕ) (cut : Cut) : Type 0 where
   pub unmarked : list_any (λ b. b == mark) cut.front.now ≡ false
-  pub whole : bytes ≡ joined mark cut.front.now (option_map (λ rest. rest.now) cut.rest)
+  pub whole : bytes ≡ uncut mark cut.front.now (option_map (λ rest. rest.now) cut.rest)

@@ -1,5 +1,6 @@
 -- Which lines make a schedule: each is spelled, and allowed after those before it.
 use Rattle.std.specs.Prelude.{ℕ, suc, Bool, true, false, not, ◌≡◌, ◌&&◌, is_none, IsTrue, Option, Some, None, List, [], ◌∷◌, ◌++◌, length, map, if◌then◌else◌}
+use Rattle.std.specs.List.{All}
 use Rattle.topology.specs.declared.prefixes.Prefix.{Prefix as Range}
 use Rattle.topology.specs.declared.building.BuildError.{BuildError}
 use Rattle.topology.specs.declared.building.BuildError.TheVariants as building
@@ -9,22 +10,34 @@ use Rattle.topology.specs.Lists.{has}
 use Rattle.topology.specs.Net.{Net, linked, has_prefix, same_prefix}
 use Rattle.topology.specs.Building.{nothing, with_node, with_link, with_pref, with_prefix, node_refusal, link_refusal, pref_refusal, prefix_refusal}
 use Rattle.schedule_file.specs.declared.lines.Line.{Line}
-use Rattle.schedule_file.specs.declared.lines.Line.TheVariants.{Blank, Node, Link, Pref, Prefix, Begin, Originate, Withdraw, Prefer, Deliver, Fail, Restore, Notice, Open, Drain, ShowRib, ShowLog}
+use Rattle.schedule_file.specs.declared.lines.Line.TheVariants.{Blank, Begin, Declares, Directs}
+use Rattle.schedule_file.specs.declared.lines.Declaration.{Declaration}
+use Rattle.schedule_file.specs.declared.lines.Declaration.TheVariants.{Node, Link, Pref, Prefix}
+use Rattle.schedule_file.specs.declared.lines.Instruction.{Instruction}
+use Rattle.schedule_file.specs.declared.lines.Instruction.TheVariants.{Origin, Single, Pair, Prefer, Drain, Show, ShowEpoch}
 use Rattle.schedule_file.specs.declared.lines.Directive.{Directive}
 use Rattle.schedule_file.specs.declared.lines.Directive.TheVariants as directive
 use Rattle.schedule_file.specs.declared.lines.Numbered.{Numbered}
 use Rattle.schedule_file.specs.declared.lines.Schedule.{Schedule}
-use Rattle.schedule_file.specs.Spelling.{words_by_line, Spells}
+use Rattle.schedule_file.specs.Spelling.{words_by_line}
+use Rattle.schedule_file.specs.Lines.{DirectsInRange, Spells}
+use Rattle.schedule_file.specs.Table.{origin_directive, node_directive, pair_directive, plain_directive, epoch_directive}
 
 -- lists of lines are newest first
 
+-- what a declaration adds to the network
+abbrev pub with_declaration : Declaration → Net → Net
+with_declaration (Node id consolidator) net = with_node net id consolidator
+with_declaration (Link a b relation) net = with_link net (record { a = a; b = b; relation = relation })
+with_declaration (Pref a b value) net = with_pref net (record { a = a; b = b; value = value })
+with_declaration (Prefix p) net = with_prefix net p
+
 -- what a line adds to the network
 abbrev pub with_line : Line → Net → Net
-with_line (Node id consolidator) net = with_node net id consolidator
-with_line (Link a b relation) net = with_link net (record { a = a; b = b; relation = relation })
-with_line (Pref a b value) net = with_pref net (record { a = a; b = b; value = value })
-with_line (Prefix p) net = with_prefix net p
-with_line other net = net
+with_line Blank net = net
+with_line Begin net = net
+with_line (Declares declaration) net = with_declaration declaration net
+with_line (Directs instruction) net = net
 
 -- the network that the lines describe
 abbrev pub net_of : List Line → Net
@@ -34,28 +47,17 @@ net_of (line ∷ earlier) = with_line line (net_of earlier)
 -- one of the lines is begin
 abbrev pub begun : List Line → Bool
 begun [] = false
+begun (Blank ∷ earlier) = begun earlier
 begun (Begin ∷ earlier) = true
-begun (line ∷ earlier) = begun earlier
+begun (Declares declaration ∷ earlier) = begun earlier
+begun (Directs instruction ∷ earlier) = begun earlier
 
 -- the line stands on its side of begin, of which there is one
 abbrev pub stands : Bool → Line → Bool
 stands started Blank = true
-stands started (Node id consolidator) = not started
-stands started (Link a b relation) = not started
-stands started (Pref a b value) = not started
-stands started (Prefix p) = not started
 stands started Begin = not started
-stands started (Originate node p) = started
-stands started (Withdraw node p) = started
-stands started (Prefer node nbr value) = started
-stands started (Deliver from to) = started
-stands started (Fail a b) = started
-stands started (Restore a b) = started
-stands started (Notice node nbr) = started
-stands started (Open node nbr) = started
-stands started (Drain times) = started
-stands started ShowRib = started
-stands started ShowLog = started
+stands started (Declares declaration) = not started
+stands started (Directs instruction) = started
 
 -- the kind of each refusal of the network; want of memory is no fault of a line
 abbrev pub kind_of : BuildError → Option BadKind
@@ -79,6 +81,10 @@ origin_fault net node p =
     else if not (has_prefix net p) then Some bad.UnknownPrefix
     else None
 
+-- the first fault of a node that is to be declared
+abbrev pub node_fault : Net → ℕ → Option BadKind
+node_fault net node = if not (has net.nodes node) then Some bad.UnknownNode else None
+
 -- the first fault of two different nodes with a link
 abbrev pub pair_fault : Net → ℕ → ℕ → Option BadKind
 pair_fault net a b = fault_from (pref_refusal net a b)
@@ -91,21 +97,29 @@ neighbour_fault net node nbr =
     else if not (linked net node nbr) then Some bad.NoLink
     else None
 
--- the first fault of the names of a line: an unknown node, an unknown prefix, equal ends, no link, what is there already, too many
+-- the first fault of the names of a declaration: an unknown node, equal ends, no link, what is there already, too many
+abbrev pub declared_fault : Net → Declaration → Option BadKind
+declared_fault net (Node id consolidator) = fault_from (node_refusal net id consolidator)
+declared_fault net (Link a b relation) = fault_from (link_refusal net a b)
+declared_fault net (Pref a b value) = fault_from (pref_refusal net a b)
+declared_fault net (Prefix p) = fault_from (prefix_refusal net p)
+
+-- the first fault of the names of an instruction: an unknown node, an unknown prefix, equal ends, no link
+abbrev pub directed_fault : Net → Instruction → Option BadKind
+directed_fault net (Origin event node p) = origin_fault net node p
+directed_fault net (Single event node) = node_fault net node
+directed_fault net (Pair event a b) = pair_fault net a b
+directed_fault net (Prefer node nbr value) = neighbour_fault net node nbr
+directed_fault net (Drain times) = None
+directed_fault net (Show view) = None
+directed_fault net (ShowEpoch view epoch) = None
+
+-- the first fault of the names of a line
 abbrev pub name_fault : Net → Line → Option BadKind
-name_fault net (Node id consolidator) = fault_from (node_refusal net id consolidator)
-name_fault net (Link a b relation) = fault_from (link_refusal net a b)
-name_fault net (Pref a b value) = fault_from (pref_refusal net a b)
-name_fault net (Prefix p) = fault_from (prefix_refusal net p)
-name_fault net (Originate node p) = origin_fault net node p
-name_fault net (Withdraw node p) = origin_fault net node p
-name_fault net (Prefer node nbr value) = neighbour_fault net node nbr
-name_fault net (Deliver from to) = pair_fault net from to
-name_fault net (Fail a b) = pair_fault net a b
-name_fault net (Restore a b) = pair_fault net a b
-name_fault net (Notice node nbr) = pair_fault net node nbr
-name_fault net (Open node nbr) = pair_fault net node nbr
-name_fault net other = None
+name_fault net Blank = None
+name_fault net Begin = None
+name_fault net (Declares declaration) = declared_fault net declaration
+name_fault net (Directs instruction) = directed_fault net instruction
 
 -- the line may follow these
 abbrev pub allowed : List Line → Line → Bool
@@ -116,20 +130,22 @@ abbrev pub place_in : Range → List Range → ℕ
 place_in p [] = 0
 place_in p (q ∷ qs) = if same_prefix p q then 0 else suc (place_in p qs)
 
--- what a line directs, with the places of its names
+-- what an instruction says, with the places of its names
+abbrev pub directive_of : Net → Instruction → Directive
+directive_of net (Origin event node p) = origin_directive event node (place_in p net.prefixes)
+directive_of net (Single event node) = node_directive event node
+directive_of net (Pair event a b) = pair_directive event a b
+directive_of net (Prefer node nbr value) = directive.Prefer node nbr value
+directive_of net (Drain times) = directive.Drain times
+directive_of net (Show view) = plain_directive view
+directive_of net (ShowEpoch view epoch) = epoch_directive view epoch
+
+-- what a line directs
 abbrev pub directed : Net → Line → List Directive
-directed net (Originate node p) = directive.Originate node (place_in p net.prefixes) ∷ []
-directed net (Withdraw node p) = directive.Withdraw node (place_in p net.prefixes) ∷ []
-directed net (Prefer node nbr value) = directive.Prefer node nbr value ∷ []
-directed net (Deliver from to) = directive.Deliver from to ∷ []
-directed net (Fail a b) = directive.Fail a b ∷ []
-directed net (Restore a b) = directive.Restore a b ∷ []
-directed net (Notice node nbr) = directive.Notice node nbr ∷ []
-directed net (Open node nbr) = directive.OpenSession node nbr ∷ []
-directed net (Drain times) = directive.Drain times ∷ []
-directed net ShowRib = directive.ShowRib ∷ []
-directed net ShowLog = directive.ShowLog ∷ []
-directed net other = []
+directed net Blank = []
+directed net Begin = []
+directed net (Declares declaration) = []
+directed net (Directs instruction) = directive_of net instruction ∷ []
 
 -- the directives of the lines, the oldest first, each with the number of its line
 abbrev pub directives_of : List Line → List Numbered
@@ -146,3 +162,13 @@ Reads earlier (words ∷ others) all = (line : Line) × Spells words line × IsT
 abbrev pub IsFile : List ℕ → Schedule → Type 0
 IsFile bytes schedule =
     (lines : List Line) × Reads [] (words_by_line bytes) lines × (schedule.topology ≡ net_of lines) × (schedule.lines.items ≡ directives_of lines)
+
+-- the directive is that of an instruction whose numbers are within their ranges and whose names are those of the network
+pub record Follows (net : Net) (d : Directive) : Type 0 where
+  pub instruction : Instruction
+  pub same : d ≡ directive_of net instruction
+  pub in_range : DirectsInRange instruction
+  pub named : directed_fault net instruction ≡ None
+
+abbrev pub AllFollow : Net → List Numbered → Type 0
+AllFollow net lines = All (λ (d : Numbered). Follows net d.directive) lines

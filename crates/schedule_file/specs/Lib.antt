@@ -1,6 +1,7 @@
 pub mod Spelling
 pub mod Words
 pub mod Table
+pub mod Lines
 pub mod Grammar
 pub mod Refusals
 pub mod Standing

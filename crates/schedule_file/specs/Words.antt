@@ -1,5 +1,5 @@
 -- What single words spell, as tests of the word.
-use Rattle.std.specs.Prelude.{ℕ, Bool, ◌&&◌, ◌||◌, ◌==◌, ◌+◌, ◌*◌, ◌-◌, ◌%◌, ◌^◌, nat_le, nat_lt, List, [], ◌∷◌, map, codes, bytes_eq, if◌then◌else◌}
+use Rattle.std.specs.Prelude.{ℕ, Bool, ◌&&◌, ◌||◌, ◌==◌, ◌+◌, ◌*◌, ◌-◌, ◌%◌, ◌^◌, nat_le, nat_lt, List, [], ◌∷◌, map, codes, bytes_eq, get_or, if◌then◌else◌}
 use Rattle.std.specs.List.{list_any, slice_split}
 use Rattle.std.specs.Fmt.{decimal}
 use Rattle.std.specs.Str.Parse.{digits_value}
@@ -8,6 +8,10 @@ use Rattle.topology.specs.declared.links.Relation.TheVariants.{Customer, Provide
 use Rattle.topology.specs.declared.prefixes.Prefix.{Prefix as Range}
 use Rattle.schedule_file.specs.Spelling.{prefix_text}
 
+-- the word at a place, empty where there is none
+abbrev pub word_at : ℕ → List (List ℕ) → List ℕ
+word_at place words = get_or words place []
+
 -- the word is one of the list
 abbrev pub has_word : List (List ℕ) → List ℕ → Bool
 has_word words word = list_any (bytes_eq word) words
@@ -15,6 +19,10 @@ has_word words word = list_any (bytes_eq word) words
 -- the number that its digits make; of other words it is of no account
 abbrev pub number_of : List ℕ → ℕ
 number_of word = digits_value 10 word
+
+-- the number of the word at a place
+abbrev pub number_at : ℕ → List (List ℕ) → ℕ
+number_at place words = number_of (word_at place words)
 
 -- the word is the decimal spelling of a number from low to high
 unfoldable pub spells_number : ℕ → ℕ → List ℕ → Bool

@@ -1,7 +1,8 @@
 //! What holds of every schedule file. A call of a law brings what it says into the caller's proof.
 ghost use Rattle.std.specs.Prelude.{ℕ, ◌≡◌, ◌↔◌, None, List, [], IsTrue};
 ghost use Rattle.topology.specs.declared.status.BadKind.{BadKind};
-ghost use Rattle.schedule_file.specs.Spelling.{Spells, words_by_line};
+ghost use Rattle.schedule_file.specs.Spelling.{words_by_line};
+ghost use Rattle.schedule_file.specs.Lines.{Spells};
 ghost use Rattle.schedule_file.specs.Grammar.{IsFile, Reads, allowed};
 ghost use Rattle.schedule_file.specs.Refusals.{refusal, FirstBad};
 ghost use Rattle.schedule_file.specs.declared.lines.Line.{Line};

@@ -21,17 +21,19 @@
 //! | `deliver A B` | what is next on its way from A to B arrives |
 //! | `drain N` | at most N deliveries, 1 to 1000000 |
 //! | `fail A B`, `restore A B` | the link of A and B fails, or works again |
-//! | `notice A B` | A notices that its link to B failed |
-//! | `open A B` | A opens a session with B |
+//! | `notice A B` | A closes its session with B, which the link does not carry any more |
+//! | `open A B` | A opens the session that the link with B carries |
+//! | `snap N` | N begins a snapshot |
 //! | `show rib`, `show log` | writes the routes, or the logs |
+//! | `show cut E` | writes the cuts of epoch E, 1 to 32 |
 //!
 //! Numbers are decimal, without sign and leading zeros.
 //!
 //! Of several faults of a line the first in this order is named: an unknown first word, or one of
 //! a later version; the wrong side of `begin`; the number of words; from left to right a word, a
 //! number or a prefix that may not stand there; an unknown node, an unknown prefix; equal ends; no
-//! link; what is there already; too many. Equal ends of `prefer` are no link. A third word behind
-//! `show rib` or `show log` is one too many, but a second word that is not known is named first.
+//! link; what is there already; too many. Equal ends of `prefer` are no link. `show` may have two or
+//! three words; how many one view wants is looked at once its second word is known.
 #![tactic(auto)]
 
 pub mod laws;
@@ -40,9 +42,10 @@ pub mod names;
 pub mod parser;
 pub mod prefixes;
 pub mod reading;
+pub mod table;
 pub mod words;
 
-pub use lines::{Directive, Line, Numbered, Schedule};
+pub use lines::{Declaration, Directive, Instruction, Line, Numbered, Schedule};
 pub use parser::{ParseEnd, parse};
 
 #[cfg(test)]

@@ -1,11 +1,23 @@
 //! What a schedule file holds.
-use topology::{NodeId, Prefix, PrefixId, Relation, Topology};
+use crate::table::{EpochView, NodeEvent, OriginEvent, PairEvent, PlainView};
+use topology::{Epoch, NodeId, Prefix, PrefixId, Relation, Topology};
 
 /// A line of the file, by its words alone: names are not looked up.
 #[derive(Clone, Copy, Debug, PartialEq, Eq)]
 pub enum Line {
     /// No words.
     Blank,
+    /// The end of the first part.
+    Begin,
+    /// A line of the first part.
+    Declares(Declaration),
+    /// A line of the second part.
+    Directs(Instruction),
+}
+
+/// What a line adds to the network.
+#[derive(Clone, Copy, Debug, PartialEq, Eq)]
+pub enum Declaration {
     Node {
         id: NodeId,
         consolidator: bool,
@@ -25,14 +37,27 @@ pub enum Line {
     Prefix {
         prefix: Prefix,
     },
-    Begin,
-    Originate {
+}
+
+/// What a line says is to happen, by names that are not looked up.
+#[derive(Clone, Copy, Debug, PartialEq, Eq)]
+pub enum Instruction {
+    /// Something happens to a prefix at a node.
+    Origin {
+        event: OriginEvent,
         node: NodeId,
         prefix: Prefix,
     },
-    Withdraw {
+    /// Something happens at a node.
+    Single {
+        event: NodeEvent,
         node: NodeId,
-        prefix: Prefix,
+    },
+    /// Something happens at the link of two nodes.
+    Pair {
+        event: PairEvent,
+        a: NodeId,
+        b: NodeId,
     },
     /// The preference that `node` gives to `nbr` from then on.
     Prefer {
@@ -40,32 +65,17 @@ pub enum Line {
         nbr: NodeId,
         value: u32,
     },
-    Deliver {
-        from: NodeId,
-        to: NodeId,
-    },
-    Fail {
-        a: NodeId,
-        b: NodeId,
-    },
-    Restore {
-        a: NodeId,
-        b: NodeId,
-    },
-    Notice {
-        node: NodeId,
-        nbr: NodeId,
-    },
-    Open {
-        node: NodeId,
-        nbr: NodeId,
-    },
     /// At most so many deliveries, each the next one.
     Drain {
         times: u32,
     },
-    ShowRib,
-    ShowLog,
+    Show {
+        view: PlainView,
+    },
+    ShowEpoch {
+        view: EpochView,
+        epoch: Epoch,
+    },
 }
 
 /// A line after `begin`, its names looked up in the network.
@@ -104,12 +114,16 @@ pub enum Directive {
         node: NodeId,
         nbr: NodeId,
     },
+    Snap {
+        node: NodeId,
+    },
     /// At most so many deliveries, each the next one.
     Drain {
         times: u32,
     },
     ShowRib,
     ShowLog,
+    ShowCut(Epoch),
 }
 
 /// A directive and the number of its line, from 1.

@@ -1,12 +1,11 @@
 //! Looks up the names of lines in the network.
-ghost use Rattle.std.specs.Prelude.{◌≡◌, None, Some, [], ◌∷◌, ◌++◌, IfOk, OnOk, IfErr};
-ghost use Rattle.std.specs.Option.{option_to_list};
+ghost use Rattle.std.specs.Prelude.{◌≡◌, None, Some, IfOk, OnOk, IfErr};
 ghost use Rattle.schedule_file.specs.declared.names.Refusal.TheVariants.{Bad};
-ghost use Rattle.schedule_file.specs.Spelling.{InRange};
-ghost use Rattle.schedule_file.specs.Grammar.{with_line, place_in, directed, origin_fault, pair_fault, neighbour_fault};
-ghost use Rattle.schedule_file.specs.Standing.{declared_fault, ends_fault, directed_fault, refusal_of, Says};
+ghost use Rattle.schedule_file.specs.Lines.{DeclaresInRange};
+ghost use Rattle.schedule_file.specs.Grammar.{with_declaration, place_in, directive_of, origin_fault, node_fault, pair_fault, neighbour_fault, declared_fault, directed_fault};
+ghost use Rattle.schedule_file.specs.Standing.{refusal_of, NamesFault};
 
-use crate::lines::{Directive, Line};
+use crate::lines::{Declaration, Directive, Instruction};
 use topology::laws::relations_are_converse;
 use topology::{BadKind, BuildError, NodeId, Prefix, PrefixId, Topology};
 
@@ -42,21 +41,20 @@ impl From<BadKind> for Refusal {
     }
 }
 
-/// Adds what the line declares. A line of the second part declares nothing.
-pub fn declare(topology: &mut Topology, line: &Line) -> Result<(), Refusal>
-    requires { InRange line.now }
-    ensures ok { OnOk result (topology.new ≡ with_line line.now topology.old) }
-    ensures fine { OnOk result (declared_fault topology.old line.now ≡ None) }
-    ensures err { IfErr result (λ why. Says why (declared_fault topology.old line.now)) }
+/// Adds what the line declares.
+pub fn declare(topology: &mut Topology, declaration: &Declaration) -> Result<(), Refusal>
+    requires { DeclaresInRange declaration.now }
+    ensures ok { OnOk result (topology.new ≡ with_declaration declaration.now topology.old) }
+    ensures fine { OnOk result (declared_fault topology.old declaration.now ≡ None) }
+    ensures err { IfErr result (λ why. NamesFault why (declared_fault topology.old declaration.now)) }
 {
-    match line {
-        Line::Node { id, consolidator } => topology.add_node(*id, *consolidator)?,
-        Line::Link { a, b, relation } => topology.add_link(*a, *b, *relation)?,
-        Line::Pref { a, b, value } => topology.add_pref(*a, *b, *value)?,
-        Line::Prefix { prefix } => {
+    match declaration {
+        Declaration::Node { id, consolidator } => topology.add_node(*id, *consolidator)?,
+        Declaration::Link { a, b, relation } => topology.add_link(*a, *b, *relation)?,
+        Declaration::Pref { a, b, value } => topology.add_pref(*a, *b, *value)?,
+        Declaration::Prefix { prefix } => {
             topology.add_prefix(*prefix)?;
         }
-        _ => {}
     }
     Ok(())
 }
@@ -77,6 +75,17 @@ fn origin(topology: &Topology, node: NodeId, prefix: Prefix) -> Result<PrefixId,
         return Err(BadKind::UnknownPrefix);
     };
     Ok(place)
+}
+
+// The node is declared.
+fn check_node(topology: &Topology, node: NodeId) -> Result<(), BadKind>
+    ensures ok { OnOk result (node_fault topology.now node ≡ None) }
+    ensures err { IfErr result (λ kind. node_fault topology.now node ≡ Some kind) }
+{
+    match topology.rank_of(node) {
+        Some(_) => Ok(()),
+        None => Err(BadKind::UnknownNode),
+    }
 }
 
 // The two are different nodes with a link.
@@ -112,47 +121,32 @@ fn check_neighbour(topology: &Topology, node: NodeId, nbr: NodeId) -> Result<(),
     Ok(())
 }
 
-// The two nodes of the line have a link, where it names two.
-fn check_ends(topology: &Topology, line: &Line) -> Result<(), BadKind>
-    ensures ok { OnOk result (ends_fault topology.now line.now ≡ None) }
-    ensures err { IfErr result (λ kind. ends_fault topology.now line.now ≡ Some kind) }
+/// The directive of the instruction, its names looked up.
+pub fn look_up(topology: &Topology, instruction: &Instruction) -> Result<Directive, BadKind>
+    ensures ok { IfOk result (λ directive. directive ≡ directive_of topology.now instruction.now) }
+    ensures fine { OnOk result (directed_fault topology.now instruction.now ≡ None) }
+    ensures err { IfErr result (λ kind. directed_fault topology.now instruction.now ≡ Some kind) }
 {
-    match line {
-        Line::Prefer { node, nbr, .. } => check_neighbour(topology, *node, *nbr),
-        Line::Deliver { from, to } => check_pair(topology, *from, *to),
-        Line::Fail { a, b } | Line::Restore { a, b } => check_pair(topology, *a, *b),
-        Line::Notice { node, nbr } | Line::Open { node, nbr } => check_pair(topology, *node, *nbr),
-        _ => Ok(()),
+    match *instruction {
+        Instruction::Origin {
+            event,
+            node,
+            prefix,
+        } => Ok(event.directive(node, origin(topology, node, prefix)?)),
+        Instruction::Single { event, node } => {
+            check_node(topology, node)?;
+            Ok(event.directive(node))
+        }
+        Instruction::Pair { event, a, b } => {
+            check_pair(topology, a, b)?;
+            Ok(event.directive(a, b))
+        }
+        Instruction::Prefer { node, nbr, value } => {
+            check_neighbour(topology, node, nbr)?;
+            Ok(Directive::Prefer { node, nbr, value })
+        }
+        Instruction::Drain { times } => Ok(Directive::Drain { times }),
+        Instruction::Show { view } => Ok(view.directive()),
+        Instruction::ShowEpoch { view, epoch } => Ok(view.directive(epoch)),
     }
-}
-
-/// What the line directs. A line of the first part directs nothing.
-pub fn look_up(topology: &Topology, line: &Line) -> Result<Option<Directive>, BadKind>
-    ensures ok { IfOk result
-        (λ directive. directed topology.now line.now ≡ option_to_list directive) }
-    ensures fine { OnOk result (directed_fault topology.now line.now ≡ None) }
-    ensures err { IfErr result (λ kind. directed_fault topology.now line.now ≡ Some kind) }
-{
-    check_ends(topology, line)?;
-    let directive = match *line {
-        Line::Originate { node, prefix } => Directive::Originate {
-            node,
-            prefix: origin(topology, node, prefix)?,
-        },
-        Line::Withdraw { node, prefix } => Directive::Withdraw {
-            node,
-            prefix: origin(topology, node, prefix)?,
-        },
-        Line::Prefer { node, nbr, value } => Directive::Prefer { node, nbr, value },
-        Line::Deliver { from, to } => Directive::Deliver { from, to },
-        Line::Fail { a, b } => Directive::Fail { a, b },
-        Line::Restore { a, b } => Directive::Restore { a, b },
-        Line::Notice { node, nbr } => Directive::Notice { node, nbr },
-        Line::Open { node, nbr } => Directive::OpenSession { node, nbr },
-        Line::Drain { times } => Directive::Drain { times },
-        Line::ShowRib => Directive::ShowRib,
-        Line::ShowLog => Directive::ShowLog,
-        _ => return Ok(None),
-    };
-    Ok(Some(directive))
 }

@@ -2,11 +2,11 @@
 ghost use Rattle.std.specs.Prelude.{ℕ, suc, ◌≡◌, ◌≤◌, ◌<◌, ◌-◌, ◌^◌, Some, true, List, length, slice_range, IfOk, IfErr, OnOk};
 ghost use Rattle.text_lines.specs.Words.{words_of};
 ghost use Rattle.topology.specs.declared.status.BadKind.{BadKind};
-ghost use Rattle.schedule_file.specs.Grammar.{IsFile, stands};
+ghost use Rattle.schedule_file.specs.Grammar.{IsFile, AllFollow, stands};
 ghost use Rattle.schedule_file.specs.Refusals.{FirstBad};
 ghost use Rattle.schedule_file.specs.Standing.{Takes, Refuses, TakesLine, RefusesLine};
 ghost use Rattle.schedule_file.specs.Ends.{SaysWhy, IsWantOfMemory, IsBadOrMemory};
-ghost use Rattle.schedule_file.specs.Spelling.{InRange};
+ghost use Rattle.schedule_file.specs.Lines.{InRange};
 ghost use Rattle.schedule_file.specs.declared.lines.Schedule.{Schedule};
 
 use crate::lines::{Line, Numbered, Schedule};
@@ -32,18 +32,20 @@ fn take(schedule: &mut Schedule, begun: &mut bool, number: u32, line: &Line) -> 
     ensures ok { OnOk result (Takes schedule.old begun.old number line.now schedule.new begun.new) }
     ensures err { IfErr result (Refuses schedule.old begun.old line.now) }
 {
-    declare(&mut schedule.topology, line)?;
-    if let Some(directive) = look_up(&schedule.topology, line)? {
-        let numbered = Numbered {
-            line: number,
-            directive,
-        };
-        if schedule.lines.push(numbered).is_err() {
-            return Err(Refusal::NoMemory);
+    match line {
+        Line::Blank => {}
+        Line::Begin => *begun = true,
+        Line::Declares(declaration) => declare(&mut schedule.topology, declaration)?,
+        Line::Directs(instruction) => {
+            let directive = look_up(&schedule.topology, instruction)?;
+            let numbered = Numbered {
+                line: number,
+                directive,
+            };
+            if schedule.lines.push(numbered).is_err() {
+                return Err(Refusal::NoMemory);
+            }
         }
-    }
-    if matches!(line, Line::Begin) {
-        *begun = true;
     }
     Ok(())
 }
@@ -63,8 +65,10 @@ fn take_line(
         IfErr result (RefusesLine schedule.old begun.old words) }
 {
     let words = words_of(text, line);
-    let read = read_line(&words, *begun)?;
-    take(schedule, begun, line.number, &read)
+    match read_line(&words, *begun) {
+        Ok(read) => take(schedule, begun, line.number, &read),
+        Err(kind) => Err(Refusal::Bad(kind)),
+    }
 }
 
 /// The schedule that the bytes spell, else the first bad line and what is wrong with it. Linear in
@@ -73,6 +77,8 @@ pub fn parse(alloc: Global, text: &[u8]) -> Result<Schedule, ParseEnd>
     requires { length text.now < 2 ^ 32 - 1 }
     ensures ok { IfOk result (IsFile text.now) }
     ensures err { IfErr result (SaysWhy text.now) }
+    // What is directed names what the network has.
+    ensures follow { IfOk result (λ schedule. AllFollow schedule.topology schedule.lines.items) }
     // A file is refused for want of memory alone.
     ensures complete { (schedule : Schedule) → IsFile text.now schedule → IfErr result IsWantOfMemory }
     // The first bad line is named, unless memory runs out before.

@@ -5,13 +5,16 @@ ghost use Rattle.std.specs.Prelude.{◌<◌, ◌^◌, ◌-◌, length};
 use crate::{Directive, Numbered, ParseEnd, Schedule, parse};
 use std::alloc::Global;
 use std::process::Abort;
-use topology::{BadKind, NodeId, PrefixId, Relation};
+use topology::{BadKind, Epoch, NodeId, PrefixId, Relation};
 
 // Files, and the first bad line of each.
-const BAD: [(&[u8], u32, BadKind); 3] = [
+const BAD: [(&[u8], u32, BadKind); 6] = [
     (b"node 1\nnode 0\nnode 1", 2, BadKind::BadNumber),
     (b"begin\nfail 1 2", 2, BadKind::UnknownNode),
     (b"begin\n\ndrain 0", 3, BadKind::BadNumber),
+    (b"node 1\nsnap 1", 2, BadKind::NotHere),
+    (b"begin\nsnap 1", 2, BadKind::UnknownNode),
+    (b"begin\nshow cut", 2, BadKind::WrongCount),
 ];
 
 fn end_of(rt: &impl Abort, alloc: Global, text: &[u8]) -> Option<ParseEnd> {
@@ -27,8 +30,8 @@ fn names_the_first_bad_line(rt: HostRuntime) {
     }
 }
 
-// The node, the prefix and the kind of what a file of one directive says.
-fn only_directive(rt: &impl Abort, schedule: &Schedule, place: usize) -> Numbered {
+// The directive at a place.
+fn directive_at(rt: &impl Abort, schedule: &Schedule, place: usize) -> Numbered {
     *schedule
         .lines
         .get(place)
@@ -75,6 +78,8 @@ fn check_schedule(rt: &impl Abort, schedule: &Schedule) {
             },
         ),
         (21, Directive::Drain { times: 1_000_000 }),
+        (22, Directive::Snap { node: two }),
+        (23, Directive::ShowCut(Epoch::new(32))),
     ];
     assert_eq!(rt; schedule.lines.len(), want.len());
     for (place, (line, directive)) in want.iter().enumerate() {
@@ -82,7 +87,7 @@ fn check_schedule(rt: &impl Abort, schedule: &Schedule) {
             line: *line,
             directive: *directive,
         };
-        assert_eq!(rt; only_directive(rt, schedule, place), numbered);
+        assert_eq!(rt; directive_at(rt, schedule, place), numbered);
     }
 }
 
@@ -107,7 +112,9 @@ fail 1 2
 notice 2 1
 restore 2 1
 open 1 2
-drain 1000000";
+drain 1000000
+snap 2
+show cut 32";
 
 #[test]
 fn reads_a_schedule(rt: HostRuntime) {

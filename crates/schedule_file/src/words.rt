@@ -1,29 +1,24 @@
 //! The words of a line, and what each may be.
 ghost use Rattle.std.specs.Prelude.{ℕ, ◌≡◌, ◌≢◌, ◌≤◌, ◌+◌, Bool, false, true, List, None, Some, IfOk, OnOk, OnErr, IfErr, IfSome, IfNone, length, slice_range, drop, bytes_eq};
 ghost use Rattle.std.specs.List.{list_any};
-ghost use Rattle.std.specs.Fmt.{decimal};
 ghost use Rattle.text_lines.specs.Words.{words_of};
 ghost use Rattle.text_lines.specs.Readings.{words_left};
 ghost use Rattle.topology.specs.declared.status.BadKind.TheVariants.{UnknownWord, BadNumber, BadPrefix};
-ghost use Rattle.schedule_file.specs.Spelling.{prefix_text, relation_text, IsNumber, IsRange};
-ghost use Rattle.schedule_file.specs.Words.{has_word};
-ghost use Rattle.schedule_file.specs.Table.{Field, spells_field, keyword_in, keyword_text, later_words, later_views, relations};
-ghost use Rattle.schedule_file.specs.Table.Field.{NodeNumber, Value, Times, Masked, OneOf};
+ghost use Rattle.schedule_file.specs.Words.{has_word, word_at, number_of, prefix_of, relation_of};
+ghost use Rattle.schedule_file.specs.Table.{Field, spells_field, keyword_in, view_in, later_words, later_views, relations};
+ghost use Rattle.schedule_file.specs.Table.Field.{NodeNumber, Value, Times, Masked, OneOf, EpochNumber};
 ghost use Rattle.schedule_file.specs.Refusals.{fault_by};
-ghost use Rattle.schedule_file.specs.Standing.{word_at, Holds};
+ghost use Rattle.schedule_file.specs.Standing.{Holds};
 
 use crate::prefixes::read_prefix;
+use crate::table::{
+    Keyword, MAX_EPOCH, MAX_NODE, MAX_PREFERENCE, MAX_TIMES, View, keyword_named, relation_named,
+    view_named,
+};
 use text_lines::{Line as Span, Tokens, read_number};
-use topology::{BadKind, NodeId, Prefix, Relation};
+use topology::{BadKind, Epoch, NodeId, Prefix, Relation};
 
-const MAX_NODE: u32 = 65_535;
-
-const MAX_PREFERENCE: u32 = 1_000_000;
-
-const MAX_TIMES: u32 = 1_000_000;
-
-const LATER_WORDS: [&[u8]; 9] = [
-    b"snap",
+const LATER_WORDS: [&[u8]; 8] = [
     b"propose",
     b"ctl",
     b"crash",
@@ -34,7 +29,7 @@ const LATER_WORDS: [&[u8]; 9] = [
     b"hop",
 ];
 
-const LATER_VIEWS: [&[u8]; 5] = [b"cut", b"closure", b"ctl", b"tables", b"walk"];
+const LATER_VIEWS: [&[u8]; 4] = [b"closure", b"ctl", b"tables", b"walk"];
 
 /// The words of one line: how many, and the first four. One that is not there is empty.
 #[derive(Clone, Copy, Debug)]
@@ -44,26 +39,6 @@ pub struct Words<'a> {
     pub second: &'a [u8],
     pub third: &'a [u8],
     pub fourth: &'a [u8],
-}
-
-/// What a line begins with.
-#[derive(Clone, Copy, Debug, PartialEq, Eq)]
-pub enum Keyword {
-    Node,
-    Link,
-    Pref,
-    Prefix,
-    Begin,
-    Originate,
-    Withdraw,
-    Prefer,
-    Deliver,
-    Fail,
-    Restore,
-    Notice,
-    Open,
-    Drain,
-    Show,
 }
 
 // How many words the line has.
@@ -136,49 +111,35 @@ pub fn is_later_view(word: &[u8]) -> bool
     is_among(word, &LATER_VIEWS)
 }
 
-// The kind of line that the word begins.
-fn keyword_in(word: &[u8]) -> Option<Keyword>
-    ensures some { IfSome result (λ keyword. word.now ≡ keyword_text keyword) }
-    ensures none { IfNone result ((keyword : Keyword) → word.now ≢ keyword_text keyword) }
-{
-    match word {
-        b"node" => Some(Keyword::Node),
-        b"link" => Some(Keyword::Link),
-        b"pref" => Some(Keyword::Pref),
-        b"prefix" => Some(Keyword::Prefix),
-        b"begin" => Some(Keyword::Begin),
-        b"originate" => Some(Keyword::Originate),
-        b"withdraw" => Some(Keyword::Withdraw),
-        b"prefer" => Some(Keyword::Prefer),
-        b"deliver" => Some(Keyword::Deliver),
-        b"fail" => Some(Keyword::Fail),
-        b"restore" => Some(Keyword::Restore),
-        b"notice" => Some(Keyword::Notice),
-        b"open" => Some(Keyword::Open),
-        b"drain" => Some(Keyword::Drain),
-        b"show" => Some(Keyword::Show),
-        _ => None,
-    }
-}
-
 /// The kind of line that begins with the word.
 pub fn keyword_of(word: &[u8]) -> Result<Keyword, BadKind>
-    ensures ok { IfOk result (λ keyword. word.now ≡ keyword_text keyword) }
+    ensures ok { IfOk result (λ keyword. keyword_in word.now ≡ Some keyword) }
     ensures none { OnErr result (keyword_in word.now ≡ None) }
     ensures err { IfErr result
         (λ kind. (started : Bool) (words : List (List ℕ)) → fault_by started word.now None words ≡ Some kind) }
 {
-    match keyword_in(word) {
+    match keyword_named(word) {
         Some(keyword) => Ok(keyword),
         None if begins_later(word) => Err(BadKind::NotBuilt),
         None => Err(BadKind::UnknownWord),
     }
 }
 
+/// What the word behind `show` asks for.
+pub fn view_of(word: &[u8]) -> Result<View, BadKind>
+    ensures ok { IfOk result (λ view. view_in word.now ≡ Some view) }
+    ensures err { OnErr result (view_in word.now ≡ None) }
+    ensures kind { IfErr result (λ kind. kind ≡ UnknownWord) }
+{
+    match view_named(word) {
+        Some(view) => Ok(view),
+        None => Err(BadKind::UnknownWord),
+    }
+}
+
 /// The number of a node, from 1.
 pub fn node_of(word: &[u8]) -> Result<NodeId, BadKind>
-    ensures ok { IfOk result (λ node. word.now ≡ decimal node) }
-    ensures in_range { IfOk result (λ node. IsNumber node) }
+    ensures ok { IfOk result (λ node. node ≡ number_of word.now) }
     ensures fine { OnOk result (spells_field NodeNumber word.now ≡ true) }
     ensures err { OnErr result (spells_field NodeNumber word.now ≡ false) }
     ensures kind { IfErr result (λ kind. kind ≡ BadNumber) }
@@ -194,8 +155,8 @@ pub fn node_of(word: &[u8]) -> Result<NodeId, BadKind>
 
 /// A preference.
 pub fn value_of(word: &[u8]) -> Result<u32, BadKind>
-    ensures ok { IfOk result (λ value. word.now ≡ decimal value) }
-    ensures in_range { IfOk result (λ value. value ≤ 1000000) }
+    ensures ok { IfOk result (λ value. value ≡ number_of word.now) }
+    ensures fine { OnOk result (spells_field Value word.now ≡ true) }
     ensures err { OnErr result (spells_field Value word.now ≡ false) }
     ensures kind { IfErr result (λ kind. kind ≡ BadNumber) }
 {
@@ -207,8 +168,8 @@ pub fn value_of(word: &[u8]) -> Result<u32, BadKind>
 
 /// How many times, from 1.
 pub fn times_of(word: &[u8]) -> Result<u32, BadKind>
-    ensures ok { IfOk result (λ times. word.now ≡ decimal times) }
-    ensures in_range { IfOk result (λ times. (1 ≤ times) × (times ≤ 1000000)) }
+    ensures ok { IfOk result (λ times. times ≡ number_of word.now) }
+    ensures fine { OnOk result (spells_field Times word.now ≡ true) }
     ensures err { OnErr result (spells_field Times word.now ≡ false) }
     ensures kind { IfErr result (λ kind. kind ≡ BadNumber) }
 {
@@ -221,10 +182,26 @@ pub fn times_of(word: &[u8]) -> Result<u32, BadKind>
     Ok(times)
 }
 
+/// The number of an epoch, from 1.
+pub fn epoch_of(word: &[u8]) -> Result<Epoch, BadKind>
+    ensures ok { IfOk result (λ epoch. epoch ≡ number_of word.now) }
+    ensures fine { OnOk result (spells_field EpochNumber word.now ≡ true) }
+    ensures err { OnErr result (spells_field EpochNumber word.now ≡ false) }
+    ensures kind { IfErr result (λ kind. kind ≡ BadNumber) }
+{
+    let Some(epoch) = read_number(word, MAX_EPOCH) else {
+        return Err(BadKind::BadNumber);
+    };
+    if epoch == 0 {
+        return Err(BadKind::BadNumber);
+    }
+    Ok(Epoch::new(epoch))
+}
+
 /// A prefix.
 pub fn prefix_of(word: &[u8]) -> Result<Prefix, BadKind>
-    ensures ok { IfOk result (λ p. word.now ≡ prefix_text p) }
-    ensures in_range { IfOk result (λ p. IsRange p) }
+    ensures ok { IfOk result (λ p. p ≡ prefix_of word.now) }
+    ensures fine { OnOk result (spells_field Masked word.now ≡ true) }
     ensures err { OnErr result (spells_field Masked word.now ≡ false) }
     ensures kind { IfErr result (λ kind. kind ≡ BadPrefix) }
 {
@@ -236,15 +213,13 @@ pub fn prefix_of(word: &[u8]) -> Result<Prefix, BadKind>
 
 /// What the second end of a link is to the first.
 pub fn relation_of(word: &[u8]) -> Result<Relation, BadKind>
-    ensures ok { IfOk result (λ relation. word.now ≡ relation_text relation) }
+    ensures ok { IfOk result (λ relation. relation ≡ relation_of word.now) }
+    ensures fine { OnOk result (spells_field (OneOf relations) word.now ≡ true) }
     ensures err { OnErr result (spells_field (OneOf relations) word.now ≡ false) }
     ensures kind { IfErr result (λ kind. kind ≡ UnknownWord) }
 {
-    match word {
-        b"customer" => Ok(Relation::Customer),
-        b"provider" => Ok(Relation::Provider),
-        b"peer" => Ok(Relation::Peer),
-        b"any" => Ok(Relation::Any),
-        _ => Err(BadKind::UnknownWord),
+    match relation_named(word) {
+        Some(relation) => Ok(relation),
+        None => Err(BadKind::UnknownWord),
     }
 }

@@ -5,6 +5,7 @@ use Rattle.text_lines.specs.Words.{words_of}
 use Rattle.text_lines.specs.Readings.{lines_left}
 use Rattle.schedule_file.specs.Spelling.{words_by_line}
 use Rattle.schedule_file.proofs.Readings.{starts, line_here, continues_more, bad_here, reads_all, no_file, one_first}
+use Rattle.schedule_file.proofs.Following.{file_follows}
 use Rattle.schedule_file.proofs.parser.parse.Goals as goal
 
 pub loop-line-init : goal.loop-line-init
@@ -40,6 +41,12 @@ returns-in-Err-Bad-clause-complete c = λ schedule file. no_file c.args.text.now
 
 pub returns-in-Err-Bad-clause-named : goal.returns-in-Err-Bad-clause-named
 returns-in-Err-Bad-clause-named c = λ line kind first. one_first c.args.text.now c.in-Some.line.number line _ kind (returns-in-Err-Bad-clause-err c) first
+
+pub returns-clause-follow : goal.returns-clause-follow
+returns-clause-follow c =
+    let held = c.loop-line.invariant in
+    let read = reads_all held.1 c.loop-line.lines c.args.text.now c.in_default.ensures.end held.4 in
+    file_follows c.args.text.now (record { topology = c.loop-line.schedule.topology; lines = c.loop-line.schedule.lines }) (held.1, read, held.2.topology, held.2.lines)
 
 pub returns-clause-named : goal.returns-clause-named
 returns-clause-named c = λ line kind first.

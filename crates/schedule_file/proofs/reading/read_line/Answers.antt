@@ -1,8 +1,7 @@
 use Rattle.std.proofs.Common.{ap, ◌∙◌, sym, arith}
 use Rattle.std.specs.Prelude.{Some}
-use Rattle.std.proofs.lemmas.Result.{IfOk-weaker, IfErr-weaker}
 use Rattle.schedule_file.proofs.Asking.{handed_on}
-use Rattle.schedule_file.proofs.Forms.{other_first, form_first, fields_first, stands_first}
+use Rattle.schedule_file.proofs.Forms.{other_first, form_first, reads_line, reads_place, reads_fault}
 use Rattle.schedule_file.proofs.reading.read_line.Goals as goal
 
 pub returns-in_err-keyword-clause-err : goal.returns-in_err-keyword-clause-err
@@ -13,14 +12,16 @@ returns-in_err-keyword-clause-err c =
 pub returns-in_err-check_form-clause-err : goal.returns-in_err-check_form-clause-err
 returns-in_err-check_form-clause-err c =
     handed_on c.from_residual-in_err-check_form.result _ _ c.from_residual-in_err-check_form.ensures (λ kind same all held.
-    form_first c.args.words.now all c.args.begun c.in_err-check_form.field-0.0 c.in_ok-keyword.keyword held (omega arith) c.in_ok-keyword.ensures.ok c.in_err-check_form.ensures.err ∙ ap Some (sym same))
+    form_first c.args.words.now all c.args.begun c.in_err-check_form.field-0.0 c.in_ok-keyword.keyword held (omega arith) c.in_ok-keyword.ensures.ok c.in_err-check_form.ensures.form ∙ ap Some (sym same))
+
+pub returns-clause-ok : goal.returns-clause-ok
+returns-clause-ok c =
+    reads_line c.args.words.now c.args.begun c.in_ok-keyword.keyword c.line_of.result (record { some = omega arith; named = c.in_ok-keyword.ensures.ok; good = c.in_ok-check_form.ensures.form }) c.line_of.ensures
 
 pub returns-clause-stands : goal.returns-clause-stands
 returns-clause-stands c =
-    IfOk-weaker c.line_of.result _ _ (λ line spells all held.
-    stands_first c.args.words.now all c.args.begun c.in_ok-keyword.keyword line held (omega arith) c.in_ok-keyword.ensures.ok c.in_ok-check_form.ensures.place spells) c.line_of.ensures.ok
+    reads_place c.args.words.now c.args.begun c.in_ok-keyword.keyword c.line_of.result (record { some = omega arith; named = c.in_ok-keyword.ensures.ok; good = c.in_ok-check_form.ensures.form }) c.line_of.ensures
 
 pub returns-clause-err : goal.returns-clause-err
 returns-clause-err c =
-    IfErr-weaker c.line_of.result _ _ (λ kind bad all held.
-    fields_first c.args.words.now all c.args.begun kind c.in_ok-keyword.keyword held (omega arith) c.in_ok-keyword.ensures.ok c.in_ok-check_form.ensures.place c.in_ok-check_form.ensures.ok bad) c.line_of.ensures.err
+    reads_fault c.args.words.now c.args.begun c.in_ok-keyword.keyword c.line_of.result (record { some = omega arith; named = c.in_ok-keyword.ensures.ok; good = c.in_ok-check_form.ensures.form }) c.line_of.ensures

@@ -1,6 +1,7 @@
-use Rattle.std.proofs.Common.{◌∙◌, sym, arith}
+use Rattle.std.proofs.Common.{◌∙◌, sym, ap, arith}
 use Rattle.std.proofs.lemmas.Fmt.{decimal_injective}
-use Rattle.schedule_file.proofs.Passing.{no_number}
+use Rattle.schedule_file.specs.Words.{spells_number}
+use Rattle.schedule_file.proofs.Passing.{no_number, spells_decimal, value_is}
 use Rattle.schedule_file.proofs.words.times_of.Goals as goal
 
 pub returns-in_default-clause-err : goal.returns-in_default-clause-err
@@ -10,3 +11,10 @@ pub returns-then-times-eq0-clause-err : goal.returns-then-times-eq0-clause-err
 returns-then-times-eq0-clause-err c = no_number 1 1000000 c.args.word.now (λ n above below e.
     let zero = decimal_injective c.in-Some.times n (omega arith) (omega arith) (sym c.in-Some.ensures.some ∙ e) in
     omega arith)
+
+pub returns-clause-ok : goal.returns-clause-ok
+returns-clause-ok c = value_is c.args.word.now c.in-Some.times (omega arith) c.in-Some.ensures.some
+
+pub returns-clause-fine : goal.returns-clause-fine
+returns-clause-fine c =
+    ap (spells_number 1 1000000) c.in-Some.ensures.some ∙ spells_decimal 1 1000000 c.in-Some.times (omega arith) c.in-Some.ensures.within (omega arith)

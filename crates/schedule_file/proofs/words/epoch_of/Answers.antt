@@ -1,0 +1,20 @@
+use Rattle.std.proofs.Common.{◌∙◌, sym, ap, arith}
+use Rattle.std.proofs.lemmas.Fmt.{decimal_injective}
+use Rattle.schedule_file.specs.Words.{spells_number}
+use Rattle.schedule_file.proofs.Passing.{no_number, spells_decimal, value_is}
+use Rattle.schedule_file.proofs.words.epoch_of.Goals as goal
+
+pub returns-in_default-clause-err : goal.returns-in_default-clause-err
+returns-in_default-clause-err c = no_number 1 32 c.args.word.now (λ n above below. c.in_default.ensures.none n below)
+
+pub returns-then-epoch-eq0-clause-err : goal.returns-then-epoch-eq0-clause-err
+returns-then-epoch-eq0-clause-err c = no_number 1 32 c.args.word.now (λ n above below e.
+    let zero = decimal_injective c.in-Some.epoch n (omega arith) (omega arith) (sym c.in-Some.ensures.some ∙ e) in
+    omega arith)
+
+pub returns-clause-ok : goal.returns-clause-ok
+returns-clause-ok c = c.new.ensures ∙ value_is c.args.word.now c.in-Some.epoch (omega arith) c.in-Some.ensures.some
+
+pub returns-clause-fine : goal.returns-clause-fine
+returns-clause-fine c =
+    ap (spells_number 1 32) c.in-Some.ensures.some ∙ spells_decimal 1 32 c.in-Some.epoch (omega arith) c.in-Some.ensures.within (omega arith)

@@ -1,0 +1,84 @@
+-- How lines are spelled: by their words alone.
+use Rattle.std.specs.Prelude.{ℕ, true, false, ◌≡◌, ◌≤◌, List, [], ◌∷◌, codes}
+use Rattle.std.specs.Fmt.{decimal}
+use Rattle.schedule_file.specs.declared.lines.Line.{Line}
+use Rattle.schedule_file.specs.declared.lines.Line.TheVariants.{Blank, Begin, Declares, Directs}
+use Rattle.schedule_file.specs.declared.lines.Declaration.{Declaration}
+use Rattle.schedule_file.specs.declared.lines.Declaration.TheVariants.{Node, Link, Pref, Prefix}
+use Rattle.schedule_file.specs.declared.lines.Instruction.{Instruction}
+use Rattle.schedule_file.specs.declared.lines.Instruction.TheVariants.{Origin, Single, Pair, Prefer, Drain, Show, ShowEpoch}
+use Rattle.schedule_file.specs.declared.table.Keyword.{Keyword}
+use Rattle.schedule_file.specs.declared.table.Keyword.TheVariants as keyword
+use Rattle.schedule_file.specs.declared.table.TheConstants.{MAX_PREFERENCE, MAX_TIMES, MAX_EPOCH}
+use Rattle.schedule_file.specs.Spelling.{prefix_text, relation_text, IsNumber, IsRange}
+use Rattle.schedule_file.specs.Table.{keyword_text, plain_text, epoch_text}
+
+-- the kind of line that declares this
+abbrev pub declaring : Declaration → Keyword
+declaring (Node id consolidator) = keyword.Node
+declaring (Link a b relation) = keyword.Link
+declaring (Pref a b value) = keyword.Pref
+declaring (Prefix p) = keyword.Prefix
+
+-- the words behind its first
+abbrev pub declared_words : Declaration → List (List ℕ)
+declared_words (Node id false) = decimal id ∷ []
+declared_words (Node id true) = decimal id ∷ codes "consolidator" ∷ []
+declared_words (Link a b relation) = decimal a ∷ decimal b ∷ relation_text relation ∷ []
+declared_words (Pref a b value) = decimal a ∷ decimal b ∷ decimal value ∷ []
+declared_words (Prefix p) = prefix_text p ∷ []
+
+-- the kind of line that directs this
+abbrev pub directing : Instruction → Keyword
+directing (Origin event node p) = keyword.Origin event
+directing (Single event node) = keyword.Single event
+directing (Pair event a b) = keyword.Pair event
+directing (Prefer node nbr value) = keyword.Prefer
+directing (Drain times) = keyword.Drain
+directing (Show view) = keyword.Show
+directing (ShowEpoch view epoch) = keyword.Show
+
+-- the words behind its first
+abbrev pub directed_words : Instruction → List (List ℕ)
+directed_words (Origin event node p) = decimal node ∷ prefix_text p ∷ []
+directed_words (Single event node) = decimal node ∷ []
+directed_words (Pair event a b) = decimal a ∷ decimal b ∷ []
+directed_words (Prefer node nbr value) = decimal node ∷ decimal nbr ∷ decimal value ∷ []
+directed_words (Drain times) = decimal times ∷ []
+directed_words (Show view) = plain_text view ∷ []
+directed_words (ShowEpoch view epoch) = epoch_text view ∷ decimal epoch ∷ []
+
+-- the words that spell a line
+abbrev pub line_words : Line → List (List ℕ)
+line_words Blank = []
+line_words Begin = keyword_text keyword.Begin ∷ []
+line_words (Declares declaration) = keyword_text (declaring declaration) ∷ declared_words declaration
+line_words (Directs instruction) = keyword_text (directing instruction) ∷ directed_words instruction
+
+-- each number of a declaration is within its range
+abbrev pub DeclaresInRange : Declaration → Type 0
+DeclaresInRange (Node id consolidator) = IsNumber id
+DeclaresInRange (Link a b relation) = IsNumber a × IsNumber b
+DeclaresInRange (Pref a b value) = IsNumber a × IsNumber b × (value ≤ MAX_PREFERENCE)
+DeclaresInRange (Prefix p) = IsRange p
+
+-- each number of an instruction is within its range
+abbrev pub DirectsInRange : Instruction → Type 0
+DirectsInRange (Origin event node p) = IsNumber node × IsRange p
+DirectsInRange (Single event node) = IsNumber node
+DirectsInRange (Pair event a b) = IsNumber a × IsNumber b
+DirectsInRange (Prefer node nbr value) = IsNumber node × IsNumber nbr × (value ≤ MAX_PREFERENCE)
+DirectsInRange (Drain times) = (1 ≤ times) × (times ≤ MAX_TIMES)
+DirectsInRange (Show view) = Unit {0}
+DirectsInRange (ShowEpoch view epoch) = (1 ≤ epoch) × (epoch ≤ MAX_EPOCH)
+
+abbrev pub InRange : Line → Type 0
+InRange Blank = Unit {0}
+InRange Begin = Unit {0}
+InRange (Declares declaration) = DeclaresInRange declaration
+InRange (Directs instruction) = DirectsInRange instruction
+
+-- these words are the spelling of the line
+pub record Spells (words : List (List ℕ)) (line : Line) : Type 0 where
+  pub spelled : words ≡ line_words line
+  pub in_range : InRange line

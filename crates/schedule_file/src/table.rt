@@ -1,0 +1,245 @@
+//! The table of the grammar: the words that begin a line, how many words each such line has, on
+//! which side of `begin` it stands, and what it directs. `specs/Table.antt` is its definition. A
+//! word for one more event of two nodes is one row here, and one there.
+ghost use Rattle.std.specs.Prelude.{◌≡◌, ◌≢◌, true, false, IfSome, IfNone};
+ghost use Rattle.schedule_file.specs.Spelling.{relation_text};
+ghost use Rattle.schedule_file.specs.Table.{keyword_text, view_text, shape_of, origin_directive, node_directive, pair_directive, plain_directive, epoch_directive};
+
+use crate::lines::Directive;
+use topology::{Epoch, NodeId, PrefixId, Relation};
+
+/// The highest number of a node. The lowest is 1.
+pub const MAX_NODE: u32 = 65_535;
+
+/// The highest preference. The lowest is 0.
+pub const MAX_PREFERENCE: u32 = 1_000_000;
+
+/// The most times that one line repeats something. The fewest are 1.
+pub const MAX_TIMES: u32 = 1_000_000;
+
+/// The highest epoch. The lowest is 1.
+pub const MAX_EPOCH: u32 = 32;
+
+/// What happens to a prefix at a node.
+#[derive(Clone, Copy, Debug, PartialEq, Eq)]
+pub enum OriginEvent {
+    Originate,
+    Withdraw,
+}
+
+/// What happens at a node.
+#[derive(Clone, Copy, Debug, PartialEq, Eq)]
+pub enum NodeEvent {
+    Snap,
+}
+
+/// What happens at the link of two nodes.
+#[derive(Clone, Copy, Debug, PartialEq, Eq)]
+pub enum PairEvent {
+    Deliver,
+    Fail,
+    Restore,
+    Notice,
+    Open,
+}
+
+/// What `show` writes of the run so far.
+#[derive(Clone, Copy, Debug, PartialEq, Eq)]
+pub enum PlainView {
+    Rib,
+    Log,
+}
+
+/// What `show` writes of one epoch.
+#[derive(Clone, Copy, Debug, PartialEq, Eq)]
+pub enum EpochView {
+    Cut,
+}
+
+/// The word behind `show`.
+#[derive(Clone, Copy, Debug, PartialEq, Eq)]
+pub enum View {
+    Plain(PlainView),
+    OfEpoch(EpochView),
+}
+
+/// What a line begins with.
+#[derive(Clone, Copy, Debug, PartialEq, Eq)]
+pub enum Keyword {
+    Node,
+    Link,
+    Pref,
+    Prefix,
+    Begin,
+    Origin(OriginEvent),
+    Single(NodeEvent),
+    Pair(PairEvent),
+    Prefer,
+    Drain,
+    Show,
+}
+
+/// What a line of one keyword is like.
+#[derive(Clone, Copy, Debug, PartialEq, Eq)]
+pub struct Shape {
+    /// It stands behind `begin`.
+    pub directs: bool,
+    /// The number of its words, the first among them, is one of these.
+    pub least: usize,
+    pub most: usize,
+}
+
+/// The kind of line that the word begins.
+pub fn keyword_named(word: &[u8]) -> Option<Keyword>
+    ensures some { IfSome result (λ keyword. word.now ≡ keyword_text keyword) }
+    ensures none { IfNone result ((keyword : Keyword) → word.now ≢ keyword_text keyword) }
+{
+    match word {
+        b"node" => Some(Keyword::Node),
+        b"link" => Some(Keyword::Link),
+        b"pref" => Some(Keyword::Pref),
+        b"prefix" => Some(Keyword::Prefix),
+        b"begin" => Some(Keyword::Begin),
+        b"originate" => Some(Keyword::Origin(OriginEvent::Originate)),
+        b"withdraw" => Some(Keyword::Origin(OriginEvent::Withdraw)),
+        b"snap" => Some(Keyword::Single(NodeEvent::Snap)),
+        b"deliver" => Some(Keyword::Pair(PairEvent::Deliver)),
+        b"fail" => Some(Keyword::Pair(PairEvent::Fail)),
+        b"restore" => Some(Keyword::Pair(PairEvent::Restore)),
+        b"notice" => Some(Keyword::Pair(PairEvent::Notice)),
+        b"open" => Some(Keyword::Pair(PairEvent::Open)),
+        b"prefer" => Some(Keyword::Prefer),
+        b"drain" => Some(Keyword::Drain),
+        b"show" => Some(Keyword::Show),
+        _ => None,
+    }
+}
+
+/// What the word behind `show` asks for.
+pub fn view_named(word: &[u8]) -> Option<View>
+    ensures some { IfSome result (λ view. word.now ≡ view_text view) }
+    ensures none { IfNone result ((view : View) → word.now ≢ view_text view) }
+{
+    match word {
+        b"rib" => Some(View::Plain(PlainView::Rib)),
+        b"log" => Some(View::Plain(PlainView::Log)),
+        b"cut" => Some(View::OfEpoch(EpochView::Cut)),
+        _ => None,
+    }
+}
+
+/// The relation that the word names.
+pub fn relation_named(word: &[u8]) -> Option<Relation>
+    ensures some { IfSome result (λ relation. word.now ≡ relation_text relation) }
+    ensures none { IfNone result ((relation : Relation) → word.now ≢ relation_text relation) }
+{
+    match word {
+        b"customer" => Some(Relation::Customer),
+        b"provider" => Some(Relation::Provider),
+        b"peer" => Some(Relation::Peer),
+        b"any" => Some(Relation::Any),
+        _ => None,
+    }
+}
+
+impl Shape {
+    // A line before `begin`.
+    fn declares(least: usize, most: usize) -> Shape
+        ensures { result ≡ record { directs = false; least = least; most = most } }
+    {
+        Shape {
+            directs: false,
+            least,
+            most,
+        }
+    }
+
+    // A line behind `begin`.
+    fn directs(least: usize, most: usize) -> Shape
+        ensures { result ≡ record { directs = true; least = least; most = most } }
+    {
+        Shape {
+            directs: true,
+            least,
+            most,
+        }
+    }
+}
+
+impl Keyword {
+    /// What its lines are like. Which words may stand behind it is told where they are read.
+    pub fn shape(self) -> Shape
+        ensures { result ≡ shape_of self }
+    {
+        match self {
+            Keyword::Node => Shape::declares(2, 3),
+            Keyword::Link | Keyword::Pref => Shape::declares(4, 4),
+            Keyword::Prefix => Shape::declares(2, 2),
+            Keyword::Begin => Shape::declares(1, 1),
+            Keyword::Origin(_) | Keyword::Pair(_) => Shape::directs(3, 3),
+            Keyword::Prefer => Shape::directs(4, 4),
+            Keyword::Single(_) | Keyword::Drain => Shape::directs(2, 2),
+            Keyword::Show => Shape::directs(2, 3),
+        }
+    }
+}
+
+impl OriginEvent {
+    /// The directive at this node and prefix.
+    pub fn directive(self, node: NodeId, prefix: PrefixId) -> Directive
+        ensures { result ≡ origin_directive self node prefix }
+    {
+        match self {
+            OriginEvent::Originate => Directive::Originate { node, prefix },
+            OriginEvent::Withdraw => Directive::Withdraw { node, prefix },
+        }
+    }
+}
+
+impl NodeEvent {
+    /// The directive at this node.
+    pub fn directive(self, node: NodeId) -> Directive
+        ensures { result ≡ node_directive self node }
+    {
+        match self {
+            NodeEvent::Snap => Directive::Snap { node },
+        }
+    }
+}
+
+impl PairEvent {
+    /// The directive at these two nodes.
+    pub fn directive(self, a: NodeId, b: NodeId) -> Directive
+        ensures { result ≡ pair_directive self a b }
+    {
+        match self {
+            PairEvent::Deliver => Directive::Deliver { from: a, to: b },
+            PairEvent::Fail => Directive::Fail { a, b },
+            PairEvent::Restore => Directive::Restore { a, b },
+            PairEvent::Notice => Directive::Notice { node: a, nbr: b },
+            PairEvent::Open => Directive::OpenSession { node: a, nbr: b },
+        }
+    }
+}
+
+impl PlainView {
+    pub fn directive(self) -> Directive
+        ensures { result ≡ plain_directive self }
+    {
+        match self {
+            PlainView::Rib => Directive::ShowRib,
+            PlainView::Log => Directive::ShowLog,
+        }
+    }
+}
+
+impl EpochView {
+    /// The directive of this epoch.
+    pub fn directive(self, epoch: Epoch) -> Directive
+        ensures { result ≡ epoch_directive self epoch }
+    {
+        match self {
+            EpochView::Cut => Directive::ShowCut(epoch),
+        }
+    }
+}
