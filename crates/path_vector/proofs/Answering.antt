@@ -99,9 +99,6 @@ pub exported_is : (rules : Rules) (net : Net) (u w : ℕ) (via : Option ℕ) (le
     → exported rules net u w route ≡ (if may_tell rules (Some learned_so) to then route else Nowhere)
 exported_is rules net u w via learned_so path route to t is = rw (sym t.learnt, is) refl
 
-pub exported_nothing : (rules : Rules) (net : Net) (u w : ℕ) → exported rules net u w Nowhere ≡ Nowhere
-exported_nothing rules net u w = refl
-
 -- the offer of a route that was taken
 pub not_offered : (rules : Rules) (net : Net) (u : ℕ) (h : History) (p w : ℕ) (via : Option ℕ) (learned_so : Learned) (path : List ℕ) (to : Option Relation)
     → Takes net u via learned_so path (best rules net u h p) → to ≡ relation net u w → false ≡ may_tell rules (Some learned_so) to → offered_route rules net u h p w ≡ Nowhere

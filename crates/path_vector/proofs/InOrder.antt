@@ -4,15 +4,17 @@ use Rattle.std.specs.List.{AllByRecursion, cons_option}
 use Rattle.std.specs.List.Sorted.{IsPermutation}
 use Rattle.std.proofs.lemmas.List.{append-nil}
 use Rattle.std.proofs.lemmas.List.Sorted.{IsPermutation-refl, IsPermutation-sym, IsPermutation-trans, IsPermutation-cons, IsPermutation-middle, IsPermutation-append_left}
-use Rattle.topology.specs.Net.{Net}
+use Rattle.topology.specs.Net.{Net, IsValid, neighbours}
 use Rattle.path_vector.specs.declared.neighbours.Neighbour.{Neighbour}
 use Rattle.path_vector.specs.declared.policy.Ranked.{Ranked}
-use Rattle.path_vector.specs.Rules.{IsRanking}
+use Rattle.path_vector.specs.Rules.{Rules, IsRanking}
 use Rattle.path_vector.specs.History.{History}
-use Rattle.path_vector.specs.Selection.{choice, choices, ranked}
+use Rattle.path_vector.specs.Selection.{Choice, choice, choices, ranked}
 use Rattle.path_vector.specs.Standing.{Remembers}
 use Rattle.path_vector.specs.Kept.{Keeps, Rises, ids, kept_choice}
 use Rattle.path_vector.specs.Order.{IsInOrder, IsOrder, has_none, put, put_some, ranks_kept, keeps_none, others_kept}
+use Rattle.path_vector.specs.Ranking.{put_choice, by_rank, order}
+use Rattle.path_vector.proofs.Neighbourhood.{neighbours_rise}
 use Rattle.path_vector.proofs.Listing.{keeps_rise}
 use Rattle.path_vector.proofs.Answering.{kept_is, each_choice}
 use Rattle.path_vector.proofs.First.{choice_named}
@@ -84,6 +86,24 @@ behind_none : (rs : List Ranked) → Behind [] rs
 behind_none [] = tt
 behind_none (r ∷ rs) = (tt, behind_none rs)
 
+-- the same with the whole candidates
+
+put_ranked : (before : Ranked → Ranked → Bool) (c : Choice) (ds : List Choice) → map ranked (put_choice before c ds) ≡ put before (ranked c) (map ranked ds)
+put_ranked before c [] = refl
+put_ranked before c (d ∷ ds) =
+    elim (before (ranked c) (ranked d)) as (λ t. map ranked (cond t (c ∷ d ∷ ds) (d ∷ put_choice before c ds)) ≡ cond t (ranked c ∷ ranked d ∷ map ranked ds) (ranked d ∷ put before (ranked c) (map ranked ds))) [
+      | true ↦ refl
+      | false ↦ ap (λ l. ranked d ∷ l) (put_ranked before c ds)
+    ]
+
+ranked_into : (before : Ranked → Ranked → Bool) (sorted cs : List Choice) → map ranked (fold (λ sorted c. put_choice before c sorted) sorted cs) ≡ into before (map ranked sorted) (map ranked cs)
+ranked_into before sorted [] = refl
+ranked_into before sorted (c ∷ cs) = ranked_into before (put_choice before c sorted) cs ∙ ap (λ l. into before l (map ranked cs)) (put_ranked before c sorted)
+
+nbrs_ranked : (cs : List Choice) → map (λ (c : Choice). c.nbr) cs ≡ nbrs (map ranked cs)
+nbrs_ranked [] = refl
+nbrs_ranked (c ∷ cs) = ap (λ l. c.nbr ∷ l) (nbrs_ranked cs)
+
 -- the choices of rising neighbours rise
 module _ (net : Net) (u : ℕ) (h : History) (p : ℕ) where
   ranks : List ℕ → List Ranked
@@ -140,4 +160,17 @@ module _ (net : Net) (u : ℕ) (h : History) (p : ℕ) where
         same = subst (λ vs. IsPermutation (ranks vs) sorted) k.same (subst (IsPermutation (ranks (ids ns))) (sym made) (into_same before [] (ranks (ids ns))));
         sorted = subst (IsInOrder before) (sym made) (into_sorted before ranking [] (ranks (ids ns)) tt (behind_none (ranks (ids ns))) (ranks_rise (ids ns) (keeps_rise net u h ns k)));
         is = is ∙ ap (λ vs. nbrs sorted ++ vs) (others_are ns k.each below ∙ ap (filter (has_none u h p)) k.same);
+      }
+
+  -- the order as a list
+  pub ranking_is : (rules : Rules) → IsRanking rules.before → IsValid net → IsOrder rules.before net u h p (order rules net u h p)
+  unfolding ranks choices order by_rank
+  ranking_is rules ranking valid =
+      let vs = neighbours net u in
+      let made : map ranked (by_rank rules net u h p) ≡ into rules.before [] (ranks vs) = ranked_into rules.before [] (filter_map (choice net u h p) vs) in
+      record {
+        by_rank = map ranked (by_rank rules net u h p);
+        same = subst (IsPermutation (ranks vs)) (sym made) (into_same rules.before [] (ranks vs));
+        sorted = subst (IsInOrder rules.before) (sym made) (into_sorted rules.before ranking [] (ranks vs) tt (behind_none (ranks vs)) (ranks_rise vs (neighbours_rise net u valid)));
+        is = ap (λ l. l ++ filter (has_none u h p) vs) (nbrs_ranked (by_rank rules net u h p));
       }

@@ -28,9 +28,14 @@ IsOfNeighbour net u cause = IfSome (names cause) (λ v. has (neighbours net u) v
 
 -- u before the path of an update: none for a withdrawal, and where u is on the path
 abbrev pub led_by : ℕ → Cause → Option (List ℕ)
+led_by u Originate = None
+led_by u Withdraw = None
 led_by u (Recv from session seq path) =
     option_and_then (λ nodes. if has nodes u then None else Some (u ∷ nodes)) path
-led_by u other = None
+led_by u (Down v s) = None
+led_by u (Up v s) = None
+led_by u (Ready v s) = None
+led_by u (Prefer v x) = None
 
 -- the same is kept of the same neighbour
 pub record IsCopy (old new : Neighbour) : Type 0 where
@@ -58,9 +63,13 @@ pub record Hears (p s : ℕ) (led : Option (List ℕ)) (old new : Neighbour) : T
 
 -- a session begins or ends
 abbrev pub ends : Cause → Bool
-ends (Up v s) = true
+ends Originate = false
+ends Withdraw = false
+ends (Recv from session seq path) = false
 ends (Down v s) = true
-ends other = false
+ends (Up v s) = true
+ends (Ready v s) = false
+ends (Prefer v x) = false
 
 -- an entry that concerns all prefixes: the row is empty where a session begins or ends
 pub record Turns (cause : Cause) (old new : Neighbour) : Type 0 where

@@ -1,14 +1,17 @@
 //! Laws of what is read of the entries of a node.
-ghost use Rattle.std.specs.Prelude.{ℕ, ◌<◌, ◌≡◌, ◌≢◌, [], ◌∷◌, ◌++◌, Some, None, true, false, IfSome};
+ghost use Rattle.std.specs.Prelude.{ℕ, Bool, List, ◌<◌, ◌≡◌, ◌≢◌, [], ◌∷◌, ◌++◌, Some, None, true, false, IfSome};
 ghost use Rattle.topology.specs.declared.names.Scope.TheVariants.{All};
-ghost use Rattle.topology.specs.Lists.{has};
-ghost use Rattle.topology.specs.Net.{Net};
+ghost use Rattle.topology.specs.Lists.{has, Among};
+ghost use Rattle.topology.specs.Net.{Net, IsValid};
 ghost use Rattle.path_vector.specs.declared.causes.Cause.TheVariants.{Up, Down};
-ghost use Rattle.path_vector.specs.Rules.{Rules};
+ghost use Rattle.path_vector.specs.Rules.{Rules, IsRanking};
 ghost use Rattle.path_vector.specs.History.{Change, History, Scoped, change, concerns, concerning, held, highest, opened, ready};
 ghost use Rattle.path_vector.specs.Parts.{Accepted, IsPart};
-ghost use Rattle.path_vector.specs.Selection.{candidate, best, path_of};
+ghost use Rattle.path_vector.specs.Selection.{Choice, candidate, choices, best, path_of};
+ghost use Rattle.path_vector.specs.declared.policy.Ranked.{Ranked};
 ghost use Rattle.path_vector.specs.Offers.{offer, changed};
+ghost use Rattle.path_vector.specs.Order.{IsOrder};
+ghost use Rattle.path_vector.specs.Ranking.{by_rank, order};
 ghost use Rattle.path_vector.specs.Simple.{AreIn, BringsPaths, BringsPathsIn, IsPathFrom};
 
 /// What is read of a prefix depends only on the entries that concern it.
@@ -84,4 +87,20 @@ pub fn paths_stay_in_the_network()
     ensures offer { (rules : Rules) (net : Net) (u : ℕ) (h : History) (p w : ℕ) →
         has net.nodes u ≡ true → BringsPathsIn net h →
         IfSome (offer rules net u h p w) (AreIn net) }
+{}
+
+/// The order in which neighbours are tried is a list, and there is no other.
+#[tactic(auto, using(crate::proofs::InOrder::ranking_is))]
+pub fn the_order_of_neighbours_is_one_list()
+    ensures order { (rules : Rules) (net : Net) (u : ℕ) (h : History) (p : ℕ) → IsRanking rules.before →
+        IsValid net → IsOrder rules.before net u h p (order rules net u h p) }
+    ensures one { (before : Ranked → Ranked → Bool) (net : Net) (u : ℕ) (h : History) (p : ℕ)
+        (xs ys : List ℕ) → IsRanking before → IsOrder before net u h p xs → IsOrder before net u h p ys → xs ≡ ys }
+{}
+
+/// Each candidate by rank is a candidate.
+#[tactic(auto, using(crate::proofs::Ranking::by_rank_is))]
+pub fn candidates_by_rank_are_candidates()
+    ensures { (rules : Rules) (net : Net) (u : ℕ) (h : History) (p : ℕ) (c : Choice) →
+        Among c (by_rank rules net u h p) → Among c (choices net u h p) }
 {}

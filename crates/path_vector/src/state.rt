@@ -83,8 +83,7 @@ impl<P: Policy + Copy> RouteState<P> {
         self.policy
     }
 
-    /// The session that the node holds with a neighbour. None is also answered for a node that
-    /// is no neighbour.
+    /// The session that the node holds with a neighbour.
     pub fn held(&self, nbr: NodeId) -> Option<Session>
         ensures { (policy : P) (net : Net) (u : ℕ) (h : History) →
             StandsFor policy net u self.now h →
@@ -93,8 +92,8 @@ impl<P: Policy + Copy> RouteState<P> {
         neighbours::find(&self.neighbours, nbr)?.held
     }
 
-    /// Whether an entry may follow the entries so far: it has the scope of its cause, and opens
-    /// no session that was named before. An opening of no neighbour may not.
+    /// Whether an entry about a neighbour, or about none, may follow the entries so far: it has the
+    /// scope of its cause, and opens no session that was named before.
     pub fn accepts(&self, scope: Scope, cause: &Cause) -> bool
         ensures { (policy : P) (net : Net) (u : ℕ) (past : History) →
             StandsFor policy net u self.now past →
@@ -342,7 +341,7 @@ fn has_scope(scope: Scope, cause: &Cause) -> bool
     }
 }
 
-// An origin entry sets whether the node originates its prefix.
+// An origin entry sets whether the node originates its prefix, where the network has that prefix.
 fn mark(owned: &mut Vec<bool>, scope: &Scope, cause: &Cause)
     ensures places { length owned.new.items ≡ length owned.old.items }
     ensures owns { (past : History) (p : ℕ) → Accepts past scope.now cause.now →
