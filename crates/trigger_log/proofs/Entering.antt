@@ -15,7 +15,7 @@ use Rattle.path_vector.specs.Standing.{StandsFor as RoutesStandFor}
 use Rattle.trigger_log.specs.declared.offers.Offer.{Offer}
 use Rattle.trigger_log.specs.declared.telling.Turn.{Turn}
 use Rattle.trigger_log.specs.declared.outgoing.Outgoing.{Outgoing}
-use Rattle.trigger_log.specs.declared.sessions.Sessions.{Sessions}
+use Rattle.trigger_log.specs.declared.sessions.SessionMark.{SessionMark}
 use Rattle.trigger_log.specs.declared.log.NodeLog.{NodeLog}
 use Rattle.trigger_log.specs.Entries.{Entry, entry, reads, is_local, locals}
 use Rattle.trigger_log.specs.Sending.{sent_by, sent_to}
@@ -23,7 +23,7 @@ use Rattle.trigger_log.specs.Going.{going_of, going_by, going_in, spread, told}
 use Rattle.trigger_log.specs.Fits.{CauseFits, Fits}
 use Rattle.trigger_log.specs.Standing.{Shows, StandsFor, steps}
 use Rattle.trigger_log.specs.Marked.{Enters, ToldTo}
-use Rattle.trigger_log.specs.Offered.{AreChosen, IsPlaced, places_of, prefixes_of}
+use Rattle.trigger_log.specs.Offered.{AreChosen, IsPlaced, asked, prefixes_of}
 use Rattle.trigger_log.proofs.Holding.{accepted}
 use Rattle.trigger_log.proofs.Zips.{zip_push}
 use Rattle.trigger_log.proofs.Rounds.{told_all}
@@ -38,19 +38,19 @@ module _ {P : Type 0} (policy : P) (rules : Rules) (net : Net) (u : ℕ) (h : Li
       is ∙ (ap (λ l. l ++ flat_map (sent_to rules net u h made) (take n (neighbours net u))) none ∙ ap (flat_map (sent_to rules net u h made)) (take_all n (neighbours net u) whole))
 
   -- what went out
-  pub went_out : (n : ℕ) (sessions : Sessions) (sent all : List Sent) (out all_out : List Outgoing) → length (neighbours net u) ≤ n → out ≡ [] → ToldTo rules net u h made n sessions sent all out all_out
+  pub went_out : (n : ℕ) (rows : List (List SessionMark)) (sent all : List Sent) (out all_out : List Outgoing) → length (neighbours net u) ≤ n → out ≡ [] → ToldTo rules net u h made n rows sent all out all_out
       → map going_of all_out ≡ going_by rules net u h made
   unfolding going_by spread
-  went_out n sessions sent all out all_out whole none was =
+  went_out n rows sent all out all_out whole none was =
       was.out
       ∙ (ap (λ l. map going_of l ++ flat_map (λ w. going_in w (told rules net u h made w) (held (made.read ∷ reads h) w)) (take n (neighbours net u))) none
       ∙ ap (flat_map (λ w. going_in w (told rules net u h made w) (held (made.read ∷ reads h) w))) (take_all n (neighbours net u) whole))
 
   pub entered : (old new : NodeLog P) (n : ℕ) (sent all : List Sent) (out all_out : List Outgoing) (kept : List Sent) → StandsFor policy rules net u old h → CauseFits h scope cause
-      → RoutesStandFor policy net u new.routes (made.read ∷ reads h) → new.node ≡ old.node → new.near.items ≡ old.near.items → new.len ≡ suc old.len
+      → RoutesStandFor policy net u new.routes (made.read ∷ reads h) → new.node ≡ old.node → new.sessions.near ≡ old.sessions.near → new.len ≡ suc old.len
       → new.next_count ≡ (if is_local cause then suc old.next_count else old.next_count)
       → new.entries.items ≡ old.entries.items ++ record { trigger = trigger; scope = scope; cause = cause; sent = kept } ∷ [] → kept ≡ all
-      → length (neighbours net u) ≤ n → sent ≡ [] → ToldTo rules net u h made n new.sessions sent all out all_out
+      → length (neighbours net u) ≤ n → sent ≡ [] → ToldTo rules net u h made n new.sessions.rows sent all out all_out
       → StandsFor policy rules net u new (made ∷ h)
   entered old new n sent all out all_out kept was fits routes node near len next entries same whole none told = record {
     routes = routes;
@@ -62,9 +62,7 @@ module _ {P : Type 0} (policy : P) (rules : Rules) (net : Net) (u : ℕ) (h : Li
     shown = subst (AllZip (Shows rules net u) (steps (made ∷ h))) (sym entries)
         (zip_push (Shows rules net u) (steps h) old.entries.items (record { before = h; entry = made }) (record { trigger = trigger; scope = scope; cause = cause; sent = kept }) was.shown
         (record { trigger = refl; read = refl; sent = same ∙ sent_all n sent all whole none told.sent }));
-    rows = told.rows;
-    kept = told.kept;
-    each = told_all rules net u h made (fits, was.fitting) n new.sessions sent all out all_out whole told;
+    marks = told_all rules net u h made (fits, was.fitting) n new.sessions.rows sent all out all_out whole told;
   }
     where
       either : (b : Bool) → (if b then suc (suc (locals h)) else suc (locals h)) ≡ suc (if b then suc (locals h) else locals h)
@@ -82,7 +80,7 @@ module _ {P : Type 0} (policy : P) (rules : Rules) (net : Net) (u : ℕ) (h : Li
       (λ taken. taken (accepted h scope cause fits.1 fits.0))) taken
 
   pub enters : (routes : RouteState P) (turn : Turn) (before after : List Offer) → Fits (made ∷ h) → RoutesStandFor policy net u routes (made.read ∷ reads h) → trigger ≡ turn.trigger.now → cause ≡ turn.cause.now
-      → turn.before.now ≡ before → turn.after.now ≡ after → IsPlaced net scope → prefixes_of after ≡ places_of net scope
+      → turn.before.now ≡ before → turn.after.now ≡ after → IsPlaced net scope → prefixes_of after ≡ asked net scope cause
       → AreChosen rules net u (reads h) before → AreChosen rules net u (made.read ∷ reads h) after → Enters policy rules net u h made routes turn
   enters routes turn before after fits stands by of is_before is_after placed covers chosen_before chosen_after = record {
     stands = stands;

@@ -5,8 +5,6 @@ use Rattle.std.specs.List.{AllWithin, HoldsAt}
 use Rattle.std.proofs.lemmas.Bool.Decides.{nat_tests}
 use Rattle.topology.specs.Lists.{Among}
 use Rattle.trigger_log.specs.declared.sessions.SessionMark.{SessionMark}
-use Rattle.trigger_log.specs.declared.sessions.Sessions.{Sessions}
-use Rattle.trigger_log.specs.Rows.{joined, HasRows}
 
 among_at : (xs : List SessionMark) (i : ℕ) (x : SessionMark) → i < length xs → get_or xs i x ≡ x → Among x xs
 among_at [] i x h e = absurd (omega arith)
@@ -29,17 +27,16 @@ abbrev pub Finds : {B : Type 0} → (B → SessionMark) → Option B → List Se
 Finds read r marks w s = MatchOption r (AllWithin (IsNot w s) marks 0 (length marks))
     (λ x. Is w s (read x) × (i : ℕ) × (i < length marks) × HoldsAt (λ y. y ≡ read x) marks i × AllWithin (IsNot w s) marks 0 i)
 
-pub found : {B : Type 0} (read : B → SessionMark) (r : Option B) (w s : ℕ) (sessions : Sessions) → Finds read r sessions.marks.items w s
-    → IfSome r (λ x. ((read x).nbr ≡ w) × ((read x).session ≡ s) × ((rows : List (List SessionMark)) → HasRows rows sessions → Among (read x) (joined rows)))
-found read None w s sessions f = tt
-found read (Some x) w s sessions f =
-    (f.0.0, f.0.1, λ rows has. rw (← has.marks) (among_at sessions.marks.items f.1 (read x) f.2 (f.3 (read x))))
+pub found : {B : Type 0} (read : B → SessionMark) (r : Option B) (w s : ℕ) (marks rows : List SessionMark) → marks ≡ rows → Finds read r marks w s
+    → IfSome r (λ x. ((read x).nbr ≡ w) × ((read x).session ≡ s) × Among (read x) rows)
+found read None w s marks rows is f = tt
+found read (Some x) w s marks rows is f = (f.0.0, f.0.1, rw (← is) (among_at marks f.1 (read x) f.2 (f.3 (read x))))
 
-pub unfound : {B : Type 0} (read : B → SessionMark) (r : Option B) (w s : ℕ) (sessions : Sessions) → Finds read r sessions.marks.items w s
-    → IfNone r ((rows : List (List SessionMark)) (mark : SessionMark) → HasRows rows sessions → Among mark (joined rows) → mark.nbr ≡ w → mark.session ≡ s → ⊥)
-unfound read None w s sessions f = λ rows mark has a is_w is_s.
-    let at = index_of sessions.marks.items mark (rw has.marks a) in
+pub unfound : {B : Type 0} (read : B → SessionMark) (r : Option B) (w s : ℕ) (marks rows : List SessionMark) → marks ≡ rows → Finds read r marks w s
+    → IfNone r ((mark : SessionMark) → Among mark rows → mark.nbr ≡ w → mark.session ≡ s → ⊥)
+unfound read None w s marks rows is f = λ mark a is_w is_s.
+    let at = index_of marks mark (rw is a) in
     let off = f at.0 mark (omega arith) at.1 in
     let here : IsNot w s mark = subst (IsNot w s) at.2 off in
     grind (arith, nat_tests)
-unfound read (Some x) w s sessions f = tt
+unfound read (Some x) w s marks rows is f = tt

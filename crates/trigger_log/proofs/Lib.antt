@@ -2,6 +2,7 @@ pub mod Holding
 pub mod Closings
 pub mod Fresh
 pub mod Silence
+pub mod Spreading
 pub mod Saying
 pub mod Listed
 pub mod InOrder
@@ -21,4 +22,5 @@ pub mod Finding
 pub mod AllMarks
 pub mod QuietTurns
 pub mod Entering
+pub mod Due
 pub mod Reading

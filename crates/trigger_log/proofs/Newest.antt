@@ -21,10 +21,6 @@ pub record EndsEver (h : List Entry) (w : ℕ) : Type 0 where
   pub is : ever h w ≡ older ++ last (reads h) w ∷ []
   pub below : AllByRecursion (λ s. s < last (reads h) w) older
 
-all_below : (xs : List ℕ) (a b : ℕ) → AllByRecursion (λ s. s < a) xs → a < b → AllByRecursion (λ s. s < b) xs
-all_below [] a b all more = tt
-all_below (x ∷ xs) a b all more = (let first = all.0 in omega arith, all_below xs a b all.1 more)
-
 below_push : (xs : List ℕ) (a b : ℕ) → AllByRecursion (λ s. s < a) xs → a < b → AllByRecursion (λ s. s < b) (xs ++ a ∷ [])
 below_push [] a b all more = (more, tt)
 below_push (x ∷ xs) a b all more = (let first = all.0 in omega arith, below_push xs a b all.1 more)

@@ -2,7 +2,7 @@
 use Rattle.std.proofs.Common.{ℕ, ◌≡◌, ◌<◌, ◌≤◌, arith, false, [], ◌∷◌, Some, Result, Ok, Err, List, refl, ◌∙◌, ap, subst, nat_cmp, slice_get}
 use Rattle.std.specs.Prelude.{IfSome, IfNone}
 use Rattle.std.specs.Result.{result_ok}
-use Rattle.std.specs.List.Sorted.{IsBinarySearchResult}
+use Rattle.std.specs.List.Sorted.{IsBinarySearchResult, IsSearchInRange}
 use Rattle.std.proofs.lemmas.List.Sorted.{searched}
 use Rattle.std.proofs.lemmas.Option.{slice_get-get_or}
 use Rattle.topology.specs.Lists.{has}
@@ -30,3 +30,7 @@ pub not_placed : (near : List ℕ) (net : Net) (u w : ℕ) (r : Result ℕ ℕ) 
 not_placed near net u w (Ok i) s valid is = tt
 not_placed near net u w (Err i) s valid is =
     (sought (neighbours net u) w (Err i) (subst (λ l. IsBinarySearchResult (λ y. nat_cmp y w) l (Err i)) is s) (climbs-neighbours net u valid)).0 refl
+
+pub found_within : (r : Result ℕ ℕ) (n m : ℕ) → IsSearchInRange r n → n ≡ m → IfSome (result_ok r) (λ place. place < m)
+found_within (Err i) n m inside is = tt
+found_within (Ok i) n m inside is = omega arith

@@ -20,7 +20,6 @@ use Rattle.path_vector.proofs.Changes.{same_path_is, same_path_self}
 use Rattle.trigger_log.specs.declared.offers.Offer.{Offer}
 use Rattle.trigger_log.specs.declared.outgoing.Outgoing.{Outgoing}
 use Rattle.trigger_log.specs.declared.sessions.SessionMark.{SessionMark}
-use Rattle.trigger_log.specs.declared.sessions.Sessions.{Sessions}
 use Rattle.trigger_log.specs.declared.telling.Turn.{Turn}
 use Rattle.trigger_log.specs.Entries.{Entry, Update, reads}
 use Rattle.trigger_log.specs.Sending.{close_sent, news, sent_count, sent_to, update_of}
@@ -30,7 +29,7 @@ use Rattle.trigger_log.specs.Offered.{AreChosen, differs, prefixes_of, updates_o
 use Rattle.trigger_log.specs.Marked.{AreMarked, Enters, Says, ToldTo, ends_with, readies}
 use Rattle.trigger_log.specs.Quiet.{IsQuiet, turns_session}
 use Rattle.trigger_log.proofs.Closings.{count_held, count_other}
-use Rattle.trigger_log.proofs.Speaking.{close_none, going_none, knew, not_closed, over_scope, unready_news, updates_none}
+use Rattle.trigger_log.proofs.Speaking.{close_none, going_none, knew, not_closed, over_asked, unready_news, updates_none}
 use Rattle.trigger_log.proofs.Rounds.{is_mark}
 use Rattle.trigger_log.proofs.Zips.{zip_map}
 
@@ -114,7 +113,7 @@ module _ {P : Type 0} (policy : P) (rules : Rules) (net : Net) (u : ℕ) (h : Li
   none_in w (Some s) e =
       let knows : is_some (ready (reads h) w) ≡ true = (knew k h w s enters.fitting e).1 ∙ ap not (not_readied k.read.cause w turns_none) in
       let before : AreChosen rules net u (reads h) turn.after.now = subst (AreChosen rules net u (reads h)) quiet.1 enters.before in
-      sym (over_scope rules net u h k w s enters.fitting e enters.placed)
+      sym (over_asked rules net u h k w s enters.fitting e enters.placed)
       ∙ (ap (updates_over rules net u h k (is_some (ready (reads h) w)) w) (sym enters.covers)
       ∙ (ap (λ b. updates_over rules net u h k b w (prefixes_of turn.after.now)) knows
       ∙ none_over rules net u h k w turn.after.now before enters.after))
@@ -151,11 +150,9 @@ module _ {P : Type 0} (policy : P) (rules : Rules) (net : Net) (u : ℕ) (h : Li
       (λ s mark says. is_mark rules net u h k w enters.fitting s (sent_count rules net u h w s) mark (as_before w s) says) (ever (k ∷ h) w) row was
 
   -- all are told where none is
-  pub told_quiet : (n : ℕ) (sessions : Sessions) (sent all : List Sent) (out all_out : List Outgoing) → ToldTo rules net u h k 0 sessions sent all out all_out
-      → ToldTo rules net u h k n sessions sent all out all_out
-  told_quiet n sessions sent all out all_out was = record {
-    rows = was.rows;
-    kept = was.kept;
+  pub told_quiet : (n : ℕ) (rows : List (List SessionMark)) (sent all : List Sent) (out all_out : List Outgoing) → ToldTo rules net u h k 0 rows sent all out all_out
+      → ToldTo rules net u h k n rows sent all out all_out
+  told_quiet n rows sent all out all_out was = record {
     width = was.width;
     done = λ j w row below near found. quiet_row w row (was.rest j w row (omega arith) near found);
     rest = λ j w row above near found. was.rest j w row (omega arith) near found;

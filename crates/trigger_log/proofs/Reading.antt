@@ -46,10 +46,6 @@ module _ (rules : Rules) (net : Net) (u : ℕ) (h : List Entry) (rows : List (Li
       (subst (λ l. AllZip (IsMark rules net u h w) l (end.0 ++ mark ∷ [])) all.is (subst (AllZip (IsMark rules net u h w) (ever h w)) end.1 found.2))).1 in
       record { nbr = is.nbr; session = is.session; is_opened = is.is_opened; sent = is.sent; received = is.received; down = is.down }
 
-  -- each neighbour has a row
-  pub has_row : (w i : ℕ) → slice_get (neighbours net u) i ≡ Some w → slice_get rows i ≡ None → ⊥
-  has_row w i at none = let found = zip_at (AreMarks rules net u h) (neighbours net u) rows i w were at in absurd (cc (found.1, none))
-
 pub held_shown : (h : List Entry) (w n : ℕ) (mark : SessionMark) → Fits h → Says h w (last (reads h) w) n mark → (if is_none mark.down then Some mark.session else None) ≡ held (reads h) w
 held_shown h w n mark fits says =
     ap (λ s. if is_none mark.down then Some s else None) says.session ∙ sym (held_mark h w n mark fits says)

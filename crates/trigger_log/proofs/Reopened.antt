@@ -2,6 +2,7 @@
 use Rattle.std.specs.Prelude.{ℕ, List, [], ◌∷◌, ◌++◌, Some, ◌≡◌, refl, reverse}
 use Rattle.topology.specs.declared.items.Sent.{Sent}
 use Rattle.topology.specs.declared.links.Relation.TheVariants.{Any}
+use Rattle.topology.specs.declared.names.Scheme.TheVariants.{Deflect}
 use Rattle.topology.specs.declared.names.Scope.TheVariants.{One, All}
 use Rattle.topology.specs.declared.names.Trigger.{Trigger}
 use Rattle.topology.specs.Lists.{ascending}
@@ -26,6 +27,8 @@ pair = record {
   links = record { a = 1; b = 2; relation = Any } ∷ [];
   preferences = [];
   prefixes = record { bits = 167772160; len = 8 } ∷ [];
+  hops = 128;
+  scheme = Deflect;
 }
 
 abbrev of : ℕ → ℕ → List Trigger

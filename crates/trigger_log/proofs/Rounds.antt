@@ -15,14 +15,12 @@ use Rattle.path_vector.specs.History.{last, last_by, held}
 use Rattle.std.proofs.lemmas.Slice.Zip.{AllZip-long}
 use Rattle.trigger_log.specs.declared.outgoing.Outgoing.{Outgoing}
 use Rattle.trigger_log.specs.declared.sessions.SessionMark.{SessionMark}
-use Rattle.trigger_log.specs.declared.sessions.Sessions.{Sessions}
 use Rattle.trigger_log.specs.Entries.{Entry, reads, closes}
 use Rattle.trigger_log.specs.Sending.{sent_count, sent_to}
 use Rattle.trigger_log.specs.Going.{Going, going_of, going_in, told}
 use Rattle.trigger_log.specs.Fits.{Fits}
 use Rattle.trigger_log.specs.Sessions.{IsMark, AreMarks, AreRows}
-use Rattle.trigger_log.specs.Rows.{HasRows}
-use Rattle.trigger_log.specs.Marked.{Says, AreMarked, Marked, Spoken, ToldTo}
+use Rattle.trigger_log.specs.Marked.{Says, AreMarked, AreAllMarked, Spoken, ToldTo}
 use Rattle.trigger_log.proofs.Holding.{held_is_last}
 use Rattle.trigger_log.proofs.Closings.{count_other}
 use Rattle.trigger_log.proofs.Newest.{ends_ever}
@@ -105,56 +103,52 @@ module _ (rules : Rules) (net : Net) (u : ℕ) (h : List Entry) (k : Entry) (fit
   gone w = going_in w (told rules net u h k w) (held (k.read ∷ reads h) w)
 
   -- the row at the next place
-  pub next_row : (n w : ℕ) (sessions : Sessions) (sent all : List Sent) (out all_out : List Outgoing) → slice_get (neighbours net u) n ≡ Some w
-      → (was : ToldTo rules net u h k n sessions sent all out all_out) → (row : List SessionMark) × (slice_get was.rows n ≡ Some row) × AreMarked rules net u h k w row
-  next_row n w sessions sent all out all_out at was =
+  pub next_row : (n w : ℕ) (rows : List (List SessionMark)) (sent all : List Sent) (out all_out : List Outgoing) → slice_get (neighbours net u) n ≡ Some w
+      → ToldTo rules net u h k n rows sent all out all_out → (row : List SessionMark) × (slice_get rows n ≡ Some row) × AreMarked rules net u h k w row
+  next_row n w rows sent all out all_out at was =
       let inside = slice_get_within (neighbours net u) n w at in
       let wide = was.width in
-      let found = some_at was.rows n (omega arith) in
+      let found = some_at rows n (omega arith) in
       (found.0, found.1, was.rest n w found.0 (omega arith) at found.1)
 
-  pub told_more : (n w count : ℕ) (old new : Sessions) (older : List SessionMark) (mark : SessionMark) (sent some all : List Sent) (out some_out all_out : List Outgoing) → slice_get (neighbours net u) n ≡ Some w
-      → (was : ToldTo rules net u h k n old sent some out some_out) → slice_get was.rows n ≡ Some (older ++ mark ∷ []) → AreMarked rules net u h k w (older ++ mark ∷ [])
-      → HasRows (set was.rows n (older ++ record mark { sent = count } ∷ [])) new
+  pub told_more : (n w count : ℕ) (old new : List (List SessionMark)) (older : List SessionMark) (mark : SessionMark) (sent some all : List Sent) (out some_out all_out : List Outgoing) → slice_get (neighbours net u) n ≡ Some w
+      → ToldTo rules net u h k n old sent some out some_out → slice_get old n ≡ Some (older ++ mark ∷ []) → AreMarked rules net u h k w (older ++ mark ∷ [])
+      → new ≡ set old n (older ++ record mark { sent = count } ∷ [])
       → Spoken rules net u h k w (last (reads (k ∷ h)) w) some all some_out all_out count
       → ToldTo rules net u h k (n + 1) new sent all out all_out
-  told_more n w count old new older mark sent some all out some_out all_out at was here marked has spoken =
+  told_more n w count old new older mark sent some all out some_out all_out at was here marked is spoken =
       let row = older ++ record mark { sent = count } ∷ [] in
-      let inside = slice_get_within was.rows n (older ++ mark ∷ []) here in
-      record {
-        rows = set was.rows n row;
-        kept = has;
-        width = length-set was.rows n row ∙ was.width;
+      let inside = slice_get_within old n (older ++ mark ∷ []) here in
+      rw is (record {
+        width = length-set old n row ∙ was.width;
         done = λ j v other below near found. ⊎_elim
             (λ (e : j ≡ n).
             let same_w : v ≡ w = same_Some v w (sym near ∙ (ap (slice_get (neighbours net u)) e ∙ at)) in
-            let same_row : other ≡ row = same_Some other row (sym found ∙ (ap (slice_get (set was.rows n row)) e ∙ get_set_same was.rows n row inside)) in
+            let same_row : other ≡ row = same_Some other row (sym found ∙ (ap (slice_get (set old n row)) e ∙ get_set_same old n row inside)) in
             rw (same_w, same_row) (counted_row rules net u h k w fits older mark count spoken.counts marked))
-            (λ (ne : j ≢ n). was.done j v other (let apart : j ≢ n = ne in omega arith) near (sym (get_set_other was.rows n j row (λ e. ne (sym e))) ∙ found))
+            (λ (ne : j ≢ n). was.done j v other (let apart : j ≢ n = ne in omega arith) near (sym (get_set_other old n j row (λ e. ne (sym e))) ∙ found))
             (cases_eq j n);
-        rest = λ j v other above near found. was.rest j v other (omega arith) near (sym (get_set_other was.rows n j row (omega arith)) ∙ found);
+        rest = λ j v other above near found. was.rest j v other (omega arith) near (sym (get_set_other old n j row (omega arith)) ∙ found);
         sent = spoken.sent ∙ (ap (λ l. l ++ sent_to rules net u h k w) was.sent
             ∙ (append_assoc sent (flat_map (sent_to rules net u h k) (take n (neighbours net u))) (sent_to rules net u h k w)
             ∙ ap (λ l. sent ++ l) (sym (flat_more (sent_to rules net u h k) (neighbours net u) n w at))));
         out = spoken.out ∙ (ap (λ l. l ++ gone w) was.out
             ∙ (append_assoc (map going_of out) (flat_map gone (take n (neighbours net u))) (gone w)
             ∙ ap (λ l. map going_of out ++ l) (sym (flat_more gone (neighbours net u) n w at))));
-      }
+      })
 
   -- where none are told, and where all are
-  pub told_none : (sessions : Sessions) (sent : List Sent) (out : List Outgoing) → Marked rules net u h k sessions → ToldTo rules net u h k 0 sessions sent sent out out
-  told_none sessions sent out marked = record {
-    rows = marked.rows;
-    kept = marked.kept;
-    width = AllZip-long (AreMarked rules net u h k) (neighbours net u) marked.rows marked.each;
+  pub told_none : (rows : List (List SessionMark)) (sent : List Sent) (out : List Outgoing) → AreAllMarked rules net u h k rows → ToldTo rules net u h k 0 rows sent sent out out
+  told_none rows sent out marked = record {
+    width = AllZip-long (AreMarked rules net u h k) (neighbours net u) rows marked;
     done = λ j w row below near found. absurd (omega arith);
-    rest = λ j w row above near found. zip_both (AreMarked rules net u h k) (neighbours net u) marked.rows j w row marked.each near found;
+    rest = λ j w row above near found. zip_both (AreMarked rules net u h k) (neighbours net u) rows j w row marked near found;
     sent = sym (append-nil sent);
     out = sym (append-nil (map going_of out));
   }
 
-  pub told_all : (n : ℕ) (sessions : Sessions) (sent all : List Sent) (out all_out : List Outgoing) → length (neighbours net u) ≤ n → (was : ToldTo rules net u h k n sessions sent all out all_out)
-      → AreRows rules net u (k ∷ h) was.rows
-  told_all n sessions sent all out all_out whole was =
-      zip_from (AreMarks rules net u (k ∷ h)) (neighbours net u) was.rows was.width
+  pub told_all : (n : ℕ) (rows : List (List SessionMark)) (sent all : List Sent) (out all_out : List Outgoing) → length (neighbours net u) ≤ n → ToldTo rules net u h k n rows sent all out all_out
+      → AreRows rules net u (k ∷ h) rows
+  told_all n rows sent all out all_out whole was =
+      zip_from (AreMarks rules net u (k ∷ h)) (neighbours net u) rows was.width
       (λ j w row near found. let inside = slice_get_within (neighbours net u) j w near in was.done j w row (omega arith) near found)

@@ -1,13 +1,11 @@
 -- Rows of marks that are kept as one list.
-use Rattle.std.proofs.Common.{◌≡◌, true, ℕ, zero, suc, ◌+◌, ◌-◌, ◌<◌, ◌≤◌, List, [], ◌∷◌, ◌++◌, length, length-append, append_assoc, get_or, set, slice_get, map, take, refl, sym, ap, ◌∙◌, subst, arith, Option, Some, None, ◌⊎◌, inl, inr, ⊎_elim, ltb}
-use Rattle.std.proofs.lemmas.Bool.Decides.{nat_tests}
+use Rattle.std.proofs.Common.{◌≡◌, true, ℕ, zero, suc, ◌+◌, ◌-◌, ◌^◌, ◌<◌, ◌≤◌, List, [], ◌∷◌, ◌++◌, length, length-append, append_assoc, get_or, set, slice_get, map, take, drop, refl, sym, ap, ◌∙◌, subst, arith, Some, None}
 use Rattle.std.proofs.lemmas.List.{take_more}
-use Rattle.std.proofs.lemmas.Option.{slice_get_read, slice_get_past}
+use Rattle.std.proofs.lemmas.Option.{same_Some, slice_get_read, slice_get_within}
+use Rattle.std.proofs.Math.Seq.{take-append_seam, drop-append_seam}
 use Rattle.std.specs.List.{AllByRecursion, insert}
-use Rattle.std.specs.Prelude.{is_some, IfSome, IfNone}
 use Rattle.trigger_log.specs.declared.sessions.SessionMark.{SessionMark}
-use Rattle.trigger_log.specs.declared.sessions.Sessions.{Sessions}
-use Rattle.trigger_log.specs.Rows.{joined, last_places, shifted, HasRows, EndsWith}
+use Rattle.trigger_log.specs.Rows.{joined, last_places, cut, shifted, HasRows, MarkRows, AreKept, EndsWith}
 
 abbrev Marks : Type 0
 Marks = List SessionMark
@@ -23,9 +21,6 @@ pub record Around (rows : List Marks) (place : ℕ) (row : Marks) : Type 0 where
   pub joined_with : (other : Marks) → joined (set rows place other) ≡ front ++ (other ++ back)
   pub last_at : (n : ℕ) → slice_get (last_places n rows) place ≡ Some (n + length front + length row - 1)
   pub filled : 0 < length row
-
-some_is : {A : Type 0} (x y : A) → Some x ≡ Some y → x ≡ y
-some_is x y e = cc
 
 pub around : (rows : List Marks) (place : ℕ) (row : Marks) → Filled rows → slice_get rows place ≡ Some row → Around rows place row
 around [] place row f e = absurd (cc e)
@@ -100,6 +95,11 @@ same_places n (r ∷ rows) zero row other e l =
     rw (same, l) refl
 same_places n (r ∷ rows) (suc place) row other e l = ap (λ x. (n + length r - 1) ∷ x) (same_places (n + length r) rows place row other e l)
 
+length_shifted : (n : ℕ) (xs : List ℕ) → length (shifted n xs) ≡ length xs
+length_shifted n [] = refl
+length_shifted zero (x ∷ xs) = ap suc (length_shifted zero xs)
+length_shifted (suc n) (x ∷ xs) = ap suc (length_shifted n xs)
+
 -- one more mark before them
 pub later_places : (n m : ℕ) (rows : List Marks) → Filled rows → m ≡ suc n → last_places m rows ≡ shifted 0 (last_places n rows)
 later_places n m [] f e = refl
@@ -119,15 +119,15 @@ more_places n (r ∷ rows) zero row other f e l =
 more_places n (r ∷ rows) (suc place) row other f e l = ap (λ x. (n + length r - 1) ∷ x) (more_places (n + length r) rows place row other f.1 e l)
 
 -- the last mark of a row stands at its place
-pub record Newest (place : ℕ) (row : Marks) (sessions : Sessions) : Type 0 where
+pub record Newest (place : ℕ) (row marks : Marks) (places : List ℕ) : Type 0 where
   pub last : ℕ
   pub mark : SessionMark
-  pub placed : slice_get sessions.newest.items place ≡ Some last
-  pub stands : slice_get sessions.marks.items last ≡ Some mark
+  pub placed : slice_get places place ≡ Some last
+  pub stands : slice_get marks last ≡ Some mark
   pub ends : EndsWith row mark
 
-pub newest_at : (rows : List Marks) (place : ℕ) (row : Marks) (sessions : Sessions) → HasRows rows sessions → slice_get rows place ≡ Some row → Newest place row sessions
-newest_at rows place row sessions has at =
+newest_at : (rows : List Marks) (place : ℕ) (row marks : Marks) (places : List ℕ) → HasRows rows marks places → slice_get rows place ≡ Some row → Newest place row marks places
+newest_at rows place row marks places has at =
     let a = around rows place row has.filled at in
     let end = last_of row a.filled in
     let long : length row ≡ length end.1.0 + 1 = ap length end.1.1 ∙ length-append end.1.0 (end.0 ∷ []) in
@@ -135,88 +135,133 @@ newest_at rows place row sessions has at =
     record {
       last = 0 + length a.front + length row - 1;
       mark = end.0;
-      placed = rw has.newest (a.last_at 0);
-      stands = rw (has.marks, now) (end_at a.front end.1.0 end.0 a.back (0 + length a.front + length row - 1) (omega arith));
+      placed = rw has.ends (a.last_at 0);
+      stands = rw (has.joins, now) (end_at a.front end.1.0 end.0 a.back (0 + length a.front + length row - 1) (omega arith));
       ends = end.1;
     }
 
-pub none_at : (rows : List Marks) (n place : ℕ) → slice_get (last_places n rows) place ≡ None → slice_get rows place ≡ None
-none_at [] n place e = refl
-none_at (r ∷ rows) n zero e = absurd (cc e)
-none_at (r ∷ rows) n (suc place) e = none_at rows (n + length r) place e
+-- ---- the rows are what is cut at the places of their last marks
 
-pub row_at : (rows : List Marks) (place : ℕ) → (slice_get rows place ≡ None) ⊎ ((row : Marks) × (slice_get rows place ≡ Some row))
-row_at [] place = inl refl
-row_at (r ∷ rows) zero = inr (r, refl)
-row_at (r ∷ rows) (suc place) = row_at rows place
+pub length_cut : (n : ℕ) (places : List ℕ) (marks : Marks) → length (cut n places marks) ≡ length places
+length_cut n [] marks = refl
+length_cut n (p ∷ places) marks = ap suc (length_cut (suc p) places (drop (suc p - n) marks))
 
--- the last mark of a row is another
-pub puts : (rows : List Marks) (place : ℕ) (older : Marks) (last mark : SessionMark) (at : ℕ) (old new : Sessions) → HasRows rows old → slice_get rows place ≡ Some (older ++ last ∷ [])
-    → slice_get old.newest.items place ≡ Some at → new.marks.items ≡ set old.marks.items at mark → new.newest.items ≡ old.newest.items
-    → HasRows (set rows place (older ++ mark ∷ [])) new
-puts rows place older last mark at old new has is placed marks newest =
-    let a = around rows place (older ++ last ∷ []) has.filled is in
-    let i : at ≡ 0 + length a.front + length (older ++ last ∷ []) - 1 = some_is at (0 + length a.front + length (older ++ last ∷ []) - 1) (sym placed ∙ (ap (λ l. slice_get l place) has.newest ∙ a.last_at 0)) in
-    let at_end : at ≡ length a.front + length older = i ∙ simp length-append (omega arith) in
-    let same : length (older ++ mark ∷ []) ≡ length (older ++ last ∷ []) = simp length-append refl in
-    record {
-      marks = marks ∙ (ap (λ l. set l at mark) (has.marks ∙ a.joined_now) ∙ (end_set a.front older last mark a.back at at_end ∙ sym (a.joined_with (older ++ mark ∷ []))));
-      newest = newest ∙ (has.newest ∙ sym (same_places 0 rows place (older ++ last ∷ []) (older ++ mark ∷ []) is same));
-      filled = filled_set rows place (older ++ mark ∷ []) has.filled (filled_end older mark);
-    }
+cut_back : (n : ℕ) (rows : List Marks) → Filled rows → cut n (last_places n rows) (joined rows) ≡ rows
+cut_back n [] f = refl
+cut_back n (row ∷ rows) f =
+    let next : suc (n + length row - 1) ≡ n + length row = omega (arith, f.0) in
+    let size : suc (n + length row - 1) - n ≡ length row = omega (arith, f.0) in
+    rw (size, next, take-append_seam row (joined rows), drop-append_seam row (joined rows), cut_back (n + length row) rows f.1) refl
 
--- a row has one mark more
-pub opens : (rows : List Marks) (place : ℕ) (row : Marks) (mark : SessionMark) (at : ℕ) (old new : Sessions) → HasRows rows old → slice_get rows place ≡ Some row
-    → slice_get old.newest.items place ≡ Some at → new.marks.items ≡ insert old.marks.items (at + 1) mark → new.newest.items ≡ shifted place old.newest.items
-    → HasRows (set rows place (row ++ mark ∷ [])) new
-opens rows place row mark at old new has is placed marks newest =
-    let a = around rows place row has.filled is in
-    let i : at ≡ 0 + length a.front + length row - 1 = some_is at (0 + length a.front + length row - 1) (sym placed ∙ (ap (λ l. slice_get l place) has.newest ∙ a.last_at 0)) in
-    let behind : at + 1 ≡ length a.front + length row = omega (arith, a.filled) in
-    let longer : length (row ++ mark ∷ []) ≡ suc (length row) = simp length-append (omega arith) in
-    record {
-      marks = marks ∙ (ap (λ l. insert l (at + 1) mark) (has.marks ∙ a.joined_now) ∙ (end_insert a.front row mark a.back (at + 1) behind ∙ sym (a.joined_with (row ++ mark ∷ []))));
-      newest = newest ∙ (ap (shifted place) has.newest ∙ sym (more_places 0 rows place row (row ++ mark ∷ []) has.filled is longer));
-      filled = filled_set rows place (row ++ mark ∷ []) has.filled (filled_end row mark);
-    }
+pub cut_is : (rows : List Marks) (marks : Marks) (places : List ℕ) → HasRows rows marks places → cut 0 places marks ≡ rows
+cut_is rows marks places has = rw (has.joins, has.ends) (cut_back 0 rows has.filled)
 
--- what `get` answers
+pub cut_has : (rows : List Marks) (marks : Marks) (places : List ℕ) → HasRows rows marks places → HasRows (cut 0 places marks) marks places
+cut_has rows marks places has = subst (λ r. HasRows r marks places) (sym (cut_is rows marks places has)) has
 
-pub placed : {A : Type 0} (xs : List A) (i : ℕ) (x : A) → i < length xs → x ≡ get_or xs i x → slice_get xs i ≡ Some x
-placed xs i x h e = slice_get_read xs (length xs) i x refl h e
+-- ---- a vector of marks with the places of the last ones, whose rows are these
 
-pub got : {B : Type 0} (read : B → SessionMark) (r : Option B) (xs : Marks) (i : ℕ) (P : B → Type 0) → is_some r ≡ ltb i (length xs) → IfSome r (λ x. read x ≡ get_or xs i (read x))
-    → ((x : B) → slice_get xs i ≡ Some (read x) → P x) → IfSome r P
-got read None xs i P s e f = tt
-got read (Some x) xs i P s e f = let h : i < length xs = grind (arith, nat_tests) in f x (placed xs i (read x) h e)
+row_at : (rows : List Marks) (place : ℕ) → place < length rows → (row : Marks) × (slice_get rows place ≡ Some row)
+row_at [] place h = absurd (omega arith)
+row_at (r ∷ rows) zero h = (r, refl)
+row_at (r ∷ rows) (suc place) h = row_at rows place (omega arith)
 
-pub missed : {B : Type 0} (r : Option B) (xs : Marks) (i : ℕ) (Q : Type 0) → is_some r ≡ ltb i (length xs) → (slice_get xs i ≡ None → Q) → IfNone r Q
-missed None xs i Q s f = let h : length xs ≤ i = grind (arith, nat_tests) in f (slice_get_past xs i h)
-missed (Some x) xs i Q s f = tt
+all_weaker : (P Q : ℕ → Type 0) → ((x : ℕ) → P x → Q x) → (xs : List ℕ) → AllByRecursion P xs → AllByRecursion Q xs
+all_weaker P Q step [] all = tt
+all_weaker P Q step (x ∷ xs) all = (step x all.0, all_weaker P Q step xs all.1)
 
--- where there is no place, there is no row
-pub no_place : (rows : List Marks) (place : ℕ) (sessions : Sessions) → HasRows rows sessions → length sessions.newest.items ≤ place → slice_get rows place ≡ None
-no_place rows place sessions has h = none_at rows 0 place (rw (← has.newest) (slice_get_past sessions.newest.items place h))
+places_below : (n limit : ℕ) (rows : List Marks) → Filled rows → n + length (joined rows) ≤ limit → AllByRecursion (λ p. p < limit) (last_places n rows)
+places_below n limit [] f h = tt
+places_below n limit (row ∷ rows) f h =
+    let long : length (joined (row ∷ rows)) ≡ length row + length (joined rows) = length-append row (joined rows) in
+    (omega (arith, f.0), places_below (n + length row) limit rows f.1 (omega arith))
 
--- at the place of a row there is a mark
-pub no_mark : (rows : List Marks) (place last : ℕ) (sessions : Sessions) → HasRows rows sessions → slice_get sessions.newest.items place ≡ Some last → slice_get sessions.marks.items last ≡ None
-    → slice_get rows place ≡ None
-no_mark rows place last sessions has at none = ⊎_elim
-    (λ (e : slice_get rows place ≡ None). e)
-    (λ (w : (row : Marks) × (slice_get rows place ≡ Some row)).
-    let n = newest_at rows place w.0 sessions has w.1 in
-    let same : last ≡ n.last = some_is last n.last (sym at ∙ n.placed) in
-    absurd (cc (sym none ∙ (ap (slice_get sessions.marks.items) same ∙ n.stands))))
-    (row_at rows place)
+module _ (rows : List Marks) (marks : Marks) (places : List ℕ) (has : HasRows rows marks places) where
+  -- all places can be counted on
+  pub places_small : length marks < 2 ^ 64 → AllByRecursion (λ p. p + 1 < 2 ^ 64) places
+  places_small h =
+      rw has.ends (all_weaker (λ p. p < length marks) (λ p. p + 1 < 2 ^ 64) (λ p (below : p < length marks). omega arith) (last_places 0 rows)
+      (places_below 0 (length marks) rows has.filled (rw has.joins (omega arith))))
 
--- it is the last one of the row
-pub newest_ends : (rows : List Marks) (place last : ℕ) (row : Marks) (mark : SessionMark) (sessions : Sessions) → HasRows rows sessions → slice_get rows place ≡ Some row
-    → slice_get sessions.newest.items place ≡ Some last → slice_get sessions.marks.items last ≡ Some mark → EndsWith row mark
-newest_ends rows place last row mark sessions has is at stands =
-    let n = newest_at rows place row sessions has is in
-    let same : last ≡ n.last = some_is last n.last (sym at ∙ n.placed) in
-    let here : mark ≡ n.mark = some_is mark n.mark (sym stands ∙ (ap (slice_get sessions.marks.items) same ∙ n.stands)) in
-    subst (EndsWith row) (sym here) n.ends
+  pub same_length : length places ≡ length rows
+  same_length = sym (length_cut 0 places marks) ∙ ap length (cut_is rows marks places has)
+
+  module _ (place at : ℕ) (read : at ≡ get_or places place at) where
+    placed_at : place < length rows → slice_get places place ≡ Some at
+    placed_at inside = slice_get_read places (length places) place at refl (rw same_length inside) read
+
+    newest_last : (row : Marks) → slice_get rows place ≡ Some row → (n : Newest place row marks places) × (n.last ≡ at)
+    newest_last row is =
+        let n = newest_at rows place row marks places has is in
+        (n, same_Some n.last at (sym n.placed ∙ placed_at (slice_get_within rows place row is)))
+
+    pub mark_within : place < length rows → at < length marks
+    mark_within inside =
+        let row = row_at rows place inside in
+        let n = newest_last row.0 row.1 in
+        slice_get_within marks at n.0.mark (ap (slice_get marks) (sym n.1) ∙ n.0.stands)
+
+    -- the mark that is read is the last one of the row
+    pub newest_ends : (row : Marks) (mark : SessionMark) → slice_get rows place ≡ Some row → mark ≡ get_or marks at mark → EndsWith row mark
+    newest_ends row mark is mark_read =
+        let n = newest_last row is in
+        let stands : slice_get marks at ≡ Some n.0.mark = ap (slice_get marks) (sym n.1) ∙ n.0.stands in
+        let here = slice_get_read marks (length marks) at mark refl (slice_get_within marks at n.0.mark stands) mark_read in
+        subst (EndsWith row) (same_Some n.0.mark mark (sym stands ∙ here)) n.0.ends
+
+    last_place : (row : Marks) → (is : slice_get rows place ≡ Some row) → at ≡ 0 + length (around rows place row has.filled is).front + length row - 1
+    last_place row is =
+        let a = around rows place row has.filled is in
+        same_Some at (0 + length a.front + length row - 1)
+        (sym (placed_at (slice_get_within rows place row is)) ∙ (ap (λ l. slice_get l place) has.ends ∙ a.last_at 0))
+
+    -- the last mark of a row is another
+    puts : (older : Marks) (last mark : SessionMark) → slice_get rows place ≡ Some (older ++ last ∷ []) → HasRows (set rows place (older ++ mark ∷ [])) (set marks at mark) places
+    puts older last mark is =
+        let a = around rows place (older ++ last ∷ []) has.filled is in
+        let at_end : at ≡ length a.front + length older = last_place (older ++ last ∷ []) is ∙ simp length-append (omega arith) in
+        let same : length (older ++ mark ∷ []) ≡ length (older ++ last ∷ []) = simp length-append refl in
+        record {
+          joins = ap (λ l. set l at mark) (has.joins ∙ a.joined_now) ∙ (end_set a.front older last mark a.back at at_end ∙ sym (a.joined_with (older ++ mark ∷ [])));
+          ends = has.ends ∙ sym (same_places 0 rows place (older ++ last ∷ []) (older ++ mark ∷ []) is same);
+          filled = filled_set rows place (older ++ mark ∷ []) has.filled (filled_end older mark);
+        }
+
+    pub put_is : (older : Marks) (last mark : SessionMark) → slice_get rows place ≡ Some (older ++ last ∷ []) → cut 0 places (set marks at mark) ≡ set rows place (older ++ mark ∷ [])
+    put_is older last mark is = cut_is (set rows place (older ++ mark ∷ [])) (set marks at mark) places (puts older last mark is)
+
+    pub put_has : (mark : SessionMark) → place < length rows → HasRows (cut 0 places (set marks at mark)) (set marks at mark) places
+    put_has mark inside =
+        let row = row_at rows place inside in
+        let end = newest_last row.0 row.1 in
+        cut_has (set rows place (end.0.ends.0 ++ mark ∷ [])) (set marks at mark) places
+        (puts end.0.ends.0 end.0.mark mark (row.1 ∙ ap (λ r. Some r) end.0.ends.1))
+
+    pub put_width : (mark : SessionMark) → length (cut 0 places (set marks at mark)) ≡ length rows
+    put_width mark = length_cut 0 places (set marks at mark) ∙ same_length
+
+    -- a row has one mark more
+    opens : (row : Marks) (mark : SessionMark) → slice_get rows place ≡ Some row → HasRows (set rows place (row ++ mark ∷ [])) (insert marks (at + 1) mark) (shifted place places)
+    opens row mark is =
+        let a = around rows place row has.filled is in
+        let i = last_place row is in
+        let behind : at + 1 ≡ length a.front + length row = omega (arith, a.filled) in
+        let longer : length (row ++ mark ∷ []) ≡ suc (length row) = simp length-append (omega arith) in
+        record {
+          joins = ap (λ l. insert l (at + 1) mark) (has.joins ∙ a.joined_now) ∙ (end_insert a.front row mark a.back (at + 1) behind ∙ sym (a.joined_with (row ++ mark ∷ [])));
+          ends = ap (shifted place) has.ends ∙ sym (more_places 0 rows place row (row ++ mark ∷ []) has.filled is longer);
+          filled = filled_set rows place (row ++ mark ∷ []) has.filled (filled_end row mark);
+        }
+
+    pub open_is : (row : Marks) (mark : SessionMark) → slice_get rows place ≡ Some row
+        → cut 0 (shifted place places) (insert marks (at + 1) mark) ≡ set rows place (row ++ mark ∷ [])
+    open_is row mark is = cut_is (set rows place (row ++ mark ∷ [])) (insert marks (at + 1) mark) (shifted place places) (opens row mark is)
+
+    pub open_has : (mark : SessionMark) → place < length rows
+        → HasRows (cut 0 (shifted place places) (insert marks (at + 1) mark)) (insert marks (at + 1) mark) (shifted place places)
+    open_has mark inside =
+        let row = row_at rows place inside in
+        cut_has (set rows place (row.0 ++ mark ∷ [])) (insert marks (at + 1) mark) (shifted place places) (opens row.0 mark row.1)
 
 -- ---- each neighbour with the session from the start
 
@@ -241,3 +286,15 @@ firsts_places n m (y ∷ xs) x e = ap (λ l. (n + 1 - 1) ∷ l) (firsts_places (
 pub firsts_filled : (xs : List ℕ) → Filled (map first xs)
 firsts_filled [] = tt
 firsts_filled (x ∷ xs) = (omega arith, firsts_filled xs)
+
+-- the rows of all neighbours
+pub firsts_has : (near : List ℕ) (marks : Marks) (places : List ℕ) → marks ≡ joined (map first near) → places ≡ last_places 0 (map first near) → HasRows (map first near) marks places
+firsts_has near marks places joins ends = record { joins = joins; ends = ends; filled = firsts_filled near }
+
+-- ---- a value and its fields
+
+pub rows_of : (value : MarkRows) (near : List ℕ) (marks : Marks) (places : List ℕ) → AreKept near marks places → record { near = near; rows = cut 0 places marks } ≡ value → HasRows value.rows marks places
+rows_of value near marks places kept is = subst (λ (r : MarkRows). HasRows r.rows marks places) is kept.has
+
+pub as_long : (places places' near : List ℕ) (n : ℕ) → length places ≡ length near → places' ≡ shifted n places → length places' ≡ length near
+as_long places places' near n each is = ap length is ∙ (length_shifted n places ∙ each)

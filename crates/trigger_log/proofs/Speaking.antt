@@ -22,12 +22,12 @@ use Rattle.trigger_log.specs.Entries.{Entry, Update, reads, entry, closes, is_se
 use Rattle.trigger_log.specs.Sending.{news, update_of, sent_count, sent_from, updates_sent, close_sent, next_number}
 use Rattle.trigger_log.specs.Going.{going_of, going_in, going_to, told, numbered}
 use Rattle.trigger_log.specs.Fits.{CauseFits, Fits}
-use Rattle.trigger_log.specs.Offered.{IsPlaced, places_of, differs, updates_over}
+use Rattle.trigger_log.specs.Offered.{IsPlaced, places_of, asked, differs, updates_over}
 use Rattle.trigger_log.specs.Telling.{Tells}
 use Rattle.trigger_log.specs.Marked.{Says, Spoken, ends_with, readies}
 use Rattle.trigger_log.proofs.Holding.{accepted, fits_up, fits_down, fits_ready, held_is_last}
 use Rattle.trigger_log.proofs.Closings.{count_held, count_other, count_down, close_count, held_count}
-use Rattle.trigger_log.proofs.Silence.{ready_in, ready_held, not_opened, opened_above}
+use Rattle.trigger_log.proofs.Silence.{ready_in, ready_held, not_opened, opened_above, opening_says_nothing}
 use Rattle.trigger_log.proofs.Newest.{held_until}
 
 same_number : (v w : ℕ) → (v == w) ≡ true → v ≡ w
@@ -95,6 +95,25 @@ knew k h w s f e = knew_by h k.read.scope k.read.cause w s f.1 f.0 e
 
 -- ---- the updates over the places of the scope are all news
 
+opening_news : (rules : Rules) (net : Net) (u : ℕ) (h : List Entry) (triggers : List Trigger) (scope : Scope) (cause : Cause) (v t x : ℕ) → Fits (entry triggers scope cause ∷ h) → cause ≡ Up v t
+    → news rules net u h (entry triggers scope cause) x ≡ []
+opening_news rules net u h triggers scope cause v t x fits is =
+    subst (λ c. Fits (entry triggers scope c ∷ h) → news rules net u h (entry triggers scope c) x ≡ []) (sym is) (λ f. with_scope scope f) fits
+  where
+    with_scope : (scope : Scope) → Fits (entry triggers scope (Up v t) ∷ h) → news rules net u h (entry triggers scope (Up v t)) x ≡ []
+    with_scope (One p) f = absurd f.0
+    with_scope All f = opening_says_nothing rules net u h triggers v t x f.1 f.0.0 f.0.1
+
+-- all prefixes are asked for where no session is opened
+pub asked_all : (net : Net) (scope : Scope) (cause : Cause) → ((v s : ℕ) → cause ≡ Up v s → ⊥) → asked net scope cause ≡ places_of net scope
+asked_all net scope Originate other = refl
+asked_all net scope Withdraw other = refl
+asked_all net scope (Recv v s seq path) other = refl
+asked_all net scope (Down v s) other = refl
+asked_all net scope (Up v s) other = absurd (other v s refl)
+asked_all net scope (Ready v s) other = refl
+asked_all net scope (Prefer v x) other = refl
+
 none_passes : (f : ℕ → Bool) (p start n : ℕ) → p < start → ((q : ℕ) → (p == q) ≡ false → f q ≡ false) → filter f (range_with_len start n) ≡ []
 none_passes f p start zero before off = refl
 none_passes f p start (suc n) before off = rw (off start (grind (arith, nat_tests))) (none_passes f p (start + 1) n (omega arith) off)
@@ -121,14 +140,15 @@ scoped [] f = tt
 scoped (k ∷ h) f = ((accepted h k.read.scope k.read.cause f.1 f.0).scoped, scoped h f.1)
 
 module _ (rules : Rules) (net : Net) (u : ℕ) (h : List Entry) (k : Entry) (w s : ℕ) (fits : Fits (k ∷ h)) (now : ready (k.read ∷ reads h) w ≡ Some s) where
-  abbrev moved : ℕ → Bool
+  abbrev pub moved : ℕ → Bool
   moved = changed rules net u (reads h) k.read w
 
   moves : (p : ℕ) → differs rules net u h k (is_some (ready (reads h) w)) w p ≡ moved p
   unfolding changed offered
   moves p = rw now refl
 
-  passing : (scope : Scope) → k.read.scope ≡ scope → IsPlaced net scope → filter moved (places_of net scope) ≡ filter moved (places net)
+  -- no prefix outside the scope has news
+  pub passing : (scope : Scope) → k.read.scope ≡ scope → IsPlaced net scope → filter moved (places_of net scope) ≡ filter moved (places net)
   unfolding places
   passing All is placed = refl
   passing (One p) is placed =
@@ -140,6 +160,19 @@ module _ (rules : Rules) (net : Net) (u : ℕ) (h : List Entry) (k : Entry) (w s
   over_scope placed =
       ap (map (update_of rules net u h k w))
       (filter_same (differs rules net u h k (is_some (ready (reads h) w)) w) moved moves (places_of net k.read.scope) ∙ passing k.read.scope refl placed)
+
+  -- so are those over the prefixes that are asked for
+  pub over_asked : IsPlaced net k.read.scope → updates_over rules net u h k (is_some (ready (reads h) w)) w (asked net k.read.scope k.read.cause) ≡ news rules net u h k w
+  over_asked placed = by_cause k.read.cause refl
+    where
+      by_cause : (cause : Cause) → k.read.cause ≡ cause → updates_over rules net u h k (is_some (ready (reads h) w)) w (asked net k.read.scope cause) ≡ news rules net u h k w
+      by_cause Originate e = over_scope placed
+      by_cause Withdraw e = over_scope placed
+      by_cause (Recv v t seq path) e = over_scope placed
+      by_cause (Down v t) e = over_scope placed
+      by_cause (Up v t) e = sym (opening_news rules net u h k.triggers k.read.scope k.read.cause v t w fits e)
+      by_cause (Ready v t) e = over_scope placed
+      by_cause (Prefer v x) e = over_scope placed
 
 -- ---- the three cases
 

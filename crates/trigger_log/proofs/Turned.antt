@@ -15,13 +15,12 @@ use Rattle.path_vector.specs.Rules.{Rules}
 use Rattle.path_vector.specs.History.{last, opened, opened_by}
 use Rattle.path_vector.specs.Kept.{names}
 use Rattle.trigger_log.specs.declared.sessions.SessionMark.{SessionMark}
-use Rattle.trigger_log.specs.declared.sessions.Sessions.{Sessions}
 use Rattle.trigger_log.specs.Entries.{Entry, reads, entry, inbox, received_by, closes}
 use Rattle.trigger_log.specs.Sending.{sent_count}
 use Rattle.trigger_log.specs.Fits.{CauseFits, Fits}
 use Rattle.trigger_log.specs.Sessions.{ever, opens_by, IsMark, AreMarks, AreRows}
-use Rattle.trigger_log.specs.Rows.{HasRows, EndsWith}
-use Rattle.trigger_log.specs.Marked.{Says, AreMarked, Marked}
+use Rattle.trigger_log.specs.Rows.{EndsWith}
+use Rattle.trigger_log.specs.Marked.{Says, AreMarked, AreAllMarked}
 use Rattle.trigger_log.proofs.Holding.{fits_recv, fits_down, fits_ready, held_is_last}
 use Rattle.trigger_log.proofs.Closings.{closing_above, closing_other, count_above}
 use Rattle.trigger_log.proofs.Fresh.{ever_above, fresh_inbox}
@@ -262,14 +261,10 @@ module _ (rules : Rules) (net : Net) (u : ℕ) (h : List Entry) (triggers : List
 
 module _ (rules : Rules) (net : Net) (u : ℕ) (h : List Entry) (rows : List (List SessionMark)) (valid : IsValid net) (were : AreRows rules net u h rows) where
   -- an entry that names no neighbour
-  pub marked_none : (trigger : Trigger) (scope : Scope) (cause : Cause) (sessions : Sessions) → Fits (entry (trigger ∷ []) scope cause ∷ h) → names cause ≡ None → HasRows rows sessions
-      → Marked rules net u h (entry (trigger ∷ []) scope cause) sessions
-  marked_none trigger scope cause sessions fits by has = record {
-    rows = rows;
-    kept = has;
-    each = zip_map (AreMarks rules net u h) (AreMarked rules net u h (entry (trigger ∷ []) scope cause))
-        (λ w row was. other_row rules net u h (entry (trigger ∷ []) scope cause) fits w row (λ e. absurd (cc (by, e))) was) (neighbours net u) rows were;
-  }
+  pub marked_none : (trigger : Trigger) (scope : Scope) (cause : Cause) → Fits (entry (trigger ∷ []) scope cause ∷ h) → names cause ≡ None → AreAllMarked rules net u h (entry (trigger ∷ []) scope cause) rows
+  marked_none trigger scope cause fits by =
+      zip_map (AreMarks rules net u h) (AreMarked rules net u h (entry (trigger ∷ []) scope cause))
+      (λ w row was. other_row rules net u h (entry (trigger ∷ []) scope cause) fits w row (λ e. absurd (cc (by, e))) was) (neighbours net u) rows were
 
   set_row : (k : Entry) (fits : Fits (k ∷ h)) (v i : ℕ) (row : List SessionMark) → names k.read.cause ≡ Some v → slice_get (neighbours net u) i ≡ Some v → AreMarked rules net u h k v row
       → AllZip (AreMarked rules net u h k) (neighbours net u) (set rows i row)
@@ -286,21 +281,19 @@ module _ (rules : Rules) (net : Net) (u : ℕ) (h : List Entry) (rows : List (Li
   up_fits triggers (One p) v s f = absurd f.0
   up_fits triggers All v s f = refl
 
-  pub marked_up : (trigger : Trigger) (scope : Scope) (cause : Cause) (v s i : ℕ) (sessions : Sessions) → Fits (entry (trigger ∷ []) scope cause ∷ h) → cause ≡ Up v s → slice_get (neighbours net u) i ≡ Some v
-      → ((row : List SessionMark) → slice_get rows i ≡ Some row → HasRows (set rows i (row ++ record { nbr = v; session = s; opened = false; sent = 0; received = 0; down = None } ∷ [])) sessions)
-      → Marked rules net u h (entry (trigger ∷ []) scope cause) sessions
-  marked_up trigger scope cause v s i sessions fits is at opened =
+  pub marked_up : (trigger : Trigger) (scope : Scope) (cause : Cause) (v s i : ℕ) (new : List (List SessionMark)) → Fits (entry (trigger ∷ []) scope cause ∷ h) → cause ≡ Up v s → slice_get (neighbours net u) i ≡ Some v
+      → ((row : List SessionMark) → slice_get rows i ≡ Some row → new ≡ set rows i (row ++ record { nbr = v; session = s; opened = false; sent = 0; received = 0; down = None } ∷ []))
+      → AreAllMarked rules net u h (entry (trigger ∷ []) scope cause) new
+  marked_up trigger scope cause v s i new fits is at opened =
       let is_all : scope ≡ All = up_fits (trigger ∷ []) scope v s (subst (λ c. Fits (entry (trigger ∷ []) scope c ∷ h)) is fits) in
       let k = entry (trigger ∷ []) All (Up v s) in
       let up : Fits (k ∷ h) = subst (λ x. Fits (entry (trigger ∷ []) x (Up v s) ∷ h)) is_all (subst (λ c. Fits (entry (trigger ∷ []) scope c ∷ h)) is fits) in
       let found = row_of v i at in
       let row = found.0 ++ fresh rules net u h (trigger ∷ []) v s up ∷ [] in
-      let marked : Marked rules net u h k sessions = record {
-        rows = set rows i row;
-        kept = opened found.0 found.1;
-        each = set_row k up v i row refl at (opened_row rules net u h (trigger ∷ []) v s up found.0 found.2);
-      } in
-      subst (λ x. Marked rules net u h (entry (trigger ∷ []) x cause) sessions) (sym is_all) (subst (λ c. Marked rules net u h (entry (trigger ∷ []) All c) sessions) (sym is) marked)
+      let marked : AreAllMarked rules net u h k new =
+      subst (AllZip (AreMarked rules net u h k) (neighbours net u)) (sym (opened found.0 found.1))
+      (set_row k up v i row refl at (opened_row rules net u h (trigger ∷ []) v s up found.0 found.2)) in
+      subst (λ x. AreAllMarked rules net u h (entry (trigger ∷ []) x cause) new) (sym is_all) (subst (λ c. AreAllMarked rules net u h (entry (trigger ∷ []) All c) new) (sym is) marked)
 
   not_up : (cause : Cause) (w : ℕ) → ((v s : ℕ) → cause ≡ Up v s → ⊥) → opens_by cause w ≡ []
   not_up Originate w other = refl
@@ -311,17 +304,14 @@ module _ (rules : Rules) (net : Net) (u : ℕ) (h : List Entry) (rows : List (Li
   not_up (Prefer v x) w other = refl
   not_up (Up v t) w other = absurd (other v t refl)
 
-  pub marked_turned : (k : Entry) (v i : ℕ) (mark new : SessionMark) (sessions : Sessions) → Fits (k ∷ h) → ((v s : ℕ) → k.read.cause ≡ Up v s → ⊥) → names k.read.cause ≡ Some v
+  pub marked_turned : (k : Entry) (v i : ℕ) (mark turned : SessionMark) (new : List (List SessionMark)) → Fits (k ∷ h) → ((v s : ℕ) → k.read.cause ≡ Up v s → ⊥) → names k.read.cause ≡ Some v
       → slice_get (neighbours net u) i ≡ Some v → ((row : List SessionMark) → slice_get rows i ≡ Some row → EndsWith row mark)
-      → ((n : ℕ) → Says h v (last (reads h) v) n mark → Says (k ∷ h) v (last (reads h) v) n new)
-      → ((older : List SessionMark) → slice_get rows i ≡ Some (older ++ mark ∷ []) → HasRows (set rows i (older ++ new ∷ [])) sessions)
-      → Marked rules net u h k sessions
-  marked_turned k v i mark new sessions fits other by at ends turn put =
+      → ((n : ℕ) → Says h v (last (reads h) v) n mark → Says (k ∷ h) v (last (reads h) v) n turned)
+      → ((older : List SessionMark) (last : SessionMark) → slice_get rows i ≡ Some (older ++ last ∷ []) → new ≡ set rows i (older ++ turned ∷ []))
+      → AreAllMarked rules net u h k new
+  marked_turned k v i mark turned new fits other by at ends turn put =
       let found = row_of v i at in
       let end = ends found.0 found.1 in
-      record {
-        rows = set rows i (end.0 ++ new ∷ []);
-        kept = put end.0 (found.1 ∙ ap (λ r. Some r) end.1);
-        each = set_row k fits v i (end.0 ++ new ∷ []) by at
-            (turned_row rules net u h k fits v end.0 mark new (not_up k.read.cause v other) (subst (AreMarks rules net u h v) end.1 found.2) (turn (sent_count rules net u h v (last (reads h) v))));
-      }
+      subst (AllZip (AreMarked rules net u h k) (neighbours net u)) (sym (put end.0 mark (found.1 ∙ ap (λ r. Some r) end.1)))
+      (set_row k fits v i (end.0 ++ turned ∷ []) by at
+      (turned_row rules net u h k fits v end.0 mark turned (not_up k.read.cause v other) (subst (AreMarks rules net u h v) end.1 found.2) (turn (sent_count rules net u h v (last (reads h) v)))))

@@ -33,9 +33,6 @@ numbered-more n [] x = ap (λ m. News m x ∷ []) (omega arith)
 numbered-more n (y ∷ xs) x =
     ap (λ l. News n y ∷ l) (numbered-more (suc n) xs x ∙ ap (λ m. numbered (suc n) xs ++ News m x ∷ []) (omega arith))
 
-pub tells_none : (listener : Listener) (sent : List Sent) (out : List Outgoing) → Tells listener [] sent sent out out listener.sent
-tells_none listener sent out = record { counts = omega arith; sent = sym (append-nil sent); out = sym (append-nil (map going_of out)) }
-
 pub tells_more : (listener : Listener) (xs : List Update) (x : Update) (sent some all : List Sent) (out some_out all_out : List Outgoing) (n m : ℕ)
     → m ≡ suc n → all ≡ some ++ record { to = listener.nbr; session = listener.session; seq = m } ∷ []
     → map going_of all_out ≡ map going_of some_out ++ update_going listener m x ∷ []

@@ -9,3 +9,4 @@ pub mod Offered
 pub mod Telling
 pub mod Marked
 pub mod Quiet
+pub mod Due

@@ -11,15 +11,13 @@ use Rattle.path_vector.specs.Standing.{StandsFor as RoutesStandFor}
 use Rattle.path_vector.specs.declared.state.RouteState.{RouteState}
 use Rattle.trigger_log.specs.declared.outgoing.Outgoing.{Outgoing}
 use Rattle.trigger_log.specs.declared.sessions.SessionMark.{SessionMark}
-use Rattle.trigger_log.specs.declared.sessions.Sessions.{Sessions}
 use Rattle.trigger_log.specs.declared.telling.Turn.{Turn}
 use Rattle.trigger_log.specs.Entries.{Entry, reads, inbox, closing}
 use Rattle.trigger_log.specs.Sending.{sent_count, sent_to}
 use Rattle.trigger_log.specs.Going.{going_of, going_in, told}
 use Rattle.trigger_log.specs.Fits.{Fits}
 use Rattle.trigger_log.specs.Sessions.{ever, AreMarks}
-use Rattle.trigger_log.specs.Rows.{HasRows}
-use Rattle.trigger_log.specs.Offered.{IsPlaced, AreChosen, prefixes_of, places_of}
+use Rattle.trigger_log.specs.Offered.{IsPlaced, AreChosen, prefixes_of, asked}
 
 -- the cause ends a session with w
 abbrev pub ends_with : Cause → ℕ → Bool
@@ -46,10 +44,8 @@ AreMarked rules net u h k w marks =
     AllZip (λ s mark. Says (k ∷ h) w s (sent_count rules net u h w s) mark) (ever (k ∷ h) w) marks
 
 -- so are those of each neighbour
-pub record Marked (rules : Rules) (net : Net) (u : ℕ) (h : List Entry) (k : Entry) (sessions : Sessions) : Type 0 where
-  pub rows : List (List SessionMark)
-  pub kept : HasRows rows sessions
-  pub each : AllZip (AreMarked rules net u h k) (neighbours net u) rows
+abbrev pub AreAllMarked : Rules → Net → ℕ → List Entry → Entry → List (List SessionMark) → Type 0
+AreAllMarked rules net u h k rows = AllZip (AreMarked rules net u h k) (neighbours net u) rows
 
 -- the routes and the turn are those of entry k, which fits
 pub record Enters {P : Type 0} (policy : P) (rules : Rules) (net : Net) (u : ℕ) (h : List Entry) (k : Entry)
@@ -59,7 +55,7 @@ pub record Enters {P : Type 0} (policy : P) (rules : Rules) (net : Net) (u : ℕ
   pub lists : k.triggers ≡ turn.trigger.now ∷ []
   pub cause : k.read.cause ≡ turn.cause.now
   pub placed : IsPlaced net k.read.scope
-  pub covers : prefixes_of turn.after.now ≡ places_of net k.read.scope
+  pub covers : prefixes_of turn.after.now ≡ asked net k.read.scope k.read.cause
   pub before : AreChosen rules net u (reads h) turn.before.now
   pub after : AreChosen rules net u (k.read ∷ reads h) turn.after.now
 
@@ -72,10 +68,8 @@ pub record Spoken (rules : Rules) (net : Net) (u : ℕ) (h : List Entry) (k : En
       ≡ map going_of out_before ++ going_in w (told rules net u h k w) (held (k.read ∷ reads h) w)
 
 -- the first n neighbours are told, and their items counted
-pub record ToldTo (rules : Rules) (net : Net) (u : ℕ) (h : List Entry) (k : Entry) (n : ℕ) (sessions : Sessions)
+pub record ToldTo (rules : Rules) (net : Net) (u : ℕ) (h : List Entry) (k : Entry) (n : ℕ) (rows : List (List SessionMark))
     (sent_before sent_after : List Sent) (out_before out_after : List Outgoing) : Type 0 where
-  pub rows : List (List SessionMark)
-  pub kept : HasRows rows sessions
   pub width : length rows ≡ length (neighbours net u)
   pub done : (j w : ℕ) (row : List SessionMark) → j < n → slice_get (neighbours net u) j ≡ Some w →
       slice_get rows j ≡ Some row → AreMarks rules net u (k ∷ h) w row

@@ -5,6 +5,8 @@ use Rattle.topology.specs.declared.names.Scope.{Scope}
 use Rattle.topology.specs.declared.names.Scope.TheVariants.{One, All}
 use Rattle.topology.specs.Lists.{same_path}
 use Rattle.topology.specs.Net.{Net, places}
+use Rattle.path_vector.specs.declared.causes.Cause.{Cause}
+use Rattle.path_vector.specs.declared.causes.Cause.TheVariants.{Originate, Withdraw, Recv, Down, Up, Ready, Prefer}
 use Rattle.path_vector.specs.Rules.{Rules}
 use Rattle.path_vector.specs.History.{History}
 use Rattle.path_vector.specs.Selection.{best}
@@ -23,6 +25,16 @@ IsPlaced net All = Unit {0}
 abbrev pub places_of : Net → Scope → List ℕ
 places_of net (One p) = p ∷ []
 places_of net All = places net
+
+-- the prefixes whose routes an entry may change: none where it opens a session
+abbrev pub asked : Net → Scope → Cause → List ℕ
+asked net scope Originate = places_of net scope
+asked net scope Withdraw = places_of net scope
+asked net scope (Recv from session seq path) = places_of net scope
+asked net scope (Down v s) = places_of net scope
+asked net scope (Up v s) = []
+asked net scope (Ready v s) = places_of net scope
+asked net scope (Prefer v x) = places_of net scope
 
 -- the prefixes of these routes
 abbrev pub prefixes_of : List Offer → List ℕ

@@ -1,8 +1,7 @@
 -- Rows of marks that are kept as one list.
-use Rattle.std.specs.Prelude.{ℕ, zero, suc, ◌≡◌, ◌<◌, ◌+◌, ◌-◌, List, [], ◌∷◌, ◌++◌, length, flat_map}
+use Rattle.std.specs.Prelude.{ℕ, zero, suc, ◌≡◌, ◌<◌, ◌+◌, ◌-◌, List, [], ◌∷◌, ◌++◌, length, flat_map, take, drop}
 use Rattle.std.specs.List.{AllByRecursion}
 use Rattle.trigger_log.specs.declared.sessions.SessionMark.{SessionMark}
-use Rattle.trigger_log.specs.declared.sessions.Sessions.{Sessions}
 
 -- the rows one after the other
 abbrev pub joined : List (List SessionMark) → List SessionMark
@@ -13,11 +12,26 @@ abbrev pub last_places : ℕ → List (List SessionMark) → List ℕ
 last_places n [] = []
 last_places n (row ∷ rows) = (n + length row - 1) ∷ last_places (n + length row) rows
 
--- these are the rows, none of which is empty
-pub record HasRows (rows : List (List SessionMark)) (sessions : Sessions) : Type 0 where
-  pub marks : sessions.marks.items ≡ joined rows
-  pub newest : sessions.newest.items ≡ last_places 0 rows
+-- the rows that end at these places, where n marks stand before the first
+abbrev pub cut : ℕ → List ℕ → List SessionMark → List (List SessionMark)
+cut n [] marks = []
+cut n (place ∷ places) marks = take (suc place - n) marks ∷ cut (suc place) places (drop (suc place - n) marks)
+
+-- the marks are those of the rows, none of which is empty, and the places those of their last marks
+pub record HasRows (rows : List (List SessionMark)) (marks : List SessionMark) (places : List ℕ) : Type 0 where
+  pub joins : marks ≡ joined rows
+  pub ends : places ≡ last_places 0 rows
   pub filled : AllByRecursion (λ row. 0 < length row) rows
+
+-- the marks of a node: a row for each neighbour
+pub record MarkRows : Type 0 where
+  pub near : List ℕ
+  pub rows : List (List SessionMark)
+
+-- each neighbour has a row
+pub record AreKept (near : List ℕ) (marks : List SessionMark) (places : List ℕ) : Type 0 where
+  pub each : length places ≡ length near
+  pub has : HasRows (cut 0 places marks) marks places
 
 -- the mark is the last one of the row
 abbrev pub EndsWith : List SessionMark → SessionMark → Type 0

@@ -6,13 +6,11 @@ use Rattle.path_vector.specs.Rules.{Rules}
 use Rattle.path_vector.specs.History.{change}
 use Rattle.path_vector.specs.Standing.{StandsFor as RoutesStandFor}
 use Rattle.trigger_log.specs.declared.entries.Entry.{Entry as Shown}
-use Rattle.trigger_log.specs.declared.sessions.SessionMark.{SessionMark}
 use Rattle.trigger_log.specs.declared.log.NodeLog.{NodeLog}
 use Rattle.trigger_log.specs.Entries.{Entry, reads, locals}
 use Rattle.trigger_log.specs.Sending.{sent_by}
 use Rattle.trigger_log.specs.Fits.{Fits}
 use Rattle.trigger_log.specs.Sessions.{AreRows}
-use Rattle.trigger_log.specs.Rows.{HasRows}
 
 -- an entry, and those before it
 pub record Step : Type 0 where
@@ -36,10 +34,8 @@ pub record StandsFor {P : Type 0} (policy : P) (rules : Rules) (net : Net) (u : 
   pub routes : RoutesStandFor policy net u log.routes (reads h)
   pub fitting : Fits h
   pub node : log.node ≡ u
-  pub near : log.near.items ≡ neighbours net u
+  pub near : log.sessions.near ≡ neighbours net u
   pub count : log.len ≡ length h
   pub next : log.next_count ≡ suc (locals h)
   pub shown : AllZip (Shows rules net u) (steps h) log.entries.items
-  pub rows : List (List SessionMark)
-  pub kept : HasRows rows log.sessions
-  pub each : AreRows rules net u h rows
+  pub marks : AreRows rules net u h log.sessions.rows

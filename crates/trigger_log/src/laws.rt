@@ -1,12 +1,12 @@
 //! Laws of logs. A call of a law brings what it says into the caller's proof.
-ghost use Rattle.std.specs.Prelude.{ℕ, suc, ◌<◌, ◌≤◌, ◌≡◌, ◌≢◌, not, List, [], ◌∷◌, Option, Some, None, true, false, map, filter, length};
+ghost use Rattle.std.specs.Prelude.{ℕ, suc, ◌<◌, ◌≤◌, ◌≡◌, ◌≢◌, List, [], ◌∷◌, Option, Some, None, true, false, map, filter, length};
 ghost use Rattle.std.specs.List.{range_with_len};
 ghost use Rattle.std.specs.List.Sorted.{IsStrictlyIncreasing};
 ghost use Rattle.topology.specs.declared.names.Trigger.{Trigger};
 ghost use Rattle.topology.specs.declared.names.Scope.{Scope};
 ghost use Rattle.topology.specs.declared.names.Scope.TheVariants.{All};
 ghost use Rattle.topology.specs.declared.items.Sent.{Sent};
-ghost use Rattle.topology.specs.Lists.{has, same_path, Among};
+ghost use Rattle.topology.specs.Lists.{has, Among};
 ghost use Rattle.topology.specs.Net.{Net, IsValid, neighbours, places};
 ghost use Rattle.path_vector.specs.declared.causes.Cause.{Cause};
 ghost use Rattle.path_vector.specs.declared.causes.Cause.TheVariants.{Up};
@@ -16,6 +16,7 @@ ghost use Rattle.path_vector.specs.Offers.{offer, changed};
 ghost use Rattle.trigger_log.specs.Entries.{Entry, Update, entry, reads, inbox, closing, close};
 ghost use Rattle.trigger_log.specs.Sending.{news, outbox, said, Lists, sent_by, sent_of, sent_count, is_sent_in, Rises};
 ghost use Rattle.trigger_log.specs.Fits.{Fits, CauseFits};
+ghost use Rattle.trigger_log.specs.Due.{differs_from_said};
 ghost use Rattle.trigger_log.specs.Sessions.{ever};
 
 /// What fits a log is accepted by its routes.
@@ -74,13 +75,12 @@ pub fn what_was_said_is_offered()
 {}
 
 /// An update of a prefix goes out exactly where the offer differs from what was said last in its
-/// session.
+/// session. What `NodeLog::append` hands out is so by its own clause.
 #[tactic(auto, using(crate::proofs::Saying::changed_where_it_differs))]
 pub fn an_update_goes_out_where_the_offer_differs()
     ensures { (rules : Rules) (net : Net) (u : ℕ) (h : List Entry) (k : Entry) (w s p : ℕ) → Fits (k ∷ h) →
         has (places net) p ≡ true → ready (k.read ∷ reads h) w ≡ Some s →
-        changed rules net u (reads h) k.read w p
-        ≡ not (same_path (offer rules net u (k.read ∷ reads h) p w) (said p (outbox rules net u h w s))) }
+        changed rules net u (reads h) k.read w p ≡ differs_from_said rules net u h k w s p }
 {}
 
 /// Each trigger of an item is listed by an entry.

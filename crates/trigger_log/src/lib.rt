@@ -1,6 +1,7 @@
 //! The log of a node: what it entered, for which triggers, and what each entry sent.
 #![tactic(auto)]
 
+mod counting;
 pub mod entries;
 pub mod laws;
 pub mod log;
@@ -12,7 +13,8 @@ pub mod sessions;
 mod telling;
 mod turns;
 
-pub use entries::{Entry, SentItems};
+pub use counting::next_number;
+pub use entries::Entry;
 pub use log::NodeLog;
 pub use outgoing::Outgoing;
 pub use sessions::SessionMark;

@@ -11,21 +11,23 @@ ghost use Rattle.trigger_log.specs.Entries.{Entry as Logged, entry, reads, inbox
 ghost use Rattle.trigger_log.specs.Sending.{sent_count};
 ghost use Rattle.trigger_log.specs.Going.{going_of, going_by};
 ghost use Rattle.trigger_log.specs.Fits.{CauseFits};
-ghost use Rattle.trigger_log.specs.Sessions.{AreAllMarks};
+ghost use Rattle.trigger_log.specs.Due.{SendsWhatIsDue};
+ghost use Rattle.trigger_log.specs.Sessions.{ever, IsMark, AreAllMarks};
 ghost use Rattle.trigger_log.specs.Offered.{IsPlaced};
 ghost use Rattle.trigger_log.specs.Marked.{Says};
 ghost use Rattle.trigger_log.specs.Standing.{Step, steps, Shows, StandsFor};
 
-use crate::entries::{Entry, SentItems};
-use crate::marking::{mark, place_of};
-use crate::offers::offers_of;
+use crate::counting::next_number;
+use crate::entries::Entry;
+use crate::marking::mark;
+use crate::offers::offers_for;
 use crate::outgoing::Outgoing;
 use crate::sessions::{SessionMark, Sessions};
 use crate::telling::Turn;
 use crate::turns::tell_all;
 use path_vector::{Cause, Policy, RouteState};
 use std::alloc::Global;
-use topology::{NoMemory, NodeId, PrefixId, Scope, Session, Topology, Trigger};
+use topology::{NoMemory, NodeId, PrefixId, Scope, SentItems, Session, Topology, Trigger};
 
 /// What a node entered, the oldest entry first, and what it needs to make the next one: its routes,
 /// its sessions, the number of its entries and the counter of its next trigger.
@@ -33,19 +35,11 @@ use topology::{NoMemory, NodeId, PrefixId, Scope, Session, Topology, Trigger};
 pub struct NodeLog<P: Policy + Copy> {
     alloc: Global,
     node: NodeId,
-    near: Vec<NodeId>,
     routes: RouteState<P>,
     sessions: Sessions,
     entries: Vec<Entry>,
     len: u32,
     next_count: u32,
-}
-
-// An equal list.
-fn copy_of(alloc: Global, near: &[NodeId]) -> Result<Vec<NodeId>, NoMemory>
-    ensures { IfOk result (λ copy. copy.items ≡ near.now) }
-{
-    Ok(Vec::from_slice(alloc, near)?)
 }
 
 // An equal scope.
@@ -55,23 +49,13 @@ fn copied(scope: &Scope) -> Scope
     *scope
 }
 
-// The next number.
-fn next(number: u32) -> Result<u32, NoMemory>
-    ensures { IfOk result (λ next. next ≡ suc number) }
-{
-    match number.checked_add(1) {
-        None => Err(NoMemory),
-        Some(next) => Ok(next),
-    }
-}
-
 // The count of the next trigger after an entry, which took one where it is a local one.
 fn counted(count: u32, cause: &Cause) -> Result<u32, NoMemory>
     ensures { IfOk result (λ counted. counted ≡ (if is_local cause.now then suc count else count)) }
 {
     match cause {
         Cause::Recv { .. } => Ok(count),
-        _ => Ok(next(count)?),
+        _ => Ok(next_number(count)?),
     }
 }
 
@@ -85,13 +69,11 @@ impl<P: Policy + Copy> NodeLog<P> {
     ) -> Result<NodeLog<P>, NoMemory>
         ensures { IfOk result (λ log. StandsFor policy (P.rules policy) topology.now node log []) }
     {
-        let near = topology.neighbours(node);
         Ok(NodeLog {
             alloc,
             node,
-            near: copy_of(alloc, near)?,
             routes: RouteState::new(alloc, topology, node, policy)?,
-            sessions: Sessions::new(alloc, near)?,
+            sessions: Sessions::new(alloc, topology.neighbours(node))?,
             entries: Vec::new(alloc),
             len: 0,
             next_count: 1,
@@ -130,59 +112,14 @@ impl<P: Policy + Copy> NodeLog<P> {
             StandsFor policy (P.rules policy) topology.now u self h → IsOfNeighbour topology.now u cause →
             IsPlaced topology.now scope → CauseFits h scope cause →
             map going_of r.1.items ≡ going_by (P.rules policy) topology.now u h (entry (trigger ∷ []) scope cause)) }
+        ensures due { IfOk result (λ r. (policy : P) (u : ℕ) (h : List Logged) →
+            StandsFor policy (P.rules policy) topology.now u self h → IsOfNeighbour topology.now u cause →
+            IsPlaced topology.now scope → CauseFits h scope cause →
+            SendsWhatIsDue (P.rules policy) topology.now u h (entry (trigger ∷ []) scope cause) (map going_of r.1.items)) }
     {
         let mut log = self;
         let outgoing = log.enter(topology, trigger, scope, cause)?;
         Ok((log, outgoing))
-    }
-
-    /// The same in place. After want of memory nothing is promised of the log.
-    pub fn enter(
-        &mut self,
-        topology: &Topology,
-        trigger: Trigger,
-        scope: Scope,
-        cause: Cause,
-    ) -> Result<Vec<Outgoing>, NoMemory>
-        ensures log { OnOk result ((policy : P) (u : ℕ) (h : List Logged) →
-            StandsFor policy (P.rules policy) topology.now u self.old h → IsOfNeighbour topology.now u cause →
-            IsPlaced topology.now scope → CauseFits h scope cause →
-            StandsFor policy (P.rules policy) topology.now u self.new (entry (trigger ∷ []) scope cause ∷ h)) }
-        ensures outgoing { IfOk result (λ outgoing. (policy : P) (u : ℕ) (h : List Logged) →
-            StandsFor policy (P.rules policy) topology.now u self.old h → IsOfNeighbour topology.now u cause →
-            IsPlaced topology.now scope → CauseFits h scope cause →
-            map going_of outgoing.items ≡ going_by (P.rules policy) topology.now u h (entry (trigger ∷ []) scope cause)) }
-    {
-        let before = offers_of(self.alloc, &self.routes, topology, &scope)?;
-        self.routes.apply(copied(&scope), &cause)?;
-        let after = offers_of(self.alloc, &self.routes, topology, &scope)?;
-        mark(&mut self.sessions, &self.near, &trigger, &cause)?;
-        let turn = Turn {
-            trigger: &trigger,
-            cause: &cause,
-            before: &before,
-            after: &after,
-        };
-        let mut sent = Vec::new(self.alloc);
-        let mut outgoing = Vec::new(self.alloc);
-        tell_all(
-            &self.routes,
-            &mut self.sessions,
-            &self.near,
-            &turn,
-            &mut sent,
-            &mut outgoing,
-        )?;
-        self.len = next(self.len)?;
-        self.next_count = counted(self.next_count, &cause)?;
-        let sent = SentItems::new(sent);
-        self.entries.push(Entry {
-            trigger,
-            scope,
-            cause,
-            sent,
-        })?;
-        Ok(outgoing)
     }
 
     /// The trigger that the next local entry gets.
@@ -239,7 +176,7 @@ impl<P: Policy + Copy> NodeLog<P> {
             StandsFor policy (P.rules policy) net u self.now h → has (neighbours net u) nbr ≡ true →
             result ≡ sent_count (P.rules policy) net u h nbr session }
     {
-        match self.sessions.find(nbr, session) {
+        match self.mark_of(nbr, session) {
             None => 0,
             Some(mark) => mark.sent,
         }
@@ -251,7 +188,7 @@ impl<P: Policy + Copy> NodeLog<P> {
             StandsFor policy (P.rules policy) net u self.now h → has (neighbours net u) nbr ≡ true →
             result ≡ length (inbox h nbr session) }
     {
-        match self.sessions.find(nbr, session) {
+        match self.mark_of(nbr, session) {
             None => 0,
             Some(mark) => mark.received,
         }
@@ -297,6 +234,54 @@ impl<P: Policy + Copy> NodeLog<P> {
         self.sessions.marks()
     }
 
+    // The same in place. After want of memory the log may be in the midst of the entry.
+    fn enter(
+        &mut self,
+        topology: &Topology,
+        trigger: Trigger,
+        scope: Scope,
+        cause: Cause,
+    ) -> Result<Vec<Outgoing>, NoMemory>
+        ensures log { OnOk result ((policy : P) (u : ℕ) (h : List Logged) →
+            StandsFor policy (P.rules policy) topology.now u self.old h → IsOfNeighbour topology.now u cause →
+            IsPlaced topology.now scope → CauseFits h scope cause →
+            StandsFor policy (P.rules policy) topology.now u self.new (entry (trigger ∷ []) scope cause ∷ h)) }
+        ensures outgoing { IfOk result (λ outgoing. (policy : P) (u : ℕ) (h : List Logged) →
+            StandsFor policy (P.rules policy) topology.now u self.old h → IsOfNeighbour topology.now u cause →
+            IsPlaced topology.now scope → CauseFits h scope cause →
+            map going_of outgoing.items ≡ going_by (P.rules policy) topology.now u h (entry (trigger ∷ []) scope cause)) }
+    {
+        let before = offers_for(self.alloc, &self.routes, topology, &scope, &cause)?;
+        self.routes.apply(copied(&scope), &cause)?;
+        let after = offers_for(self.alloc, &self.routes, topology, &scope, &cause)?;
+        mark(&mut self.sessions, &trigger, &cause)?;
+        let turn = Turn {
+            trigger: &trigger,
+            cause: &cause,
+            before: &before,
+            after: &after,
+        };
+        let mut sent = Vec::new(self.alloc);
+        let mut outgoing = Vec::new(self.alloc);
+        tell_all(
+            &self.routes,
+            &mut self.sessions,
+            &turn,
+            &mut sent,
+            &mut outgoing,
+        )?;
+        self.len = next_number(self.len)?;
+        self.next_count = counted(self.next_count, &cause)?;
+        let sent = SentItems::new(sent);
+        self.entries.push(Entry {
+            trigger,
+            scope,
+            cause,
+            sent,
+        })?;
+        Ok(outgoing)
+    }
+
     // Whether an entry of one prefix may follow.
     fn fits_one(&self, prefix: PrefixId, cause: &Cause) -> bool
         ensures { (policy : P) (net : Net) (u : ℕ) (h : List Logged) →
@@ -339,7 +324,24 @@ impl<P: Policy + Copy> NodeLog<P> {
         ensures none { IfNone result ((policy : P) (net : Net) (u : ℕ) (h : List Logged) →
             StandsFor policy (P.rules policy) net u self.now h → has (neighbours net u) nbr ≡ false) }
     {
-        self.sessions.newest(place_of(&self.near, nbr)?)
+        let place = self.sessions.place_of(nbr)?;
+        Some(self.sessions.newest(place))
+    }
+
+    // The mark of a session with a neighbour: mostly that of the newest one.
+    fn mark_of(&self, nbr: NodeId, session: Session) -> Option<&SessionMark>
+        ensures some { IfSome result (λ mark. (policy : P) (net : Net) (u : ℕ) (h : List Logged) →
+            StandsFor policy (P.rules policy) net u self.now h → has (neighbours net u) nbr ≡ true →
+            IsMark (P.rules policy) net u h nbr session mark.now) }
+        ensures none { IfNone result ((policy : P) (net : Net) (u : ℕ) (h : List Logged) →
+            StandsFor policy (P.rules policy) net u self.now h → has (neighbours net u) nbr ≡ true →
+            has (ever h nbr) session ≡ false) }
+    {
+        let newest = self.newest(nbr)?;
+        if newest.session == session {
+            return Some(newest);
+        }
+        self.sessions.find(nbr, session)
     }
 
     // Whether the session is held with the neighbour.

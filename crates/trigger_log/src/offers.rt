@@ -1,17 +1,17 @@
-//! What a node may tell its neighbours before and after an entry.
+//! The best routes before and after an entry, of which each neighbour is offered what export allows.
 ghost use Rattle.std.specs.Prelude.{ℕ, ◌≡◌, ◌<◌, length, IfOk};
 ghost use Rattle.topology.specs.Net.{Net};
 ghost use Rattle.path_vector.specs.Selection.{best};
 ghost use Rattle.path_vector.specs.Answers.{Copies};
 ghost use Rattle.path_vector.specs.History.{History};
 ghost use Rattle.path_vector.specs.Standing.{StandsFor};
-ghost use Rattle.trigger_log.specs.Offered.{AreChosen, prefixes_of, places_of, IsPlaced};
+ghost use Rattle.trigger_log.specs.Offered.{AreChosen, prefixes_of, places_of, asked, IsPlaced};
 
-use path_vector::{Chosen, Policy, RouteState};
+use path_vector::{Cause, Chosen, Policy, RouteState};
 use std::alloc::Global;
 use topology::{NoMemory, PrefixId, Scope, Topology};
 
-/// The best route of a prefix.
+/// The best route of a prefix, which is not yet an offer to anybody.
 #[derive(Drop)]
 pub struct Offer {
     pub prefix: PrefixId,
@@ -29,8 +29,8 @@ fn offer_of<P: Policy + Copy>(routes: &RouteState<P>, prefix: PrefixId) -> Resul
     Ok(Offer { prefix, chosen })
 }
 
-/// The best routes of the prefixes of a scope, in file order.
-pub fn offers_of<P: Policy + Copy>(
+// The best routes of the prefixes of a scope, in file order.
+fn offers_of<P: Policy + Copy>(
     alloc: Global,
     routes: &RouteState<P>,
     topology: &Topology,
@@ -50,4 +50,24 @@ pub fn offers_of<P: Policy + Copy>(
         offers.push(offer_of(routes, PrefixId::new(place))?)?;
     }
     Ok(offers)
+}
+
+/// The best routes that an entry may change: none where it opens a session, which leaves all offers
+/// as they were.
+pub fn offers_for<P: Policy + Copy>(
+    alloc: Global,
+    routes: &RouteState<P>,
+    topology: &Topology,
+    scope: &Scope,
+    cause: &Cause,
+) -> Result<Vec<Offer>, NoMemory>
+    ensures covers { IfOk result (λ offers. prefixes_of offers.items ≡ asked topology.now scope.now cause.now) }
+    ensures chosen { IfOk result (λ offers. (policy : P) (u : ℕ) (h : History) →
+        StandsFor policy topology.now u routes.now h → IsPlaced topology.now scope.now →
+        AreChosen (P.rules policy) topology.now u h offers.items) }
+{
+    if let Cause::Up { .. } = cause {
+        return Ok(Vec::new(alloc));
+    }
+    Ok(offers_of(alloc, routes, topology, scope)?)
 }

@@ -1,10 +1,13 @@
 //! The sessions that a node ever held.
-ghost use Rattle.std.specs.Prelude.{ℕ, ◌≡◌, ◌<◌, List, [], ◌∷◌, ◌++◌, Some, None, false, true, length, map, slice_get, slice_set, is_none, ◌&&◌, if◌then◌else◌, IfOk, IfSome, IfNone, OnOk};
+ghost use Rattle.std.specs.Prelude.{ℕ, ◌≡◌, ◌<◌, ◌+◌, ◌^◌, List, [], ◌∷◌, ◌++◌, Some, None, false, true, length, map, slice_get, slice_set, is_none, ◌&&◌, if◌then◌else◌, IfOk, IfSome, IfNone, OnOk, OnErr};
+ghost use Rattle.std.specs.List.{AllByRecursion};
 ghost use Rattle.trigger_log.specs.declared.sessions.SessionMark.{SessionMark};
-ghost use Rattle.topology.specs.Lists.{Among};
-ghost use Rattle.trigger_log.specs.Rows.{HasRows, EndsWith, joined, shifted};
+ghost use Rattle.topology.specs.Lists.{Among, has};
+ghost use Rattle.topology.specs.Net.{Net, IsValid, neighbours};
+ghost use Rattle.trigger_log.specs.Rows.{EndsWith, joined, shifted};
 
 use std::alloc::Global;
+use std::marker::Model;
 use topology::{NoMemory, NodeId, Session, Trigger};
 
 /// A session that the node holds or held with a neighbour.
@@ -41,31 +44,48 @@ impl SessionMark {
     }
 }
 
-/// The sessions of a node: a row for each neighbour, by its place, one row after the other in one
-/// list. `newest` has the place of the last mark of each row.
+/// The sessions of a node: a row of marks for each neighbour, by its place, the oldest first. The
+/// rows stand one after the other in one list, and `newest` has the place of the last mark of each.
 #[derive(Drop)]
 pub struct Sessions {
+    near: Vec<NodeId>,
     marks: Vec<SessionMark>,
     newest: Vec<usize>,
 }
 
+impl Model for Sessions {
+    ghost use Rattle.trigger_log.specs.Rows.{MarkRows, AreKept, cut};
+
+    ghost Value = { MarkRows };
+
+    ghost view = { λ s. record { near = s.near.items; rows = cut 0 s.newest.items s.marks.items } };
+
+    ghost invariant = { λ s. AreKept s.near.items s.marks.items s.newest.items };
+}
+
 // Adds one to each number from this place on.
-fn shift(places: &mut Vec<usize>, from: usize) -> Result<(), NoMemory>
-    ensures { OnOk result (places.new.items ≡ shifted from places.old.items) }
+fn shift(places: &mut Vec<usize>, from: usize)
+    requires { AllByRecursion (λ place. place + 1 < 2 ^ 64) places.old.items }
+    ensures { places.new.items ≡ shifted from places.old.items }
 {
     for i in from..places.len() {
-        let Some(place) = places[i].checked_add(1) else {
-            return Err(NoMemory);
-        };
-        places[i] = place;
+        places[i] += 1;
     }
-    Ok(())
+}
+
+// An equal list.
+fn copy_of(alloc: Global, near: &[NodeId]) -> Result<Vec<NodeId>, NoMemory>
+    ensures { IfOk result (λ copy. copy.items ≡ near.now) }
+{
+    Ok(Vec::from_slice(alloc, near)?)
 }
 
 impl Sessions {
     /// One row for each neighbour, with the session that both ends hold from the start.
     pub fn new(alloc: Global, near: &[NodeId]) -> Result<Sessions, NoMemory>
-        ensures { IfOk result (λ sessions. HasRows (map (λ w. record { nbr = w; session = 1; opened = true; sent = 0; received = 0; down = None } ∷ []) near.now) sessions) }
+        ensures near { IfOk result (λ sessions. sessions.near ≡ near.now) }
+        ensures rows { IfOk result (λ sessions. sessions.rows
+            ≡ map (λ w. record { nbr = w; session = 1; opened = true; sent = 0; received = 0; down = None } ∷ []) near.now) }
     {
         let mut marks = Vec::with_capacity(alloc, near.len())?;
         let mut newest = Vec::with_capacity(alloc, near.len())?;
@@ -80,52 +100,67 @@ impl Sessions {
                 down: None,
             })?;
         }
-        Ok(Sessions { marks, newest })
+        Ok(Sessions {
+            near: copy_of(alloc, near)?,
+            marks,
+            newest,
+        })
+    }
+
+    /// How many neighbours there are.
+    pub fn len(&self) -> usize
+        ensures { result ≡ length self.now.rows }
+    {
+        self.newest.len()
+    }
+
+    /// The place of a neighbour.
+    pub fn place_of(&self, nbr: NodeId) -> Option<usize>
+        ensures some { (net : Net) (u : ℕ) → IsValid net → self.now.near ≡ neighbours net u →
+            IfSome result (λ place. slice_get (neighbours net u) place ≡ Some nbr) }
+        ensures none { (net : Net) (u : ℕ) → IsValid net → self.now.near ≡ neighbours net u →
+            IfNone result (has (neighbours net u) nbr ≡ false) }
+        ensures within { IfSome result (λ place. place < length self.now.rows) }
+    {
+        self.near.binary_search(&nbr).ok()
     }
 
     /// All marks: by neighbour, then by session.
     pub fn marks(&self) -> &[SessionMark]
-        ensures { (rows : List (List SessionMark)) → HasRows rows self.now → result.now ≡ joined rows }
+        ensures { result.now ≡ joined self.now.rows }
     {
         &self.marks
     }
 
     /// The last mark of the row at this place.
-    pub fn newest(&self, place: usize) -> Option<&SessionMark>
-        ensures some { IfSome result (λ mark. (rows : List (List SessionMark)) (row : List SessionMark) → HasRows rows self.now →
-            slice_get rows place ≡ Some row → EndsWith row mark.now) }
-        ensures none { IfNone result ((rows : List (List SessionMark)) → HasRows rows self.now → slice_get rows place ≡ None) }
+    pub fn newest(&self, place: usize) -> &SessionMark
+        requires { place < length self.now.rows }
+        ensures { (row : List SessionMark) → slice_get self.now.rows place ≡ Some row → EndsWith row result.now }
     {
-        self.marks.get(*self.newest.get(place)?)
+        &self.marks[self.newest[place]]
     }
 
     /// Puts this mark in the place of the last one of the row.
     pub fn put(&mut self, place: usize, mark: SessionMark)
-        ensures { (rows : List (List SessionMark)) (older : List SessionMark) (last : SessionMark) →
-            HasRows rows self.old → slice_get rows place ≡ Some (older ++ last ∷ []) →
-            HasRows (slice_set rows place (older ++ mark ∷ [])) self.new }
+        requires { place < length self.old.rows }
+        ensures put { (older : List SessionMark) (last : SessionMark) → slice_get self.old.rows place ≡ Some (older ++ last ∷ []) →
+            self.new.rows ≡ slice_set self.old.rows place (older ++ mark ∷ []) }
+        ensures near { self.new.near ≡ self.old.near }
+        ensures width { length self.new.rows ≡ length self.old.rows }
     {
-        if let Some(last) = self.newest.get(place) {
-            let last = *last;
-            if last < self.marks.len() {
-                self.marks[last] = mark;
-            }
-        }
+        let last = self.newest[place];
+        self.marks[last] = mark;
     }
 
     /// Adds a session to the end of the row, in which nothing was said.
     pub fn open(&mut self, place: usize, nbr: NodeId, session: Session) -> Result<(), NoMemory>
-        ensures { OnOk result ((rows : List (List SessionMark)) (row : List SessionMark) →
-            HasRows rows self.old → slice_get rows place ≡ Some row →
-            HasRows (slice_set rows place (row ++ record { nbr = nbr; session = session; opened = false; sent = 0; received = 0; down = None } ∷ [])) self.new) }
+        requires { place < length self.old.rows }
+        ensures ok { OnOk result ((row : List SessionMark) → slice_get self.old.rows place ≡ Some row →
+            self.new.rows ≡ slice_set self.old.rows place (row ++ record { nbr = nbr; session = session; opened = false; sent = 0; received = 0; down = None } ∷ [])) }
+        ensures near { self.new.near ≡ self.old.near }
+        ensures err { OnErr result (self.new ≡ self.old) }
     {
-        let Some(last) = self.newest.get(place) else {
-            return Ok(());
-        };
-        let last = *last;
-        if last >= self.marks.len() {
-            return Ok(());
-        }
+        let last = self.newest[place];
         let mark = SessionMark {
             nbr,
             session,
@@ -135,15 +170,16 @@ impl Sessions {
             down: None,
         };
         self.marks.insert(last + 1, mark)?;
-        shift(&mut self.newest, place)
+        shift(&mut self.newest, place);
+        Ok(())
     }
 
     /// The mark of a session. None where it was never held.
     pub fn find(&self, nbr: NodeId, session: Session) -> Option<&SessionMark>
         ensures some { IfSome result (λ mark. (mark.now.nbr ≡ nbr) × (mark.now.session ≡ session) ×
-            ((rows : List (List SessionMark)) → HasRows rows self.now → Among mark.now (joined rows))) }
-        ensures none { IfNone result ((rows : List (List SessionMark)) (mark : SessionMark) → HasRows rows self.now →
-            Among mark (joined rows) → mark.nbr ≡ nbr → mark.session ≡ session → ⊥) }
+            Among mark.now (joined self.now.rows)) }
+        ensures none { IfNone result ((mark : SessionMark) →
+            Among mark (joined self.now.rows) → mark.nbr ≡ nbr → mark.session ≡ session → ⊥) }
     {
         self.marks
             .iter()

@@ -13,6 +13,7 @@ ghost use Rattle.trigger_log.specs.Entries.{Entry, reads};
 ghost use Rattle.trigger_log.specs.Offered.{AreChosen, prefixes_of, updates_over};
 ghost use Rattle.trigger_log.specs.Telling.{Tells, update_going};
 
+use crate::counting::next_number;
 use crate::offers::Offer;
 use crate::outgoing::Outgoing;
 use path_vector::{Cause, Policy, RouteState};
@@ -104,9 +105,7 @@ fn say(
     ensures outgoing { IfOk result (λ seq. map going_of outgoing.new.items
         ≡ map going_of outgoing.old.items ++ update_going listener.now seq (record { prefix = prefix; triggers = trigger.now ∷ []; path = option_copied path.entry }) ∷ []) }
 {
-    let Some(seq) = count.checked_add(1) else {
-        return Err(NoMemory);
-    };
+    let seq = next_number(count)?;
     let path = copy(path)?;
     sent.push(Sent {
         to: listener.nbr,

@@ -145,15 +145,15 @@ fn lists(rt: &impl Abort, entry: &Entry, items: Items) {
 fn enter<P: Policy + Copy>(
     rt: &impl Abort,
     alloc: Global,
-    log: &mut NodeLog<P>,
+    log: NodeLog<P>,
     topology: &Topology,
     act: Act,
     items: Items,
-) -> Result<(), Fail> {
+) -> Result<NodeLog<P>, Fail> {
     let (scope, cause) = cause_of(alloc, act)?;
     assert!(rt; log.fits(scope, &cause));
-    let trigger = trigger_of(log, act);
-    let outgoing = log.enter(topology, trigger, scope, cause)?;
+    let trigger = trigger_of(&log, act);
+    let (log, outgoing) = log.append(topology, trigger, scope, cause)?;
     assert!(rt; outgoing.len() <= items.len() && items.len() <= outgoing.len() + 1);
     match log.entry(log.len()) {
         None => assert!(rt; false),
@@ -162,7 +162,7 @@ fn enter<P: Policy + Copy>(
             lists(rt, entry, items);
         }
     }
-    Ok(())
+    Ok(log)
 }
 
 // What is counted of the sessions at the end.
@@ -185,33 +185,35 @@ fn counts<P: Policy + Copy>(rt: &impl Abort, log: &NodeLog<P>, sent: u32) {
 fn plays_few(
     rt: &impl Abort,
     alloc: Global,
-    log: &mut NodeLog<GaoRexford>,
+    log: NodeLog<GaoRexford>,
     topology: &Topology,
-) -> Result<(), Fail> {
+) -> Result<NodeLog<GaoRexford>, Fail> {
+    let mut log = log;
     for (act, few, _) in &ACTS {
-        enter(rt, alloc, log, topology, *act, *few)?;
+        log = enter(rt, alloc, log, topology, *act, *few)?;
     }
-    Ok(())
+    Ok(log)
 }
 
 fn plays_all(
     rt: &impl Abort,
     alloc: Global,
-    log: &mut NodeLog<ShortestAll>,
+    log: NodeLog<ShortestAll>,
     topology: &Topology,
-) -> Result<(), Fail> {
+) -> Result<NodeLog<ShortestAll>, Fail> {
+    let mut log = log;
     for (act, _, all) in &ACTS {
-        enter(rt, alloc, log, topology, *act, *all)?;
+        log = enter(rt, alloc, log, topology, *act, *all)?;
     }
-    Ok(())
+    Ok(log)
 }
 
 #[test]
 fn sessions_end_and_open_again(rt: HostRuntime) -> Result<(), Fail> {
     let mut topology = Topology::empty(rt.alloc());
     fill(&mut topology)?;
-    let mut log = NodeLog::new(rt.alloc(), &topology, NodeId::new(2), GaoRexford)?;
-    plays_few(&rt, rt.alloc(), &mut log, &topology)?;
+    let log = NodeLog::new(rt.alloc(), &topology, NodeId::new(2), GaoRexford)?;
+    let log = plays_few(&rt, rt.alloc(), log, &topology)?;
     counts(&rt, &log, 2);
     Ok(())
 }
@@ -220,8 +222,8 @@ fn sessions_end_and_open_again(rt: HostRuntime) -> Result<(), Fail> {
 fn everything_is_told_to_all(rt: HostRuntime) -> Result<(), Fail> {
     let mut topology = Topology::empty(rt.alloc());
     fill(&mut topology)?;
-    let mut log = NodeLog::new(rt.alloc(), &topology, NodeId::new(2), ShortestAll)?;
-    plays_all(&rt, rt.alloc(), &mut log, &topology)?;
+    let log = NodeLog::new(rt.alloc(), &topology, NodeId::new(2), ShortestAll)?;
+    let log = plays_all(&rt, rt.alloc(), log, &topology)?;
     counts(&rt, &log, 3);
     Ok(())
 }

@@ -1,5 +1,5 @@
 //! What an entry says to all neighbours.
-ghost use Rattle.std.specs.Prelude.{ℕ, ◌≡◌, ◌+◌, ◌∷◌, ◌++◌, [], suc, true, Some, List, length, map, slice_get, IfOk, OnOk, if◌then◌else◌};
+ghost use Rattle.std.specs.Prelude.{ℕ, ◌≡◌, ◌<◌, ◌+◌, ◌∷◌, ◌++◌, [], suc, true, Some, List, length, map, slice_get, IfOk, OnOk, if◌then◌else◌};
 ghost use Rattle.topology.specs.Lists.{has};
 ghost use Rattle.topology.specs.Net.{Net, neighbours};
 ghost use Rattle.topology.specs.declared.items.Sent.{Sent};
@@ -11,6 +11,7 @@ ghost use Rattle.trigger_log.specs.Sending.{sent_count};
 ghost use Rattle.trigger_log.specs.Offered.{prefixes_of};
 ghost use Rattle.trigger_log.specs.Marked.{Says, Enters, Spoken, ToldTo, ends_with, readies};
 
+use crate::counting::next_number;
 use crate::outgoing::Outgoing;
 use crate::quiet::is_quiet;
 use crate::sessions::{SessionMark, Sessions};
@@ -48,9 +49,7 @@ fn close(mark: &SessionMark, sent: &mut Vec<Sent>) -> Result<u32, NoMemory>
     if !mark.opened {
         return Ok(mark.sent);
     }
-    let Some(seq) = mark.sent.checked_add(1) else {
-        return Err(NoMemory);
-    };
+    let seq = next_number(mark.sent)?;
     sent.push(Sent {
         to: mark.nbr,
         session: mark.session,
@@ -99,16 +98,16 @@ fn tell_at<P: Policy + Copy>(
     outgoing: &mut Vec<Outgoing>,
 ) -> Result<(), NoMemory>
     requires same_prefixes { prefixes_of turn.now.before.now ≡ prefixes_of turn.now.after.now }
-    ensures { OnOk result ((policy : P) (net : Net) (u : ℕ) (h : List Entry) (k : Entry) (w : ℕ) (sent_first : List Sent)
+    requires within { place < length sessions.old.rows }
+    ensures told { OnOk result ((policy : P) (net : Net) (u : ℕ) (h : List Entry) (k : Entry) (w : ℕ) (sent_first : List Sent)
         (out_first : List Outgoing) → Enters policy (P.rules policy) net u h k routes.now turn.now →
         slice_get (neighbours net u) place ≡ Some w →
-        ToldTo (P.rules policy) net u h k place sessions.old sent_first sent.old.items out_first outgoing.old.items →
-        ToldTo (P.rules policy) net u h k (place + 1) sessions.new sent_first sent.new.items out_first outgoing.new.items) }
+        ToldTo (P.rules policy) net u h k place sessions.old.rows sent_first sent.old.items out_first outgoing.old.items →
+        ToldTo (P.rules policy) net u h k (place + 1) sessions.new.rows sent_first sent.new.items out_first outgoing.new.items) }
+    ensures width { length sessions.new.rows ≡ length sessions.old.rows }
+    ensures near { sessions.new.near ≡ sessions.old.near }
 {
-    let Some(mark) = sessions.newest(place) else {
-        return Ok(());
-    };
-    let mark = *mark;
+    let mark = *sessions.newest(place);
     let count = speak(routes, turn, &mark, sent, outgoing)?;
     let mark = SessionMark {
         sent: count,
@@ -122,19 +121,18 @@ fn tell_at<P: Policy + Copy>(
 fn tell_each<P: Policy + Copy>(
     routes: &RouteState<P>,
     sessions: &mut Sessions,
-    near: &[NodeId],
     turn: &Turn<'_>,
     sent: &mut Vec<Sent>,
     outgoing: &mut Vec<Outgoing>,
 ) -> Result<(), NoMemory>
     requires same_prefixes { prefixes_of turn.now.before.now ≡ prefixes_of turn.now.after.now }
-    ensures { OnOk result ((policy : P) (net : Net) (u : ℕ) (h : List Entry) (k : Entry) (sent_first : List Sent)
+    ensures told { OnOk result ((policy : P) (net : Net) (u : ℕ) (h : List Entry) (k : Entry) (sent_first : List Sent)
         (out_first : List Outgoing) → Enters policy (P.rules policy) net u h k routes.now turn.now →
-        near.now ≡ neighbours net u →
-        ToldTo (P.rules policy) net u h k 0 sessions.old sent_first sent.old.items out_first outgoing.old.items →
-        ToldTo (P.rules policy) net u h k (length near.now) sessions.new sent_first sent.new.items out_first outgoing.new.items) }
+        ToldTo (P.rules policy) net u h k 0 sessions.old.rows sent_first sent.old.items out_first outgoing.old.items →
+        ToldTo (P.rules policy) net u h k (length sessions.old.rows) sessions.new.rows sent_first sent.new.items out_first outgoing.new.items) }
+    ensures near { sessions.new.near ≡ sessions.old.near }
 {
-    for place in 0..near.len() {
+    for place in 0..sessions.len() {
         tell_at(routes, sessions, place, turn, sent, outgoing)?;
     }
     Ok(())
@@ -145,20 +143,19 @@ fn tell_each<P: Policy + Copy>(
 pub fn tell_all<P: Policy + Copy>(
     routes: &RouteState<P>,
     sessions: &mut Sessions,
-    near: &[NodeId],
     turn: &Turn<'_>,
     sent: &mut Vec<Sent>,
     outgoing: &mut Vec<Outgoing>,
 ) -> Result<(), NoMemory>
     requires same_prefixes { prefixes_of turn.now.before.now ≡ prefixes_of turn.now.after.now }
-    ensures { OnOk result ((policy : P) (net : Net) (u : ℕ) (h : List Entry) (k : Entry) (sent_first : List Sent)
+    ensures told { OnOk result ((policy : P) (net : Net) (u : ℕ) (h : List Entry) (k : Entry) (sent_first : List Sent)
         (out_first : List Outgoing) → Enters policy (P.rules policy) net u h k routes.now turn.now →
-        near.now ≡ neighbours net u →
-        ToldTo (P.rules policy) net u h k 0 sessions.old sent_first sent.old.items out_first outgoing.old.items →
-        ToldTo (P.rules policy) net u h k (length near.now) sessions.new sent_first sent.new.items out_first outgoing.new.items) }
+        ToldTo (P.rules policy) net u h k 0 sessions.old.rows sent_first sent.old.items out_first outgoing.old.items →
+        ToldTo (P.rules policy) net u h k (length sessions.old.rows) sessions.new.rows sent_first sent.new.items out_first outgoing.new.items) }
+    ensures near { sessions.new.near ≡ sessions.old.near }
 {
     if is_quiet(turn) {
         return Ok(());
     }
-    tell_each(routes, sessions, near, turn, sent, outgoing)
+    tell_each(routes, sessions, turn, sent, outgoing)
 }

@@ -9,7 +9,7 @@ use Rattle.trigger_log.specs.Sending.{news, sent_count}
 use Rattle.trigger_log.specs.Offered.{prefixes_of, updates_over}
 use Rattle.trigger_log.specs.Telling.{Tells}
 use Rattle.trigger_log.specs.Marked.{ends_with, readies}
-use Rattle.trigger_log.proofs.Speaking.{ready_mark, knew, over_scope, spoken_told, spoken_none, spoken_closed}
+use Rattle.trigger_log.proofs.Speaking.{ready_mark, knew, over_asked, spoken_told, spoken_none, spoken_closed}
 use Rattle.trigger_log.proofs.turns.speak.Goals as goal
 
 pub returns-then-ends_with : goal.returns-then-ends_with
@@ -49,7 +49,7 @@ returns g c = λ policy net u h k w enters near says.
     ap (λ b. updates_over rules net u h k b mark.nbr (prefixes_of turn.after.now)) knows
     ∙ (ap (λ n. updates_over rules net u h k (is_some (ready (reads h) w)) n (prefixes_of turn.after.now)) says.nbr
     ∙ (ap (updates_over rules net u h k (is_some (ready (reads h) w)) w) enters.covers
-    ∙ over_scope rules net u h k w s enters.fitting now enters.placed)) in
+    ∙ over_asked rules net u h k w s enters.fitting now enters.placed)) in
     spoken_told rules net u h k w enters.fitting s c.in_ok-tell.field-0 listener c.args.sent.now.items c.tell.new.sent.items c.args.outgoing.now.items c.tell.new.outgoing.items
     says.nbr says.session says.sent open_still now
     (subst (λ (l : List Update). Tells listener l c.args.sent.now.items c.tell.new.sent.items c.args.outgoing.now.items c.tell.new.outgoing.items c.in_ok-tell.field-0) list told)

@@ -2,7 +2,7 @@ use Rattle.std.proofs.Common.{length}
 use Rattle.trigger_log.proofs.QuietTurns.{told_quiet}
 use Rattle.trigger_log.proofs.turns.tell_all.Goals as goal
 
-pub returns-then-is_quiet : goal.returns-then-is_quiet
-returns-then-is_quiet g c = λ policy net u h k sent out enters near was.
+pub returns-then-is_quiet-clause-told : goal.returns-then-is_quiet-clause-told
+returns-then-is_quiet-clause-told g c = λ policy net u h k sent out enters was.
     told_quiet policy (g.P.Policy.rules policy) net u h k c.args.routes.now c.args.turn.now enters (c.is_quiet.ensures.0 c.if-is_quiet.true)
-    (length c.args.near.now) c.args.sessions.now sent c.args.sent.now.items out c.args.outgoing.now.items was
+    (length c.args.sessions.now.rows) c.args.sessions.now.rows sent c.args.sent.now.items out c.args.outgoing.now.items was

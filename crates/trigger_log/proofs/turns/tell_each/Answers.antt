@@ -1,10 +1,23 @@
-use Rattle.std.proofs.Common.{◌≡◌, ap, arith, length}
+use Rattle.std.proofs.Common.{◌≡◌, ◌∙◌, subst, arith, length}
 use Rattle.topology.specs.Net.{neighbours}
+use Rattle.trigger_log.specs.Marked.{ToldTo}
 use Rattle.trigger_log.proofs.Rounds.{some_at}
 use Rattle.trigger_log.proofs.turns.tell_each.Goals as goal
 
 pub loop-place-preserved : goal.loop-place-preserved
-loop-place-preserved g c = λ policy net u h k sent out enters near was.
-    let long : length c.args.near.now ≡ length (neighbours net u) = ap length near in
-    let next = some_at (neighbours net u) c.loop-place.place (omega arith) in
-    c.in_ok-tell_at.ensures policy net u h k next.0 sent out enters next.1 (c.loop-place.invariant policy net u h k sent out enters near was)
+loop-place-preserved g c = record {
+  width = c.tell_at.ensures.width ∙ c.loop-place.invariant.width;
+  near = c.tell_at.ensures.near ∙ c.loop-place.invariant.near;
+  told = λ policy net u h k sent out enters was.
+      let so_far = c.loop-place.invariant.told policy net u h k sent out enters was in
+      let long : length c.loop-place.sessions.rows ≡ length (neighbours net u) = so_far.width in
+      let wide : length c.loop-place.sessions.rows ≡ length c.args.sessions.now.rows = c.loop-place.invariant.width in
+      let next = some_at (neighbours net u) c.loop-place.place (omega arith) in
+      c.in_ok-tell_at.ensures.told policy net u h k next.0 sent out enters next.1 so_far;
+}
+
+pub returns-clause-told : goal.returns-clause-told
+returns-clause-told g c = λ policy net u h k sent out enters was.
+    let whole : c.loop-place.place ≡ length c.args.sessions.now.rows = omega arith in
+    subst (λ n. ToldTo (g.P.Policy.rules policy) net u h k n c.loop-place.sessions.rows sent c.loop-place.sent.items out c.loop-place.outgoing.items) whole
+    (c.loop-place.invariant.told policy net u h k sent out enters was)

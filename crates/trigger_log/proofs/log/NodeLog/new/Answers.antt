@@ -1,7 +1,6 @@
-use Rattle.std.proofs.Common.{◌∙◌, [], refl, sym, subst, map}
+use Rattle.std.proofs.Common.{◌∙◌, [], refl, sym, ap, subst, map}
 use Rattle.std.specs.List.{AllZip}
-use Rattle.topology.specs.Net.{neighbours}
-use Rattle.trigger_log.specs.Rows.{HasRows}
+use Rattle.trigger_log.specs.Sessions.{AreRows}
 use Rattle.trigger_log.specs.Standing.{Shows}
 use Rattle.trigger_log.proofs.Rows.{first}
 use Rattle.trigger_log.proofs.AllMarks.{rows_first}
@@ -16,11 +15,9 @@ returns g c =
       routes = c.in_ok-new.ensures;
       fitting = tt;
       node = refl;
-      near = c.in_ok-copy_of.ensures ∙ c.neighbours-near.ensures.neighbours;
+      near = c.in_ok-new-2.ensures.near ∙ c.neighbours.ensures.neighbours;
       count = refl;
       next = refl;
       shown = subst (AllZip (Shows rules net u) []) (sym c.new-3.ensures.items) tt;
-      rows = map first (neighbours net u);
-      kept = subst (λ near. HasRows (map first near) c.in_ok-new-2.field-0) c.neighbours-near.ensures.neighbours c.in_ok-new-2.ensures;
-      each = rows_first rules net u;
+      marks = subst (AreRows rules net u []) (sym (c.in_ok-new-2.ensures.rows ∙ ap (map first) c.neighbours.ensures.neighbours)) (rows_first rules net u);
     }

@@ -1,7 +1,7 @@
 use Rattle.std.proofs.Common.{◌≡◌, ◌++◌, ◌∷◌, [], ◌+◌, length, map, take, sym, ap, ◌∙◌, arith}
-use Rattle.std.proofs.lemmas.List.{take_all}
+use Rattle.std.proofs.lemmas.List.{take_all, length-map}
 use Rattle.trigger_log.specs.Rows.{joined, last_places}
-use Rattle.trigger_log.proofs.Rows.{first, taken_more, firsts_joined, firsts_length, firsts_places, firsts_filled}
+use Rattle.trigger_log.proofs.Rows.{first, taken_more, firsts_joined, firsts_length, firsts_places, firsts_has, cut_has, cut_is, same_length}
 use Rattle.trigger_log.proofs.sessions.Sessions.new.Goals as goal
 
 pub loop-nbr-preserved : goal.loop-nbr-preserved
@@ -18,11 +18,21 @@ loop-nbr-preserved c =
       newest = rw more (c.in_ok-push.ensures.items ∙ (rw c.loop-nbr.invariant.newest (sym (firsts_places 0 c.len.result (take i near) x count))));
     }
 
+pub invariant_of-result : goal.invariant_of-result
+invariant_of-result c =
+    let near = c.args.near.now in
+    let l = c.loop-nbr in
+    let all = take_all l.nbr-index near (omega arith) in
+    let has = firsts_has near l.marks.items l.newest.items (l.invariant.marks ∙ ap (λ l. joined (map first l)) all) (l.invariant.newest ∙ ap (λ l. last_places 0 (map first l)) all) in
+    record {
+      each = same_length (map first near) l.marks.items l.newest.items has ∙ (length-map near first ∙ ap length (sym c.in_ok-copy_of.ensures));
+      has = cut_has (map first near) l.marks.items l.newest.items has;
+    }
+
 pub returns : goal.returns
 returns c =
-    let all = take_all c.loop-nbr.nbr-index c.args.near.now (omega arith) in
-    record {
-      marks = c.loop-nbr.invariant.marks ∙ ap (λ l. joined (map first l)) all;
-      newest = c.loop-nbr.invariant.newest ∙ ap (λ l. last_places 0 (map first l)) all;
-      filled = firsts_filled c.args.near.now;
-    }
+    let near = c.args.near.now in
+    let l = c.loop-nbr in
+    let all = take_all l.nbr-index near (omega arith) in
+    let has = firsts_has near l.marks.items l.newest.items (l.invariant.marks ∙ ap (λ l. joined (map first l)) all) (l.invariant.newest ∙ ap (λ l. last_places 0 (map first l)) all) in
+    record { near = c.in_ok-copy_of.ensures; rows = cut_is (map first near) l.marks.items l.newest.items has }

@@ -1,22 +1,27 @@
-use Rattle.trigger_log.proofs.Rows.{placed, got, missed, no_place, no_mark, newest_ends}
+use Rattle.std.proofs.Common.{◌≡◌, ◌<◌, length, arith}
+use Rattle.trigger_log.proofs.Rows.{rows_of, same_length, mark_within, newest_ends}
 use Rattle.trigger_log.proofs.sessions.Sessions.newest.Goals as goal
 
-pub returns-in_err-get-clause-none : goal.returns-in_err-get-clause-none
-returns-in_err-get-clause-none c =
-    let items = c.deref-2.ensures.value in
-    let h = c.in_err-get.ensures.lookup in
-    rw c.from_residual.ensures (λ rows has. no_place rows c.args.place c.args.self.now has (rw items at h.3))
+pub index-requires : goal.index-requires
+index-requires c =
+    let f = c.self.inside in
+    let rows = c.args.self.now.rows in
+    let has = rows_of c.args.self.now f.near.items f.marks.items f.newest.items c.self.invariant c.self.view_is in
+    let same : length f.newest.items ≡ length rows = same_length rows f.marks.items f.newest.items has in
+    let asked : c.args.place < length rows = c.requires in
+    omega (arith, f.newest.ok.0)
 
-pub returns-clause-some : goal.returns-clause-some
-returns-clause-some c =
-    let h = rw c.deref-2.ensures.value at c.in_ok-get.ensures.lookup in
-    let k = rw c.deref.ensures.value at c.get-2.ensures.lookup in
-    let at = placed c.args.self.now.newest.items c.args.place c.in_ok-get.field-0.now h.3.0 h.1 in
-    got (λ x. x.now) c.get-2.result c.args.self.now.marks.items c.in_ok-get.field-0.now _ k.0 k.1 (λ mark stands rows row has is. newest_ends rows c.args.place c.in_ok-get.field-0.now row mark.now c.args.self.now has is at stands)
+pub index-requires-2 : goal.index-requires-2
+index-requires-2 c =
+    let f = c.self.inside in
+    let rows = c.args.self.now.rows in
+    let has = rows_of c.args.self.now f.near.items f.marks.items f.newest.items c.self.invariant c.self.view_is in
+    let at : c.index.result.now < length f.marks.items = mark_within rows f.marks.items f.newest.items has c.args.place c.index.result.now c.index.ensures c.requires in
+    omega (arith, f.marks.ok.0)
 
-pub returns-clause-none : goal.returns-clause-none
-returns-clause-none c =
-    let h = rw c.deref-2.ensures.value at c.in_ok-get.ensures.lookup in
-    let k = rw c.deref.ensures.value at c.get-2.ensures.lookup in
-    let at = placed c.args.self.now.newest.items c.args.place c.in_ok-get.field-0.now h.3.0 h.1 in
-    missed c.get-2.result c.args.self.now.marks.items c.in_ok-get.field-0.now _ k.0 (λ none rows has. no_mark rows c.args.place c.in_ok-get.field-0.now c.args.self.now has at none)
+pub returns : goal.returns
+returns c =
+    let f = c.self.inside in
+    let rows = c.args.self.now.rows in
+    let has = rows_of c.args.self.now f.near.items f.marks.items f.newest.items c.self.invariant c.self.view_is in
+    λ row is. newest_ends rows f.marks.items f.newest.items has c.args.place c.index.result.now c.index.ensures row c.index-2.result.now is c.index-2.ensures

@@ -1,21 +1,41 @@
-use Rattle.std.proofs.Common.{◌≤◌, length, ◌∙◌, arith, refl, sym}
-use Rattle.std.proofs.lemmas.Option.{slice_get_past}
-use Rattle.trigger_log.proofs.Rows.{placed, puts, no_place, no_mark}
+use Rattle.std.proofs.Common.{◌≡◌, ◌<◌, length, arith}
+use Rattle.trigger_log.proofs.Rows.{rows_of, same_length, mark_within, put_is, put_has, put_width}
 use Rattle.trigger_log.proofs.sessions.Sessions.put.Goals as goal
 
-pub returns-then-last-len : goal.returns-then-last-len
-returns-then-last-len c =
-    let h = rw c.deref.ensures.value at c.in-Some.ensures.lookup in
-    λ rows older last has is. puts rows c.args.place older last c.args.mark c.in-Some.last.now c.args.self.now _ has is (placed c.args.self.now.newest.items c.args.place c.in-Some.last.now h.3.0 h.1) refl refl
+pub index-last-requires : goal.index-last-requires
+index-last-requires c =
+    let f = c.self.inside in
+    let rows = c.args.self.now.rows in
+    let has = rows_of c.args.self.now f.near.items f.marks.items f.newest.items c.self.invariant c.self.view_is in
+    let same : length f.newest.items ≡ length rows = same_length rows f.marks.items f.newest.items has in
+    let asked : c.args.place < length rows = c.requires in
+    omega (arith, f.newest.ok.0)
 
-pub returns-else-last-len : goal.returns-else-last-len
-returns-else-last-len c =
-    let h = rw c.deref.ensures.value at c.in-Some.ensures.lookup in
-    let at = placed c.args.self.now.newest.items c.args.place c.in-Some.last.now h.3.0 h.1 in
-    let out : length c.args.self.now.marks.items ≤ c.in-Some.last.now = omega (arith, c.args.self.now.marks.ok.0) in
-    λ rows older last has is. absurd (cc (sym is ∙ no_mark rows c.args.place c.in-Some.last.now c.args.self.now has at (slice_get_past c.args.self.now.marks.items c.in-Some.last.now out)))
+pub index_mut-requires : goal.index_mut-requires
+index_mut-requires c =
+    let f = c.self.inside in
+    let rows = c.args.self.now.rows in
+    let has = rows_of c.args.self.now f.near.items f.marks.items f.newest.items c.self.invariant c.self.view_is in
+    let at : c.index-last.result.now < length f.marks.items = mark_within rows f.marks.items f.newest.items has c.args.place c.index-last.result.now c.index-last.ensures c.requires in
+    omega (arith, f.marks.ok.0)
 
-pub returns-in_default : goal.returns-in_default
-returns-in_default c =
-    let h = rw c.deref.ensures.value at c.in_default.ensures.lookup in
-    λ rows older last has is. absurd (cc (sym is ∙ no_place rows c.args.place c.args.self.now has h.3))
+pub invariant_of-self : goal.invariant_of-self
+invariant_of-self c =
+    let f = c.self.inside in
+    let rows = c.args.self.now.rows in
+    let has = rows_of c.args.self.now f.near.items f.marks.items f.newest.items c.self.invariant c.self.view_is in
+    record { each = c.self.invariant.each; has = put_has rows f.marks.items f.newest.items has c.args.place c.index-last.result.now c.index-last.ensures c.args.mark c.requires }
+
+pub returns-clause-put : goal.returns-clause-put
+returns-clause-put c =
+    let f = c.self.inside in
+    let rows = c.args.self.now.rows in
+    let has = rows_of c.args.self.now f.near.items f.marks.items f.newest.items c.self.invariant c.self.view_is in
+    λ older last is. put_is rows f.marks.items f.newest.items has c.args.place c.index-last.result.now c.index-last.ensures older last c.args.mark is
+
+pub returns-clause-width : goal.returns-clause-width
+returns-clause-width c =
+    let f = c.self.inside in
+    let rows = c.args.self.now.rows in
+    let has = rows_of c.args.self.now f.near.items f.marks.items f.newest.items c.self.invariant c.self.view_is in
+    put_width rows f.marks.items f.newest.items has c.args.place c.index-last.result.now c.index-last.ensures c.args.mark
