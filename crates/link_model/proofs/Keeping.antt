@@ -11,7 +11,7 @@ use Rattle.topology.proofs.Neighbours.{linked_nodes, neighbours_linked, increasi
 use Rattle.link_model.specs.declared.links.Row.{Row}
 use Rattle.link_model.specs.declared.links.Links.{Links}
 use Rattle.link_model.specs.Ways.{OneWay}
-use Rattle.link_model.specs.Keeping.{Ways, KeepsRow, Keeps, IsPlaced, replaced}
+use Rattle.link_model.specs.Keeping.{Ways, KeepsRow, Keeps, IsInside, IsPlaced, replaced}
 use Rattle.link_model.proofs.Places.{same_some, get_set_same, get_set_other, other_place}
 
 pub nodes_rise : (net : Net) → IsValid net → IsStrictlyIncreasing (ascending net.nodes)
@@ -69,6 +69,43 @@ is_read links from to rank place row at read =
       near = subst (λ (r : Row). slice_get r.near.items place ≡ Some to) same at.near;
       inside = subst (λ (r : Row). place < length r.channels.items) same at.inside;
     }
+
+pub placed_inside : (links : Links) (from to rank place : ℕ) → IsPlaced links from to rank place → IsInside links rank place
+placed_inside links from to rank place at = record { row = at.row; here = at.here; inside = at.inside }
+
+pub rank_inside : (links : Links) (rank place : ℕ) → IsInside links rank place → rank < length links.rows.items
+rank_inside links rank place at = slice_get_within links.rows.items rank at.row at.here
+
+pub row_read : (links : Links) (rank place : ℕ) (row : Row) → IsInside links rank place → row ≡ get_or links.rows.items rank row → slice_get links.rows.items rank ≡ Some row
+row_read links rank place row at read = slice_get_read links.rows.items (length links.rows.items) rank row refl (rank_inside links rank place at) read
+
+pub place_inside : (links : Links) (rank place : ℕ) (row : Row) → IsInside links rank place → row ≡ get_or links.rows.items rank row → place < length row.channels.items
+place_inside links rank place row at read =
+    subst (λ (r : Row). place < length r.channels.items) (same_some at.row row (sym at.here ∙ row_read links rank place row at read)) at.inside
+
+-- another channel in a row leaves all places
+pub placed_with : (old new : Links) (from to i j rank place : ℕ) (row left : Row) (kept : OneWay) → slice_get old.rows.items rank ≡ Some row → left.near.items ≡ row.near.items
+    → left.channels.items ≡ set row.channels.items place kept → new.ids.items ≡ old.ids.items → new.rows.items ≡ set old.rows.items rank left
+    → IsPlaced old from to i j → IsPlaced new from to i j
+placed_with old new from to i j rank place row left kept here near channels ids rows at = ⊎_elim
+    (λ (e : i ≡ rank).
+    let same : at.row ≡ row = same_some at.row row (sym at.here ∙ (ap (slice_get old.rows.items) e ∙ here)) in
+    let long : length left.channels.items ≡ length row.channels.items = ap length channels ∙ length-set row.channels.items place kept in
+    record {
+      row = left;
+      node = ap (λ l. slice_get l i) ids ∙ at.node;
+      here = ap (λ l. slice_get l i) rows ∙ (ap (slice_get (set old.rows.items rank left)) e ∙ get_set_same old.rows.items rank left (slice_get_within old.rows.items rank row here));
+      near = ap (λ l. slice_get l j) near ∙ subst (λ (r : Row). slice_get r.near.items j ≡ Some to) same at.near;
+      inside = let was : j < length row.channels.items = subst (λ (r : Row). j < length r.channels.items) same at.inside in omega arith;
+    })
+    (λ (ne : i ≢ rank). record {
+      row = at.row;
+      node = ap (λ l. slice_get l i) ids ∙ at.node;
+      here = ap (λ l. slice_get l i) rows ∙ (get_set_other old.rows.items rank i left (λ e. ne (sym e)) ∙ at.here);
+      near = at.near;
+      inside = at.inside;
+    })
+    (cases_eq i rank)
 
 pub channel_inside : (links : Links) (from to rank place : ℕ) (row : Row) → IsPlaced links from to rank place → row ≡ get_or links.rows.items rank row → place < length row.channels.items
 channel_inside links from to rank place row at read = (is_read links from to rank place row at read).inside

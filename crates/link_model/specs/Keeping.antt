@@ -25,6 +25,12 @@ pub record Keeps (net : Net) (links : Links) (ways : Ways) : Type 0 where
   pub each : (i u : ℕ) (row : Row) → slice_get (ascending net.nodes) i ≡ Some u
       → slice_get links.rows.items i ≡ Some row → KeepsRow net ways u row
 
+-- there is a way at these places: that of its row, and that in the row
+pub record IsInside (links : Links) (rank place : ℕ) : Type 0 where
+  pub row : Row
+  pub here : slice_get links.rows.items rank ≡ Some row
+  pub inside : place < length row.channels.items
+
 -- the way has these two places: that of its row, and that in the row
 pub record IsPlaced (links : Links) (from to rank place : ℕ) : Type 0 where
   pub row : Row

@@ -8,9 +8,10 @@ use Rattle.link_model.specs.Acts.{Act, Acts, Push, Take, Fail, Restore}
 
 -- a failure takes the link down, restoring it brings it up in the next session
 abbrev pub state_by : ℕ → ℕ → Act → LinkState → LinkState
+state_by a b (Push from to session item) before = before
+state_by a b (Take from to) before = before
 state_by a b (Fail c d) before = if are_ends a b c d then failed before else before
 state_by a b (Restore c d) before = if are_ends a b c d then restored before else before
-state_by a b other before = before
 
 -- the link of a and b: up in session 1 at the start
 abbrev pub state : ℕ → ℕ → Acts → LinkState

@@ -1,5 +1,5 @@
 //! The links of a network.
-ghost use Rattle.std.specs.Prelude.{◌≡◌, ◌<◌, ◌-◌, ◌^◌, [], ◌∷◌, List, Some, true, false, not, slice_get, IfOk, OnErr, IfSome, IfNone};
+ghost use Rattle.std.specs.Prelude.{ℕ, ◌≡◌, ◌<◌, ◌-◌, ◌^◌, [], ◌∷◌, List, Some, true, false, not, slice_get, IfOk, OnErr, IfSome, IfNone};
 ghost use Rattle.topology.specs.declared.items.Item.{Item as Carried};
 ghost use Rattle.topology.specs.Lists.{has};
 ghost use Rattle.topology.specs.Net.{Net, linked};
@@ -8,7 +8,7 @@ ghost use Rattle.std.specs.List.Sorted.{IsStrictlyIncreasing};
 ghost use Rattle.link_model.specs.Acts.{Acts, Push, Take, Fail, Restore};
 ghost use Rattle.link_model.specs.Readings.{state, channel};
 ghost use Rattle.link_model.specs.Ways.{emptied};
-ghost use Rattle.link_model.specs.Keeping.{Ways, Keeps, IsPlaced, IsUnused, replaced};
+ghost use Rattle.link_model.specs.Keeping.{Ways, Keeps, IsInside, IsPlaced, IsUnused, replaced};
 ghost use Rattle.link_model.specs.Standing.{StandsFor};
 
 use crate::channels::Channel;
@@ -22,7 +22,8 @@ pub struct Row {
     channels: Vec<Channel>,
 }
 
-/// The links of a network: a row for each node, ascending.
+/// The links of a network: a row for each node, ascending. Each call speaks of two nodes that have a
+/// link; of others nothing is promised.
 #[derive(Drop)]
 pub struct Links {
     ids: Vec<NodeId>,
@@ -119,15 +120,14 @@ impl Links {
         Ok(queued)
     }
 
-    // The way from one node to another is over a link in this state from now on, and what was on it
-    // is lost.
-    fn restart(&mut self, from: NodeId, to: NodeId, state: LinkState)
-        ensures { (net : Net) (ways : Ways) → Keeps net self.old ways → linked net from to ≡ true →
-            Keeps net self.new (replaced from to (emptied state) ways) }
+    // The way at these places is over a link in this state from now on, and what was on it is lost.
+    fn restart(&mut self, rank: usize, place: usize, state: LinkState)
+        requires { IsInside self.old rank place }
+        ensures restarted { (net : Net) (ways : Ways) (from to : ℕ) → Keeps net self.old ways →
+            IsPlaced self.old from to rank place → Keeps net self.new (replaced from to (emptied state) ways) }
+        ensures places { (from to i j : ℕ) → IsPlaced self.old from to i j → IsPlaced self.new from to i j }
     {
-        if let Some((rank, place)) = self.locate(from, to) {
-            self.rows[rank].channels[place].restart(state);
-        }
+        self.rows[rank].channels[place].restart(state);
     }
 
     /// The link fails: what is on its way over it, both ways, is lost. False exactly where it is down
@@ -137,30 +137,45 @@ impl Links {
             (result ≡ is_up (state a b acts)) × StandsFor net self.new (Fail a b ∷ acts) }
         ensures unchanged { result ≡ false → self.new ≡ self.old }
     {
-        let LinkState::Up(session) = self.state(a, b) else {
+        let Some((rank, place)) = self.locate(a, b) else {
             return false;
         };
-        self.restart(a, b, LinkState::Down(session));
-        self.restart(b, a, LinkState::Down(session));
+        let Some((rank_back, place_back)) = self.locate(b, a) else {
+            return false;
+        };
+        let LinkState::Up(session) = self.rows[rank].channels[place].state() else {
+            return false;
+        };
+        self.restart(rank, place, LinkState::Down(session));
+        self.restart(rank_back, place_back, LinkState::Down(session));
         true
     }
 
-    /// The link comes up with the next session. False exactly where it is up already. Takes no memory.
+    /// The link comes up with the next session. False exactly where it is up already, or where no
+    /// session has a higher number. Takes no memory.
     pub fn restore(&mut self, a: NodeId, b: NodeId) -> bool
         ensures restored { (net : Net) (acts : Acts) → StandsFor net self.old acts → linked net a b ≡ true →
             number_of (state a b acts) < 2 ^ 32 - 1 →
             (is_up (state a b acts) ≡ not result) × StandsFor net self.new (Restore a b ∷ acts) }
+        ensures last { (net : Net) (acts : Acts) → StandsFor net self.old acts → linked net a b ≡ true →
+            number_of (state a b acts) ≡ 2 ^ 32 - 1 → result ≡ false }
         ensures unchanged { result ≡ false → self.new ≡ self.old }
     {
-        let LinkState::Down(session) = self.state(a, b) else {
+        let Some((rank, place)) = self.locate(a, b) else {
+            return false;
+        };
+        let Some((rank_back, place_back)) = self.locate(b, a) else {
+            return false;
+        };
+        let LinkState::Down(session) = self.rows[rank].channels[place].state() else {
             return false;
         };
         let Some(number) = session.number().checked_add(1) else {
             return false;
         };
         let next = Session::new(number);
-        self.restart(a, b, LinkState::Up(next));
-        self.restart(b, a, LinkState::Up(next));
+        self.restart(rank, place, LinkState::Up(next));
+        self.restart(rank_back, place_back, LinkState::Up(next));
         true
     }
 

@@ -66,6 +66,7 @@ const ACTS: [Act; 33] = [
 fn number(item: &Item) -> Option<u32> {
     match item {
         Item::Hello(epoch) => Some(epoch.number()),
+        Item::Marker(epoch) => Some(epoch.number()),
         Item::Update { .. } => None,
     }
 }
