@@ -14,7 +14,7 @@ use Rattle.chronicle.specs.Run.{run}
 use Rattle.chronicle.proofs.Opened.{all}
 use Rattle.chronicle.proofs.Shown.{routes, idle, a_link, network, a_trigger, an_update, entries, listed, to}
 
-abbrev line : Net
+abbrev pub line : Net
 line = network (1 ∷ 2 ∷ 3 ∷ []) (a_link 1 2 Any ∷ a_link 2 3 Any ∷ [])
 
 abbrev announced : List Event

@@ -1,101 +1,336 @@
--- What an event may come to. What holds of each of these holds after every event.
-use Rattle.std.proofs.Common.{ℕ, true, false, ◌==◌, Option, Some, None, List, [], ◌∷◌, ◌≡◌, refl, subst, arith, fold}
+-- What an event may come to, as moves: what each of these keeps is kept by every event, and holds of every run.
+use Rattle.std.proofs.Common.{ℕ, suc, ◌<◌, ◌≤◌, Bool, true, false, not, ◌==◌, Option, Some, None, List, [], ◌∷◌, ◌≡◌, refl, sym, ◌∙◌, ap, subst, arith, fold, length, nat_lt, option_and_then}
 use Rattle.std.specs.Prelude.{if◌then◌else◌}
 use Rattle.std.proofs.lemmas.Bool.Decides.{nat_tests}
 use Rattle.topology.specs.declared.names.Scope.TheVariants.{One, All}
-use Rattle.topology.specs.declared.status.Reason.TheVariants.{AlreadyOrigin, NotOrigin, WrongSession, StillUp}
+use Rattle.topology.specs.declared.status.Reason.{Reason}
+use Rattle.topology.specs.declared.status.Reason.TheVariants as reason
 use Rattle.topology.specs.declared.links.LinkState.{LinkState}
-use Rattle.topology.specs.declared.links.LinkState.TheVariants.{Up, Down}
+use Rattle.topology.specs.declared.links.LinkState.TheVariants as state
 use Rattle.topology.specs.LinkStates.{carries}
 use Rattle.topology.specs.Net.{Net}
-use Rattle.path_vector.specs.declared.causes.Cause.TheVariants as cause
+use Rattle.path_vector.specs.declared.causes.Cause.{Cause}
+use Rattle.path_vector.specs.declared.causes.Cause.TheVariants.{Originate, Withdraw, Recv, Down, Up, Ready, Prefer}
 use Rattle.path_vector.specs.Rules.{Rules}
-use Rattle.path_vector.specs.History.{owns}
-use Rattle.trigger_log.specs.Entries.{reads, local}
-use Rattle.trigger_log.specs.Going.{Item}
+use Rattle.path_vector.specs.History.{held, last, opened, ready, owns}
+use Rattle.trigger_log.specs.Entries.{Entry, Update, reads, local, inbox}
+use Rattle.trigger_log.specs.Going.{Item, News, Marker, Hello, mark_of}
+use Rattle.trigger_log.specs.Fits.{CauseFits, Inherits}
 use Rattle.chronicle.specs.declared.events.Event.{Event}
-use Rattle.chronicle.specs.declared.events.Event.TheVariants.{Originate, Withdraw, Prefer, Deliver, Fail, Restore, Notice, OpenSession}
-use Rattle.chronicle.specs.Facts.{Chronicle}
+use Rattle.chronicle.specs.declared.events.Event.TheVariants as event
+use Rattle.chronicle.specs.Facts.{Chronicle, Took}
 use Rattle.chronicle.specs.Facts as fact
 use Rattle.chronicle.specs.Logs.{log_of}
 use Rattle.chronicle.specs.Links.{link}
 use Rattle.chronicle.specs.Channels.{channel}
-use Rattle.chronicle.specs.Steps.{write, open_session, take_item}
-use Rattle.chronicle.specs.Run.{Idle, Goes, held_with, delivered, noticed, opened, fails, restores, step, chronicle_of, after, run}
+use Rattle.chronicle.specs.Epochs.{epoch}
+use Rattle.chronicle.specs.Inputs.{Input}
+use Rattle.chronicle.specs.Inputs as input
+use Rattle.chronicle.specs.Steps.{Step, Idle, Goes, Carried, write, open_session, take_cut, meet_mark, heard, greeted, take_item}
+use Rattle.chronicle.specs.Giving.{unless, out_of_turn, comes, notices, opens, give}
+use Rattle.chronicle.specs.Run.{held_with, carried_by, given, delivered, is_carried, opened_by_link, fails, restores, step, chronicle_of, after, run}
+use Rattle.chronicle.proofs.Blocks.{AreCarried, log_take_cut, link_take_cut}
 
--- P holds of the chronicle that each kind of event leaves, where the event is not idle, and of one that is left as it was
-pub record Moves (rules : Rules) (net : Net) (past : Chronicle) (P : Chronicle → Type 0) : Type 0 where
-  pub rests : P past
-  pub originates : (u p : ℕ) → owns (reads (log_of u past)) p ≡ false → P (write rules net u (local u (log_of u past) (One p) cause.Originate) past)
-  pub withdraws : (u p : ℕ) → owns (reads (log_of u past)) p ≡ true → P (write rules net u (local u (log_of u past) (One p) cause.Withdraw) past)
-  pub prefers : (u v value : ℕ) → P (write rules net u (local u (log_of u past) All (cause.Prefer v value)) past)
-  pub takes : (v u s : ℕ) (x : Item) (rest : List Item) → link v u past ≡ Up s → channel v u past ≡ x ∷ rest → held_with u v past ≡ Some s → P (take_item rules net v u s x past)
-  pub breaks : (a b s : ℕ) → link a b past ≡ Up s → P (fact.Fail a b ∷ past)
-  pub mends : (a b s : ℕ) → link a b past ≡ Down s → P (fact.Restore a b ∷ past)
-  pub closes : (u v s : ℕ) → held_with u v past ≡ Some s → carries (link u v past) s ≡ false → P (write rules net u (local u (log_of u past) All (cause.Down v s)) past)
-  pub opens : (u v s : ℕ) → held_with u v past ≡ None → link u v past ≡ Up s → P (open_session u v s past)
+-- a node enters a cause by itself, and opens nothing by it; of a session that it closes this is known
+abbrev pub IsOwnWhere : (ℕ → ℕ → Type 0) → Cause → Type 0
+IsOwnWhere Over Originate = Unit {0}
+IsOwnWhere Over Withdraw = Unit {0}
+IsOwnWhere Over (Recv v s number path) = ⊥
+IsOwnWhere Over (Down v s) = Over v s
+IsOwnWhere Over (Up v s) = ⊥
+IsOwnWhere Over (Ready v s) = Unit {0}
+IsOwnWhere Over (Prefer v value) = Unit {0}
 
-module _ (rules : Rules) (net : Net) (past : Chronicle) (P : Chronicle → Type 0) (moves : Moves rules net past P) where
-  delivering : (v u : ℕ) (l : LinkState) (items : List Item) (session : Option ℕ) → link v u past ≡ l → channel v u past ≡ items → held_with u v past ≡ session
-      → P (chronicle_of past (delivered rules net past v u l items session))
-  delivering v u (Down s) items session is front holds = moves.rests
-  delivering v u (Up s) [] session is front holds = moves.rests
-  delivering v u (Up s) (x ∷ rest) None is front holds = moves.rests
-  delivering v u (Up s) (x ∷ rest) (Some t) is front holds =
-      (elim (t == s) as (λ b. (t == s) ≡ b → P (chronicle_of past (if b then Goes (take_item rules net v u s x past) else Idle WrongSession))) [
-        | true ↦ λ e. let same : t ≡ s = grind (arith, nat_tests) in moves.takes v u s x rest is front (subst (λ y. held_with u v past ≡ Some y) same holds)
-        | false ↦ λ e. moves.rests
-      ]) refl
+-- u may enter k by itself: it fits, and lists the next trigger of u
+pub record MayWriteWhere (Over : ℕ → ℕ → Type 0) (past : Chronicle) (u : ℕ) (k : Entry) : Type 0 where
+  pub fits : CauseFits (log_of u past) k.read.scope k.read.cause
+  pub lists : Inherits u (log_of u past) k.read.cause k.triggers
+  pub own : IsOwnWhere Over k.read.cause
 
-  noticing : (u v : ℕ) (session : Option ℕ) → held_with u v past ≡ session → P (chronicle_of past (noticed rules net past u v session (link u v past)))
-  noticing u v None holds = moves.rests
-  noticing u v (Some s) holds =
-      let k = local u (log_of u past) All (cause.Down v s) in
-      (elim (carries (link u v past) s) as (λ b. carries (link u v past) s ≡ b → P (chronicle_of past (if b then Idle StillUp else Goes (write rules net u k past)))) [
-        | true ↦ λ e. moves.rests
-        | false ↦ λ e. moves.closes u v s holds e
-      ]) refl
+-- P is kept by each move of u: an entry of its own, an update that is heard, a mark that is met and not
+-- higher, a cut, a mark that is met and higher, and an opening. What is known beside is a parameter: of the links, of an item that comes, of a session that is closed, and of
+-- one that is opened
+pub record NodeMoves (rules : Rules) (net : Net) (u : ℕ) (Carries : Carried → Chronicle → Type 0) (Comes : Chronicle → ℕ → ℕ → Item → Type 0) (Over Opens : Chronicle → ℕ → ℕ → Type 0)
+    (P : Chronicle → Type 0) : Type 0 where
+  pub writes : (past : Chronicle) (carried : Carried) (k : Entry) → P past → Carries carried past → MayWriteWhere (Over past) past u k → P (write rules net carried u k past)
+  pub meets_update : (past : Chronicle) (v s : ℕ) (carried : Carried) (n : ℕ) (x : Update) → P past → Carries carried past → Comes past v s (News n x) → held_with u v past ≡ Some s
+      → n ≡ suc (length (inbox (log_of u past) v s)) → P (write rules net carried u (heard v s n x) (Took v u s (News n x) ∷ past))
+  pub meets : (past : Chronicle) (v s : ℕ) (x : Item) (e : ℕ) → P past → Comes past v s x → held_with u v past ≡ Some s → mark_of x ≡ Some e → e ≤ epoch u past
+      → P (Took v u s x ∷ past)
+  pub rises : (past : Chronicle) (carried : Carried) (e : ℕ) → P past → Carries carried past → epoch u past < e → P (take_cut net carried u e past)
+  pub meets_higher : (past : Chronicle) (v s : ℕ) (carried : Carried) (x : Item) (e : ℕ) → P past → Carries carried past → Comes past v s x → held_with u v past ≡ Some s
+      → mark_of x ≡ Some e → epoch u past < e → P (take_cut net carried u e (Took v u s x ∷ past))
+  pub opens : (past : Chronicle) (v s : ℕ) (carried : Carried) → P past → Carries carried past → Opens past v s
+      → held_with u v past ≡ None → last (reads (log_of u past)) v < s → P (open_session carried u v s past)
 
-  opening : (u v : ℕ) (session : Option ℕ) (l : LinkState) → held_with u v past ≡ session → link u v past ≡ l → P (chronicle_of past (opened past u v session l))
-  opening u v (Some s) l holds is = moves.rests
-  opening u v None (Down s) holds is = moves.rests
-  opening u v None (Up s) holds is = moves.opens u v s holds is
+-- ---- in a run
 
-  failing : (a b : ℕ) (l : LinkState) → link a b past ≡ l → P (chronicle_of past (fails past a b l))
-  failing a b (Up s) is = moves.breaks a b s is
-  failing a b (Down s) is = moves.rests
+-- the item stands in front of the way from v to u, over a link that carries the session
+abbrev pub IsFront : ℕ → Chronicle → ℕ → ℕ → Item → Type 0
+IsFront u past v s x = (link v u past ≡ state.Up s) × ((rest : List Item) × (channel v u past ≡ x ∷ rest))
 
-  restoring : (a b : ℕ) (l : LinkState) → link a b past ≡ l → P (chronicle_of past (restores past a b l))
-  restoring a b (Up s) is = moves.rests
-  restoring a b (Down s) is = moves.mends a b s is
+-- the link of u and v does not carry the session
+abbrev pub IsOver : ℕ → Chronicle → ℕ → ℕ → Type 0
+IsOver u past v s = carries (link u v past) s ≡ false
 
-  pub holds_after : (event : Event) → P (after rules net past event)
-  unfolding after step
-  holds_after (Originate u p) =
-      let k = local u (log_of u past) (One p) cause.Originate in
-      (elim (owns (reads (log_of u past)) p) as (λ t. owns (reads (log_of u past)) p ≡ t → P (chronicle_of past (if t then Idle AlreadyOrigin else Goes (write rules net u k past)))) [
-        | true ↦ λ e. moves.rests
-        | false ↦ λ e. moves.originates u p e
-      ]) refl
-  holds_after (Withdraw u p) =
-      let k = local u (log_of u past) (One p) cause.Withdraw in
-      (elim (owns (reads (log_of u past)) p) as (λ t. owns (reads (log_of u past)) p ≡ t → P (chronicle_of past (if t then Goes (write rules net u k past) else Idle NotOrigin))) [
-        | true ↦ λ e. moves.withdraws u p e
-        | false ↦ λ e. moves.rests
-      ]) refl
-  holds_after (Prefer u v value) = moves.prefers u v value
-  holds_after (Deliver v u) = delivering v u (link v u past) (channel v u past) (held_with u v past) refl refl refl
-  holds_after (Fail a b) = failing a b (link a b past) refl
-  holds_after (Restore a b) = restoring a b (link a b past) refl
-  holds_after (Notice u v) = noticing u v (held_with u v past) refl
-  holds_after (OpenSession u v) = opening u v (held_with u v past) (link u v past) refl refl
+-- the link of u and v carries it
+abbrev pub IsUp : ℕ → Chronicle → ℕ → ℕ → Type 0
+IsUp u past v s = link u v past ≡ state.Up s
 
--- what holds at the start, and is kept by each event, holds of every run
-module _ (rules : Rules) (net : Net) (P : Chronicle → Type 0) (keeps : (past : Chronicle) (event : Event) → P past → P (after rules net past event)) where
-  holds_on : (past : Chronicle) (events : List Event) → P past → P (fold (after rules net) past events)
-  holds_on past [] before = before
-  holds_on past (event ∷ events) before = holds_on (after rules net past event) events (keeps past event before)
+-- a node enters a cause by itself, in a run: a session that it closes is not carried
+abbrev pub IsOwn : Chronicle → ℕ → Cause → Type 0
+IsOwn past u cause = IsOwnWhere (IsOver u past) cause
 
-  pub holds_of_run : (events : List Event) → P [] → P (run rules net events)
+-- a node may enter k by itself, in a run
+abbrev pub MayWrite : Chronicle → ℕ → Entry → Type 0
+MayWrite past u k = MayWriteWhere (IsOver u past) past u k
+
+-- an item stands in front of the way from v to u, and u holds the session that the link carries
+pub record MayTake (past : Chronicle) (v u s : ℕ) (x : Item) : Type 0 where
+  pub up : link v u past ≡ state.Up s
+  pub held : held_with u v past ≡ Some s
+  pub front : (rest : List Item) × (channel v u past ≡ x ∷ rest)
+
+-- P is kept by each move of each node, in a run
+abbrev pub ByNodes : Rules → Net → (Chronicle → Type 0) → Type 0
+ByNodes rules net P = (u : ℕ) → NodeMoves rules net u (λ carried past. AreCarried carried u past) (IsFront u) (IsOver u) (IsUp u) P
+
+-- P is kept by each move of a run: those of nodes, and a link that fails or is restored
+pub record Kept (rules : Rules) (net : Net) (P : Chronicle → Type 0) : Type 0 where
+  pub writes : (past : Chronicle) (u : ℕ) (carried : Carried) (k : Entry) → P past → AreCarried carried u past → MayWrite past u k
+      → P (write rules net carried u k past)
+  pub meets_update : (past : Chronicle) (v u s : ℕ) (carried : Carried) (n : ℕ) (x : Update) → P past → AreCarried carried u past
+      → MayTake past v u s (News n x) → n ≡ suc (length (inbox (log_of u past) v s))
+      → P (write rules net carried u (heard v s n x) (Took v u s (News n x) ∷ past))
+  pub meets : (past : Chronicle) (v u s : ℕ) (x : Item) (e : ℕ) → P past → MayTake past v u s x → mark_of x ≡ Some e → e ≤ epoch u past
+      → P (Took v u s x ∷ past)
+  pub rises : (past : Chronicle) (u : ℕ) (carried : Carried) (e : ℕ) → P past → AreCarried carried u past → epoch u past < e
+      → P (take_cut net carried u e past)
+  pub meets_higher : (past : Chronicle) (v u s : ℕ) (carried : Carried) (x : Item) (e : ℕ) → P past → AreCarried carried u past
+      → MayTake past v u s x → mark_of x ≡ Some e → epoch u past < e → P (take_cut net carried u e (Took v u s x ∷ past))
+  pub opens : (past : Chronicle) (u v s : ℕ) (carried : Carried) → P past → AreCarried carried u past → link u v past ≡ state.Up s
+      → held_with u v past ≡ None → last (reads (log_of u past)) v < s → P (open_session carried u v s past)
+  pub breaks : (past : Chronicle) (a b s : ℕ) → P past → link a b past ≡ state.Up s → P (fact.Fail a b ∷ past)
+  pub mends : (past : Chronicle) (a b s : ℕ) → P past → link a b past ≡ state.Down s → P (fact.Restore a b ∷ past)
+
+-- the moves of nodes among them
+pub by_nodes : (rules : Rules) (net : Net) (P : Chronicle → Type 0) → Kept rules net P → ByNodes rules net P
+by_nodes rules net P kept u = record {
+  writes = λ past carried k before are may. kept.writes past u carried k before are may;
+  meets_update = λ past v s carried n x before are front holds turn. kept.meets_update past v u s carried n x before are (record { up = front.0; held = holds; front = front.1 }) turn;
+  meets = λ past v s x e before front holds is low. kept.meets past v u s x e before (record { up = front.0; held = holds; front = front.1 }) is low;
+  rises = λ past carried e before are high. kept.rises past u carried e before are high;
+  meets_higher = λ past v s carried x e before are front holds is high. kept.meets_higher past v u s carried x e before are (record { up = front.0; held = holds; front = front.1 }) is high;
+  opens = λ past v s carried before are up none higher. kept.opens past u v s carried before are up none higher;
+}
+
+-- ---- what is known of an input
+
+-- what is known of an input to u where it comes
+abbrev pub MayCome : (Chronicle → ℕ → ℕ → Item → Type 0) → (Over Opens : Chronicle → ℕ → ℕ → Type 0) → ℕ → Chronicle → Input → Type 0
+MayCome Comes Over Opens u past (input.Arrive v s x) = Comes past v s x
+MayCome Comes Over Opens u past (input.Notice v) = (s : ℕ) → held_with u v past ≡ Some s → Over past v s
+MayCome Comes Over Opens u past (input.OpenSession v s) = Opens past v s
+MayCome Comes Over Opens u past (input.Originate p) = Unit {0}
+MayCome Comes Over Opens u past (input.Withdraw p) = Unit {0}
+MayCome Comes Over Opens u past (input.Prefer v value) = Unit {0}
+MayCome Comes Over Opens u past input.Snap = Unit {0}
+
+-- what is held and not ready was not opened by the other end
+unopened : (a : Option ℕ) (o : ℕ → Bool) (s : ℕ) → a ≡ Some s → option_and_then (λ t. if o t then Some t else None) a ≡ None → o s ≡ false
+unopened None o s e none = absurd (cc e)
+unopened (Some t) o s e none =
+    let same : t ≡ s = cc e in
+    subst (λ y. o y ≡ false) same (elim (o t) as (λ b. (if b then Some t else None) ≡ None → b ≡ false) [ true ↦ λ r. absurd (cc r) | false ↦ λ r. refl ] none)
+
+-- P holds of the chronicle that the step leaves
+abbrev pub Leaves : (Chronicle → Type 0) → Chronicle → Step → Type 0
+Leaves P past s = P (chronicle_of past s)
+
+module _ (rules : Rules) (net : Net) (u : ℕ) (Carries : Carried → Chronicle → Type 0) (Comes : Chronicle → ℕ → ℕ → Item → Type 0) (Over Opens : Chronicle → ℕ → ℕ → Type 0)
+    (P : Chronicle → Type 0) (moves : NodeMoves rules net u Carries Comes Over Opens P)
+    (stable : (past now : Chronicle) (carried : Carried) → ((a b : ℕ) → link a b now ≡ link a b past) → Carries carried past → Carries carried now) where
+  -- nothing is done where there is a reason
+  unless_kept : (past now : Chronicle) (why : Option Reason) → P past → (why ≡ None → P now) → Leaves P past (unless why now)
+  unless_kept past now None before goes = goes refl
+  unless_kept past now (Some why) before goes = before
+
+  module _ (past : Chronicle) (before : P past) (carried : Carried) (are : Carries carried past) where
+    -- a mark that is met
+    mark_kept : (v s : ℕ) (x : Item) (e : ℕ) → Comes past v s x → held_with u v past ≡ Some s → mark_of x ≡ Some e → P (meet_mark net carried u e (Took v u s x ∷ past))
+    mark_kept v s x e front holds is =
+        (elim (nat_lt (epoch u past) e) as (λ t. nat_lt (epoch u past) e ≡ t → P (if t then take_cut net carried u e (Took v u s x ∷ past) else Took v u s x ∷ past)) [
+          | true ↦ λ q. moves.meets_higher past v s carried x e before are front holds is (grind (arith, nat_tests))
+          | false ↦ λ q. moves.meets past v s x e before front holds is (grind (arith, nat_tests))
+        ]) refl
+
+    -- it changes no log
+    mark_log : (v s : ℕ) (x : Item) (e w : ℕ) → log_of w (meet_mark net carried u e (Took v u s x ∷ past)) ≡ log_of w past
+    mark_log v s x e w =
+        elim (nat_lt (epoch u past) e) as (λ t. log_of w (if t then take_cut net carried u e (Took v u s x ∷ past) else Took v u s x ∷ past) ≡ log_of w past) [
+          | true ↦ log_take_cut net carried u e (Took v u s x ∷ past) w
+          | false ↦ refl
+        ]
+
+    -- nor a link
+    mark_link : (v s : ℕ) (x : Item) (e a b : ℕ) → link a b (meet_mark net carried u e (Took v u s x ∷ past)) ≡ link a b past
+    mark_link v s x e a b =
+        elim (nat_lt (epoch u past) e) as (λ t. link a b (if t then take_cut net carried u e (Took v u s x ∷ past) else Took v u s x ∷ past) ≡ link a b past) [
+          | true ↦ link_take_cut net carried u e (Took v u s x ∷ past) a b
+          | false ↦ refl
+        ]
+
+    -- a greeting is answered by an entry where it is the first
+    greeted_kept : (v s : ℕ) (now : Chronicle) (known : Option ℕ) → P now → ((w : ℕ) → log_of w now ≡ log_of w past) → ((a b : ℕ) → link a b now ≡ link a b past)
+        → held_with u v past ≡ Some s → ready (reads (log_of u past)) v ≡ known → P (greeted rules net carried v u s known now)
+    greeted_kept v s now (Some known) later logs links holds is = later
+    greeted_kept v s now None later logs links holds is =
+        let k = local u (log_of u now) All (Ready v s) in
+        moves.writes now carried k later (stable past now carried links are)
+        (record {
+          fits =
+              let there : (held (reads (log_of u past)) v ≡ Some s) × (opened (reads (log_of u past)) v s ≡ false) = (holds, unopened (held (reads (log_of u past)) v) (opened (reads (log_of u past)) v) s holds is) in
+              subst (λ l. (held (reads l) v ≡ Some s) × (opened (reads l) v s ≡ false)) (sym (logs u)) there;
+          lists = refl;
+          own = tt;
+        })
+
+    -- an item that is taken
+    item_kept : (v s : ℕ) (x : Item) → Comes past v s x → held_with u v past ≡ Some s → out_of_turn (suc (length (inbox (log_of u past) v s))) x ≡ None → P (take_item rules net carried v u s x past)
+    unfolding take_item
+    item_kept v s (News n x) front holds turn =
+        moves.meets_update past v s carried n x before are front holds (in_turn n (suc (length (inbox (log_of u past) v s))) turn)
+      where
+        in_turn : (a b : ℕ) → (if a == b then None else Some (reason.WrongSeq b a)) ≡ None → a ≡ b
+        in_turn a b q =
+            (elim (a == b) as (λ t. (a == b) ≡ t → (if t then None else Some (reason.WrongSeq b a)) ≡ None → a ≡ b) [
+              | true ↦ λ e f. grind (arith, nat_tests)
+              | false ↦ λ e f. absurd (cc f)
+            ]) refl q
+    item_kept v s (Marker e) front holds turn = mark_kept v s (Marker e) e front holds refl
+    item_kept v s (Hello e) front holds turn =
+        greeted_kept v s (meet_mark net carried u e (Took v u s (Hello e) ∷ past)) (ready (reads (log_of u past)) v)
+        (mark_kept v s (Hello e) e front holds refl) (mark_log v s (Hello e) e) (mark_link v s (Hello e) e) holds refl
+
+    -- an item that comes, in the session that is held or another
+    comes_kept : (v s : ℕ) (x : Item) (session : Option ℕ) → Comes past v s x → held_with u v past ≡ session
+        → Leaves P past (comes rules net carried u past v s x session)
+    comes_kept v s x None front holds = before
+    comes_kept v s x (Some t) front holds =
+        (elim (t == s) as (λ b. (t == s) ≡ b → Leaves P past (if not b then Idle reason.WrongSession else unless (out_of_turn (suc (length (inbox (log_of u past) v s))) x) (take_item rules net carried v u s x past))) [
+          | true ↦ λ e.
+              let same : t ≡ s = grind (arith, nat_tests) in
+              unless_kept past (take_item rules net carried v u s x past) (out_of_turn (suc (length (inbox (log_of u past) v s))) x) before
+              (item_kept v s x front (subst (λ y. held_with u v past ≡ Some y) same holds))
+          | false ↦ λ e. before
+        ]) refl
+
+    -- an entry of the node's own
+    own_kept : (k : Entry) → MayWriteWhere (Over past) past u k → P (write rules net carried u k past)
+    own_kept k may = moves.writes past carried k before are may
+
+    -- a session that the link does not carry is closed
+    notices_kept : (v : ℕ) (session : Option ℕ) → held_with u v past ≡ session → ((s : ℕ) → held_with u v past ≡ Some s → Over past v s) → Leaves P past (notices rules net carried u past v session)
+    notices_kept v None holds over = before
+    notices_kept v (Some s) holds over =
+        own_kept (local u (log_of u past) All (Down v s)) (record { fits = holds; lists = refl; own = over s holds })
+
+    -- a session is opened
+    opens_kept : (v s : ℕ) (session : Option ℕ) → Opens past v s → held_with u v past ≡ session → Leaves P past (opens carried u past v s session)
+    opens_kept v s (Some t) up holds = before
+    opens_kept v s None up holds =
+        (elim (nat_lt (last (reads (log_of u past)) v) s) as (λ b. nat_lt (last (reads (log_of u past)) v) s ≡ b → Leaves P past (if b then Goes (open_session carried u v s past) else Idle reason.OldSession)) [
+          | true ↦ λ e. moves.opens past v s carried before are up holds (grind (arith, nat_tests))
+          | false ↦ λ e. before
+        ]) refl
+
+    -- what each move of the node keeps is kept where it gets an input
+    pub give_kept : (i : Input) → MayCome Comes Over Opens u past i → Leaves P past (give rules net carried u past i)
+    unfolding give
+    give_kept (input.Originate p) may =
+        (elim (owns (reads (log_of u past)) p) as (λ t. owns (reads (log_of u past)) p ≡ t → Leaves P past (if t then Idle reason.AlreadyOrigin else Goes (write rules net carried u (local u (log_of u past) (One p) Originate) past))) [
+          | true ↦ λ e. before
+          | false ↦ λ e. own_kept (local u (log_of u past) (One p) Originate) (record { fits = e; lists = refl; own = tt })
+        ]) refl
+    give_kept (input.Withdraw p) may =
+        (elim (owns (reads (log_of u past)) p) as (λ t. owns (reads (log_of u past)) p ≡ t → Leaves P past (if t then Goes (write rules net carried u (local u (log_of u past) (One p) Withdraw) past) else Idle reason.NotOrigin)) [
+          | true ↦ λ e. own_kept (local u (log_of u past) (One p) Withdraw) (record { fits = e; lists = refl; own = tt })
+          | false ↦ λ e. before
+        ]) refl
+    give_kept (input.Prefer v value) may = own_kept (local u (log_of u past) All (Prefer v value)) (record { fits = tt; lists = refl; own = tt })
+    give_kept (input.Arrive v s x) may = comes_kept v s x (held_with u v past) may refl
+    give_kept (input.Notice v) may = notices_kept v (held_with u v past) refl may
+    give_kept (input.OpenSession v s) may = opens_kept v s (held_with u v past) may refl
+    give_kept input.Snap may = moves.rises past carried (suc (epoch u past)) before are (omega arith)
+
+-- ---- the events of a run
+
+module _ (rules : Rules) (net : Net) (P : Chronicle → Type 0) (moves : ByNodes rules net P) where
+  module _ (past : Chronicle) (before : P past) (breaks : (a b s : ℕ) → link a b past ≡ state.Up s → P (fact.Fail a b ∷ past)) (mends : (a b s : ℕ) → link a b past ≡ state.Down s → P (fact.Restore a b ∷ past)) where
+    -- an input that comes in a run
+    given_kept : (u : ℕ) (i : Input) → MayCome (IsFront u) (IsOver u) (IsUp u) u past i → Leaves P past (given rules net past u i)
+    given_kept u i may =
+        give_kept rules net u (λ carried now. AreCarried carried u now) (IsFront u) (IsOver u) (IsUp u) P (moves u)
+        (λ was now carried links are w s. are w s ∙ ap (λ l. carries l s) (sym (links u w))) past before (carried_by u past) (λ w s. refl) i may
+
+    -- a session that is held is not carried
+    not_carried : (l : LinkState) (session : Option ℕ) → is_carried l session ≡ false → (s : ℕ) → session ≡ Some s → carries l s ≡ false
+    not_carried l None off s holds = absurd (cc holds)
+    not_carried l (Some t) off s holds = let same : t ≡ s = cc holds in subst (λ y. carries l y ≡ false) same off
+
+    -- a delivery
+    delivered_kept : (v u : ℕ) (l : LinkState) (items : List Item) → link v u past ≡ l → channel v u past ≡ items → Leaves P past (delivered rules net past v u l items)
+    delivered_kept v u (state.Down s) items is front = before
+    delivered_kept v u (state.Up s) [] is front = before
+    delivered_kept v u (state.Up s) (x ∷ rest) is front = given_kept u (input.Arrive v s x) (is, (rest, front))
+
+    -- an opening
+    opened_kept : (u v : ℕ) (session : Option ℕ) (l : LinkState) → link u v past ≡ l → Leaves P past (opened_by_link rules net past u v session l)
+    opened_kept u v (Some s) l is = before
+    opened_kept u v None (state.Down s) is = before
+    opened_kept u v None (state.Up s) is = given_kept u (input.OpenSession v s) is
+
+    -- a link that fails
+    fails_kept : (a b : ℕ) (l : LinkState) → link a b past ≡ l → Leaves P past (fails past a b l)
+    fails_kept a b (state.Up s) is = breaks a b s is
+    fails_kept a b (state.Down s) is = before
+
+    -- a link that is restored
+    restores_kept : (a b : ℕ) (l : LinkState) → link a b past ≡ l → Leaves P past (restores past a b l)
+    restores_kept a b (state.Up s) is = before
+    restores_kept a b (state.Down s) is = mends a b s is
+
+    -- what the moves of nodes keep, and a change of a link here, holds after each event
+    pub after_moves : (e : Event) → P (after rules net past e)
+    unfolding after step
+    after_moves (event.Originate u p) = given_kept u (input.Originate p) tt
+    after_moves (event.Withdraw u p) = given_kept u (input.Withdraw p) tt
+    after_moves (event.Prefer u v value) = given_kept u (input.Prefer v value) tt
+    after_moves (event.Deliver v u) = delivered_kept v u (link v u past) (channel v u past) refl refl
+    after_moves (event.Fail a b) = fails_kept a b (link a b past) refl
+    after_moves (event.Restore a b) = restores_kept a b (link a b past) refl
+    after_moves (event.Notice u v) =
+        (elim (is_carried (link u v past) (held_with u v past)) as (λ t. is_carried (link u v past) (held_with u v past) ≡ t → Leaves P past (if t then Idle reason.StillUp else given rules net past u (input.Notice v))) [
+          | true ↦ λ q. before
+          | false ↦ λ q. given_kept u (input.Notice v) (not_carried (link u v past) (held_with u v past) q)
+        ]) refl
+    after_moves (event.OpenSession u v) = opened_kept u v (held_with u v past) (link u v past) refl
+    after_moves (event.Snap u) = given_kept u input.Snap tt
+
+-- ---- all moves
+
+module _ (rules : Rules) (net : Net) (P : Chronicle → Type 0) (kept : Kept rules net P) where
+  -- what each move keeps, each event keeps
+  pub after_kept : (past : Chronicle) → P past → (e : Event) → P (after rules net past e)
+  after_kept past before e =
+      after_moves rules net P (by_nodes rules net P kept) past before (λ a b s is. kept.breaks past a b s before is) (λ a b s is. kept.mends past a b s before is) e
+
+  -- from one chronicle on
+  kept_on : (past : Chronicle) (events : List Event) → P past → P (fold (after rules net) past events)
+  kept_on past [] before = before
+  kept_on past (e ∷ events) before = kept_on (after rules net past e) events (after_kept past before e)
+
+  -- what holds at the start, and is kept by each move, holds of every run
+  pub run_kept : (events : List Event) → P [] → P (run rules net events)
   unfolding run
-  holds_of_run events start = holds_on [] events start
+  run_kept events start = kept_on [] events start

@@ -19,7 +19,7 @@ use Rattle.chronicle.specs.Deliveries.{next_delivery}
 use Rattle.chronicle.proofs.Opened.{all}
 use Rattle.chronicle.proofs.Shown.{idle, a_link, network, a_trigger, entries, listed}
 
-abbrev pair : Net
+abbrev pub pair : Net
 pair = network (1 ∷ 2 ∷ []) (a_link 1 2 Any ∷ [])
 
 abbrev reopened : List Event

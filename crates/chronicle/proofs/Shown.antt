@@ -1,10 +1,11 @@
 -- What an example shows of a run.
-use Rattle.std.specs.Prelude.{ℕ, List, [], ◌∷◌, ◌++◌, reverse, Option, Some, None, map}
+use Rattle.std.specs.Prelude.{ℕ, zero, suc, Bool, List, [], ◌∷◌, ◌++◌, reverse, length, Option, Some, None, map, option_map, filter_map, fold}
 use Rattle.topology.specs.declared.links.Link.{Link}
 use Rattle.topology.specs.declared.links.Relation.{Relation}
 use Rattle.topology.specs.declared.status.Reason.{Reason}
+use Rattle.topology.specs.declared.names.Scheme.TheVariants.{Deflect}
 use Rattle.topology.specs.Lists.{ascending}
-use Rattle.topology.specs.Net.{Net}
+use Rattle.topology.specs.Net.{Net, neighbours}
 use Rattle.path_vector.specs.GaoRexford.{gao_rexford}
 use Rattle.path_vector.specs.Selection.{best, path_of}
 use Rattle.topology.specs.declared.names.Trigger.{Trigger}
@@ -13,8 +14,14 @@ use Rattle.trigger_log.specs.Entries.{Entry, reads}
 use Rattle.trigger_log.specs.Sending.{sent_by}
 use Rattle.trigger_log.specs.Going.{Item, News}
 use Rattle.chronicle.specs.declared.events.Event.{Event}
+use Rattle.chronicle.specs.declared.events.Event.TheVariants.{Deliver}
+use Rattle.chronicle.specs.Facts.{Chronicle}
 use Rattle.chronicle.specs.Logs.{log_of}
-use Rattle.chronicle.specs.Run.{Step, Idle, Goes, step, run}
+use Rattle.chronicle.specs.Epochs.{cut}
+use Rattle.chronicle.specs.Recordings.{Recording, recording}
+use Rattle.chronicle.specs.Steps.{Step, Idle, Goes}
+use Rattle.chronicle.specs.Run.{step, after, run}
+use Rattle.chronicle.specs.Deliveries.{next_delivery}
 
 -- the best path of each node, ascending
 abbrev pub routes : Net → ℕ → List Event → List (Option (List ℕ))
@@ -33,7 +40,7 @@ a_link a b relation = record { a = a; b = b; relation = relation }
 
 -- a network with one prefix and no consolidators
 abbrev pub network : List ℕ → List Link → Net
-network nodes links = record { nodes = nodes; consolidators = []; links = links; preferences = []; prefixes = record { bits = 167772160; len = 8 } ∷ [] }
+network nodes links = record { nodes = nodes; consolidators = []; links = links; preferences = []; prefixes = record { bits = 167772160; len = 8 } ∷ []; hops = 128; scheme = Deflect }
 
 -- the trigger with this counter of this node
 abbrev pub a_trigger : ℕ → ℕ → List Trigger
@@ -58,3 +65,25 @@ to w n = record { to = w; session = 1; seq = n }
 -- the entries of a node, the oldest first
 abbrev pub entries : Net → ℕ → List Event → List Entry
 entries net u events = reverse (log_of u (run gao_rexford net events))
+
+-- these events come next
+abbrev pub go_on : Net → Chronicle → List Event → Chronicle
+go_on net past events = fold (after gao_rexford net) past events
+
+-- at most n deliveries, each the next one
+abbrev pub settle : Net → ℕ → Chronicle → Chronicle
+settle net zero past = past
+settle net (suc n) past =
+    elim (next_delivery net past) [ None ↦ past | Some way ↦ settle net n (after gao_rexford net past (Deliver way.from way.to)) ]
+
+-- the lengths of the cuts of e, by node
+abbrev pub lengths : Net → ℕ → Chronicle → List (Option ℕ)
+lengths net e past = map (λ u. option_map (λ (c : List Entry). length c) (cut u e past)) (ascending net.nodes)
+
+-- the recordings of u, by neighbour
+abbrev pub recordings : Net → ℕ → ℕ → Chronicle → List Recording
+recordings net u e past = filter_map (λ v. recording u e v past) (neighbours net u)
+
+-- a recording of session 1 with v
+abbrev pub recorded_of : ℕ → List ℕ → Bool → Recording
+recorded_of v numbers done = record { nbr = v; session = 1; recorded = numbers; done = done }

@@ -3,6 +3,10 @@ pub mod Logs
 pub mod Links
 pub mod Channels
 pub mod Messages
+pub mod Epochs
+pub mod Recordings
+pub mod Inputs
 pub mod Steps
+pub mod Giving
 pub mod Run
 pub mod Deliveries

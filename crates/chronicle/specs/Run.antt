@@ -1,53 +1,54 @@
 -- The run of a list of events.
-use Rattle.std.specs.Prelude.{ℕ, Option, Some, None, List, [], ◌∷◌, fold, if◌then◌else◌}
-use Rattle.topology.specs.declared.names.Scope.TheVariants.{One, All}
-use Rattle.topology.specs.declared.status.Reason.{Reason}
-use Rattle.topology.specs.declared.status.Reason.TheVariants.{AlreadyOrigin, NotOrigin, LinkDown, EmptyChannel, WrongSession, AlreadyDown, AlreadyUp, NotOpen, StillUp, AlreadyOpen}
+use Rattle.std.specs.Prelude.{ℕ, Bool, false, Option, Some, None, List, [], ◌∷◌, fold, if◌then◌else◌}
+use Rattle.topology.specs.declared.status.Reason.TheVariants.{LinkDown, EmptyChannel, AlreadyDown, AlreadyUp, StillUp, AlreadyOpen}
 use Rattle.topology.specs.declared.links.LinkState.{LinkState}
 use Rattle.topology.specs.declared.links.LinkState.TheVariants.{Up, Down}
 use Rattle.topology.specs.Net.{Net}
 use Rattle.topology.specs.LinkStates.{carries}
-use Rattle.path_vector.specs.declared.causes.Cause.TheVariants as cause
 use Rattle.path_vector.specs.Rules.{Rules}
-use Rattle.path_vector.specs.History.{held, owns}
-use Rattle.trigger_log.specs.Entries.{reads, local, is_session}
+use Rattle.path_vector.specs.History.{held}
+use Rattle.trigger_log.specs.Entries.{reads}
 use Rattle.trigger_log.specs.Going.{Item}
 use Rattle.chronicle.specs.declared.events.Event.{Event}
-use Rattle.chronicle.specs.declared.events.Event.TheVariants.{Originate, Withdraw, Prefer, Deliver, Fail, Restore, Notice, OpenSession}
+use Rattle.chronicle.specs.declared.events.Event.TheVariants.{Originate, Withdraw, Prefer, Deliver, Fail, Restore, Notice, OpenSession, Snap}
 use Rattle.chronicle.specs.Facts.{Chronicle}
 use Rattle.chronicle.specs.Facts as fact
 use Rattle.chronicle.specs.Logs.{log_of}
 use Rattle.chronicle.specs.Links.{link}
 use Rattle.chronicle.specs.Channels.{channel}
-use Rattle.chronicle.specs.Steps.{write, open_session, take_item}
-
--- what an event comes to: nothing, for a reason, or a chronicle that has gone on
-pub data Step : Type 0 where
-  Idle : (reason : Reason) → Step
-  Goes : (now : Chronicle) → Step
+use Rattle.chronicle.specs.Inputs.{Input}
+use Rattle.chronicle.specs.Inputs as input
+use Rattle.chronicle.specs.Steps.{Step, Idle, Goes, Carried}
+use Rattle.chronicle.specs.Giving.{give}
 
 -- the session that u holds with v
 abbrev pub held_with : ℕ → ℕ → Chronicle → Option ℕ
 held_with u v past = held (reads (log_of u past)) v
 
--- the front item of the channel is taken, where the link is up in the session that u holds
-abbrev pub delivered : Rules → Net → Chronicle → ℕ → ℕ → LinkState → List Item → Option ℕ → Step
-delivered rules net past v u (Down s) items session = Idle LinkDown
-delivered rules net past v u (Up s) [] session = Idle EmptyChannel
-delivered rules net past v u (Up s) (x ∷ rest) session =
-    if is_session session s then Goes (take_item rules net v u s x past) else Idle WrongSession
+-- the links of u, as they are in a run
+abbrev pub carried_by : ℕ → Chronicle → Carried
+carried_by u past w s = carries (link u w past) s
 
--- a session that the link does not carry is closed, where one is held
-abbrev pub noticed : Rules → Net → Chronicle → ℕ → ℕ → Option ℕ → LinkState → Step
-noticed rules net past u v None state = Idle NotOpen
-noticed rules net past u v (Some s) state =
-    if carries state s then Idle StillUp else Goes (write rules net u (local u (log_of u past) All (cause.Down v s)) past)
+-- u gets the input, over the links of the run
+abbrev pub given : Rules → Net → Chronicle → ℕ → Input → Step
+given rules net past u input = give rules net (carried_by u past) u past input
 
--- the session that the link carries is opened, where none is held
-abbrev pub opened : Chronicle → ℕ → ℕ → Option ℕ → LinkState → Step
-opened past u v (Some s) state = Idle AlreadyOpen
-opened past u v None (Down s) = Idle LinkDown
-opened past u v None (Up s) = Goes (open_session u v s past)
+-- the front item of the channel comes to u, where the link is up
+abbrev pub delivered : Rules → Net → Chronicle → ℕ → ℕ → LinkState → List Item → Step
+delivered rules net past v u (Down s) items = Idle LinkDown
+delivered rules net past v u (Up s) [] = Idle EmptyChannel
+delivered rules net past v u (Up s) (x ∷ rest) = given rules net past u (input.Arrive v s x)
+
+-- a session is held, and the link carries it
+abbrev pub is_carried : LinkState → Option ℕ → Bool
+is_carried state None = false
+is_carried state (Some s) = carries state s
+
+-- u learns that the link carries this session, unless it holds one
+abbrev pub opened_by_link : Rules → Net → Chronicle → ℕ → ℕ → Option ℕ → LinkState → Step
+opened_by_link rules net past u v (Some s) state = Idle AlreadyOpen
+opened_by_link rules net past u v None (Down s) = Idle LinkDown
+opened_by_link rules net past u v None (Up s) = given rules net past u (input.OpenSession v s)
 
 abbrev pub fails : Chronicle → ℕ → ℕ → LinkState → Step
 fails past a b (Up s) = Goes (fact.Fail a b ∷ past)
@@ -59,18 +60,16 @@ restores past a b (Down s) = Goes (fact.Restore a b ∷ past)
 
 -- what an event does; its reasons are tried in their order
 unfoldable pub step : Rules → Net → Chronicle → Event → Step
-step rules net past (Originate u p) =
-    if owns (reads (log_of u past)) p then Idle AlreadyOrigin
-    else Goes (write rules net u (local u (log_of u past) (One p) cause.Originate) past)
-step rules net past (Withdraw u p) =
-    if owns (reads (log_of u past)) p then Goes (write rules net u (local u (log_of u past) (One p) cause.Withdraw) past)
-    else Idle NotOrigin
-step rules net past (Prefer u v value) = Goes (write rules net u (local u (log_of u past) All (cause.Prefer v value)) past)
-step rules net past (Deliver v u) = delivered rules net past v u (link v u past) (channel v u past) (held_with u v past)
+step rules net past (Originate u p) = given rules net past u (input.Originate p)
+step rules net past (Withdraw u p) = given rules net past u (input.Withdraw p)
+step rules net past (Prefer u v value) = given rules net past u (input.Prefer v value)
+step rules net past (Deliver v u) = delivered rules net past v u (link v u past) (channel v u past)
 step rules net past (Fail a b) = fails past a b (link a b past)
 step rules net past (Restore a b) = restores past a b (link a b past)
-step rules net past (Notice u v) = noticed rules net past u v (held_with u v past) (link u v past)
-step rules net past (OpenSession u v) = opened past u v (held_with u v past) (link u v past)
+step rules net past (Notice u v) =
+    if is_carried (link u v past) (held_with u v past) then Idle StillUp else given rules net past u (input.Notice v)
+step rules net past (OpenSession u v) = opened_by_link rules net past u v (held_with u v past) (link u v past)
+step rules net past (Snap u) = given rules net past u input.Snap
 
 -- the chronicle that a step leaves: an idle event adds nothing
 abbrev pub chronicle_of : Chronicle → Step → Chronicle

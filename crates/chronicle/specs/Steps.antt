@@ -1,41 +1,68 @@
--- What a node does with an input: the facts that it adds.
-use Rattle.std.specs.Prelude.{ℕ, Option, Some, None, List, [], ◌∷◌, map}
+-- The facts that a node adds.
+use Rattle.std.specs.Prelude.{ℕ, Bool, nat_lt, Option, Some, None, List, [], ◌∷◌, map, if◌then◌else◌}
 use Rattle.topology.specs.declared.names.Scope.TheVariants.{One, All}
+use Rattle.topology.specs.declared.status.Reason.{Reason}
 use Rattle.topology.specs.Net.{Net}
-use Rattle.topology.specs.LinkStates.{carries}
 use Rattle.path_vector.specs.declared.causes.Cause.TheVariants.{Recv, Up, Ready}
 use Rattle.path_vector.specs.Rules.{Rules}
-use Rattle.path_vector.specs.History.{ready}
+use Rattle.path_vector.specs.History.{held, ready}
 use Rattle.trigger_log.specs.Entries.{Entry, Update, entry, local, reads}
-use Rattle.trigger_log.specs.Going.{Item, News, Hello, Going, going_by}
-use Rattle.chronicle.specs.Facts.{Fact, Chronicle, Log, Sent, Took, happen}
+use Rattle.trigger_log.specs.Going.{Item, News, Marker, Hello, Going, spread, going_by}
+use Rattle.chronicle.specs.Facts.{Fact, Chronicle, Log, Sent, Took, Raise, happen}
 use Rattle.chronicle.specs.Logs.{log_of}
-use Rattle.chronicle.specs.Links.{link}
+use Rattle.chronicle.specs.Epochs.{epoch}
+
+-- what an event or an input comes to: nothing, for a reason, or a chronicle that has gone on
+pub data Step : Type 0 where
+  Idle : (reason : Reason) → Step
+  Goes : (now : Chronicle) → Step
+
+-- whether the link to w carries session s. In a run it is that of the links; a node alone knows of none,
+-- and nothing that it does depends on it but whether an item was queued or lost
+abbrev pub Carried : Type 0
+Carried = ℕ → ℕ → Bool
 
 -- u sends what goes out: an item is queued where the link carries its session, and lost elsewhere
-abbrev pub sends : Chronicle → ℕ → List Going → List Fact
-sends past u goings =
-    map (λ (g : Going). Sent u g.to g.session g.item (carries (link u g.to past) g.session)) goings
+abbrev pub sends : Carried → ℕ → List Going → List Fact
+sends carried u goings = map (λ (g : Going). Sent u g.to g.session g.item (carried g.to g.session)) goings
 
 -- u enters k into its log, and tells each neighbour what it changes
-unfoldable pub write : Rules → Net → ℕ → Entry → Chronicle → Chronicle
-write rules net u k past = happen (Log u k ∷ past) (sends past u (going_by rules net u (log_of u past) k))
+unfoldable pub write : Rules → Net → Carried → ℕ → Entry → Chronicle → Chronicle
+write rules net carried u k past = happen (Log u k ∷ past) (sends carried u (going_by rules net u (log_of u past) k))
 
--- u opens session s with v, and greets it; hellos carry epoch 0 so far
-unfoldable pub open_session : ℕ → ℕ → ℕ → Chronicle → Chronicle
-open_session u v s past =
-    happen (Log u (local u (log_of u past) All (Up v s)) ∷ past) (sends past u (record { to = v; session = s; item = Hello 0 } ∷ []))
+-- u opens session s with v, and greets it with its epoch
+unfoldable pub open_session : Carried → ℕ → ℕ → ℕ → Chronicle → Chronicle
+open_session carried u v s past =
+    happen (Log u (local u (log_of u past) All (Up v s)) ∷ past)
+    (sends carried u (record { to = v; session = s; item = Hello (epoch u past) } ∷ []))
+
+-- a marker in each session that is held, ready or not, by neighbour, ascending
+abbrev pub markers : Net → ℕ → ℕ → List Entry → List Going
+markers net u e h = spread net u (held (reads h)) (λ w s. Marker e ∷ [])
+
+-- the epoch of u rises to e: u takes its cut, and puts a marker into each session that it holds
+unfoldable pub take_cut : Net → Carried → ℕ → ℕ → Chronicle → Chronicle
+take_cut net carried u e past = happen (Raise u e ∷ past) (sends carried u (markers net u e (log_of u past)))
+
+-- u meets a mark of e: its epoch rises to it, where it is higher
+abbrev pub meet_mark : Net → Carried → ℕ → ℕ → Chronicle → Chronicle
+meet_mark net carried u e past = if nat_lt (epoch u past) e then take_cut net carried u e past else past
 
 -- the entry of a node that takes update x of v, with number n in session s: it lists what the update lists
 abbrev pub heard : ℕ → ℕ → ℕ → Update → Entry
 heard v s n x = entry x.triggers (One x.prefix) (Recv v s n x.path)
 
 -- u is greeted by v in session s: it enters that the other end is ready, unless it knows that
-abbrev pub greeted : Rules → Net → ℕ → ℕ → ℕ → Option ℕ → Chronicle → Chronicle
-greeted rules net v u s (Some known) past = past
-greeted rules net v u s None past = write rules net u (local u (log_of u past) All (Ready v s)) past
+abbrev pub greeted : Rules → Net → Carried → ℕ → ℕ → ℕ → Option ℕ → Chronicle → Chronicle
+greeted rules net carried v u s (Some known) past = past
+greeted rules net carried v u s None past = write rules net carried u (local u (log_of u past) All (Ready v s)) past
 
--- u takes an item of v in session s, which it holds: an update is entered, a hello greets it
-unfoldable pub take_item : Rules → Net → ℕ → ℕ → ℕ → Item → Chronicle → Chronicle
-take_item rules net v u s (News n x) past = write rules net u (heard v s n x) (Took v u s (News n x) ∷ past)
-take_item rules net v u s (Hello e) past = greeted rules net v u s (ready (reads (log_of u past)) v) (Took v u s (Hello e) ∷ past)
+-- u takes an item of v in session s, which it holds: an update is entered, a marker is met as a mark, and
+-- so is a greeting, which then greets u
+unfoldable pub take_item : Rules → Net → Carried → ℕ → ℕ → ℕ → Item → Chronicle → Chronicle
+take_item rules net carried v u s (News n x) past =
+    write rules net carried u (heard v s n x) (Took v u s (News n x) ∷ past)
+take_item rules net carried v u s (Marker e) past = meet_mark net carried u e (Took v u s (Marker e) ∷ past)
+take_item rules net carried v u s (Hello e) past =
+    greeted rules net carried v u s (ready (reads (log_of u past)) v)
+    (meet_mark net carried u e (Took v u s (Hello e) ∷ past))

@@ -45,4 +45,8 @@ pub enum Event {
         node: NodeId,
         nbr: NodeId,
     },
+    /// The node begins a snapshot: its epoch rises by one.
+    Snap {
+        node: NodeId,
+    },
 }

@@ -1,0 +1,15 @@
+-- What comes to a node.
+use Rattle.std.specs.Prelude.{ℕ}
+use Rattle.trigger_log.specs.Going.{Item}
+
+-- it is to originate a prefix, or to withdraw it; to prefer a neighbour by this value; an item of a
+-- neighbour arrives in a session; the link does not carry the held session with a neighbour any more; it
+-- carries this session with it; the epoch is to rise by one
+pub data Input : Type 0 where
+  Originate : (prefix : ℕ) → Input
+  Withdraw : (prefix : ℕ) → Input
+  Prefer : (nbr value : ℕ) → Input
+  Arrive : (from session : ℕ) → (item : Item) → Input
+  Notice : (nbr : ℕ) → Input
+  OpenSession : (nbr session : ℕ) → Input
+  Snap : Input
