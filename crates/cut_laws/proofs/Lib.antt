@@ -1,16 +1,30 @@
-mod Updates
-mod Numbering
-mod Listing
-mod Sound
-mod Entering
-mod Writing
-mod Opening
-mod Taking
-mod Failing
-mod Running
-mod Concluding
-mod Few
-mod Counting
-mod Recounting
-mod Earliest
-mod Delivering
+pub mod Marking
+pub mod Fitting
+pub mod Rising
+pub mod Updates
+pub mod Numbering
+pub mod Listing
+pub mod Sound
+pub mod Failing
+pub mod Entering
+pub mod Writing
+pub mod Opening
+pub mod Taking
+pub mod Cutting
+pub mod Running
+pub mod Olden
+pub mod Marked
+pub mod Keeping
+pub mod Bringing
+pub mod Counting
+pub mod Recounting
+pub mod Few
+pub mod Balance
+pub mod Concluding
+pub mod Earliest
+pub mod Delivering
+pub mod Turns
+pub mod Beside
+pub mod Owning
+pub mod Staying
+pub mod OutOfTurn

@@ -17,7 +17,7 @@ use Rattle.chronicle.specs.Logs.{log_of}
 use Rattle.chronicle.specs.Links.{link}
 use Rattle.chronicle.specs.Channels.{channel}
 use Rattle.chronicle.specs.Messages.{sent, took, updates}
-use Rattle.cut_laws.proofs.Listing.{Tells, outbox_tells}
+use Rattle.cut_laws.proofs.Listing.{IsNews, outbox_tells}
 use Rattle.cut_laws.proofs.Numbering.{behind}
 use Rattle.cut_laws.proofs.Updates.{updates_append, not_empty}
 
@@ -69,22 +69,24 @@ by_node P u own others v =
     ]) refl
 
 module _ (rules : Rules) (net : Net) (past : Chronicle) (v u s n : ℕ) (x : Update) (rest : List Item) (sound : Sound rules net past) (up : link v u past ≡ Up s) (is : channel v u past ≡ News n x ∷ rest) where
+  -- what the receiver has received
   abbrev old : List Update
   old = inbox (log_of u past) v s
 
-  order : numbered 1 old ++ News n x ∷ updates rest ≡ updates (sent v u s past)
+  -- what was taken, what is in front and what is behind it is what was sent
+  pub order : numbered 1 old ++ News n x ∷ updates rest ≡ updates (sent v u s past)
   order =
       ap (λ r. r ++ News n x ∷ updates rest) (sym (sound.logs.heard u v s))
       ∙ (sym (updates_append (took v u s past) (News n x ∷ rest))
       ∙ ap updates (ap (λ r. took v u s past ++ r) (sym is) ∙ sound.links.queue v u s up))
 
   -- the update in front is the next one that the receiver may enter, lists something, and is of a prefix of the network
-  pub in_front : (n ≡ suc (length old)) × Tells net x
+  pub in_front : (n ≡ suc (length old)) × IsNews net x
   in_front =
-      (elim (has (neighbours net v) u) as (λ t. has (neighbours net v) u ≡ t → (n ≡ suc (length old)) × Tells net x) [
+      (elim (has (neighbours net v) u) as (λ t. has (neighbours net v) u ≡ t → (n ≡ suc (length old)) × IsNews net x) [
         | true ↦ λ near.
             let all = outbox rules net v (log_of v past) u s in
-            let found = behind (Tells net) 1 old all n x (updates rest) (outbox_tells rules net v (log_of v past) u s (sound.logs.inherits v)) (order ∙ sound.links.said v u s near) in
+            let found = behind (IsNews net) 1 old all n x (updates rest) (outbox_tells rules net v (log_of v past) u s (sound.logs.inherits v)) (order ∙ sound.links.said v u s near) in
             let number = found.0 in
             (grind (arith, number), found.1)
         | false ↦ λ far. absurd (not_empty (numbered 1 old) (News n x) (updates rest) (order ∙ sound.links.strangers v u s far))

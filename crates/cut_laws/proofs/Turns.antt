@@ -1,0 +1,131 @@
+-- In a run no update comes out of turn, and no session that is opened is an old one.
+use Rattle.std.proofs.Common.{ℕ, suc, ◌<◌, Bool, true, false, not, nat_lt, Option, Some, None, List, [], ◌∷◌, ◌≡◌, ◌≢◌, refl, ◌∙◌, arith, length}
+use Rattle.std.specs.Prelude.{if◌then◌else◌}
+use Rattle.std.proofs.lemmas.Bool.Decides.{nat_tests}
+use Rattle.topology.specs.declared.names.Scope.TheVariants.{One}
+use Rattle.topology.specs.declared.status.Reason.{Reason}
+use Rattle.topology.specs.declared.status.Reason.TheVariants as reason
+use Rattle.topology.specs.declared.links.LinkState.{LinkState}
+use Rattle.topology.specs.declared.links.LinkState.TheVariants.{Up, Down}
+use Rattle.topology.specs.Net.{Net, IsValid}
+use Rattle.path_vector.specs.declared.causes.Cause.TheVariants as cause
+use Rattle.path_vector.specs.Rules.{Rules}
+use Rattle.path_vector.specs.History.{last, owns}
+use Rattle.trigger_log.specs.Entries.{reads, local, inbox, is_session}
+use Rattle.trigger_log.specs.Going.{Item}
+use Rattle.chronicle.specs.declared.events.Event.{Event}
+use Rattle.chronicle.specs.declared.events.Event.TheVariants.{Originate, Withdraw, Prefer, Deliver, Fail, Restore, Notice, OpenSession, Snap}
+use Rattle.chronicle.specs.Facts.{Chronicle}
+use Rattle.chronicle.specs.Logs.{log_of}
+use Rattle.chronicle.specs.Links.{link}
+use Rattle.chronicle.specs.Channels.{channel}
+use Rattle.chronicle.specs.Steps.{Step, Idle, Goes, write, take_item}
+use Rattle.chronicle.specs.Giving.{unless, out_of_turn, comes, notices, opens, give}
+use Rattle.chronicle.specs.Run.{held_with, carried_by, delivered, is_carried, opened_by_link, fails, restores, step, run}
+use Rattle.cut_laws.specs.Joined.{Joined, FrontFits}
+use Rattle.cut_laws.proofs.Marked.{session_is}
+use Rattle.cut_laws.proofs.Concluding.{joined, front_fits}
+use Rattle.cut_laws.proofs.Delivering.{in_turn}
+
+-- the two reasons that no world meets
+abbrev is_stray : Reason → Bool
+is_stray (reason.WrongSeq expected got) = true
+is_stray reason.OldSession = true
+is_stray other = false
+
+-- the step is not idle for one of them
+abbrev pub Runs : Step → Type 0
+Runs (Idle why) = is_stray why ≡ false
+Runs (Goes now) = Unit {0}
+
+module _ (rules : Rules) (net : Net) (past : Chronicle) where
+  -- an item in front, over a link that is up
+  comes_runs : (v u s : ℕ) (x : Item) (rest : List Item) (session : Option ℕ) → FrontFits net past v u → link v u past ≡ Up s → channel v u past ≡ x ∷ rest → held_with u v past ≡ session
+      → Runs (comes rules net (carried_by u past) u past v s x session)
+  comes_runs v u s x rest session fits up front holds =
+      (elim (is_session session s) as (λ t. is_session session s ≡ t
+      → Runs (if not t then Idle reason.WrongSession else unless (out_of_turn (suc (length (inbox (log_of u past) v s))) x) (take_item rules net (carried_by u past) v u s x past))) [
+        | true ↦ λ is. rw (in_turn rules net past v u fits s x rest up front (holds ∙ session_is session s is)) tt
+        | false ↦ λ is. refl
+      ]) refl
+
+  -- a delivery
+  delivered_runs : (v u : ℕ) (l : LinkState) (items : List Item) → FrontFits net past v u → link v u past ≡ l → channel v u past ≡ items → Runs (delivered rules net past v u l items)
+  unfolding give
+  delivered_runs v u (Down s) items fits up front = refl
+  delivered_runs v u (Up s) [] fits up front = refl
+  delivered_runs v u (Up s) (x ∷ rest) fits up front = comes_runs v u s x rest (held_with u v past) fits up front refl
+
+  -- an opening, of the session that the link carries
+  opens_runs : (u v s : ℕ) (session : Option ℕ) → (session ≡ None → last (reads (log_of u past)) v < s) → Runs (opens (carried_by u past) u past v s session)
+  opens_runs u v s (Some t) higher = refl
+  opens_runs u v s None higher =
+      let above = higher refl in
+      let test : nat_lt (last (reads (log_of u past)) v) s ≡ true = grind (arith, nat_tests, above) in
+      rw test tt
+
+  opened_runs : (u v : ℕ) (session : Option ℕ) (l : LinkState) → Joined past u v → link u v past ≡ l → Runs (opened_by_link rules net past u v session l)
+  unfolding give
+  opened_runs u v (Some t) l joins is = refl
+  opened_runs u v None (Down s) joins is = refl
+  opened_runs u v None (Up s) joins is = opens_runs u v s (held_with u v past) (joins.below s is)
+
+  -- a session that is closed
+  notices_runs : (u v : ℕ) (session : Option ℕ) → Runs (notices rules net (carried_by u past) u past v session)
+  notices_runs u v None = refl
+  notices_runs u v (Some s) = tt
+
+  -- a link that fails
+  fails_runs : (a b : ℕ) (l : LinkState) → Runs (fails past a b l)
+  fails_runs a b (Up s) = tt
+  fails_runs a b (Down s) = refl
+
+  -- a link that is restored
+  restores_runs : (a b : ℕ) (l : LinkState) → Runs (restores past a b l)
+  restores_runs a b (Up s) = refl
+  restores_runs a b (Down s) = tt
+
+  module _ (fits : (v u : ℕ) → FrontFits net past v u) (joins : (u v : ℕ) → Joined past u v) where
+    -- each event
+    step_runs : (event : Event) → Runs (step rules net past event)
+    unfolding step give
+    step_runs (Originate u p) =
+        elim (owns (reads (log_of u past)) p) as (λ t. Runs (if t then Idle reason.AlreadyOrigin else Goes (write rules net (carried_by u past) u (local u (log_of u past) (One p) cause.Originate) past))) [
+          | true ↦ refl
+          | false ↦ tt
+        ]
+    step_runs (Withdraw u p) =
+        elim (owns (reads (log_of u past)) p) as (λ t. Runs (if t then Goes (write rules net (carried_by u past) u (local u (log_of u past) (One p) cause.Withdraw) past) else Idle reason.NotOrigin)) [
+          | true ↦ tt
+          | false ↦ refl
+        ]
+    step_runs (Prefer u v value) = tt
+    step_runs (Deliver v u) = delivered_runs v u (link v u past) (channel v u past) (fits v u) refl refl
+    step_runs (Fail a b) = fails_runs a b (link a b past)
+    step_runs (Restore a b) = restores_runs a b (link a b past)
+    step_runs (Notice u v) =
+        elim (is_carried (link u v past) (held_with u v past)) as (λ t. Runs (if t then Idle reason.StillUp else notices rules net (carried_by u past) u past v (held_with u v past))) [
+          | true ↦ refl
+          | false ↦ notices_runs u v (held_with u v past)
+        ]
+    step_runs (OpenSession u v) = opened_runs u v (held_with u v past) (link u v past) (joins u v) refl
+    step_runs (Snap u) = tt
+
+-- what is not idle for these reasons is not idle for one of them
+not_idle : (s : Step) (why : Reason) → is_stray why ≡ true → Runs s → s ≢ Idle why
+not_idle (Idle other) why stray runs same = absurd (cc (same, stray, runs))
+not_idle (Goes now) why stray runs same = absurd (cc same)
+
+module _ (rules : Rules) (net : Net) (events : List Event) (event : Event) (valid : IsValid net) where
+  -- so in every run
+  run_runs : Runs (step rules net (run rules net events) event)
+  run_runs =
+      step_runs rules net (run rules net events) (λ v u. front_fits rules net events v u valid) (λ u v. joined rules net events u v valid) event
+
+  -- no update is out of turn
+  pub never_out_of_turn : (expected got : ℕ) → step rules net (run rules net events) event ≢ Idle (reason.WrongSeq expected got)
+  never_out_of_turn expected got = not_idle (step rules net (run rules net events) event) (reason.WrongSeq expected got) refl run_runs
+
+  -- no session is an old one
+  pub never_old : step rules net (run rules net events) event ≢ Idle reason.OldSession
+  never_old = not_idle (step rules net (run rules net events) event) reason.OldSession refl run_runs
