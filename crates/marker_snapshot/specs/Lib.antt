@@ -1,0 +1,5 @@
+pub mod Acts
+pub mod Cuts
+pub mod Rows
+pub mod Keeping
+pub mod Standing

@@ -1,0 +1,16 @@
+//! The snapshots of a node: its epoch, its cuts, and what it records after each of them.
+//!
+//! A node that raises its epoch takes a cut: the number of entries of its log. From then on it records,
+//! for each session that it holds, which updates come in it, until a marker or hello of that epoch at
+//! least comes in that session (after Chandy and Lamport, 1985).
+#![tactic(auto)]
+
+pub mod recording;
+pub mod recordings;
+pub mod snapshots;
+
+pub use recording::Recording;
+pub use snapshots::Snapshots;
+
+#[cfg(test)]
+mod tests;
