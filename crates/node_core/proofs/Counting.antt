@@ -1,0 +1,118 @@
+-- The counts of a node, and the numbers that they may not be above.
+use Rattle.std.proofs.Common.{ℕ, ◌≡◌, ◌<◌, ◌≤◌, Bool, true, false, ◌==◌, ◌&&◌, nat_lt, Some, None, List, [], ◌∷◌, refl, sym, ◌∙◌, ap, arith, length, length-append}
+use Rattle.std.specs.Prelude.{if◌then◌else◌}
+use Rattle.std.proofs.lemmas.Bool.Decides.{nat_tests}
+use Rattle.topology.specs.declared.names.Trigger.{Trigger}
+use Rattle.topology.specs.declared.names.Scope.{Scope}
+use Rattle.topology.specs.declared.names.Scope.TheVariants.{One, All}
+use Rattle.topology.specs.declared.status.LimitKind.TheVariants.{Epochs, Entries, Updates}
+use Rattle.topology.specs.Net.{Net}
+use Rattle.path_vector.specs.declared.causes.Cause.{Cause}
+use Rattle.path_vector.specs.declared.causes.Cause.TheVariants.{Originate, Withdraw, Recv, Down, Up, Ready, Prefer}
+use Rattle.path_vector.specs.Rules.{Rules}
+use Rattle.trigger_log.specs.Entries.{Entry, Update, inbox, received_by}
+use Rattle.trigger_log.specs.Sending.{sent_of}
+use Rattle.chronicle.specs.Facts.{Chronicle}
+use Rattle.chronicle.specs.Logs.{log_of}
+use Rattle.chronicle.specs.Epochs.{epoch}
+use Rattle.node_core.specs.NodeLimits.{first_of_node, node_above}
+
+above : (n m : ℕ) → n < m → nat_lt n m ≡ true
+above n m less = grind (arith, nat_tests)
+
+not_above : (n m : ℕ) → m ≤ n → nat_lt n m ≡ false
+not_above n m most = grind (arith, nat_tests)
+
+within : (n m : ℕ) → nat_lt n m ≡ false → m ≤ n
+within n m is = grind (arith, nat_tests)
+
+first_epochs : (a b c : Bool) → a ≡ true → first_of_node a b c ≡ Some (record { kind = Epochs; number = 32 })
+first_epochs a b c is = rw is refl
+
+first_entries : (a b c : Bool) → a ≡ false → b ≡ true → first_of_node a b c ≡ Some (record { kind = Entries; number = 2048 })
+first_entries a b c e is = rw (e, is) refl
+
+first_updates : (a b c : Bool) → a ≡ false → b ≡ false → c ≡ true → first_of_node a b c ≡ Some (record { kind = Updates; number = 16384 })
+first_updates a b c e n is = rw (e, n, is) refl
+
+first_none : (a b c : Bool) → a ≡ false → b ≡ false → c ≡ false → first_of_node a b c ≡ None
+first_none a b c e n is = rw (e, n, is) refl
+
+none_epochs : (a b c : Bool) → first_of_node a b c ≡ None → a ≡ false
+none_epochs true b c e = absurd (cc e)
+none_epochs false b c e = refl
+
+none_entries : (a b c : Bool) → first_of_node a b c ≡ None → b ≡ false
+none_entries true b c e = absurd (cc e)
+none_entries false true c e = absurd (cc e)
+none_entries false false c e = refl
+
+one_at_most : (b : Bool) (x : Update) → length (if b then x ∷ [] else []) ≤ 1
+one_at_most true x = omega arith
+one_at_most false x = omega arith
+
+-- an entry receives one update at most
+received_few : (ts : List Trigger) (scope : Scope) (cause : Cause) (v s : ℕ) → length (received_by ts scope cause v s) ≤ 1
+received_few ts (One p) (Recv w t n path) v s =
+    one_at_most (w == v && t == s) (record { prefix = p; triggers = ts; path = path })
+received_few ts (One p) Originate v s = omega arith
+received_few ts (One p) Withdraw v s = omega arith
+received_few ts (One p) (Down w t) v s = omega arith
+received_few ts (One p) (Up w t) v s = omega arith
+received_few ts (One p) (Ready w t) v s = omega arith
+received_few ts (One p) (Prefer w value) v s = omega arith
+received_few ts All cause v s = omega arith
+
+-- no more updates were received in a session than entries were made
+inbox_few : (h : List Entry) (v s : ℕ) → length (inbox h v s) ≤ length h
+inbox_few [] v s = omega arith
+inbox_few (k ∷ h) v s =
+    let before = inbox_few h v s in
+    let one = received_few k.triggers k.read.scope k.read.cause v s in
+    let both = length-append (inbox h v s) (received_by k.triggers k.read.scope k.read.cause v s) in
+    omega (arith, before, one, both)
+
+module _ (rules : Rules) (net : Net) (u : ℕ) (past : Chronicle) where
+  module _ (e : ℕ) (is : e ≡ epoch u past) where
+    pub epochs_above : 32 < e → node_above rules net u past ≡ Some (record { kind = Epochs; number = 32 })
+    unfolding node_above
+    epochs_above more =
+        first_epochs (nat_lt 32 (epoch u past)) (nat_lt 2048 (length (log_of u past))) (nat_lt 16384 (length (sent_of rules net u (log_of u past))))
+        (ap (nat_lt 32) (sym is) ∙ above 32 e more)
+
+    module _ (n : ℕ) (made : n ≡ length (log_of u past)) (low : e ≤ 32) where
+      pub entries_above : 2048 < n → node_above rules net u past ≡ Some (record { kind = Entries; number = 2048 })
+      unfolding node_above
+      entries_above more =
+          first_entries (nat_lt 32 (epoch u past)) (nat_lt 2048 (length (log_of u past))) (nat_lt 16384 (length (sent_of rules net u (log_of u past))))
+          (ap (nat_lt 32) (sym is) ∙ not_above 32 e low) (ap (nat_lt 2048) (sym made) ∙ above 2048 n more)
+
+      module _ (m : ℕ) (listed : m ≡ length (sent_of rules net u (log_of u past))) (few : n ≤ 2048) where
+        pub updates_above : 16384 < m → node_above rules net u past ≡ Some (record { kind = Updates; number = 16384 })
+        unfolding node_above
+        updates_above more =
+            first_updates (nat_lt 32 (epoch u past)) (nat_lt 2048 (length (log_of u past))) (nat_lt 16384 (length (sent_of rules net u (log_of u past))))
+            (ap (nat_lt 32) (sym is) ∙ not_above 32 e low) (ap (nat_lt 2048) (sym made) ∙ not_above 2048 n few) (ap (nat_lt 16384) (sym listed) ∙ above 16384 m more)
+
+        pub none_above : m ≤ 16384 → node_above rules net u past ≡ None
+        unfolding node_above
+        none_above most =
+            first_none (nat_lt 32 (epoch u past)) (nat_lt 2048 (length (log_of u past))) (nat_lt 16384 (length (sent_of rules net u (log_of u past))))
+            (ap (nat_lt 32) (sym is) ∙ not_above 32 e low) (ap (nat_lt 2048) (sym made) ∙ not_above 2048 n few) (ap (nat_lt 16384) (sym listed) ∙ not_above 16384 m most)
+
+  module _ (none : node_above rules net u past ≡ None) where
+    -- the epoch is not above its number
+    pub epoch_low : epoch u past ≤ 32
+    unfolding node_above
+    epoch_low =
+        within 32 (epoch u past)
+        (none_epochs (nat_lt 32 (epoch u past)) (nat_lt 2048 (length (log_of u past))) (nat_lt 16384 (length (sent_of rules net u (log_of u past)))) none)
+
+    -- what was received in a session is no more than the entries may be
+    pub received_low : (v s : ℕ) → length (inbox (log_of u past) v s) ≤ 2048
+    unfolding node_above
+    received_low v s =
+        let entries = within 2048 (length (log_of u past))
+        (none_entries (nat_lt 32 (epoch u past)) (nat_lt 2048 (length (log_of u past))) (nat_lt 16384 (length (sent_of rules net u (log_of u past)))) none) in
+        let few = inbox_few (log_of u past) v s in
+        omega (arith, entries, few)

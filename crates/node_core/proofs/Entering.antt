@@ -1,0 +1,173 @@
+-- What a node keeps where it makes an entry, opens a session, or takes an update.
+use Rattle.std.proofs.Common.{ℕ, suc, true, false, Option, Some, None, List, [], ◌∷◌, ◌++◌, map, length, is_some, ◌≡◌, refl, sym, ◌∙◌, ap, subst, flat_map}
+use Rattle.std.specs.Prelude.{if◌then◌else◌, option_and_then}
+use Rattle.topology.specs.declared.names.Scope.{Scope}
+use Rattle.topology.specs.declared.names.Scope.TheVariants.{All}
+use Rattle.topology.specs.declared.names.Trigger.{Trigger}
+use Rattle.topology.specs.Net.{Net, neighbours}
+use Rattle.path_vector.specs.declared.causes.Cause.{Cause}
+use Rattle.path_vector.specs.declared.causes.Cause.TheVariants.{Up, Ready}
+use Rattle.path_vector.specs.Kept.{IsOfNeighbour}
+use Rattle.path_vector.specs.Rules.{Rules}
+use Rattle.path_vector.specs.History.{History, held, opened, ready}
+use Rattle.trigger_log.specs.declared.log.NodeLog.{NodeLog}
+use Rattle.trigger_log.specs.declared.outgoing.Outgoing.{Outgoing}
+use Rattle.trigger_log.specs.Entries.{Entry, entry, local, next_trigger, reads}
+use Rattle.trigger_log.specs.Fits.{CauseFits}
+use Rattle.trigger_log.specs.Going.{Going, Item, Hello, going_by, going_in, going_of, going_to, numbered, spread, told}
+use Rattle.trigger_log.specs.Offered.{IsPlaced}
+use Rattle.trigger_log.specs.Sending.{news, next_number, sent_of}
+use Rattle.trigger_log.specs.Standing.{StandsFor as LogStandsFor}
+use Rattle.marker_snapshot.specs.Standing.{StandsFor as SnapshotsStandFor}
+use Rattle.chronicle.specs.Facts.{Chronicle, Log, Sent, happen}
+use Rattle.chronicle.specs.Logs.{log_of}
+use Rattle.chronicle.specs.Epochs.{epoch, cut}
+use Rattle.chronicle.specs.Messages.{took}
+use Rattle.chronicle.specs.Steps.{Carried, sends, write, open_session, greeted}
+use Rattle.chronicle.proofs.Blocks.{log_own, took_write, epoch_write, cut_write}
+use Rattle.node_core.specs.declared.node.Node.{Node}
+use Rattle.node_core.specs.declared.outputs.Output.{Output as Given}
+use Rattle.node_core.specs.Keeping.{Keeps, MayEnter}
+use Rattle.node_core.specs.Outputs.{Logged, Send, output_of, Hands}
+use Rattle.node_core.proofs.Alike.{same_alike}
+use Rattle.node_core.proofs.Handing.{hands_more, outputs_write}
+
+-- ---- what goes out with an entry, in the network of the node
+
+module _ {P : Type 0} (policy : P) (rules : Rules) (topo net : Net) (u : ℕ) (h : List Entry) (k : Entry) (old new : NodeLog P) where
+  -- the log after the entry, and what goes out
+  pub record Appends (outgoing : List Outgoing) : Type 0 where
+    pub log : LogStandsFor policy rules net u new (k ∷ h)
+    pub outgoing_is : map going_of outgoing ≡ going_by rules net u h k
+
+  -- an entry that fits is made
+  pub appended : (outgoing : List Outgoing) → topo ≡ net → LogStandsFor policy rules net u old h → MayEnter net u h k.read.scope k.read.cause
+      → (LogStandsFor policy rules topo u old h → IsOfNeighbour topo u k.read.cause → IsPlaced topo k.read.scope → CauseFits h k.read.scope k.read.cause → LogStandsFor policy rules topo u new (k ∷ h))
+      → (LogStandsFor policy rules topo u old h → IsOfNeighbour topo u k.read.cause → IsPlaced topo k.read.scope → CauseFits h k.read.scope k.read.cause → map going_of outgoing ≡ going_by rules topo u h k)
+      → Appends outgoing
+  appended outgoing same was may log out =
+      record {
+        log = subst (λ n. LogStandsFor policy rules n u old h → IsOfNeighbour n u k.read.cause → IsPlaced n k.read.scope → CauseFits h k.read.scope k.read.cause → LogStandsFor policy rules n u new (k ∷ h))
+            same log was may.near may.placed may.fits;
+        outgoing_is = subst (λ n. LogStandsFor policy rules n u old h → IsOfNeighbour n u k.read.cause → IsPlaced n k.read.scope → CauseFits h k.read.scope k.read.cause → map going_of outgoing ≡ going_by rules n u h k)
+            same out was may.near may.placed may.fits;
+      }
+
+-- ---- what a node keeps
+
+-- only the log, epochs, cuts and what was taken matter
+pub same_keeps : {P : Type 0} (policy : P) (rules : Rules) (net : Net) (u : ℕ) (node : Node P) (past now : Chronicle)
+    → log_of u now ≡ log_of u past → epoch u now ≡ epoch u past → ((e : ℕ) → cut u e now ≡ cut u e past) → ((v s : ℕ) → took v u s now ≡ took v u s past)
+    → Keeps policy rules net u node past → Keeps policy rules net u node now
+same_keeps policy rules net u node past now logs epochs cuts items was = record {
+  same_net = was.same_net;
+  same_id = was.same_id;
+  log = subst (LogStandsFor policy rules net u node.log) (sym logs) was.log;
+  listed = was.listed ∙ ap (λ h. length (sent_of rules net u h)) (sym logs);
+  acts = was.acts;
+  snapshots = was.snapshots;
+  alike = same_alike was.acts u past now epochs cuts items was.alike;
+}
+
+-- an entry is made
+pub entered : {P : Type 0} (policy : P) (rules : Rules) (net : Net) (u : ℕ) (carried : Carried) (past : Chronicle) (k : Entry) (old new : Node P)
+    → Keeps policy rules net u old past → new.topology.value ≡ old.topology.value → new.id ≡ old.id → new.snapshots ≡ old.snapshots
+    → LogStandsFor policy rules net u new.log (k ∷ log_of u past) → new.updates ≡ length (sent_of rules net u (k ∷ log_of u past))
+    → Keeps policy rules net u new (write rules net carried u k past)
+entered policy rules net u carried past k old new was nets ids snapshots log updates =
+    let same = sym (log_own rules net carried u k past) in
+    record {
+      same_net = nets ∙ was.same_net;
+      same_id = ids ∙ was.same_id;
+      log = subst (LogStandsFor policy rules net u new.log) same log;
+      listed = updates ∙ ap (λ h. length (sent_of rules net u h)) same;
+      acts = was.acts;
+      snapshots = subst (λ kept. SnapshotsStandFor net u kept was.acts) (sym snapshots) was.snapshots;
+      alike = same_alike was.acts u past (write rules net carried u k past) (epoch_write rules net carried u k past u) (cut_write rules net carried u k past u)
+          (λ v s. took_write rules net carried u k past v u s) was.alike;
+    }
+
+-- its place and what goes out are handed out
+pub entered_hands : (rules : Rules) (net : Net) (u : ℕ) (carried : Carried) (past first : Chronicle) (k : Entry) (old new : List Given) (index : ℕ) (gs : List Going)
+    → index ≡ suc (length (log_of u past)) → gs ≡ going_by rules net u (log_of u past) k → map output_of new ≡ map output_of old ++ Logged index ∷ map Send gs
+    → Hands first old past → Hands first new (write rules net carried u k past)
+entered_hands rules net u carried past first k old new index gs place out list was =
+    hands_more first past (write rules net carried u k past) old new (Logged (suc (length (log_of u past))) ∷ map Send (going_by rules net u (log_of u past) k))
+    (list ∙ (ap (λ n. map output_of old ++ Logged n ∷ map Send gs) place ∙ ap (λ l. map output_of old ++ Logged (suc (length (log_of u past))) ∷ map Send l) out))
+    (outputs_write net carried u past rules k) was
+
+-- the trigger of an own entry is the next one
+pub with_next : (Q : Entry → Type 0) (u : ℕ) (h : List Entry) (t : Trigger) (scope : Scope) (cause : Cause) → t ≡ next_trigger u h → Q (entry (t ∷ []) scope cause) → Q (local u h scope cause)
+with_next Q u h t scope cause is made = subst (λ x. Q (entry (x ∷ []) scope cause)) is made
+
+-- ---- an opening
+
+-- where each adds nothing, nothing goes out
+none_of_all : (f : ℕ → List Going) → ((w : ℕ) → f w ≡ []) → (ws : List ℕ) → flat_map f ws ≡ []
+none_of_all f none [] = refl
+none_of_all f none (w ∷ ws) = rw (none w) (none_of_all f none ws)
+
+-- no items, whatever the session
+none_in : (w : ℕ) (items : ℕ → List Item) (session : Option ℕ) → ((s : ℕ) → items s ≡ []) → going_in w items session ≡ []
+none_in w items None none = refl
+none_in w items (Some s) none = ap (going_to w s) (none s)
+
+-- where there is no news nothing goes out
+going_none : (rules : Rules) (net : Net) (u : ℕ) (h : List Entry) (k : Entry) → ((w : ℕ) → news rules net u h k w ≡ []) → going_by rules net u h k ≡ []
+unfolding going_by spread
+going_none rules net u h k none =
+    none_of_all (λ w. going_in w (told rules net u h k w) (held (k.read ∷ reads h) w))
+    (λ w. none_in w (told rules net u h k w) (held (k.read ∷ reads h) w) (λ s. ap (numbered (next_number rules net u h w s)) (none w)))
+    (neighbours net u)
+
+-- an entry with which nothing goes out
+wrote_alone : (rules : Rules) (net : Net) (carried : Carried) (past : Chronicle) (u : ℕ) (k : Entry) → going_by rules net u (log_of u past) k ≡ [] → write rules net carried u k past ≡ Log u k ∷ past
+unfolding write
+wrote_alone rules net carried past u k none = ap (λ gs. happen (Log u k ∷ past) (sends carried u gs)) none
+
+module _ {P : Type 0} (policy : P) (rules : Rules) (net : Net) (u v s : ℕ) (carried : Carried) (past : Chronicle)
+    (none : (w : ℕ) → news rules net u (log_of u past) (local u (log_of u past) All (Up v s)) w ≡ []) where
+  -- the entry of the opening, and no more
+  alone : write rules net carried u (local u (log_of u past) All (Up v s)) past ≡ Log u (local u (log_of u past) All (Up v s)) ∷ past
+  alone = wrote_alone rules net carried past u (local u (log_of u past) All (Up v s)) (going_none rules net u (log_of u past) (local u (log_of u past) All (Up v s)) none)
+
+  -- what the node keeps does not depend on the greeting
+  pub opened_keeps : (node : Node P) → Keeps policy rules net u node (write rules net carried u (local u (log_of u past) All (Up v s)) past) → Keeps policy rules net u node (open_session carried u v s past)
+  unfolding open_session
+  opened_keeps node was =
+      let k = local u (log_of u past) All (Up v s) in
+      same_keeps policy rules net u node (Log u k ∷ past) (Sent u v s (Hello (epoch u past)) (carried v s) ∷ Log u k ∷ past) refl refl (λ e. refl) (λ w t. refl)
+      (subst (Keeps policy rules net u node) alone was)
+
+  -- the greeting is handed out after the entry
+  pub opened_hands : (first : Chronicle) (old new : List Given) (e : ℕ) → e ≡ epoch u past
+      → map output_of new ≡ map output_of old ++ Send (record { to = v; session = s; item = Hello e }) ∷ []
+      → Hands first old (write rules net carried u (local u (log_of u past) All (Up v s)) past) → Hands first new (open_session carried u v s past)
+  unfolding open_session
+  opened_hands first old new e same list was =
+      let k = local u (log_of u past) All (Up v s) in
+      hands_more first (Log u k ∷ past) (Sent u v s (Hello (epoch u past)) (carried v s) ∷ Log u k ∷ past) old new (Send (record { to = v; session = s; item = Hello (epoch u past) }) ∷ [])
+      (list ∙ ap (λ n. map output_of old ++ Send (record { to = v; session = s; item = Hello n }) ∷ []) same) refl
+      (subst (Hands first old) alone was)
+
+-- ---- a greeting
+
+-- what is held and not ready was not opened by the other end
+pub unopened : (h : History) (v s : ℕ) → held h v ≡ Some s → is_some (ready h v) ≡ false → opened h v s ≡ false
+unopened h v s holds unready =
+    let reads_so : is_some (if opened h v s then Some s else None) ≡ false = subst (λ o. is_some (option_and_then (λ t. if opened h v t then Some t else None) o) ≡ false) holds unready in
+    (elim (opened h v s) as (λ b. is_some (if b then Some s else None) ≡ false → b ≡ false) [
+      | true ↦ λ e. absurd (cc e)
+      | false ↦ λ e. refl
+    ]) reads_so
+
+module _ (rules : Rules) (net : Net) (carried : Carried) (v u s : ℕ) (past : Chronicle) where
+  -- one that is known to be ready is not greeted again
+  pub greeted_again : (known : Option ℕ) → is_some known ≡ true → greeted rules net carried v u s known past ≡ past
+  greeted_again None e = absurd (cc e)
+  greeted_again (Some t) e = refl
+
+  -- the first greeting is entered
+  pub greeted_first : (known : Option ℕ) → is_some known ≡ false → greeted rules net carried v u s known past ≡ write rules net carried u (local u (log_of u past) All (Ready v s)) past
+  greeted_first None e = refl
+  greeted_first (Some t) e = absurd (cc e)

@@ -1,0 +1,10 @@
+pub mod Admitting
+pub mod Counting
+pub mod Answering
+pub mod Alike
+pub mod Handing
+pub mod Listed
+pub mod Entering
+pub mod Raising
+pub mod Received
+pub mod Stepping

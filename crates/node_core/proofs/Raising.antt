@@ -1,0 +1,159 @@
+-- What a node keeps where its epoch rises, and where it meets a mark.
+use Rattle.std.proofs.Common.{ℕ, ◌+◌, ◌<◌, ◌≤◌, Bool, true, false, Option, Some, List, [], ◌∷◌, ◌++◌, map, length, take, get_or, ◌≡◌, refl, sym, ◌∙◌, ap, subst, arith, append_assoc, nat_lt, nat_cmp, is_lt, flat_map}
+use Rattle.std.specs.Prelude.{if◌then◌else◌}
+use Rattle.std.proofs.lemmas.Bool.Decides.{nat_tests}
+use Rattle.std.proofs.lemmas.List.{append-nil, map-append, take_more, flat_map_more}
+use Rattle.topology.specs.Net.{Net, neighbours}
+use Rattle.path_vector.specs.Rules.{Rules}
+use Rattle.path_vector.specs.History.{held}
+use Rattle.trigger_log.specs.declared.log.NodeLog.{NodeLog}
+use Rattle.trigger_log.specs.Entries.{Entry, reads}
+use Rattle.trigger_log.specs.Going.{Item, Marker, Going, mark_of, going_in, spread}
+use Rattle.trigger_log.specs.Sending.{sent_of}
+use Rattle.trigger_log.specs.Standing.{StandsFor as LogStandsFor}
+use Rattle.marker_snapshot.specs.Acts.{Acts, Takes, Meets}
+use Rattle.marker_snapshot.specs.Cuts.{epoch_of}
+use Rattle.marker_snapshot.specs.Keeping.{Kept}
+use Rattle.marker_snapshot.specs.Standing.{StandsFor as SnapshotsStandFor}
+use Rattle.chronicle.specs.Facts.{Chronicle, Took}
+use Rattle.chronicle.specs.Logs.{log_of}
+use Rattle.chronicle.specs.Epochs.{epoch}
+use Rattle.chronicle.specs.Messages.{took_by}
+use Rattle.chronicle.specs.Steps.{Carried, markers, meet_mark, take_cut}
+use Rattle.chronicle.proofs.Blocks.{log_take_cut, epoch_take_cut, cut_take_cut, took_take_cut}
+use Rattle.cut_laws.specs.Own.{Own}
+use Rattle.node_core.specs.declared.node.Node.{Node}
+use Rattle.node_core.specs.declared.outputs.Output.{Output as Given}
+use Rattle.node_core.specs.Alike.{Alike}
+use Rattle.node_core.specs.Keeping.{Keeps, KeepsAllBut}
+use Rattle.node_core.specs.Outputs.{Cut, Send, output_of, outputs, Hands}
+use Rattle.node_core.proofs.Alike.{mark_alike, rise_alike}
+use Rattle.node_core.proofs.Entering.{same_keeps}
+use Rattle.node_core.proofs.Handing.{hands_more, outputs_cut}
+
+-- ---- the markers, one by one
+
+module _ (h : List Entry) (e : ℕ) where
+  -- the marker to a neighbour, where a session is held
+  abbrev pub marker_to : ℕ → List Going
+  marker_to w = going_in w (λ s. Marker e ∷ []) (held (reads h) w)
+
+  -- one neighbour more
+  pub marker_more : (nodes : List ℕ) (i w : ℕ) (session : Option ℕ) (start old new : List Given) → i < length nodes → w ≡ get_or nodes i w → session ≡ held (reads h) w
+      → map output_of old ≡ map output_of start ++ map Send (flat_map marker_to (take i nodes))
+      → map output_of new ≡ map output_of old ++ map Send (going_in w (λ s. Marker e ∷ []) session)
+      → map output_of new ≡ map output_of start ++ map Send (flat_map marker_to (take (i + 1) nodes))
+  marker_more nodes i w session start old new inside is same was grown =
+      let more : take (i + 1) nodes ≡ take i nodes ++ w ∷ [] = take_more nodes i w inside ∙ ap (λ x. take i nodes ++ x ∷ []) (sym is) in
+      let all : flat_map marker_to (take i nodes) ++ marker_to w ≡ flat_map marker_to (take (i + 1) nodes) = flat_map_more marker_to [] (take i nodes) w ∙ ap (flat_map marker_to) (sym more) in
+      grown
+      ∙ (ap (λ o. map output_of old ++ map Send (going_in w (λ s. Marker e ∷ []) o)) same
+      ∙ (ap (λ l. l ++ map Send (marker_to w)) was
+      ∙ (append_assoc (map output_of start) (map Send (flat_map marker_to (take i nodes))) (map Send (marker_to w))
+      ∙ ap (λ l. map output_of start ++ l) (sym (map-append Send (flat_map marker_to (take i nodes)) (marker_to w)) ∙ ap (map Send) all))))
+
+  -- all of them
+  pub all_markers : (net : Net) (u : ℕ) (nodes : List ℕ) → nodes ≡ neighbours net u → flat_map marker_to nodes ≡ markers net u e h
+  unfolding spread
+  all_markers net u nodes same = ap (flat_map marker_to) same
+
+-- ---- what a node keeps
+
+-- the snapshots take their cut in the network of the node
+pub taken_at : {P : Type 0} (policy : P) (rules : Rules) (topo net : Net) (u : ℕ) (log : NodeLog P) (h : List Entry) (old new : Kept) (acts : Acts) (e : ℕ) → topo ≡ net
+    → (SnapshotsStandFor topo u old acts → LogStandsFor policy rules topo u log h → epoch_of acts < e → SnapshotsStandFor topo u new (Takes e h ∷ acts))
+    → SnapshotsStandFor net u old acts → LogStandsFor policy rules net u log h → epoch_of acts < e → SnapshotsStandFor net u new (Takes e h ∷ acts)
+taken_at policy rules topo net u log h old new acts e same taken =
+    subst (λ n. SnapshotsStandFor n u old acts → LogStandsFor policy rules n u log h → epoch_of acts < e → SnapshotsStandFor n u new (Takes e h ∷ acts)) same taken
+
+-- its snapshots were told more, and the log is as it was
+pub told_keeps : {P : Type 0} (policy : P) (rules : Rules) (net : Net) (u : ℕ) (past now : Chronicle) (old new : Node P) (acts : Acts)
+    → Keeps policy rules net u old past → KeepsAllBut old new → log_of u now ≡ log_of u past → SnapshotsStandFor net u new.snapshots acts → Alike acts u now
+    → Keeps policy rules net u new now
+told_keeps policy rules net u past now old new acts was rest logs snapshots alike = record {
+  same_net = (λ k. (rest.topology k).value) ∙ was.same_net;
+  same_id = rest.id ∙ was.same_id;
+  log = subst (LogStandsFor policy rules net u new.log) (sym logs) (subst (λ l. LogStandsFor policy rules net u l (log_of u past)) (sym rest.log) was.log);
+  listed = rest.updates ∙ (was.listed ∙ ap (λ h. length (sent_of rules net u h)) (sym logs));
+  acts = acts;
+  snapshots = snapshots;
+  alike = alike;
+}
+
+-- the epoch rises
+pub risen : {P : Type 0} (policy : P) (rules : Rules) (net : Net) (u : ℕ) (carried : Carried) (past : Chronicle) (e : ℕ) (old new : Node P)
+    → Own rules net past u → Keeps policy rules net u old past → epoch u past < e → KeepsAllBut old new
+    → ((acts : Acts) → SnapshotsStandFor net u old.snapshots acts → epoch_of acts < e → SnapshotsStandFor net u new.snapshots (Takes e (log_of u past) ∷ acts))
+    → Keeps policy rules net u new (take_cut net carried u e past)
+risen policy rules net u carried past e old new own was high rest taken =
+    told_keeps policy rules net u past (take_cut net carried u e past) old new (Takes e (log_of u past) ∷ was.acts) was rest (log_take_cut net carried u e past u)
+    (taken was.acts was.snapshots (subst (λ n. n < e) (sym was.alike.same_epoch) high)) (rise_alike rules net u carried e past was.acts own was.alike high)
+
+-- what was taken is not handed out
+pub hands_took : (first past : Chronicle) (list : List Given) (v u s : ℕ) (x : Item) → Hands first list past → Hands first list (Took v u s x ∷ past)
+hands_took first past list v u s x was = was ∙ sym (append-nil (outputs past))
+
+-- a cut and its markers are handed out
+pub risen_hands : (net : Net) (u : ℕ) (carried : Carried) (first past : Chronicle) (e : ℕ) (old new : List Given) → map output_of new ≡ map output_of old ++ Cut e ∷ map Send (markers net u e (log_of u past))
+    → Hands first old past → Hands first new (take_cut net carried u e past)
+risen_hands net u carried first past e old new list was =
+    hands_more first past (take_cut net carried u e past) old new (Cut e ∷ map Send (markers net u e (log_of u past))) list (outputs_cut net carried u past e) was
+
+module _ (net : Net) (u : ℕ) (carried : Carried) (past : Chronicle) (v s e : ℕ) (x : Item) (Q : Chronicle → Type 0) where
+  -- a mark that is higher raises the epoch
+  pub meets_above : epoch u past < e → Q (take_cut net carried u e (Took v u s x ∷ past)) → Q (meet_mark net carried u e (Took v u s x ∷ past))
+  meets_above high made =
+      let test : nat_lt (epoch u past) e ≡ true = grind (arith, nat_tests) in
+      subst (λ b. Q (if b then take_cut net carried u e (Took v u s x ∷ past) else Took v u s x ∷ past)) (sym test) made
+
+  -- another one does not
+  pub meets_below : e ≤ epoch u past → Q (Took v u s x ∷ past) → Q (meet_mark net carried u e (Took v u s x ∷ past))
+  meets_below low made =
+      let test : nat_lt (epoch u past) e ≡ false = grind (arith, nat_tests) in
+      subst (λ b. Q (if b then take_cut net carried u e (Took v u s x ∷ past) else Took v u s x ∷ past)) (sym test) made
+
+-- no log changes where a mark is met
+pub log_meet : (net : Net) (u : ℕ) (carried : Carried) (past : Chronicle) (e : ℕ) → log_of u (meet_mark net carried u e past) ≡ log_of u past
+log_meet net u carried past e =
+    elim (nat_lt (epoch u past) e) as (λ t. log_of u (if t then take_cut net carried u e past else past) ≡ log_of u past) [
+      | true ↦ log_take_cut net carried u e past u
+      | false ↦ refl
+    ]
+
+-- the tests of two epochs
+pub is_above : (a b c : ℕ) (t : Bool) → t ≡ is_lt (nat_cmp a b) → t ≡ true → a ≡ c → c < b
+is_above a b c t test on same = let so : is_lt (nat_cmp a b) ≡ true = sym test ∙ on in grind (arith, nat_tests)
+
+-- the other way
+pub is_below : (a b c : ℕ) (t : Bool) → t ≡ is_lt (nat_cmp a b) → t ≡ false → a ≡ c → b ≤ c
+is_below a b c t test off same = let so : is_lt (nat_cmp a b) ≡ false = sym test ∙ off in grind (arith, nat_tests)
+
+module _ {P : Type 0} (policy : P) (rules : Rules) (net : Net) (u : ℕ) (carried : Carried) (past : Chronicle) (v s e : ℕ) (x : Item) (old mid new : Node P)
+    (own : Own rules net past u) (was : Keeps policy rules net u old past) (is : mark_of x ≡ Some e)
+    (meets : (acts : Acts) → SnapshotsStandFor net u mid.snapshots acts → SnapshotsStandFor net u new.snapshots (Meets v s e ∷ acts)) (rest : KeepsAllBut mid new) where
+  -- a mark is met
+  marked_keeps : (now : Chronicle) → Keeps policy rules net u mid now → Keeps policy rules net u new (Took v u s x ∷ now)
+  marked_keeps now then' =
+      told_keeps policy rules net u now (Took v u s x ∷ now) mid new (Meets v s e ∷ then'.acts) then' rest refl (meets then'.acts then'.snapshots)
+      (mark_alike u now then'.acts v s e x is then'.alike)
+
+  -- a higher one is met after the cut that it asks for
+  pub met_above : (raised : Node P) → mid ≡ raised → epoch u past < e → KeepsAllBut old raised
+      → ((acts : Acts) → SnapshotsStandFor net u old.snapshots acts → epoch_of acts < e → SnapshotsStandFor net u raised.snapshots (Takes e (log_of u past) ∷ acts))
+      → Keeps policy rules net u new (meet_mark net carried u e (Took v u s x ∷ past))
+  met_above raised same high others taken =
+      let keeps : Keeps policy rules net u mid (take_cut net carried u e past) =
+      subst (λ n. Keeps policy rules net u n (take_cut net carried u e past)) (sym same) (risen policy rules net u carried past e old raised own was high others taken) in
+      meets_above net u carried past v s e x (Keeps policy rules net u new) high
+      (same_keeps policy rules net u new (Took v u s x ∷ take_cut net carried u e past) (take_cut net carried u e (Took v u s x ∷ past))
+      (log_take_cut net carried u e (Took v u s x ∷ past) u ∙ sym (log_take_cut net carried u e past u))
+      (epoch_take_cut net carried u e (Took v u s x ∷ past) u ∙ sym (epoch_take_cut net carried u e past u))
+      (λ d. cut_take_cut net carried u e (Took v u s x ∷ past) u d ∙ sym (cut_take_cut net carried u e past u d))
+      (λ w t. took_take_cut net carried u e (Took v u s x ∷ past) w u t ∙ ap (took_by w u t (Took v u s x)) (sym (took_take_cut net carried u e past w u t)))
+      (marked_keeps (take_cut net carried u e past) keeps))
+
+  -- another one is only met
+  pub met_below : mid ≡ old → e ≤ epoch u past → Keeps policy rules net u new (meet_mark net carried u e (Took v u s x ∷ past))
+  met_below same low =
+      meets_below net u carried past v s e x (Keeps policy rules net u new) low
+      (marked_keeps past (subst (λ n. Keeps policy rules net u n past) (sym same) was))

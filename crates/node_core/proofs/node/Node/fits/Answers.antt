@@ -1,0 +1,78 @@
+use Rattle.std.proofs.Common.{◌∙◌, sym, true≢false}
+use Rattle.node_core.proofs.Admitting.{fits_originate, fits_withdraw, fits_prefer, fits_prefer_far, fits_notice, fits_opening, fits_opening_far, fits_snap, fits_arrive, fits_arrive_zero, fits_arrive_far}
+use Rattle.node_core.proofs.node.Node.fits.Goals as goal
+use Rattle.node_core.proofs.node.Node.fits.Goals.{then-is_near-2, else-is_near-2}
+
+pub returns-in-Originate : goal.returns-in-Originate
+returns-in-Originate g c = record {
+  fits = λ policy net u past was.
+      fits_originate net u c.args.input.now c.in-Originate.prefix c.place.result c.prefix_count.result c.deref.result.now c.in-Originate.is c.place.ensures c.prefix_count.ensures.count
+      (c.deref.ensures ∙ was.keeps.same_net);
+}
+
+pub returns-in-Withdraw : goal.returns-in-Withdraw
+returns-in-Withdraw g c = record {
+  fits = λ policy net u past was.
+      fits_withdraw net u c.args.input.now c.in-Withdraw.prefix c.place-in-Withdraw.result c.prefix_count-in-Withdraw.result c.deref-in-Withdraw.result.now c.in-Withdraw.is
+      c.place-in-Withdraw.ensures c.prefix_count-in-Withdraw.ensures.count (c.deref-in-Withdraw.ensures ∙ was.keeps.same_net);
+}
+
+pub returns-then-is_near : goal.returns-then-is_near
+returns-then-is_near g c = record {
+  fits = λ policy net u past was.
+      fits_prefer net u c.args.input.now c.in-Prefer.nbr c.in-Prefer.value c.is_near.result c.in-Prefer.is (c.is_near.ensures policy net u past was) c.if-is_near.true;
+}
+
+pub returns-else-is_near : goal.returns-else-is_near
+returns-else-is_near g c = record {
+  fits = λ policy net u past was.
+      fits_prefer_far net u c.args.input.now c.in-Prefer.nbr c.in-Prefer.value c.is_near.result c.in-Prefer.is (c.is_near.ensures policy net u past was) c.if-is_near.false;
+}
+
+pub returns-then-number-ge1 : goal.returns-then-number-ge1
+returns-then-number-ge1 g c = record {
+  fits = λ policy net u past was.
+      elim c.if-is_near-2.branch [
+        | then-is_near-2 w ↦
+            fits_arrive net u c.args.input.now c.in-Arrive.from c.in-Arrive.session c.in-Arrive.item c.is_near-in-Arrive.result c.in-Arrive.is (c.is_near-in-Arrive.ensures policy net u past was)
+            w.number.result c.item_fits.result c.deref-then-number-ge1.result.now w.number.ensures w.if-is_near-2.true (sym w.value-is ∙ c.if-number-ge1.true) c.item_fits.ensures
+            (c.deref-then-number-ge1.ensures ∙ was.keeps.same_net)
+        | else-is_near-2 w ↦ absurd (true≢false (sym c.if-number-ge1.true ∙ (w.value-is ∙ w.if-is_near-2.false)))
+      ];
+}
+
+pub returns-else-number-ge1 : goal.returns-else-number-ge1
+returns-else-number-ge1 g c = record {
+  fits = λ policy net u past was.
+      elim c.if-is_near-2.branch [
+        | then-is_near-2 w ↦
+            fits_arrive_zero net u c.args.input.now c.in-Arrive.from c.in-Arrive.session c.in-Arrive.item c.is_near-in-Arrive.result c.in-Arrive.is (c.is_near-in-Arrive.ensures policy net u past was)
+            w.number.result c.if-is_near-2.value w.number.ensures w.if-is_near-2.true (sym w.value-is ∙ c.if-number-ge1.false) c.if-number-ge1.false
+        | else-is_near-2 w ↦
+            fits_arrive_far net u c.args.input.now c.in-Arrive.from c.in-Arrive.session c.in-Arrive.item c.is_near-in-Arrive.result c.in-Arrive.is (c.is_near-in-Arrive.ensures policy net u past was)
+            c.if-is_near-2.value w.if-is_near-2.false c.if-number-ge1.false
+      ];
+}
+
+pub returns-in-Notice : goal.returns-in-Notice
+returns-in-Notice g c = record {
+  fits = λ policy net u past was.
+      fits_notice net u c.args.input.now c.in-Notice.nbr c.is_near-in-Notice.result c.in-Notice.is (c.is_near-in-Notice.ensures policy net u past was);
+}
+
+pub returns-then-is_near-3 : goal.returns-then-is_near-3
+returns-then-is_near-3 g c = record {
+  fits = λ policy net u past was.
+      fits_opening net u c.args.input.now c.in-OpenSession.nbr c.in-OpenSession.session c.number-then-is_near-3.result c.is_near-in-OpenSession.result c.in-OpenSession.is
+      (c.is_near-in-OpenSession.ensures policy net u past was) c.number-then-is_near-3.ensures c.if-is_near-3.true;
+}
+
+pub returns-else-is_near-3 : goal.returns-else-is_near-3
+returns-else-is_near-3 g c = record {
+  fits = λ policy net u past was.
+      fits_opening_far net u c.args.input.now c.in-OpenSession.nbr c.in-OpenSession.session c.is_near-in-OpenSession.result c.in-OpenSession.is
+      (c.is_near-in-OpenSession.ensures policy net u past was) c.if-is_near-3.false;
+}
+
+pub returns-in-Snap : goal.returns-in-Snap
+returns-in-Snap g c = record { fits = λ policy net u past was. fits_snap net u c.args.input.now c.in-Snap.is }

@@ -1,0 +1,45 @@
+-- What a node is to do, and that it may.
+use Rattle.std.specs.Prelude.{ℕ, suc, ◌≡◌, ◌<◌, true, Some, length}
+use Rattle.topology.specs.declared.names.Scope.TheVariants.{All}
+use Rattle.topology.specs.Lists.{has}
+use Rattle.topology.specs.Net.{Net, neighbours}
+use Rattle.path_vector.specs.declared.causes.Cause.TheVariants.{Up}
+use Rattle.path_vector.specs.Rules.{Rules}
+use Rattle.trigger_log.specs.Entries.{inbox, local}
+use Rattle.trigger_log.specs.Going.{Item, News, Marker, Hello, item_of}
+use Rattle.cut_laws.specs.Own.{MayHear}
+use Rattle.chronicle.specs.Epochs.{epoch}
+use Rattle.chronicle.specs.Facts.{Chronicle}
+use Rattle.chronicle.specs.Logs.{log_of}
+use Rattle.chronicle.specs.Run.{held_with}
+use Rattle.chronicle.specs.Steps.{Carried, Step, Goes, open_session, take_cut, take_item, write}
+use Rattle.node_core.specs.declared.deciding.Act.{Act}
+use Rattle.node_core.specs.declared.deciding.Act.TheVariants.{Enter, Open, Take, Rise}
+use Rattle.node_core.specs.Coming.{IsPlaced}
+use Rattle.node_core.specs.Keeping.{MayEnter}
+
+-- the item is the next one, where items are counted
+abbrev pub IsInTurn : ℕ → ℕ → ℕ → Chronicle → Item → Type 0
+IsInTurn u v s past (News number x) = number ≡ suc (length (inbox (log_of u past) v s))
+IsInTurn u v s past (Marker e) = Unit {0}
+IsInTurn u v s past (Hello e) = Unit {0}
+
+-- u may take the item of v in session s: it holds this session, the item is the next one, and its names are
+-- those of the network
+pub record MayTake (net : Net) (u : ℕ) (past : Chronicle) (v s : ℕ) (item : Item) : Type 0 where
+  pub near : has (neighbours net u) v ≡ true
+  pub held : held_with u v past ≡ Some s
+  pub in_turn : IsInTurn u v s past item
+  pub placed : IsPlaced net item
+  pub may_hear : MayHear net v item
+
+-- the step goes on by this act, and u may do it
+abbrev pub Does : Rules → Net → Carried → ℕ → Chronicle → Step → Act → Type 0
+Does rules net carried u past step (Enter scope cause) =
+    MayEnter net u (log_of u past) scope cause
+    × (step ≡ Goes (write rules net carried u (local u (log_of u past) scope cause) past))
+Does rules net carried u past step (Open v s) =
+    MayEnter net u (log_of u past) All (Up v s) × (step ≡ Goes (open_session carried u v s past))
+Does rules net carried u past step (Take v s item) =
+    MayTake net u past v s (item_of item) × (step ≡ Goes (take_item rules net carried v u s (item_of item) past))
+Does rules net carried u past step (Rise e) = (epoch u past < e) × (step ≡ Goes (take_cut net carried u e past))

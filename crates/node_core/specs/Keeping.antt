@@ -1,0 +1,42 @@
+-- What a node keeps of what it did.
+use Rattle.std.specs.Prelude.{ℕ, ◌≡◌, List, length}
+use Rattle.topology.specs.declared.names.Scope.{Scope}
+use Rattle.topology.specs.Net.{Net}
+use Rattle.path_vector.specs.declared.causes.Cause.{Cause}
+use Rattle.path_vector.specs.Kept.{IsOfNeighbour}
+use Rattle.path_vector.specs.Rules.{Rules}
+use Rattle.trigger_log.specs.Entries.{Entry}
+use Rattle.trigger_log.specs.Fits.{CauseFits}
+use Rattle.trigger_log.specs.Offered.{IsPlaced}
+use Rattle.trigger_log.specs.Sending.{sent_of}
+use Rattle.trigger_log.specs.Standing.{StandsFor as LogStandsFor}
+use Rattle.marker_snapshot.specs.Acts.{Acts}
+use Rattle.marker_snapshot.specs.Standing.{StandsFor as SnapshotsStandFor}
+use Rattle.chronicle.specs.Facts.{Chronicle}
+use Rattle.chronicle.specs.Logs.{log_of}
+use Rattle.node_core.specs.declared.node.Node.{Node}
+use Rattle.node_core.specs.Alike.{Alike}
+
+-- an entry of node u is of a neighbour and of a prefix of the network, and fits the log
+pub record MayEnter (net : Net) (u : ℕ) (h : List Entry) (scope : Scope) (cause : Cause) : Type 0 where
+  pub near : IsOfNeighbour net u cause
+  pub placed : IsPlaced net scope
+  pub fits : CauseFits h scope cause
+
+-- the node is u in this network; its log, and how many items that lists, are those of u after these facts,
+-- and its snapshots were told what u did
+pub record Keeps {P : Type 0} (policy : P) (rules : Rules) (net : Net) (u : ℕ) (node : Node P) (past : Chronicle) : Type 0 where
+  pub same_net : node.topology.value ≡ net
+  pub same_id : node.id ≡ u
+  pub log : LogStandsFor policy rules net u node.log (log_of u past)
+  pub listed : node.updates ≡ length (sent_of rules net u (log_of u past))
+  pub acts : Acts
+  pub snapshots : SnapshotsStandFor net u node.snapshots acts
+  pub alike : Alike acts u past
+
+-- the second is as the first but for its snapshots
+pub record KeepsAllBut {P : Type 0} (old new : Node P) : Type 0 where
+  pub topology : new.topology ≡ old.topology
+  pub id : new.id ≡ old.id
+  pub log : new.log ≡ old.log
+  pub updates : new.updates ≡ old.updates

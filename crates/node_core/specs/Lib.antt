@@ -1,0 +1,9 @@
+pub mod Inputs
+pub mod Coming
+pub mod Fits
+pub mod Outputs
+pub mod Alike
+pub mod Keeping
+pub mod Deciding
+pub mod Standing
+pub mod NodeLimits

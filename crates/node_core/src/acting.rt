@@ -1,0 +1,249 @@
+//! What a node does with an input that it does not decline.
+ghost use Rattle.std.specs.Prelude.{◌≡◌, ◌∷◌, [], ℕ, Some, true, List, map, ◌++◌, suc, length, IfOk, OnOk};
+ghost use Rattle.topology.specs.declared.names.Scope.TheVariants.{All};
+ghost use Rattle.topology.specs.Lists.{has};
+ghost use Rattle.topology.specs.Net.{Net, neighbours};
+ghost use Rattle.path_vector.specs.declared.causes.Cause.TheVariants.{Up};
+ghost use Rattle.path_vector.specs.History.{ready};
+ghost use Rattle.trigger_log.specs.Entries.{Entry, entry, local, reads};
+ghost use Rattle.trigger_log.specs.Going.{going_of, item_of};
+ghost use Rattle.trigger_log.specs.Sending.{sent_by, sent_of};
+ghost use Rattle.trigger_log.specs.Standing.{StandsFor as LogStandsFor};
+ghost use Rattle.chronicle.specs.Facts.{Chronicle};
+ghost use Rattle.chronicle.specs.Logs.{log_of};
+ghost use Rattle.chronicle.specs.Run.{held_with};
+ghost use Rattle.chronicle.specs.Steps.{Carried, Goes, greeted, open_session, take_item, write};
+ghost use Rattle.node_core.specs.Deciding.{Does, MayTake};
+ghost use Rattle.node_core.specs.Keeping.{Keeps, MayEnter};
+ghost use Rattle.node_core.specs.Outputs.{Hands, Send, output_of};
+ghost use Rattle.node_core.specs.Standing.{StandsFor};
+
+use crate::deciding::Act;
+use crate::node::Node;
+use crate::outputs::Output;
+use path_vector::{Cause, Policy};
+use topology::{Item, NoMemory, NodeId, Scope, Session, Trigger};
+use trigger_log::{NodeLog, Outgoing};
+
+// How many items the newest entry of the log lists.
+fn listed<P: Policy + Copy>(log: &NodeLog<P>) -> usize
+    ensures { (policy : P) (net : Net) (u : ℕ) (k : Entry) (h : List Entry) →
+        LogStandsFor policy (P.rules policy) net u log.now (k ∷ h) →
+        result ≡ length (sent_by (P.rules policy) net u h k) }
+{
+    match log.entry(log.len()) {
+        None => 0,
+        Some(entry) => entry.sent.as_slice().len(),
+    }
+}
+
+// The number of items with those of the newest entry, or want of memory where the count ends.
+fn more<P: Policy + Copy>(updates: usize, log: &NodeLog<P>) -> Result<usize, NoMemory>
+    ensures { IfOk result (λ more. (policy : P) (net : Net) (u : ℕ) (k : Entry) (h : List Entry) →
+        LogStandsFor policy (P.rules policy) net u log.now (k ∷ h) →
+        updates ≡ length (sent_of (P.rules policy) net u h) →
+        more ≡ length (sent_of (P.rules policy) net u (k ∷ h))) }
+{
+    match updates.checked_add(listed(log)) {
+        None => Err(NoMemory),
+        Some(more) => Ok(more),
+    }
+}
+
+// Hands out what goes out, in its order.
+fn send_all(list: Vec<Outgoing>, outputs: &mut Vec<Output>) -> Result<(), NoMemory>
+    ensures { OnOk result (map output_of outputs.new.items
+        ≡ map output_of outputs.old.items ++ map Send (map going_of list.items)) }
+{
+    outputs.reserve(list.len())?;
+    for out in list {
+        outputs.push(Output::Send(out))?;
+    }
+    Ok(())
+}
+
+impl<P: Policy + Copy> Node<P> {
+    /// The node makes an entry, which fits its log, and hands out what that says.
+    #[inline(always)]
+    fn enter(
+        self,
+        trigger: Trigger,
+        scope: Scope,
+        cause: Cause,
+        outputs: &mut Vec<Output>,
+    ) -> Result<Node<P>, NoMemory>
+        ensures node { IfOk result (λ node. (policy : P) (net : Net) (u : ℕ) (carried : Carried) (past : Chronicle) →
+            Keeps policy (P.rules policy) net u self past → MayEnter net u (log_of u past) scope cause →
+            Keeps policy (P.rules policy) net u node
+            (write (P.rules policy) net carried u (entry (trigger ∷ []) scope cause) past)) }
+        ensures outputs { OnOk result ((policy : P) (net : Net) (u : ℕ) (carried : Carried) (past first : Chronicle) →
+            Keeps policy (P.rules policy) net u self past → MayEnter net u (log_of u past) scope cause →
+            Hands first outputs.old.items past → Hands first outputs.new.items
+            (write (P.rules policy) net carried u (entry (trigger ∷ []) scope cause) past)) }
+    {
+        let Node {
+            alloc,
+            topology,
+            id,
+            log,
+            updates,
+            snapshots,
+        } = self;
+        let (log, outgoing) = log.append(&topology, trigger, scope, cause)?;
+        let updates = more(updates, &log)?;
+        outputs.push(Output::Logged { index: log.len() })?;
+        send_all(outgoing, outputs)?;
+        Ok(Node {
+            alloc,
+            topology,
+            id,
+            log,
+            updates,
+            snapshots,
+        })
+    }
+
+    // The node makes an entry of its own accord, with its next trigger.
+    #[inline(always)]
+    fn enter_own(
+        self,
+        scope: Scope,
+        cause: Cause,
+        outputs: &mut Vec<Output>,
+    ) -> Result<Node<P>, NoMemory>
+        ensures node { IfOk result (λ node. (policy : P) (net : Net) (u : ℕ) (carried : Carried) (past : Chronicle) →
+            Keeps policy (P.rules policy) net u self past → MayEnter net u (log_of u past) scope cause →
+            Keeps policy (P.rules policy) net u node
+            (write (P.rules policy) net carried u (local u (log_of u past) scope cause) past)) }
+        ensures outputs { OnOk result ((policy : P) (net : Net) (u : ℕ) (carried : Carried) (past first : Chronicle) →
+            Keeps policy (P.rules policy) net u self past → MayEnter net u (log_of u past) scope cause →
+            Hands first outputs.old.items past → Hands first outputs.new.items
+            (write (P.rules policy) net carried u (local u (log_of u past) scope cause) past)) }
+    {
+        let trigger = self.log.next_trigger();
+        self.enter(trigger, scope, cause, outputs)
+    }
+
+    // The node opens a session, and greets its neighbour in it with its epoch.
+    #[inline(always)]
+    fn open(
+        self,
+        nbr: NodeId,
+        session: Session,
+        outputs: &mut Vec<Output>,
+    ) -> Result<Node<P>, NoMemory>
+        ensures node { IfOk result (λ node. (policy : P) (net : Net) (u : ℕ) (carried : Carried) (past : Chronicle) →
+            StandsFor policy (P.rules policy) net u self past → MayEnter net u (log_of u past) All (Up nbr session) →
+            Keeps policy (P.rules policy) net u node (open_session carried u nbr session past)) }
+        ensures outputs { OnOk result ((policy : P) (net : Net) (u : ℕ) (carried : Carried) (past first : Chronicle) →
+            StandsFor policy (P.rules policy) net u self past → MayEnter net u (log_of u past) All (Up nbr session) →
+            Hands first outputs.old.items past →
+            Hands first outputs.new.items (open_session carried u nbr session past)) }
+    {
+        trigger_log::laws::an_opening_says_nothing();
+        let epoch = self.snapshots.epoch();
+        let scope = Scope::All;
+        let node = self.enter_own(scope, Cause::Up { nbr, session }, outputs)?;
+        outputs.push(Output::Send(Outgoing {
+            to: nbr,
+            session,
+            item: Item::Hello(epoch),
+        }))?;
+        Ok(node)
+    }
+
+    // The node is greeted in the session that it holds: it enters that the other end is ready, unless
+    // it knows that.
+    #[inline(always)]
+    fn greet(
+        self,
+        nbr: NodeId,
+        session: Session,
+        outputs: &mut Vec<Output>,
+    ) -> Result<Node<P>, NoMemory>
+        ensures node { IfOk result (λ node. (policy : P) (net : Net) (u : ℕ) (carried : Carried) (past : Chronicle) →
+            Keeps policy (P.rules policy) net u self past → has (neighbours net u) nbr ≡ true →
+            held_with u nbr past ≡ Some session →
+            Keeps policy (P.rules policy) net u node
+            (greeted (P.rules policy) net carried nbr u session (ready (reads (log_of u past)) nbr) past)) }
+        ensures outputs { OnOk result ((policy : P) (net : Net) (u : ℕ) (carried : Carried) (past first : Chronicle) →
+            Keeps policy (P.rules policy) net u self past → has (neighbours net u) nbr ≡ true →
+            held_with u nbr past ≡ Some session → Hands first outputs.old.items past →
+            Hands first outputs.new.items
+            (greeted (P.rules policy) net carried nbr u session (ready (reads (log_of u past)) nbr) past)) }
+    {
+        if self.log.ready(nbr) {
+            return Ok(self);
+        }
+        let scope = Scope::All;
+        self.enter_own(scope, Cause::Ready { nbr, session }, outputs)
+    }
+
+    // The node takes an item in the session that it holds. An update is entered with its own trigger;
+    // a marker is met, and so is a greeting before it greets.
+    #[inline(always)]
+    fn take(
+        self,
+        from: NodeId,
+        session: Session,
+        item: Item,
+        outputs: &mut Vec<Output>,
+    ) -> Result<Node<P>, NoMemory>
+        ensures node { IfOk result (λ node. (policy : P) (net : Net) (u : ℕ) (carried : Carried) (past : Chronicle) →
+            StandsFor policy (P.rules policy) net u self past → MayTake net u past from session (item_of item) →
+            Keeps policy (P.rules policy) net u node
+            (take_item (P.rules policy) net carried from u session (item_of item) past)) }
+        ensures outputs { OnOk result ((policy : P) (net : Net) (u : ℕ) (carried : Carried) (past first : Chronicle) →
+            StandsFor policy (P.rules policy) net u self past → MayTake net u past from session (item_of item) →
+            Hands first outputs.old.items past → Hands first outputs.new.items
+            (take_item (P.rules policy) net carried from u session (item_of item) past)) }
+    {
+        match item {
+            Item::Update {
+                prefix,
+                seq,
+                trigger,
+                path,
+            } => {
+                let mut node = self;
+                node.snapshots.on_update(from, session, seq);
+                let scope = Scope::One(prefix);
+                let cause = Cause::Recv {
+                    from,
+                    session,
+                    seq,
+                    path,
+                };
+                node.enter(trigger, scope, cause, outputs)
+            }
+            Item::Marker(epoch) => self.meet(from, session, epoch, outputs),
+            Item::Hello(epoch) => {
+                let node = self.meet(from, session, epoch, outputs)?;
+                node.greet(from, session, outputs)
+            }
+        }
+    }
+
+    /// Does what the node is to do, and hands out what comes of it.
+    #[inline(always)]
+    pub(crate) fn act(self, act: Act, outputs: &mut Vec<Output>) -> Result<Node<P>, NoMemory>
+        ensures node { IfOk result (λ node. (policy : P) (net : Net) (u : ℕ) (carried : Carried) (past now : Chronicle) →
+            StandsFor policy (P.rules policy) net u self past →
+            Does (P.rules policy) net carried u past (Goes now) act → Keeps policy (P.rules policy) net u node now) }
+        ensures outputs { OnOk result ((policy : P) (net : Net) (u : ℕ) (carried : Carried) (past now : Chronicle) →
+            StandsFor policy (P.rules policy) net u self past →
+            Does (P.rules policy) net carried u past (Goes now) act →
+            outputs.old.items ≡ [] → Hands past outputs.new.items now) }
+    {
+        match act {
+            Act::Enter { scope, cause } => self.enter_own(scope, cause, outputs),
+            Act::Open { nbr, session } => self.open(nbr, session, outputs),
+            Act::Take {
+                from,
+                session,
+                item,
+            } => self.take(from, session, item, outputs),
+            Act::Rise { epoch } => self.raise(epoch, outputs),
+        }
+    }
+}

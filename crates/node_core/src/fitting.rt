@@ -1,0 +1,112 @@
+//! Which inputs a node admits.
+ghost use Rattle.std.specs.Prelude.{◌≡◌, ℕ};
+ghost use Rattle.topology.specs.Lists.{has};
+ghost use Rattle.topology.specs.Net.{Net, neighbours};
+ghost use Rattle.trigger_log.specs.Going.{item_of};
+ghost use Rattle.chronicle.specs.Facts.{Chronicle};
+ghost use Rattle.node_core.specs.Fits.{are_nodes, fits, item_fits, path_fits, trigger_fits};
+ghost use Rattle.node_core.specs.Inputs.{input_of};
+ghost use Rattle.node_core.specs.Standing.{StandsFor};
+
+use crate::inputs::Input;
+use crate::limits::{MOST_EPOCHS, MOST_PREFERENCE};
+use crate::node::Node;
+use path_vector::Policy;
+use topology::{Item, NodeId, Path, Topology, Trigger};
+
+fn is_among(nodes: &[NodeId], node: NodeId) -> bool
+    ensures { result ≡ has nodes.now node }
+{
+    nodes.contains(&node)
+}
+
+// Whether it is a node of the network.
+fn is_node(topology: &Topology, node: NodeId) -> bool
+    ensures { result ≡ has topology.now.nodes node }
+{
+    topology.rank_of(node).is_some()
+}
+
+// Whether all of them are nodes of the network.
+fn are_nodes(topology: &Topology, nodes: &[NodeId]) -> bool
+    ensures { result ≡ are_nodes topology.now nodes.now }
+{
+    match nodes {
+        [] => true,
+        [first, rest @ ..] => is_node(topology, *first) && are_nodes(topology, rest),
+    }
+}
+
+// Whether a path begins with its sender and stays in the network.
+fn path_fits(topology: &Topology, from: NodeId, path: &Option<Path>) -> bool
+    ensures { result ≡ path_fits topology.now from path.now }
+{
+    let Some(path) = path else {
+        return true;
+    };
+    path.nodes().first() == Some(&from) && are_nodes(topology, path.nodes())
+}
+
+fn trigger_fits(topology: &Topology, trigger: &Trigger) -> bool
+    ensures { result ≡ trigger_fits topology.now trigger.now }
+{
+    is_node(topology, trigger.node) && trigger.count >= 1
+}
+
+// Whether an item of a neighbour has names of the network, and numbers in their ranges.
+fn item_fits(topology: &Topology, from: NodeId, item: &Item) -> bool
+    ensures { result ≡ item_fits topology.now from (item_of item.now) }
+{
+    match item {
+        Item::Update {
+            prefix,
+            seq,
+            trigger,
+            path,
+        } => {
+            *seq >= 1
+                && prefix.place() < topology.prefix_count()
+                && trigger_fits(topology, trigger)
+                && path_fits(topology, from, path)
+        }
+        Item::Marker(epoch) => epoch.number() >= 1 && epoch.number() <= MOST_EPOCHS,
+        Item::Hello(epoch) => epoch.number() <= MOST_EPOCHS,
+    }
+}
+
+impl<P: Policy + Copy> Node<P> {
+    /// Whether the names of the input are in the network, its other node is a neighbour, the path of
+    /// an update begins with its sender, and each number is in its range: sessions and numbers of
+    /// updates from 1, preferences up to a million, epochs from 1 to 32, in a greeting from 0. Takes no
+    /// memory.
+    pub fn fits(&self, input: &Input) -> bool
+        ensures fits { (policy : P) (net : Net) (u : ℕ) (past : Chronicle) →
+            StandsFor policy (P.rules policy) net u self.now past → result ≡ fits net u (input_of input.now) }
+    {
+        match input {
+            Input::Originate(prefix) => prefix.place() < self.topology.prefix_count(),
+            Input::Withdraw(prefix) => prefix.place() < self.topology.prefix_count(),
+            Input::Prefer { nbr, value } => self.is_near(*nbr) && *value <= MOST_PREFERENCE,
+            Input::Arrive {
+                from,
+                session,
+                item,
+            } => {
+                self.is_near(*from)
+                    && session.number() >= 1
+                    && item_fits(&self.topology, *from, item)
+            }
+            Input::Notice(nbr) => self.is_near(*nbr),
+            Input::OpenSession { nbr, session } => self.is_near(*nbr) && session.number() >= 1,
+            Input::Snap => true,
+        }
+    }
+
+    // Whether the node is a neighbour.
+    fn is_near(&self, nbr: NodeId) -> bool
+        ensures { (policy : P) (net : Net) (u : ℕ) (past : Chronicle) →
+            StandsFor policy (P.rules policy) net u self.now past → result ≡ has (neighbours net u) nbr }
+    {
+        is_among(self.topology.neighbours(self.id), nbr)
+    }
+}

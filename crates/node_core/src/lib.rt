@@ -1,0 +1,19 @@
+//! One node: what it keeps, and what it does with each input.
+#![tactic(auto)]
+
+mod acting;
+mod deciding;
+mod fitting;
+pub mod inputs;
+pub mod laws;
+pub mod limits;
+mod marks;
+pub mod node;
+pub mod outputs;
+
+pub use inputs::Input;
+pub use node::Node;
+pub use outputs::{Output, OutputList, Outputs, Stop};
+
+#[cfg(test)]
+mod tests;

@@ -1,0 +1,110 @@
+//! A node: its log and its snapshots.
+ghost use Rattle.std.specs.Prelude.{◌≡◌, ℕ, [], IfOk, IfErr};
+ghost use Rattle.topology.specs.Net.{Net};
+ghost use Rattle.trigger_log.specs.Standing.{StandsFor as LogStandsFor};
+ghost use Rattle.chronicle.specs.Facts.{Chronicle};
+ghost use Rattle.chronicle.specs.Giving.{give};
+ghost use Rattle.chronicle.specs.Logs.{log_of};
+ghost use Rattle.chronicle.specs.Run.{chronicle_of};
+ghost use Rattle.chronicle.specs.Steps.{Carried};
+ghost use Rattle.node_core.specs.Coming.{MayCome};
+ghost use Rattle.node_core.specs.Inputs.{input_of};
+ghost use Rattle.node_core.specs.NodeLimits.{node_limit, StopsAt};
+ghost use Rattle.node_core.specs.Outputs.{Answers};
+ghost use Rattle.node_core.specs.Standing.{HasSnapshots, StandsFor};
+
+use crate::inputs::Input;
+use crate::outputs::{OutputList, Outputs, Stop};
+use marker_snapshot::Snapshots;
+use path_vector::Policy;
+use std::alloc::Global;
+use std::rc::Rc;
+use topology::{NoMemory, NodeId, Topology};
+use trigger_log::NodeLog;
+
+/// One node of a network: its log and its snapshots. It knows its neighbours by the network, and
+/// nothing of its links: whether an item that it sends arrives is not its affair.
+#[derive(Drop)]
+pub struct Node<P: Policy + Copy> {
+    pub(crate) alloc: Global,
+    pub(crate) topology: Rc<Topology>,
+    pub(crate) id: NodeId,
+    pub(crate) log: NodeLog<P>,
+    // How many items the entries of the log list.
+    pub(crate) updates: usize,
+    pub(crate) snapshots: Snapshots,
+}
+
+impl<P: Policy + Copy> Node<P> {
+    /// The node with this number, which has done nothing.
+    pub fn new(
+        alloc: Global,
+        topology: Rc<Topology>,
+        id: NodeId,
+        policy: P,
+    ) -> Result<Node<P>, NoMemory>
+        ensures { IfOk result (λ node. StandsFor policy (P.rules policy) topology.value id node []) }
+    {
+        let log = NodeLog::new(alloc, &topology, id, policy)?;
+        Ok(Node {
+            alloc,
+            topology,
+            id,
+            log,
+            updates: 0,
+            snapshots: Snapshots::new(alloc),
+        })
+    }
+
+    /// What the node does with an input. Where it does nothing it answers the reason, and is as it
+    /// was. It stops at a limit exactly where the input would take a count of its own above its
+    /// number, unless memory is wanted first. Which links are up changes nothing of what it answers.
+    #[inline(always)]
+    pub fn handle(self, input: Input) -> Result<(Node<P>, Outputs), Stop>
+        ensures node { IfOk result (λ r. (policy : P) (net : Net) (u : ℕ) (carried : Carried) (past : Chronicle) →
+            StandsFor policy (P.rules policy) net u self past → MayCome net u (input_of input) →
+            StandsFor policy (P.rules policy) net u r.0 (chronicle_of past (give (P.rules policy) net carried u past (input_of input)))) }
+        ensures outputs { IfOk result (λ r. (policy : P) (net : Net) (u : ℕ) (carried : Carried) (past : Chronicle) →
+            StandsFor policy (P.rules policy) net u self past → MayCome net u (input_of input) →
+            Answers past (give (P.rules policy) net carried u past (input_of input)) r.1) }
+        ensures stopped { IfErr result (λ stop. (policy : P) (net : Net) (u : ℕ) (carried : Carried) (past : Chronicle) →
+            StandsFor policy (P.rules policy) net u self past → MayCome net u (input_of input) →
+            StopsAt (node_limit (P.rules policy) net u (give (P.rules policy) net carried u past (input_of input))) stop) }
+    {
+        let act = match self.decide(input) {
+            Ok(act) => act,
+            Err(reason) => return Ok((self, Outputs::Idle(reason))),
+        };
+        let mut outputs = Vec::new(self.alloc);
+        let node = self.act(act, &mut outputs)?;
+        if let Some(stop) = node.limit() {
+            return Err(stop);
+        }
+        Ok((node, Outputs::Did(OutputList::new(outputs))))
+    }
+
+    /// The number of the node.
+    pub fn id(&self) -> NodeId
+        ensures { (policy : P) (net : Net) (u : ℕ) (past : Chronicle) →
+            StandsFor policy (P.rules policy) net u self.now past → result ≡ u }
+    {
+        self.id
+    }
+
+    /// The log of the node.
+    pub fn log(&self) -> &NodeLog<P>
+        ensures { (policy : P) (net : Net) (u : ℕ) (past : Chronicle) →
+            StandsFor policy (P.rules policy) net u self.now past →
+            LogStandsFor policy (P.rules policy) net u result.now (log_of u past) }
+    {
+        &self.log
+    }
+
+    /// The epochs, cuts and recordings of the node.
+    pub fn snapshots(&self) -> &Snapshots
+        ensures { (policy : P) (net : Net) (u : ℕ) (past : Chronicle) →
+            StandsFor policy (P.rules policy) net u self.now past → HasSnapshots net u past result.now }
+    {
+        &self.snapshots
+    }
+}
