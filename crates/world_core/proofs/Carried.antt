@@ -19,6 +19,7 @@ use Rattle.chronicle.specs.Channels.{tail}
 use Rattle.chronicle.specs.Channels.{channel as channel_of}
 use Rattle.world_core.specs.Matching.{AreLinks}
 
+-- what is pushed comes to the end of both
 grown : (t q r : Bool) (xs : List Message) (ys : List Item) (x : Message) → (t ≡ true → q ≡ r) → map item_of xs ≡ ys
     → map item_of (cond (t && q) (xs ++ x ∷ []) xs) ≡ cond (t && r) (ys ++ item_of x ∷ []) ys
 grown false q r xs ys x same e = e
@@ -29,22 +30,27 @@ grown true q r xs ys x same e =
       | false ↦ refl
     ])
 
+-- both are empty
 emptied : (t : Bool) (xs : List Message) (ys : List Item) → map item_of xs ≡ ys → map item_of (cond t [] xs) ≡ cond t [] ys
 emptied true xs ys e = refl
 emptied false xs ys e = e
 
+-- both are without their first
 tails : (xs : List Message) → map item_of (behind_front xs) ≡ tail (map item_of xs)
 tails [] = refl
 tails (x ∷ xs) = refl
 
+-- the front leaves both
 behind : (t : Bool) (xs : List Message) (ys : List Item) → map item_of xs ≡ ys → map item_of (cond t (behind_front xs) xs) ≡ cond t (tail ys) ys
 behind true xs ys e = tails xs ∙ ap tail e
 behind false xs ys e = e
 
+-- the ends are the same
 both_equal : (from to a b : ℕ) → (from == a && to == b) ≡ true → (from ≡ a) × (to ≡ b)
 both_equal from to a b e = (grind (arith, nat_tests), grind (arith, nat_tests))
 
 module _ (net : Net) (past : Chronicle) (old new : Links) (was : AreLinks net past old) where
+  -- the link of the way carries the session
   same_way : (from to s a b : ℕ) → (from == a && to == b) ≡ true → carries (state a b was.acts) s ≡ carries (link from to past) s
   same_way from to s a b e =
       let ends = both_equal from to a b e in
@@ -71,6 +77,7 @@ module _ (net : Net) (past : Chronicle) (old new : Links) (was : AreLinks net pa
     items = λ a b. behind (from == a && to == b) (channel a b was.acts) (channel_of a b past) (was.items a b);
   }
 
+  -- a link has failed
   pub failed_link : (c d : ℕ) → StandsFor net new (act.Fail c d ∷ was.acts) → AreLinks net (Fail c d ∷ past) new
   failed_link c d stands = record {
     acts = act.Fail c d ∷ was.acts;
@@ -79,6 +86,7 @@ module _ (net : Net) (past : Chronicle) (old new : Links) (was : AreLinks net pa
     items = λ a b. emptied (are_ends a b c d) (channel a b was.acts) (channel_of a b past) (was.items a b);
   }
 
+  -- a link was restored
   pub restored_link : (c d : ℕ) → StandsFor net new (act.Restore c d ∷ was.acts) → AreLinks net (Restore c d ∷ past) new
   restored_link c d stands = record {
     acts = act.Restore c d ∷ was.acts;
@@ -100,5 +108,6 @@ pub front_read : (net : Net) (past : Chronicle) (links : Links) (was : AreLinks 
     → channel_of a b past ≡ item_of x ∷ map item_of rest
 front_read net past links was a b x rest is = sym (was.items a b) ∙ ap (map item_of) is
 
+-- so of a way on which nothing is
 pub empty_read : (net : Net) (past : Chronicle) (links : Links) (was : AreLinks net past links) (a b : ℕ) → channel a b was.acts ≡ [] → channel_of a b past ≡ []
 empty_read net past links was a b is = sym (was.items a b) ∙ ap (map item_of) is

@@ -1,5 +1,5 @@
 -- Which ways an event changes.
-use Rattle.std.proofs.Common.{IsTrue, ℕ, suc, Bool, true, false, ◌==◌, ◌&&◌, Option, Some, None, List, [], ◌∷◌, ◌++◌, ◌≡◌, refl, sym, ◌∙◌, ap, ap₂, subst, arith, map, length, append_assoc}
+use Rattle.std.proofs.Common.{IsTrue, ℕ, suc, Bool, true, false, not, ◌==◌, ◌&&◌, nat_lt, Option, Some, None, List, [], ◌∷◌, ◌++◌, ◌≡◌, refl, sym, ◌∙◌, ap, subst, arith, map, length, append_assoc}
 use Rattle.std.specs.Prelude.{if◌then◌else◌}
 use Rattle.std.specs.List.{list_any}
 use Rattle.std.proofs.lemmas.Bool.Decides.{nat_tests}
@@ -7,38 +7,39 @@ use Rattle.std.proofs.lemmas.List.{append-nil, append_cancel_left}
 use Rattle.topology.specs.declared.links.LinkState.{LinkState}
 use Rattle.topology.specs.declared.links.LinkState.TheVariants.{Up, Down}
 use Rattle.topology.specs.declared.names.Scope.TheVariants.{One, All}
-use Rattle.topology.specs.LinkStates.{are_ends, carries}
+use Rattle.topology.specs.LinkStates.{are_ends}
 use Rattle.topology.specs.Net.{Net, linked}
 use Rattle.topology.proofs.Neighbours.{linked_sym}
 use Rattle.path_vector.specs.declared.causes.Cause.TheVariants as cause
 use Rattle.path_vector.specs.Rules.{Rules}
-use Rattle.path_vector.specs.History.{held_by, owns, ready}
-use Rattle.trigger_log.specs.Entries.{Entry, local, reads, is_session}
-use Rattle.trigger_log.specs.Going.{Going, Item, News, Hello, going_by}
+use Rattle.path_vector.specs.History.{held, held_by, last, owns, ready}
+use Rattle.trigger_log.specs.Entries.{Entry, inbox, local, reads, is_session}
+use Rattle.trigger_log.specs.Going.{Going, Item, News, Marker, Hello, going_by}
 use Rattle.chronicle.specs.declared.events.Event.{Event}
-use Rattle.chronicle.specs.declared.events.Event.TheVariants.{Originate, Withdraw, Prefer, Deliver, Fail, Restore, Notice, OpenSession}
+use Rattle.chronicle.specs.declared.events.Event.TheVariants.{Originate, Withdraw, Prefer, Deliver, Fail, Restore, Notice, OpenSession, Snap}
 use Rattle.chronicle.specs.declared.ways.Way.{Way}
-use Rattle.chronicle.specs.Facts.{Chronicle, Log, Sent, Took, happen}
+use Rattle.chronicle.specs.Facts.{Chronicle, Log, Raise, Sent, Took, happen}
 use Rattle.chronicle.specs.Facts as fact
 use Rattle.chronicle.specs.Channels.{channel}
 use Rattle.chronicle.specs.Deliveries.{arrives, may_arrive}
+use Rattle.chronicle.specs.Epochs.{epoch}
+use Rattle.chronicle.specs.Giving.{unless, out_of_turn, comes, notices, opens, give}
 use Rattle.chronicle.specs.Links.{link}
 use Rattle.chronicle.specs.Logs.{log_of}
-use Rattle.chronicle.specs.Steps.{greeted, heard, open_session, sends, take_item, write}
-use Rattle.chronicle.specs.Run.{Step, Idle, Goes, held_with, delivered, noticed, opened, fails, restores, step, after, chronicle_of}
+use Rattle.chronicle.specs.Steps.{Step, Idle, Goes, Carried, greeted, heard, markers, meet_mark, open_session, sends, take_cut, take_item, write}
+use Rattle.chronicle.specs.Run.{held_with, carried_by, given, delivered, is_carried, opened_by_link, fails, restores, step, after, chronicle_of}
+use Rattle.chronicle.specs.Inputs as input
 use Rattle.topology.specs.declared.status.Reason.{Reason}
-use Rattle.topology.specs.declared.status.Reason.TheVariants.{AlreadyOrigin, NotOrigin, StillUp, WrongSession}
+use Rattle.topology.specs.declared.status.Reason.TheVariants.{AlreadyOrigin, NotOrigin, StillUp, WrongSession, OldSession}
 use Rattle.world_core.specs.declared.outcomes.Outcome.TheVariants as outcome
 use Rattle.world_core.specs.Fits.{fits}
 use Rattle.world_core.specs.Waiting.{AreWaiting, waits}
 use Rattle.world_core.specs.declared.outcomes.Effect.{Effect}
-use Rattle.world_core.specs.declared.outcomes.Effect.TheVariants.{Logged, Queued, Lost}
+use Rattle.world_core.specs.declared.outcomes.Effect.TheVariants.{Logged, Queued, Lost, Cut}
 use Rattle.world_core.specs.Effects.{effects, Tells}
 use Rattle.world_core.specs.Refreshing.{AreLinked, AreWaitingBut, queued_ways, way, ways_of}
-use Rattle.world_core.specs.Sending.{AllNear}
 use Rattle.world_core.specs.WaySets.{same_way}
-use Rattle.world_core.proofs.Sends.{fact_of, shown_as}
-use Rattle.world_core.proofs.Wrote.{going_near}
+use Rattle.world_core.proofs.Telling.{AllNear, going_near, markers_near}
 
 -- the way is none of these
 abbrev pub Misses : Way → List Way → Type 0
@@ -48,6 +49,7 @@ Misses one ways = list_any (same_way one) ways ≡ false
 abbrev pub Same : Chronicle → Chronicle → Way → Type 0
 Same past now one = arrives now one.from one.to ≡ arrives past one.from one.to
 
+-- what is none of two lists is none of each
 misses_append : (one : Way) (ws vs : List Way) → Misses one (ws ++ vs) → Misses one ws × Misses one vs
 misses_append one [] vs e = (refl, e)
 misses_append one (w ∷ ws) vs e =
@@ -56,12 +58,15 @@ misses_append one (w ∷ ws) vs e =
     let others = rest.0 in
     (grind (arith, nat_tests), rest.1)
 
+-- the ways of two lists
 ways_append : (xs ys : List Effect) → queued_ways (xs ++ ys) ≡ queued_ways xs ++ queued_ways ys
 ways_append [] ys = refl
 ways_append (Logged node index ∷ xs) ys = ways_append xs ys
 ways_append (Queued from to ∷ xs) ys = ap (λ l. way from to ∷ l) (ways_append xs ys)
 ways_append (Lost from to ∷ xs) ys = ways_append xs ys
+ways_append (Cut node epoch ∷ xs) ys = ways_append xs ys
 
+-- two lists of ways over links
 pub linked_append : (net : Net) (ws vs : List Way) → AreLinked net ws → AreLinked net vs → AreLinked net (ws ++ vs)
 linked_append net [] vs first second = second
 linked_append net (w ∷ ws) vs first second = (first.0, linked_append net ws vs first.1 second)
@@ -75,6 +80,7 @@ pub record Changed (net : Net) (past now : Chronicle) (ways : List Way) : Type 0
   pub kept : (one : Way) → Misses one ways → Misses one (queued_ways tail) → Same past now one
 
 module _ (net : Net) (a b c : Chronicle) (ways : List Way) where
+  -- one change after the other
   both : Changed net a b ways → Changed net b c ways → Changed net a c ways
   both first second = record {
     tail = first.tail ++ second.tail;
@@ -85,53 +91,74 @@ module _ (net : Net) (a b c : Chronicle) (ways : List Way) where
         second.kept one misses parts.1 ∙ first.kept one misses parts.0;
   }
 
+-- nothing has changed
 unchanged : (net : Net) (past : Chronicle) (ways : List Way) → Changed net past past ways
 unchanged net past ways = record { tail = []; shown = sym (append-nil (effects past)); near = tt; kept = λ one misses queued. refl }
 
 -- ---- messages
 
--- what is shown of messages
-abbrev shown_of : Chronicle → ℕ → List Going → List Effect
-shown_of past u gs = map (λ (g : Going). if carries (link u g.to past) g.session then Queued u g.to else Lost u g.to) gs
+-- what is shown of an item
+abbrev shown_as : Bool → ℕ → ℕ → Effect
+shown_as queued u w = if queued then Queued u w else Lost u w
 
+-- what is shown of messages
+abbrev shown_of : Carried → ℕ → List Going → List Effect
+shown_of carried u gs = map (λ (g : Going). shown_as (carried g.to g.session) u g.to) gs
+
+-- one effect is shown of an item
+one_shown : (q : Bool) (u w : ℕ) → (if q then Queued u w ∷ [] else Lost u w ∷ []) ≡ shown_as q u w ∷ []
+one_shown true u w = refl
+one_shown false u w = refl
+
+-- the item went another way
 off_way : (one : Way) (u w : ℕ) (q : Bool) → Misses one (if q then way u w ∷ [] else []) → ((u == one.from && w == one.to) && q) ≡ false
 off_way one u w true e = grind (arith, nat_tests)
 off_way one u w false e = grind (arith, nat_tests)
 
+-- an item changes the way over which it is queued
 one_sent : (past : Chronicle) (u w s : ℕ) (x : Item) (q : Bool) (one : Way) → Misses one (if q then way u w ∷ [] else []) → Same past (Sent u w s x q ∷ past) one
 one_sent past u w s x q one e = rw (off_way one u w q e) refl
 
-ways_one : (q : Bool) (u w : ℕ) (list : List Effect) → queued_ways ((if q then Queued u w else Lost u w) ∷ list) ≡ (if q then way u w ∷ [] else []) ++ queued_ways list
+-- the ways of one effect more
+ways_one : (q : Bool) (u w : ℕ) (list : List Effect) → queued_ways (shown_as q u w ∷ list) ≡ (if q then way u w ∷ [] else []) ++ queued_ways list
 ways_one true u w list = refl
 ways_one false u w list = refl
 
-module _ (net : Net) (first : Chronicle) (u : ℕ) where
-  sends_shown : (past : Chronicle) (gs : List Going) → effects (happen past (sends first u gs)) ≡ effects past ++ shown_of first u gs
+module _ (net : Net) (carried : Carried) (u : ℕ) where
+  -- the fact that an item is sent
+  abbrev fact_of : Going → fact.Fact
+  fact_of g = Sent u g.to g.session g.item (carried g.to g.session)
+
+  -- what is shown of all items
+  sends_shown : (past : Chronicle) (gs : List Going) → effects (happen past (sends carried u gs)) ≡ effects past ++ shown_of carried u gs
   sends_shown past [] = sym (append-nil (effects past))
   sends_shown past (g ∷ gs) =
-      let q = carries (link u g.to first) g.session in
-      sends_shown (fact_of first u g ∷ past) gs
-      ∙ (ap (λ l. (effects past ++ l) ++ shown_of first u gs) (sym (shown_as q u g.to))
-      ∙ append_assoc (effects past) ((if q then Queued u g.to else Lost u g.to) ∷ []) (shown_of first u gs))
+      let q = carried g.to g.session in
+      sends_shown (fact_of g ∷ past) gs
+      ∙ (ap (λ l. (effects past ++ l) ++ shown_of carried u gs) (one_shown q u g.to)
+      ∙ append_assoc (effects past) (shown_as q u g.to ∷ []) (shown_of carried u gs))
 
-  sends_near : (gs : List Going) → AllNear net u gs → AreLinked net (queued_ways (shown_of first u gs))
+  -- they went over links
+  sends_near : (gs : List Going) → AllNear net u gs → AreLinked net (queued_ways (shown_of carried u gs))
   sends_near [] near = tt
   sends_near (g ∷ gs) near =
-      elim (carries (link u g.to first) g.session) as (λ q. AreLinked net (queued_ways ((if q then Queued u g.to else Lost u g.to) ∷ shown_of first u gs))) [
+      elim (carried g.to g.session) as (λ q. AreLinked net (queued_ways (shown_as q u g.to ∷ shown_of carried u gs))) [
         | true ↦ (near.0, sends_near gs near.1)
         | false ↦ sends_near gs near.1
       ]
 
-  sends_kept : (past : Chronicle) (gs : List Going) (one : Way) → Misses one (queued_ways (shown_of first u gs)) → Same past (happen past (sends first u gs)) one
+  -- they changed no other way
+  sends_kept : (past : Chronicle) (gs : List Going) (one : Way) → Misses one (queued_ways (shown_of carried u gs)) → Same past (happen past (sends carried u gs)) one
   sends_kept past [] one e = refl
   sends_kept past (g ∷ gs) one e =
-      let q = carries (link u g.to first) g.session in
-      let parts = misses_append one (if q then way u g.to ∷ [] else []) (queued_ways (shown_of first u gs)) (subst (Misses one) (ways_one q u g.to (shown_of first u gs)) e) in
-      sends_kept (fact_of first u g ∷ past) gs one parts.1 ∙ one_sent past u g.to g.session g.item q one parts.0
+      let q = carried g.to g.session in
+      let parts = misses_append one (if q then way u g.to ∷ [] else []) (queued_ways (shown_of carried u gs)) (subst (Misses one) (ways_one q u g.to (shown_of carried u gs)) e) in
+      sends_kept (fact_of g ∷ past) gs one parts.1 ∙ one_sent past u g.to g.session g.item q one parts.0
 
-  pub sends_change : (past : Chronicle) (gs : List Going) (ways : List Way) → AllNear net u gs → Changed net past (happen past (sends first u gs)) ways
+  -- what items change
+  sends_change : (past : Chronicle) (gs : List Going) (ways : List Way) → AllNear net u gs → Changed net past (happen past (sends carried u gs)) ways
   sends_change past gs ways near = record {
-    tail = shown_of first u gs;
+    tail = shown_of carried u gs;
     shown = sends_shown past gs;
     near = sends_near gs near;
     kept = λ one misses queued. sends_kept past gs one queued;
@@ -143,6 +170,7 @@ module _ (net : Net) (first : Chronicle) (u : ℕ) where
 abbrev KeepsHeld : ℕ → Entry → List Way → Type 0
 KeepsHeld u k ways = (one : Way) (session : Option ℕ) → Misses one ways → (u == one.to) ≡ true → held_by k.read.cause one.from session ≡ session
 
+-- the session that is held on another way stays
 held_logged : (past : Chronicle) (u : ℕ) (k : Entry) (ways : List Way) → KeepsHeld u k ways → (one : Way) → Misses one ways
     → held_with one.to one.from (Log u k ∷ past) ≡ held_with one.to one.from past
 held_logged past u k ways keeps one misses =
@@ -151,6 +179,7 @@ held_logged past u k ways keeps one misses =
       | false ↦ λ e. rw e refl
     ]) refl
 
+-- what an entry changes
 log_change : (net : Net) (past : Chronicle) (u : ℕ) (k : Entry) (ways : List Way) → KeepsHeld u k ways → Changed net past (Log u k ∷ past) ways
 log_change net past u k ways keeps = record {
   tail = Logged u (suc (length (log_of u past))) ∷ [];
@@ -159,12 +188,36 @@ log_change net past u k ways keeps = record {
   kept = λ one misses queued. ap (may_arrive (link one.from one.to past) (channel one.from one.to past)) (held_logged past u k ways keeps one misses);
 }
 
-write_change : (rules : Rules) (net : Net) (past : Chronicle) (u : ℕ) (k : Entry) (ways : List Way) → KeepsHeld u k ways → Changed net past (write rules net u k past) ways
-unfolding write
-write_change rules net past u k ways keeps =
-    both net past (Log u k ∷ past) (happen (Log u k ∷ past) (sends past u (going_by rules net u (log_of u past) k))) ways
-    (log_change net past u k ways keeps)
-    (sends_change net past u (Log u k ∷ past) (going_by rules net u (log_of u past) k) ways (going_near rules net u (log_of u past) k))
+-- a rise of the epoch changes no delivery
+raise_change : (net : Net) (past : Chronicle) (u e : ℕ) (ways : List Way) → Changed net past (Raise u e ∷ past) ways
+raise_change net past u e ways = record { tail = Cut u e ∷ []; shown = refl; near = tt; kept = λ one misses queued. refl }
+
+module _ (rules : Rules) (net : Net) (carried : Carried) (u : ℕ) (ways : List Way) where
+  -- what an entry changes with the items that it sends
+  write_change : (past : Chronicle) (k : Entry) → KeepsHeld u k ways → Changed net past (write rules net carried u k past) ways
+  unfolding write
+  write_change past k keeps =
+      let gs = going_by rules net u (log_of u past) k in
+      both net past (Log u k ∷ past) (happen (Log u k ∷ past) (sends carried u gs)) ways
+      (log_change net past u k ways keeps)
+      (sends_change net carried u (Log u k ∷ past) gs ways (going_near rules net u (log_of u past) k))
+
+  -- a cut changes the ways of its markers
+  cut_change : (past : Chronicle) (e : ℕ) → Changed net past (take_cut net carried u e past) ways
+  unfolding take_cut
+  cut_change past e =
+      let gs = markers net u e (log_of u past) in
+      both net past (Raise u e ∷ past) (happen (Raise u e ∷ past) (sends carried u gs)) ways
+      (raise_change net past u e ways)
+      (sends_change net carried u (Raise u e ∷ past) gs ways (markers_near net u e (log_of u past)))
+
+  -- so does a mark that is met
+  meet_change : (past : Chronicle) (e : ℕ) → Changed net past (meet_mark net carried u e past) ways
+  meet_change past e =
+      elim (nat_lt (epoch u past) e) as (λ t. Changed net past (if t then take_cut net carried u e past else past) ways) [
+        | true ↦ cut_change past e
+        | false ↦ unchanged net past ways
+      ]
 
 -- both ways of a link, and no other
 off_link : (one : Way) (a b : ℕ) → Misses one (way a b ∷ way b a ∷ []) → are_ends one.from one.to a b ≡ false
@@ -177,9 +230,11 @@ off_link one a b e =
 off_way_to : (one : Way) (v u : ℕ) → Misses one (way v u ∷ []) → (v == one.from && u == one.to) ≡ false
 off_way_to one v u e = grind (arith, nat_tests)
 
+-- another way to u is of another neighbour
 off_nbr : (one : Way) (u v : ℕ) → Misses one (way v u ∷ []) → (u == one.to) ≡ true → (v == one.from) ≡ false
 off_nbr one u v e at = let off = off_way_to one v u e in grind (arith, nat_tests)
 
+-- an item that is taken changes its way
 took_change : (net : Net) (past : Chronicle) (v u s : ℕ) (x : Item) → Changed net past (Took v u s x ∷ past) (way v u ∷ [])
 took_change net past v u s x = record {
   tail = [];
@@ -188,6 +243,7 @@ took_change net past v u s x = record {
   kept = λ one misses queued. rw (off_way_to one v u misses) refl;
 }
 
+-- a failure changes both ways
 fail_change : (net : Net) (past : Chronicle) (a b : ℕ) → Changed net past (fact.Fail a b ∷ past) (way a b ∷ way b a ∷ [])
 fail_change net past a b = record {
   tail = [];
@@ -196,6 +252,7 @@ fail_change net past a b = record {
   kept = λ one misses queued. rw (off_link one a b misses) refl;
 }
 
+-- so does a restoring
 restore_change : (net : Net) (past : Chronicle) (a b : ℕ) → Changed net past (fact.Restore a b ∷ past) (way a b ∷ way b a ∷ [])
 restore_change net past a b = record {
   tail = [];
@@ -206,93 +263,141 @@ restore_change net past a b = record {
 
 -- ---- events
 
-greet_change : (rules : Rules) (net : Net) (past : Chronicle) (v u s : ℕ) (known : Option ℕ) (ways : List Way) → Changed net past (greeted rules net v u s known past) ways
-greet_change rules net past v u s (Some t) ways = unchanged net past ways
-greet_change rules net past v u s None ways = write_change rules net past u (local u (log_of u past) All (cause.Ready v s)) ways (λ one session misses at. refl)
+-- a greeting changes no more
+greet_change : (rules : Rules) (net : Net) (carried : Carried) (past : Chronicle) (v u s : ℕ) (known : Option ℕ) (ways : List Way) → Changed net past (greeted rules net carried v u s known past) ways
+greet_change rules net carried past v u s (Some t) ways = unchanged net past ways
+greet_change rules net carried past v u s None ways = write_change rules net carried u ways past (local u (log_of u past) All (cause.Ready v s)) (λ one session misses at. refl)
 
-take_change : (rules : Rules) (net : Net) (past : Chronicle) (v u s : ℕ) (x : Item) → Changed net past (take_item rules net v u s x past) (way v u ∷ [])
+-- what an item changes that u takes
+take_change : (rules : Rules) (net : Net) (carried : Carried) (past : Chronicle) (v u s : ℕ) (x : Item) → Changed net past (take_item rules net carried v u s x past) (way v u ∷ [])
 unfolding take_item
-take_change rules net past v u s (News n x) =
+take_change rules net carried past v u s (News n x) =
     let mid : Chronicle = Took v u s (News n x) ∷ past in
-    both net past mid (write rules net u (heard v s n x) mid) (way v u ∷ []) (took_change net past v u s (News n x))
-    (write_change rules net mid u (heard v s n x) (way v u ∷ []) (λ one session misses at. refl))
-take_change rules net past v u s (Hello e) =
+    both net past mid (write rules net carried u (heard v s n x) mid) (way v u ∷ []) (took_change net past v u s (News n x))
+    (write_change rules net carried u (way v u ∷ []) mid (heard v s n x) (λ one session misses at. refl))
+take_change rules net carried past v u s (Marker e) =
+    let mid : Chronicle = Took v u s (Marker e) ∷ past in
+    both net past mid (meet_mark net carried u e mid) (way v u ∷ []) (took_change net past v u s (Marker e)) (meet_change rules net carried u (way v u ∷ []) mid e)
+take_change rules net carried past v u s (Hello e) =
     let mid : Chronicle = Took v u s (Hello e) ∷ past in
-    both net past mid (greeted rules net v u s (ready (reads (log_of u past)) v) mid) (way v u ∷ []) (took_change net past v u s (Hello e))
-    (greet_change rules net mid v u s (ready (reads (log_of u past)) v) (way v u ∷ []))
+    let met = meet_mark net carried u e mid in
+    let known = ready (reads (log_of u past)) v in
+    both net past mid (greeted rules net carried v u s known met) (way v u ∷ []) (took_change net past v u s (Hello e))
+    (both net mid met (greeted rules net carried v u s known met) (way v u ∷ []) (meet_change rules net carried u (way v u ∷ []) mid e)
+    (greet_change rules net carried met v u s known (way v u ∷ [])))
 
-close_change : (rules : Rules) (net : Net) (past : Chronicle) (u v s : ℕ) → Changed net past (write rules net u (local u (log_of u past) All (cause.Down v s)) past) (way v u ∷ [])
-close_change rules net past u v s =
-    write_change rules net past u (local u (log_of u past) All (cause.Down v s)) (way v u ∷ []) (λ one session misses at. rw (off_nbr one u v misses at) refl)
+-- a session that is closed changes the way to u
+close_change : (rules : Rules) (net : Net) (carried : Carried) (past : Chronicle) (u v s : ℕ) → Changed net past (write rules net carried u (local u (log_of u past) All (cause.Down v s)) past) (way v u ∷ [])
+close_change rules net carried past u v s =
+    write_change rules net carried u (way v u ∷ []) past (local u (log_of u past) All (cause.Down v s)) (λ one session misses at. rw (off_nbr one u v misses at) refl)
 
-open_change : (net : Net) (past : Chronicle) (u v s : ℕ) → linked net u v ≡ true → Changed net past (open_session u v s past) (way v u ∷ [])
+-- so does one that is opened
+open_change : (net : Net) (carried : Carried) (past : Chronicle) (u v s : ℕ) → linked net u v ≡ true → Changed net past (open_session carried u v s past) (way v u ∷ [])
 unfolding open_session
-open_change net past u v s near =
+open_change net carried past u v s near =
     let k = local u (log_of u past) All (cause.Up v s) in
-    let hello : List Going = record { to = v; session = s; item = Hello 0 } ∷ [] in
-    both net past (Log u k ∷ past) (happen (Log u k ∷ past) (sends past u hello)) (way v u ∷ [])
+    let hello : List Going = record { to = v; session = s; item = Hello (epoch u past) } ∷ [] in
+    both net past (Log u k ∷ past) (happen (Log u k ∷ past) (sends carried u hello)) (way v u ∷ [])
     (log_change net past u k (way v u ∷ []) (λ one session misses at. rw (off_nbr one u v misses at) refl))
-    (sends_change net past u (Log u k ∷ past) hello (way v u ∷ []) (near, tt))
+    (sends_change net carried u (Log u k ∷ past) hello (way v u ∷ []) (near, tt))
 
+-- an idle step changes nothing
 abbrev pub ChangedBy : Net → Chronicle → List Way → Step → Type 0
 ChangedBy net past ways (Idle reason) = Unit {0}
 ChangedBy net past ways (Goes now) = Changed net past now ways
 
-module _ (rules : Rules) (net : Net) (past : Chronicle) where
-  delivery_change : (v u : ℕ) (l : LinkState) (items : List Item) (session : Option ℕ) → ChangedBy net past (way v u ∷ []) (delivered rules net past v u l items session)
-  delivery_change v u (Down s) items session = tt
-  delivery_change v u (Up s) [] session = tt
-  delivery_change v u (Up s) (x ∷ rest) session =
-      elim (is_session session s) as (λ t. ChangedBy net past (way v u ∷ []) (if t then Goes (take_item rules net v u s x past) else Idle WrongSession)) [
-        | true ↦ take_change rules net past v u s x
+-- the same where it is declined, or not
+unless_change : (net : Net) (past now : Chronicle) (ways : List Way) (why : Option Reason) → Changed net past now ways → ChangedBy net past ways (unless why now)
+unless_change net past now ways None change = change
+unless_change net past now ways (Some why) change = tt
+
+module _ (rules : Rules) (net : Net) (carried : Carried) (past : Chronicle) where
+  -- an item that comes
+  comes_change : (v u s : ℕ) (x : Item) (session : Option ℕ) → ChangedBy net past (way v u ∷ []) (comes rules net carried u past v s x session)
+  comes_change v u s x session =
+      let turn = out_of_turn (suc (length (inbox (log_of u past) v s))) x in
+      let now = take_item rules net carried v u s x past in
+      elim (is_session session s) as (λ t. ChangedBy net past (way v u ∷ []) (if not t then Idle WrongSession else unless turn now)) [
+        | true ↦ unless_change net past now (way v u ∷ []) turn (take_change rules net carried past v u s x)
         | false ↦ tt
       ]
 
-  notice_change : (u v : ℕ) (session : Option ℕ) (l : LinkState) → ChangedBy net past (way v u ∷ []) (noticed rules net past u v session l)
-  notice_change u v None l = tt
-  notice_change u v (Some s) l =
-      elim (carries l s) as (λ t. ChangedBy net past (way v u ∷ []) (if t then Idle StillUp else Goes (write rules net u (local u (log_of u past) All (cause.Down v s)) past))) [
-        | true ↦ tt
-        | false ↦ close_change rules net past u v s
+  -- a notice
+  notices_change : (u v : ℕ) (session : Option ℕ) → ChangedBy net past (way v u ∷ []) (notices rules net carried u past v session)
+  notices_change u v None = tt
+  notices_change u v (Some s) = close_change rules net carried past u v s
+
+  -- an opening
+  opens_change : (u v s : ℕ) (session : Option ℕ) → linked net u v ≡ true → ChangedBy net past (way v u ∷ []) (opens carried u past v s session)
+  opens_change u v s (Some t) near = tt
+  opens_change u v s None near =
+      elim (nat_lt (last (reads (log_of u past)) v) s) as (λ t. ChangedBy net past (way v u ∷ []) (if t then Goes (open_session carried u v s past) else Idle OldSession)) [
+        | true ↦ open_change net carried past u v s near
+        | false ↦ tt
       ]
 
-  opening_change : (u v : ℕ) (session : Option ℕ) (l : LinkState) → linked net u v ≡ true → ChangedBy net past (way v u ∷ []) (opened past u v session l)
+module _ (rules : Rules) (net : Net) (past : Chronicle) where
+  -- a delivery
+  delivery_change : (v u : ℕ) (l : LinkState) (items : List Item) → ChangedBy net past (way v u ∷ []) (delivered rules net past v u l items)
+  unfolding give
+  delivery_change v u (Down s) items = tt
+  delivery_change v u (Up s) [] = tt
+  delivery_change v u (Up s) (x ∷ rest) = comes_change rules net (carried_by u past) past v u s x (held (reads (log_of u past)) v)
+
+  -- a notice, in a run
+  notice_change : (u v : ℕ) → ChangedBy net past (way v u ∷ []) (given rules net past u (input.Notice v))
+  unfolding give
+  notice_change u v = notices_change rules net (carried_by u past) past u v (held (reads (log_of u past)) v)
+
+  -- an opening, in a run
+  opening_change : (u v : ℕ) (session : Option ℕ) (l : LinkState) → linked net u v ≡ true → ChangedBy net past (way v u ∷ []) (opened_by_link rules net past u v session l)
+  unfolding give
   opening_change u v (Some s) l near = tt
   opening_change u v None (Down s) near = tt
-  opening_change u v None (Up s) near = open_change net past u v s near
+  opening_change u v None (Up s) near = opens_change rules net (carried_by u past) past u v s (held (reads (log_of u past)) v) near
 
+  -- a failure, where the link is up
   failing_change : (a b : ℕ) (l : LinkState) → ChangedBy net past (way a b ∷ way b a ∷ []) (fails past a b l)
   failing_change a b (Up s) = fail_change net past a b
   failing_change a b (Down s) = tt
 
+  -- a restoring, where it is down
   restoring_change : (a b : ℕ) (l : LinkState) → ChangedBy net past (way a b ∷ way b a ∷ []) (restores past a b l)
   restoring_change a b (Up s) = tt
   restoring_change a b (Down s) = restore_change net past a b
 
+  -- each event
   event_change : (event : Event) → IsTrue (fits net event) → ChangedBy net past (ways_of event) (step rules net past event)
-  unfolding step
+  unfolding step give
   event_change (Originate u p) fit =
       let k = local u (log_of u past) (One p) cause.Originate in
-      elim (owns (reads (log_of u past)) p) as (λ t. ChangedBy net past [] (if t then Idle AlreadyOrigin else Goes (write rules net u k past))) [
+      elim (owns (reads (log_of u past)) p) as (λ t. ChangedBy net past [] (if t then Idle AlreadyOrigin else Goes (write rules net (carried_by u past) u k past))) [
         | true ↦ tt
-        | false ↦ write_change rules net past u k [] (λ one session misses at. refl)
+        | false ↦ write_change rules net (carried_by u past) u [] past k (λ one session misses at. refl)
       ]
   event_change (Withdraw u p) fit =
       let k = local u (log_of u past) (One p) cause.Withdraw in
-      elim (owns (reads (log_of u past)) p) as (λ t. ChangedBy net past [] (if t then Goes (write rules net u k past) else Idle NotOrigin)) [
-        | true ↦ write_change rules net past u k [] (λ one session misses at. refl)
+      elim (owns (reads (log_of u past)) p) as (λ t. ChangedBy net past [] (if t then Goes (write rules net (carried_by u past) u k past) else Idle NotOrigin)) [
+        | true ↦ write_change rules net (carried_by u past) u [] past k (λ one session misses at. refl)
         | false ↦ tt
       ]
-  event_change (Prefer u v value) fit = write_change rules net past u (local u (log_of u past) All (cause.Prefer v value)) [] (λ one session misses at. refl)
-  event_change (Deliver v u) fit = delivery_change v u (link v u past) (channel v u past) (held_with u v past)
+  event_change (Prefer u v value) fit = write_change rules net (carried_by u past) u [] past (local u (log_of u past) All (cause.Prefer v value)) (λ one session misses at. refl)
+  event_change (Deliver v u) fit = delivery_change v u (link v u past) (channel v u past)
   event_change (Fail a b) fit = failing_change a b (link a b past)
   event_change (Restore a b) fit = restoring_change a b (link a b past)
-  event_change (Notice u v) fit = notice_change u v (held_with u v past) (link u v past)
+  event_change (Notice u v) fit =
+      elim (is_carried (link u v past) (held_with u v past)) as (λ t. ChangedBy net past (way v u ∷ []) (if t then Idle StillUp else given rules net past u (input.Notice v))) [
+        | true ↦ tt
+        | false ↦ notice_change u v
+      ]
   event_change (OpenSession u v) fit = opening_change u v (held_with u v past) (link u v past) fit
+  event_change (Snap u) fit = cut_change rules net (carried_by u past) u [] past (suc (epoch u past))
 
+-- both ways go over the link
 two_linked : (net : Net) (a b : ℕ) → linked net a b ≡ true → AreLinked net (way a b ∷ way b a ∷ [])
 two_linked net a b near = (near, (linked_sym net b a ∙ near, tt))
 
+-- the ways of an event go over its link
 ways_linked : (net : Net) (event : Event) → IsTrue (fits net event) → AreLinked net (ways_of event)
 ways_linked net (Originate u p) fit = tt
 ways_linked net (Withdraw u p) fit = tt
@@ -302,8 +407,10 @@ ways_linked net (Fail a b) fit = two_linked net a b fit
 ways_linked net (Restore a b) fit = two_linked net a b fit
 ways_linked net (Notice u v) fit = (linked_sym net v u ∙ fit, tt)
 ways_linked net (OpenSession u v) fit = (linked_sym net v u ∙ fit, tt)
+ways_linked net (Snap u) fit = tt
 
 module _ (net : Net) (past : Chronicle) (has : Way → Bool) (was : AreWaiting net past has) where
+  -- what is not known of the ways, by the step
   stale_by : (s : Step) (list : List Effect) (ways : List Way) → Tells past s (outcome.Did list) → ChangedBy net past ways s → AreLinked net ways
       → AreWaitingBut net (chronicle_of past s) (ways ++ queued_ways list) has
   stale_by (Idle reason) list ways tells change near = absurd tells
@@ -317,6 +424,7 @@ module _ (net : Net) (past : Chronicle) (has : Way → Bool) (was : AreWaiting n
             was one ∙ ap (λ b. linked net one.from one.to && b) (sym (change.kept one parts.0 parts.1));
       })
 
+  -- an idle step leaves the set right
   idle_by : (s : Step) (told : Reason) → Tells past s (outcome.Idle told) → AreWaiting net (chronicle_of past s) has
   idle_by (Idle reason) told tells = was
   idle_by (Goes now) told tells = absurd tells
@@ -334,9 +442,11 @@ module _ (net : Net) (past : Chronicle) (has : Way → Bool) (was : AreWaiting n
 
 -- ---- a way is looked at again
 
+-- the same ways have the same ends
 same_ends : (one other : Way) → same_way one other ≡ true → (one.from ≡ other.from) × (one.to ≡ other.to)
 same_ends one other e = (grind (arith, nat_tests), grind (arith, nat_tests))
 
+-- one way is known again
 pub looked : (net : Net) (past : Chronicle) (here : Way) (rest : List Way) (old new : Way → Bool) (waits_so : Bool)
     → ((other : Way) → new other ≡ (if same_way other here then waits_so else old other))
     → (linked net here.from here.to ≡ true → waits_so ≡ arrives past here.from here.to)
@@ -353,10 +463,6 @@ looked net past here rest old new waits_so puts is was = record {
       ]) refl);
 }
 
+-- all are known
 pub all_known : (net : Net) (past : Chronicle) (has : Way → Bool) → AreWaitingBut net past [] has → AreWaiting net past has
 all_known net past has was = λ one. was.right one refl
-
--- what a delivery comes to, by what it reads
-pub arrives_is : (past : Chronicle) (v u s : ℕ) (x : Item) (rest : List Item) → link v u past ≡ Up s → channel v u past ≡ x ∷ rest
-    → arrives past v u ≡ is_session (held_with u v past) s
-arrives_is past v u s x rest is at = ap₂ (λ l items. may_arrive l items (held_with u v past)) is at

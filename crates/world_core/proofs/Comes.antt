@@ -1,160 +1,168 @@
--- What an event comes to.
-use Rattle.std.proofs.Common.{ℕ, true, false, Option, Some, None, List, [], ◌∷◌, ◌++◌, ◌≡◌, refl, sym, ◌∙◌, ap, ap₂, subst, is_some}
+-- What an event comes to, by what it reads.
+use Rattle.std.proofs.Common.{ℕ, suc, true, false, not, Option, Some, None, List, [], ◌∷◌, ◌++◌, ◌≡◌, refl, sym, ◌∙◌, ap, ap₂, subst, is_ok, is_some, length, Result, Ok, Err, IfOk, IfErr}
 use Rattle.std.specs.Prelude.{if◌then◌else◌}
-use Rattle.std.proofs.lemmas.List.{append-nil}
 use Rattle.std.proofs.lemmas.List.Sums.{fold-append}
-use Rattle.topology.specs.declared.names.Scope.TheVariants.{One, All}
 use Rattle.topology.specs.declared.status.Reason.{Reason}
-use Rattle.topology.specs.declared.status.Reason.TheVariants.{AlreadyOrigin, NotOrigin, StillUp, WrongSession, AlreadyOpen, AlreadyDown, AlreadyUp}
+use Rattle.topology.specs.declared.status.Reason.TheVariants.{StillUp, WrongSession, AlreadyOpen, LinkDown, EmptyChannel, AlreadyDown, AlreadyUp}
 use Rattle.topology.specs.declared.links.LinkState.{LinkState}
 use Rattle.topology.specs.declared.links.LinkState.TheVariants.{Up, Down}
-use Rattle.topology.specs.LinkStates.{carries, is_up}
+use Rattle.topology.specs.LinkStates.{is_up}
 use Rattle.topology.specs.Net.{Net}
-use Rattle.path_vector.specs.declared.causes.Cause.TheVariants as cause
 use Rattle.path_vector.specs.Rules.{Rules}
-use Rattle.path_vector.specs.History.{owns}
-use Rattle.trigger_log.specs.Entries.{Entry, reads, local, is_session}
-use Rattle.trigger_log.specs.Going.{Item}
-use Rattle.link_model.specs.declared.links.Links.{Links}
+use Rattle.trigger_log.specs.Entries.{inbox, is_session}
+use Rattle.trigger_log.specs.Going.{Item, News, Marker, Hello}
 use Rattle.chronicle.specs.declared.events.Event.{Event}
-use Rattle.chronicle.specs.declared.events.Event.TheVariants.{Originate, Withdraw, Prefer, Deliver, Fail, Restore, Notice, OpenSession}
-use Rattle.chronicle.specs.Facts.{Chronicle, Took}
-use Rattle.chronicle.specs.Facts as fact
-use Rattle.chronicle.specs.Logs.{log_of}
-use Rattle.chronicle.specs.Links.{link}
+use Rattle.chronicle.specs.declared.events.Event.TheVariants.{Deliver, Fail, Restore, Notice, OpenSession}
 use Rattle.chronicle.specs.Channels.{channel}
-use Rattle.chronicle.specs.Steps.{write, take_item}
-use Rattle.chronicle.specs.Run.{Idle, Goes, held_with, delivered, noticed, opened, fails, restores, step, after, chronicle_of, run}
-use Rattle.world_core.specs.declared.outcomes.Effect.{Effect}
+use Rattle.chronicle.specs.Deliveries.{arrives, may_arrive}
+use Rattle.chronicle.specs.Facts.{Chronicle}
+use Rattle.chronicle.specs.Facts as fact
+use Rattle.chronicle.specs.Giving.{comes, give, out_of_turn, unless}
+use Rattle.chronicle.specs.Inputs as input
+use Rattle.chronicle.specs.Links.{link}
+use Rattle.chronicle.specs.Logs.{log_of}
+use Rattle.chronicle.specs.Run.{held_with, carried_by, given, delivered, is_carried, opened_by_link, fails, restores, step, after, run}
+use Rattle.chronicle.specs.Steps.{Step, Idle, Goes, take_item}
+use Rattle.cut_laws.specs.Delivered.{Did}
+use Rattle.cut_laws.specs.Joined.{FrontFits}
+use Rattle.cut_laws.proofs.Delivering.{in_turn}
+use Rattle.node_core.specs.Coming.{IsPlaced}
+use Rattle.chronicle.proofs.Blocks.{same_number}
+use Rattle.world_core.specs.Happening.{Comes, MayArrive}
+use Rattle.world_core.specs.declared.network.Network.{Network}
 use Rattle.world_core.specs.declared.outcomes.Outcome.{Outcome}
 use Rattle.world_core.specs.declared.outcomes.Outcome.TheVariants as outcome
-use Rattle.world_core.specs.declared.sites.Site.{Site}
-use Rattle.world_core.specs.Effects.{effects, Tells}
-use Rattle.world_core.specs.Matching.{AreLinks, AreSites, Matches}
-use Rattle.world_core.proofs.Placed.{same_sites}
-use Rattle.world_core.specs.Happening.{AreMoving, AreSending, Happens, LinksHappen, Since}
+use Rattle.world_core.specs.declared.outcomes.Effect.{Effect}
+use Rattle.world_core.specs.Effects.{effects}
+use Rattle.world_core.specs.Limits.{triggers_of}
+use Rattle.world_core.specs.Matching.{IsCounted, Stands}
 
-module _ {P : Type 0} (policy : P) (rules : Rules) (net : Net) (past : Chronicle) (event : Event) (sites : List (Site P)) (links : Links) where
-  pub idle : (reason : Reason) → step rules net past event ≡ Idle reason → Matches policy rules net past sites links → Happens policy rules net past event sites links (outcome.Idle reason)
-  unfolding after
-  idle reason e was = record {
-    matches = subst (λ now. Matches policy rules net now sites links) (sym (ap (chronicle_of past) e)) was;
-    tells = subst (λ s. Tells past s (outcome.Idle reason)) (sym e) refl;
-  }
+-- the same step
+pub comes_so : {P : Type 0} (rules : Rules) (past : Chronicle) (s t : Step) (network : Network P) (outcome : Outcome) → s ≡ t → Comes rules past t network outcome → Comes rules past s network outcome
+comes_so rules past s t network outcome same comes = subst (λ s. Comes rules past s network outcome) (sym same) comes
 
-  pub did : (now : Chronicle) (list : List Effect) → step rules net past event ≡ Goes now → AreMoving policy rules net past now sites links list → Happens policy rules net past event sites links (outcome.Did list)
-  unfolding after
-  did now list e moving = record {
-    matches = subst (λ now. Matches policy rules net now sites links) (sym (ap (chronicle_of past) e)) moving.matches;
-    tells = subst (λ s. Tells past s (outcome.Did list)) (sym e) moving.since;
-  }
+-- an idle one leaves all as it was
+pub idle : {P : Type 0} (rules : Rules) (past : Chronicle) (s : Step) (network : Network P) (why : Reason) → s ≡ Idle why → Stands rules past network → Comes rules past s network (outcome.Idle why)
+idle rules past s network why is was = comes_so rules past s (Idle why) network (outcome.Idle why) is (record { stands = was; tells = refl })
 
-module _ (rules : Rules) (net : Net) (past : Chronicle) (event : Event) (links : Links) where
-  pub links_idle : (reason : Reason) → step rules net past event ≡ Idle reason → AreLinks net past links → LinksHappen rules net past event links (outcome.Idle reason)
-  unfolding after
-  links_idle reason e was = record {
-    are_links = subst (λ now. AreLinks net now links) (sym (ap (chronicle_of past) e)) was;
-    tells = subst (λ s. Tells past s (outcome.Idle reason)) (sym e) refl;
-  }
+-- one that goes on
+pub did : {P : Type 0} (rules : Rules) (past : Chronicle) (s : Step) (now : Chronicle) (network : Network P) (list : List Effect) → s ≡ Goes now → Stands rules now network
+    → effects past ++ list ≡ effects now → Comes rules past s network (outcome.Did list)
+did rules past s now network list is stands tells = comes_so rules past s (Goes now) network (outcome.Did list) is (record { stands = stands; tells = tells })
 
-  pub links_did : (now : Chronicle) (list : List Effect) → step rules net past event ≡ Goes now → AreSending net past now links list → LinksHappen rules net past event links (outcome.Did list)
-  unfolding after
-  links_did now list e moving = record {
-    are_links = subst (λ now. AreLinks net now links) (sym (ap (chronicle_of past) e)) moving.are_links;
-    tells = subst (λ s. Tells past s (outcome.Did list)) (sym e) moving.since;
-  }
+-- a link that changes gives no trigger
+pub fail_counted : (net : Net) (past : Chronicle) (a b triggers : ℕ) → IsCounted net past triggers → IsCounted net (fact.Fail a b ∷ past) triggers
+unfolding triggers_of
+fail_counted net past a b triggers was = record { total = was.total; few = was.few }
 
-module _ (rules : Rules) (net : Net) (past : Chronicle) (u p : ℕ) where
-  abbrev pub begins : Entry
-  begins = local u (log_of u past) (One p) cause.Originate
-
-  abbrev pub ends : Entry
-  ends = local u (log_of u past) (One p) cause.Withdraw
-
-  pub originate_idle : owns (reads (log_of u past)) p ≡ true → step rules net past (Originate u p) ≡ Idle AlreadyOrigin
-  unfolding step
-  originate_idle e = ap (λ t. if t then Idle AlreadyOrigin else Goes (write rules net u begins past)) e
-
-  pub originate_goes : owns (reads (log_of u past)) p ≡ false → step rules net past (Originate u p) ≡ Goes (write rules net u begins past)
-  unfolding step
-  originate_goes e = ap (λ t. if t then Idle AlreadyOrigin else Goes (write rules net u begins past)) e
-
-  pub withdraw_idle : owns (reads (log_of u past)) p ≡ false → step rules net past (Withdraw u p) ≡ Idle NotOrigin
-  unfolding step
-  withdraw_idle e = ap (λ t. if t then Goes (write rules net u ends past) else Idle NotOrigin) e
-
-  pub withdraw_goes : owns (reads (log_of u past)) p ≡ true → step rules net past (Withdraw u p) ≡ Goes (write rules net u ends past)
-  unfolding step
-  withdraw_goes e = ap (λ t. if t then Goes (write rules net u ends past) else Idle NotOrigin) e
-
-pub prefer_goes : (rules : Rules) (net : Net) (past : Chronicle) (u v value : ℕ)
-    → step rules net past (Prefer u v value) ≡ Goes (write rules net u (local u (log_of u past) All (cause.Prefer v value)) past)
-unfolding step
-prefer_goes rules net past u v value = refl
+-- nor does one that comes up
+pub restore_counted : (net : Net) (past : Chronicle) (a b triggers : ℕ) → IsCounted net past triggers → IsCounted net (fact.Restore a b ∷ past) triggers
+unfolding triggers_of
+restore_counted net past a b triggers was = record { total = was.total; few = was.few }
 
 module _ (rules : Rules) (net : Net) (past : Chronicle) (u v : ℕ) where
-  -- what a step is, by what it reads
-  pub notice_step : (session : Option ℕ) (l : LinkState) → held_with u v past ≡ session → link u v past ≡ l → step rules net past (Notice u v) ≡ noticed rules net past u v session l
+  -- a notice while the link carries the session
+  pub notice_up : is_carried (link u v past) (held_with u v past) ≡ true → step rules net past (Notice u v) ≡ Idle StillUp
   unfolding step
-  notice_step session l holds is = ap₂ (λ h l. noticed rules net past u v h l) holds is
+  notice_up up = ap (λ t. if t then Idle StillUp else given rules net past u (input.Notice v)) up
 
-  pub notice_up : (s : ℕ) (l : LinkState) → held_with u v past ≡ Some s → link u v past ≡ l → carries l s ≡ true → step rules net past (Notice u v) ≡ Idle StillUp
-  notice_up s l holds is up =
-      notice_step (Some s) l holds is ∙ ap (λ t. if t then Idle StillUp else Goes (write rules net u (local u (log_of u past) All (cause.Down v s)) past)) up
-
-  pub notice_goes : (s : ℕ) (l : LinkState) → held_with u v past ≡ Some s → link u v past ≡ l → carries l s ≡ false
-      → step rules net past (Notice u v) ≡ Goes (write rules net u (local u (log_of u past) All (cause.Down v s)) past)
-  notice_goes s l holds is down =
-      notice_step (Some s) l holds is ∙ ap (λ t. if t then Idle StillUp else Goes (write rules net u (local u (log_of u past) All (cause.Down v s)) past)) down
-
-  pub open_step : (session : Option ℕ) (l : LinkState) → held_with u v past ≡ session → link u v past ≡ l → step rules net past (OpenSession u v) ≡ opened past u v session l
+  -- a notice while it does not
+  pub notice_over : is_carried (link u v past) (held_with u v past) ≡ false → step rules net past (Notice u v) ≡ given rules net past u (input.Notice v)
   unfolding step
-  open_step session l holds is = ap₂ (λ h l. opened past u v h l) holds is
+  notice_over over = ap (λ t. if t then Idle StillUp else given rules net past u (input.Notice v)) over
 
+  -- an opening, by what it reads
+  pub open_step : (session : Option ℕ) (l : LinkState) → held_with u v past ≡ session → link u v past ≡ l → step rules net past (OpenSession u v) ≡ opened_by_link rules net past u v session l
+  unfolding step
+  open_step session l holds is = ap₂ (λ h l. opened_by_link rules net past u v h l) holds is
+
+  -- an opening where a session is held
   pub open_held : (session : Option ℕ) → held_with u v past ≡ session → is_some session ≡ true → step rules net past (OpenSession u v) ≡ Idle AlreadyOpen
   open_held None holds some = absurd (cc some)
   open_held (Some s) holds some = open_step (Some s) (link u v past) holds refl
 
-  pub fail_step : (l : LinkState) → link u v past ≡ l → step rules net past (Fail u v) ≡ fails past u v l
+  -- a failure, by what it reads
+  fail_step : (l : LinkState) → link u v past ≡ l → step rules net past (Fail u v) ≡ fails past u v l
   unfolding step
   fail_step l is = ap (fails past u v) is
 
-  pub restore_step : (l : LinkState) → link u v past ≡ l → step rules net past (Restore u v) ≡ restores past u v l
+  -- a restoring, by what it reads
+  restore_step : (l : LinkState) → link u v past ≡ l → step rules net past (Restore u v) ≡ restores past u v l
   unfolding step
   restore_step l is = ap (restores past u v) is
 
+  -- a link that is up fails
   pub fails_up : (l : LinkState) → link u v past ≡ l → is_up l ≡ true → step rules net past (Fail u v) ≡ Goes (fact.Fail u v ∷ past)
   fails_up (Up s) is up = fail_step (Up s) is
   fails_up (Down s) is up = absurd (cc up)
 
+  -- one that is down does not
   pub fails_down : (l : LinkState) → link u v past ≡ l → is_up l ≡ false → step rules net past (Fail u v) ≡ Idle AlreadyDown
   fails_down (Up s) is up = absurd (cc up)
   fails_down (Down s) is up = fail_step (Down s) is
 
+  -- a link that is up is not restored
   pub restores_up : (l : LinkState) → link u v past ≡ l → is_up l ≡ true → step rules net past (Restore u v) ≡ Idle AlreadyUp
   restores_up (Up s) is up = restore_step (Up s) is
   restores_up (Down s) is up = absurd (cc up)
 
+  -- one that is down is
   pub restores_down : (l : LinkState) → link u v past ≡ l → is_up l ≡ false → step rules net past (Restore u v) ≡ Goes (fact.Restore u v ∷ past)
   restores_down (Up s) is up = absurd (cc up)
   restores_down (Down s) is up = restore_step (Down s) is
 
+-- what a delivery does, by what it reads
 module _ (rules : Rules) (net : Net) (past : Chronicle) (v u : ℕ) where
-  pub deliver_step : (l : LinkState) (items : List Item) → link v u past ≡ l → channel v u past ≡ items
-      → step rules net past (Deliver v u) ≡ delivered rules net past v u l items (held_with u v past)
+  -- a delivery, by what it reads
+  deliver_step : (l : LinkState) (items : List Item) → link v u past ≡ l → channel v u past ≡ items → step rules net past (Deliver v u) ≡ delivered rules net past v u l items
   unfolding step
-  deliver_step l items is front = ap₂ (λ l items. delivered rules net past v u l items (held_with u v past)) is front
+  deliver_step l items is front = ap₂ (delivered rules net past v u) is front
 
-  pub deliver_wrong : (s : ℕ) (x : Item) (rest : List Item) → link v u past ≡ Up s → channel v u past ≡ x ∷ rest → is_session (held_with u v past) s ≡ false
-      → step rules net past (Deliver v u) ≡ Idle WrongSession
-  deliver_wrong s x rest is front wrong =
-      deliver_step (Up s) (x ∷ rest) is front ∙ ap (λ t. if t then Goes (take_item rules net v u s x past) else Idle WrongSession) wrong
+  -- the item in front arrives
+  pub deliver_front : (s : ℕ) (x : Item) (rest : List Item) → link v u past ≡ Up s → channel v u past ≡ x ∷ rest → step rules net past (Deliver v u) ≡ given rules net past u (input.Arrive v s x)
+  deliver_front s x rest is front = deliver_step (Up s) (x ∷ rest) is front
 
-  pub deliver_goes : (s : ℕ) (x : Item) (rest : List Item) → link v u past ≡ Up s → channel v u past ≡ x ∷ rest → is_session (held_with u v past) s ≡ true
-      → step rules net past (Deliver v u) ≡ Goes (take_item rules net v u s x past)
-  deliver_goes s x rest is front right =
-      deliver_step (Up s) (x ∷ rest) is front ∙ ap (λ t. if t then Goes (take_item rules net v u s x past) else Idle WrongSession) right
+  -- an item of another session is declined
+  wrong_session : (s : ℕ) (x : Item) → is_session (held_with u v past) s ≡ false → given rules net past u (input.Arrive v s x) ≡ Idle WrongSession
+  unfolding give
+  wrong_session s x wrong =
+      ap (λ t. if not t then Idle WrongSession else unless (out_of_turn (suc (length (inbox (log_of u past) v s))) x) (take_item rules net (carried_by u past) v u s x past)) wrong
 
+  -- an item in its turn is not
+  right_session : (s : ℕ) (x : Item) → is_session (held_with u v past) s ≡ true → out_of_turn (suc (length (inbox (log_of u past) v s))) x ≡ None → Did (given rules net past u (input.Arrive v s x))
+  unfolding give
+  right_session s x right turn = rw (right, turn) tt
+
+  -- why a delivery does nothing, and that the way does not wait
+  abbrev pub Rests : Reason → Type 0
+  Rests why = (step rules net past (Deliver v u) ≡ Idle why) × (arrives past v u ≡ false)
+
+  -- the link is down
+  pub rests_down : (s : ℕ) → link v u past ≡ Down s → Rests LinkDown
+  rests_down s is = (deliver_step (Down s) (channel v u past) is refl, ap (λ l. may_arrive l (channel v u past) (held_with u v past)) is)
+
+  -- nothing is on its way
+  pub rests_empty : (s : ℕ) → link v u past ≡ Up s → channel v u past ≡ [] → Rests EmptyChannel
+  rests_empty s is none = (deliver_step (Up s) [] is none, ap₂ (λ l items. may_arrive l items (held_with u v past)) is none)
+
+  -- another session is held
+  pub rests_wrong : (s : ℕ) (x : Item) (rest : List Item) → link v u past ≡ Up s → channel v u past ≡ x ∷ rest → is_session (held_with u v past) s ≡ false → Rests WrongSession
+  rests_wrong s x rest is front wrong =
+      (deliver_front s x rest is front ∙ wrong_session s x wrong, ap₂ (λ l items. may_arrive l items (held_with u v past)) is front ∙ wrong)
+
+  -- what arrives is taken
+  pub arrival_goes : (s : ℕ) (x : Item) (rest : List Item) → FrontFits net past v u → link v u past ≡ Up s → channel v u past ≡ x ∷ rest → held_with u v past ≡ Some s → Did (given rules net past u (input.Arrive v s x))
+  arrival_goes s x rest fits is front holds =
+      let right : is_session (held_with u v past) s ≡ true = ap (λ o. is_session o s) holds ∙ same_number s in
+      right_session s x right (in_turn rules net past v u fits s x rest is front holds)
+
+-- the prefix of an update in front is one of the network
+pub front_placed : (net : Net) (past : Chronicle) (v u : ℕ) (x : Item) (rest : List Item) → FrontFits net past v u → channel v u past ≡ x ∷ rest → IsPlaced net x
+front_placed net past v u (News n x) rest fits front = fits.placed n x rest front
+front_placed net past v u (Marker e) rest fits front = tt
+front_placed net past v u (Hello e) rest fits front = tt
+
+-- there is none
 pub none_of : (o : Option ℕ) → is_some o ≡ false → o ≡ None
 none_of None e = refl
 none_of (Some s) e = absurd (cc e)
@@ -164,27 +172,17 @@ pub run-push : (rules : Rules) (net : Net) (events : List Event) (event : Event)
 unfolding run
 run-push rules net events event = fold-append (after rules net) [] events (event ∷ [])
 
+-- before the first event
 pub run-none : (rules : Rules) (net : Net) → run rules net [] ≡ []
 unfolding run
 run-none rules net = refl
 
--- what was taken shows nothing
-pub since_took : (past : Chronicle) (v u s : ℕ) (x : Item) (list : List Effect) (now : Chronicle) → Since (Took v u s x ∷ past) list now → Since past list now
-since_took past v u s x list now was = subst (λ shown. shown ++ list ≡ effects now) (append-nil (effects past)) was
+-- a way over which something may arrive
+arrives_so : (past : Chronicle) (v u s : ℕ) (x : Item) (rest : List Item) → link v u past ≡ Up s → channel v u past ≡ x ∷ rest → held_with u v past ≡ Some s → arrives past v u ≡ true
+arrives_so past v u s x rest is front holds =
+    ap₂ (λ l items. may_arrive l items (held_with u v past)) is front ∙ (ap (λ o. is_session o s) holds ∙ same_number s)
 
--- a link that fails or comes up again changes no log
-pub fail_logs : (rules : Rules) (net : Net) (past : Chronicle) (a b u : ℕ) → log_of u (after rules net past (Fail a b)) ≡ log_of u past
-unfolding after step
-fail_logs rules net past a b u = elim (link a b past) as (λ l. log_of u (chronicle_of past (fails past a b l)) ≡ log_of u past) [ Up s ↦ refl | Down s ↦ refl ]
-
-pub restore_logs : (rules : Rules) (net : Net) (past : Chronicle) (a b u : ℕ) → log_of u (after rules net past (Restore a b)) ≡ log_of u past
-unfolding after step
-restore_logs rules net past a b u = elim (link a b past) as (λ l. log_of u (chronicle_of past (restores past a b l)) ≡ log_of u past) [ Up s ↦ refl | Down s ↦ refl ]
-
-pub with_sites : {P : Type 0} (policy : P) (rules : Rules) (net : Net) (past : Chronicle) (event : Event) (sites : List (Site P)) (links : Links) (outcome : Outcome)
-    → ((u : ℕ) → log_of u (after rules net past event) ≡ log_of u past) → AreSites policy rules net past sites → LinksHappen rules net past event links outcome
-    → Happens policy rules net past event sites links outcome
-with_sites policy rules net past event sites links outcome same was happened = record {
-  matches = record { are_sites = same_sites policy rules net past (after rules net past event) sites same was; are_links = happened.are_links };
-  tells = happened.tells;
-}
+-- a delivery would not be idle exactly where something may arrive
+pub waits_where : (past : Chronicle) (v u : ℕ) (r : Result ℕ Reason) (P : Reason → Type 0) → IfOk r (λ s. MayArrive past v u s) → IfErr r (λ why. P why × (arrives past v u ≡ false)) → is_ok r ≡ arrives past v u
+waits_where past v u (Ok s) P may rests = sym (arrives_so past v u s may.front.0 may.front.1 may.up may.front.2 may.held)
+waits_where past v u (Err why) P may rests = sym rests.1

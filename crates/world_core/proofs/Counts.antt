@@ -1,54 +1,39 @@
--- What an entry of one node changes of the counts of all.
-use Rattle.std.proofs.Common.{ℕ, suc, Bool, true, false, ◌+◌, ◌-◌, ◌^◌, ◌==◌, ◌&&◌, Option, Some, None, List, [], ◌∷◌, ◌≡◌, ◌≤◌, ◌<◌, IsTrue, Result, Err, IfErr, refl, sym, ◌∙◌, ap, ap₂, subst, arith, length, nat_lt, get_or, slice_get}
-use Rattle.std.specs.Prelude.{nat_le, if◌then◌else◌}
+-- What an input of one node changes of the counts of all.
+use Rattle.std.proofs.Common.{ℕ, suc, Bool, true, false, not, ◌+◌, ◌-◌, ◌==◌, ◌&&◌, nat_lt, Option, Some, None, List, [], ◌∷◌, ◌≡◌, ◌≤◌, ◌⊎◌, inl, inr, refl, sym, ◌∙◌, ap, ap₂, subst, arith, length}
+use Rattle.std.specs.Prelude.{if◌then◌else◌}
 use Rattle.std.specs.List.{list_any, sum_by}
 use Rattle.std.proofs.lemmas.Bool.Decides.{nat_tests}
 use Rattle.std.proofs.lemmas.List.Sums.{sum_by-cons}
-use Rattle.topology.specs.declared.status.LimitKind.TheVariants.{Events}
+use Rattle.topology.specs.declared.names.Scope.TheVariants.{One, All}
 use Rattle.topology.specs.declared.status.Reason.{Reason}
-use Rattle.topology.specs.declared.status.Reason.TheVariants.{AlreadyOrigin, NotOrigin, WrongSession, StillUp}
-use Rattle.topology.specs.declared.links.LinkState.{LinkState}
-use Rattle.topology.specs.declared.links.LinkState.TheVariants.{Up, Down}
-use Rattle.topology.specs.declared.names.Scope.TheVariants.{All}
-use Rattle.topology.specs.Lists.{has, ascending}
-use Rattle.topology.specs.LinkStates.{carries}
+use Rattle.topology.specs.declared.status.Reason.TheVariants as reason
+use Rattle.topology.specs.Lists.{has}
 use Rattle.topology.specs.Paths.{differ}
-use Rattle.topology.specs.Net.{Net, IsValid, linked}
+use Rattle.topology.specs.Net.{Net, IsValid}
 use Rattle.path_vector.specs.declared.causes.Cause.TheVariants as cause
 use Rattle.path_vector.specs.Rules.{Rules}
-use Rattle.path_vector.specs.History.{owns, ready}
-use Rattle.trigger_log.specs.Entries.{Entry, local, reads, is_local, is_session, locals}
+use Rattle.path_vector.specs.History.{held, last, owns, ready}
+use Rattle.trigger_log.specs.Entries.{Entry, inbox, local, reads, is_local, is_session, locals}
 use Rattle.trigger_log.specs.Sending.{sent_of}
-use Rattle.trigger_log.specs.Going.{Item, News, Hello}
-use Rattle.trigger_log.specs.Standing.{StandsFor}
-use Rattle.link_model.specs.declared.links.Links.{Links}
-use Rattle.chronicle.specs.declared.events.Event.{Event}
-use Rattle.chronicle.specs.declared.events.Event.TheVariants.{Originate, Withdraw, Prefer, Deliver, Fail, Restore, Notice, OpenSession}
+use Rattle.trigger_log.specs.Going.{Item, News, Marker, Hello}
+use Rattle.chronicle.specs.Epochs.{epoch}
 use Rattle.chronicle.specs.Facts.{Chronicle, Took}
+use Rattle.chronicle.specs.Giving.{unless, out_of_turn, comes, notices, opens, give}
+use Rattle.chronicle.specs.Inputs.{Input}
+use Rattle.chronicle.specs.Inputs as input
 use Rattle.chronicle.specs.Logs.{log_of}
-use Rattle.chronicle.specs.Links.{link}
-use Rattle.chronicle.specs.Channels.{channel}
-use Rattle.chronicle.specs.Steps.{greeted, heard, open_session, write, take_item}
-use Rattle.chronicle.specs.Run.{Step, Idle, Goes, held_with, delivered, noticed, opened, fails, restores, step, after, run, chronicle_of}
-use Rattle.chronicle.proofs.Blocks.{log_own, log_other, log_opener, log_not_opener}
-use Rattle.world_core.specs.Limits.{triggers_of, has_more_entries, has_more_updates, limit_of, most_events, most_triggers, most_entries, most_updates, first_above, above, above_by, StopsAt, Reached}
-use Rattle.world_core.specs.Fits.{fits}
-use Rattle.world_core.specs.Effects.{Tells}
-use Rattle.world_core.specs.declared.outcomes.Effect.{Effect}
-use Rattle.world_core.specs.declared.outcomes.Outcome.TheVariants as outcome
-use Rattle.world_core.specs.declared.outcomes.Stop.{Stop}
-use Rattle.world_core.specs.declared.outcomes.Stop.TheVariants as stop
-use Rattle.world_core.specs.declared.sites.Site.{Site}
-use Rattle.world_core.specs.Happening.{Happens, node_of, next_count}
-use Rattle.world_core.specs.Matching.{IsCounted}
-use Rattle.world_core.proofs.Near.{linked_nodes}
-use Rattle.world_core.proofs.Placed.{site_at}
-use Rattle.world_core.proofs.Told.{same_some}
-use Rattle.world_core.proofs.Comes.{begins, ends}
+use Rattle.chronicle.specs.Steps.{Step, Idle, Goes, Carried, write, open_session, take_cut, meet_mark, greeted, heard, take_item}
+use Rattle.chronicle.proofs.Blocks.{log_own, log_open, log_take_cut, opening, same_number}
+use Rattle.cut_laws.specs.Own.{SameNode}
+use Rattle.node_core.specs.declared.limits.TheConstants.{MOST_EPOCHS, MOST_ENTRIES, MOST_UPDATES}
+use Rattle.node_core.specs.NodeLimits.{node_above, first_of_node}
+use Rattle.world_core.specs.declared.bounds.TheConstants.{MOST_TRIGGERS}
+use Rattle.world_core.specs.Limits.{triggers_of, has_more_epochs, has_more_entries, has_more_updates, first_above, above, makes_local}
 
 -- ---- sums and tests over all nodes, where what is read of one has changed
 
 module _ (f g : ℕ → ℕ) (u : ℕ) (others : (v : ℕ) → (u == v) ≡ false → g v ≡ f v) where
+  -- no sum changes where the number is not in the list
   sum_off : (xs : List ℕ) → has xs u ≡ false → sum_by g xs ≡ sum_by f xs
   sum_off [] none = refl
   sum_off (x ∷ xs) none =
@@ -56,6 +41,7 @@ module _ (f g : ℕ → ℕ) (u : ℕ) (others : (v : ℕ) → (u == v) ≡ fals
       ∙ (ap₂ (λ a b. a + b) (others x (grind (arith, nat_tests))) (sum_off xs (grind (arith, nat_tests)))
       ∙ sym (sum_by-cons f x xs))
 
+  -- the sum changes by what is added at one number
   pub sum_at : (d : ℕ) (xs : List ℕ) → differ xs ≡ true → has xs u ≡ true → g u ≡ f u + d → sum_by g xs ≡ sum_by f xs + d
   sum_at d [] different there own = absurd (cc there)
   sum_at d (x ∷ xs) different there own =
@@ -75,6 +61,7 @@ module _ (f g : ℕ → ℕ) (u : ℕ) (others : (v : ℕ) → (u == v) ≡ fals
       ]) refl
 
 module _ (p q : ℕ → Bool) (u : ℕ) (others : (v : ℕ) → (u == v) ≡ false → q v ≡ p v) where
+  -- only the one number may pass
   any_only : (xs : List ℕ) → list_any p xs ≡ false → list_any q xs ≡ (has xs u && q u)
   any_only [] none = refl
   any_only (x ∷ xs) none =
@@ -84,322 +71,192 @@ module _ (p q : ℕ → Bool) (u : ℕ) (others : (v : ℕ) → (u == v) ≡ fal
         | false ↦ λ e. let here = others x (grind (arith, nat_tests)) in rw (rest, here) (grind (arith, nat_tests))
       ]) refl
 
+  -- it passes or not
   pub any_at : (xs : List ℕ) → list_any p xs ≡ false → has xs u ≡ true → list_any q xs ≡ q u
   any_at xs none there = any_only xs none ∙ rw there refl
 
--- ---- what an event changes of the logs
+-- a test that no number of the list passes
+any_none : (p : ℕ → Bool) (xs : List ℕ) → ((v : ℕ) → has xs v ≡ true → p v ≡ false) → list_any p xs ≡ false
+any_none p [] off = refl
+any_none p (x ∷ xs) off =
+    let here : has (x ∷ xs) x ≡ true = rw (same_number x) refl in
+    rw (off x here) (any_none p xs (λ v there. off v (grind (arith, nat_tests))))
 
--- the log of u has so many local entries more, one at most; the other logs are as they were
-pub record Grows (past now : Chronicle) (u : ℕ) : Type 0 where
-  pub more : ℕ
-  pub few : more ≤ 1
-  pub given : locals (log_of u now) ≡ locals (log_of u past) + more
-  pub others : (v : ℕ) → (u == v) ≡ false → log_of v now ≡ log_of v past
+-- ---- what an input changes of the log
 
--- where there is no node, all logs are as they were
-abbrev pub GrowsAt : Chronicle → Chronicle → Option ℕ → Type 0
-GrowsAt past now None = (v : ℕ) → log_of v now ≡ log_of v past
-GrowsAt past now (Some u) = Grows past now u
+-- the log of u is as it was, or has one entry more, which u made by itself or not
+abbrev pub Logs : ℕ → Bool → Chronicle → Chronicle → Type 0
+Logs u own past now = (log_of u now ≡ log_of u past) ⊎ ((k : Entry) × (log_of u now ≡ k ∷ log_of u past) × (is_local k.read.cause ≡ own))
 
-abbrev pub GrowsBy : Chronicle → Option ℕ → Step → Type 0
-GrowsBy past who (Idle reason) = Unit {0}
-GrowsBy past who (Goes now) = GrowsAt past now who
+-- an idle step leaves the log as it was
+abbrev pub LogsBy : ℕ → Bool → Chronicle → Step → Type 0
+LogsBy u own past (Idle why) = Unit {0}
+LogsBy u own past (Goes now) = Logs u own past now
 
+module _ (rules : Rules) (net : Net) (carried : Carried) (u : ℕ) (own : Bool) where
+  -- an entry is made, after a log that is as it was
+  write_logs : (k : Entry) (past mid : Chronicle) → log_of u mid ≡ log_of u past → is_local k.read.cause ≡ own → Logs u own past (write rules net carried u k mid)
+  write_logs k past mid same is = inr (k, log_own rules net carried u k mid ∙ ap (λ h. k ∷ h) same, is)
+
+  -- a mark that is met makes no entry
+  log_meet : (e : ℕ) (now : Chronicle) → log_of u (meet_mark net carried u e now) ≡ log_of u now
+  log_meet e now = elim (nat_lt (epoch u now) e) as (λ t. log_of u (if t then take_cut net carried u e now else now) ≡ log_of u now) [
+    | true ↦ log_take_cut net carried u e now u
+    | false ↦ refl
+  ]
+
+  -- a greeting makes one at most
+  greet_logs : (v s : ℕ) (known : Option ℕ) (past mid : Chronicle) → log_of u mid ≡ log_of u past → own ≡ true → Logs u own past (greeted rules net carried v u s known mid)
+  greet_logs v s (Some t) past mid same is = inl same
+  greet_logs v s None past mid same is = write_logs (local u (log_of u mid) All (cause.Ready v s)) past mid same (sym is)
+
+  -- the same where it is declined, or not
+  unless_logs : (past now : Chronicle) (why : Option Reason) → Logs u own past now → LogsBy u own past (unless why now)
+  unless_logs past now None logs = logs
+  unless_logs past now (Some why) logs = tt
+
+  -- an item that comes
+  comes_logs : (v s : ℕ) (x : Item) (session : Option ℕ) (past : Chronicle) → Logs u own past (take_item rules net carried v u s x past) → LogsBy u own past (comes rules net carried u past v s x session)
+  comes_logs v s x session past logs =
+      let turn = out_of_turn (suc (length (inbox (log_of u past) v s))) x in
+      let now = take_item rules net carried v u s x past in
+      elim (is_session session s) as (λ t. LogsBy u own past (if not t then Idle reason.WrongSession else unless turn now)) [
+        | true ↦ unless_logs past now turn logs
+        | false ↦ tt
+      ]
+
+module _ (rules : Rules) (net : Net) (carried : Carried) (u : ℕ) (past : Chronicle) where
+  -- an item that is taken
+  take_logs : (v s : ℕ) (x : Item) → Logs u (makes_local (input.Arrive v s x)) past (take_item rules net carried v u s x past)
+  unfolding take_item
+  take_logs v s (News n x) = write_logs rules net carried u false (heard v s n x) past (Took v u s (News n x) ∷ past) refl refl
+  take_logs v s (Marker e) = inl (log_meet rules net carried u true e (Took v u s (Marker e) ∷ past))
+  take_logs v s (Hello e) =
+      let taken : Chronicle = Took v u s (Hello e) ∷ past in
+      greet_logs rules net carried u true v s (ready (reads (log_of u past)) v) past (meet_mark net carried u e taken) (log_meet rules net carried u true e taken) refl
+
+  -- a notice
+  notices_logs : (v : ℕ) (session : Option ℕ) → LogsBy u true past (notices rules net carried u past v session)
+  notices_logs v None = tt
+  notices_logs v (Some s) = write_logs rules net carried u true (local u (log_of u past) All (cause.Down v s)) past past refl refl
+
+  -- a session that is opened
+  opened_logs : (v s : ℕ) → Logs u true past (open_session carried u v s past)
+  opened_logs v s =
+      let k = opening carried u v s past in
+      inr (k, log_open carried u v s past u ∙ ap (λ t. if t then k ∷ log_of u past else log_of u past) (same_number u), refl)
+
+  -- an opening
+  opens_logs : (v s : ℕ) (session : Option ℕ) → LogsBy u true past (opens carried u past v s session)
+  opens_logs v s (Some t) = tt
+  opens_logs v s None =
+      elim (nat_lt (last (reads (log_of u past)) v) s) as (λ t. LogsBy u true past (if t then Goes (open_session carried u v s past) else Idle reason.OldSession)) [
+        | true ↦ opened_logs v s
+        | false ↦ tt
+      ]
+
+  -- an input makes one entry at most
+  pub give_logs : (i : Input) → LogsBy u (makes_local i) past (give rules net carried u past i)
+  unfolding give
+  give_logs (input.Originate p) =
+      let k = local u (log_of u past) (One p) cause.Originate in
+      elim (owns (reads (log_of u past)) p) as (λ t. LogsBy u true past (if t then Idle reason.AlreadyOrigin else Goes (write rules net carried u k past))) [
+        | true ↦ tt
+        | false ↦ write_logs rules net carried u true k past past refl refl
+      ]
+  give_logs (input.Withdraw p) =
+      let k = local u (log_of u past) (One p) cause.Withdraw in
+      elim (owns (reads (log_of u past)) p) as (λ t. LogsBy u true past (if t then Goes (write rules net carried u k past) else Idle reason.NotOrigin)) [
+        | true ↦ write_logs rules net carried u true k past past refl refl
+        | false ↦ tt
+      ]
+  give_logs (input.Prefer v value) = write_logs rules net carried u true (local u (log_of u past) All (cause.Prefer v value)) past past refl refl
+  give_logs (input.Arrive v s x) = comes_logs rules net carried u (makes_local (input.Arrive v s x)) v s x (held (reads (log_of u past)) v) past (take_logs v s x)
+  give_logs (input.Notice v) = notices_logs v (held (reads (log_of u past)) v)
+  give_logs (input.OpenSession v s) = opens_logs v s (held (reads (log_of u past)) v)
+  give_logs input.Snap = inl (log_take_cut net carried u (suc (epoch u past)) past u)
+
+-- one more, or none
 one_more : (own : Bool) (n : ℕ) → (if own then suc n else n) ≡ n + (if own then 1 else 0)
 one_more true n = omega arith
 one_more false n = omega arith
 
-one_at_most : (own : Bool) → (if own then 1 else 0) ≤ 1
-one_at_most true = omega arith
-one_at_most false = omega arith
+-- so many local entries more
+abbrev pub by_own : Bool → ℕ
+by_own own = if own then 1 else 0
 
-grown : (past now : Chronicle) (u : ℕ) (k : Entry) → log_of u now ≡ k ∷ log_of u past → ((v : ℕ) → (u == v) ≡ false → log_of v now ≡ log_of v past) → Grows past now u
-grown past now u k own others = record {
-  more = if is_local k.read.cause then 1 else 0;
-  few = one_at_most (is_local k.read.cause);
-  given = ap locals own ∙ one_more (is_local k.read.cause) (locals (log_of u past));
-  others = others;
-}
+module _ (u : ℕ) (own : Bool) (past now : Chronicle) where
+  -- the local entries after one entry
+  grown : (k : Entry) → log_of u now ≡ k ∷ log_of u past → is_local k.read.cause ≡ own → locals (log_of u now) ≡ locals (log_of u past) + by_own own
+  grown k same is = ap locals same ∙ (one_more (is_local k.read.cause) (locals (log_of u past)) ∙ ap (λ b. locals (log_of u past) + by_own b) is)
 
-entered : (rules : Rules) (net : Net) (u : ℕ) (k : Entry) (past : Chronicle) → Grows past (write rules net u k past) u
-entered rules net u k past = grown past (write rules net u k past) u k (log_own rules net u k past) (λ v e. log_other rules net u k past v e)
+  -- the local entries are never fewer
+  pub not_fewer : Logs u own past now → locals (log_of u past) ≤ locals (log_of u now)
+  not_fewer (inl same) = let e = ap locals same in omega (arith, e)
+  not_fewer (inr more) = let e = grown more.0 more.1 more.2 in omega (arith, e)
 
-not_grown : (past : Chronicle) (u : ℕ) → Grows past past u
-not_grown past u = record { more = 0; few = omega arith; given = omega arith; others = λ v e. refl }
+  -- where the log is another there is one entry more
+  pub one_entry : Logs u own past now → (log_of u now ≡ log_of u past → ⊥) → locals (log_of u now) ≡ locals (log_of u past) + by_own own
+  one_entry (inl same) other = absurd (other same)
+  one_entry (inr more) other = grown more.0 more.1 more.2
 
--- what was taken of a link is in no log
-grows_took : (past now : Chronicle) (v u s : ℕ) (x : Item) → Grows (Took v u s x ∷ past) now u → Grows past now u
-grows_took past now v u s x g = record { more = g.more; few = g.few; given = g.given; others = g.others }
+-- ---- the counts of all
 
-module _ (rules : Rules) (net : Net) (past : Chronicle) where
-  greeting : (v u s : ℕ) (known : Option ℕ) → Grows past (greeted rules net v u s known past) u
-  greeting v u s (Some t) = not_grown past u
-  greeting v u s None = entered rules net u (local u (log_of u past) All (cause.Ready v s)) past
-
-module _ (rules : Rules) (net : Net) (past : Chronicle) where
-  taking : (v u s : ℕ) (x : Item) → Grows past (take_item rules net v u s x past) u
-  unfolding take_item
-  taking v u s (News n x) =
-      let mid : Chronicle = Took v u s (News n x) ∷ past in
-      grows_took past (write rules net u (heard v s n x) mid) v u s (News n x) (entered rules net u (heard v s n x) mid)
-  taking v u s (Hello e) =
-      let mid : Chronicle = Took v u s (Hello e) ∷ past in
-      grows_took past (greeted rules net v u s (ready (reads (log_of u past)) v) mid) v u s (Hello e) (greeting rules net mid v u s (ready (reads (log_of u past)) v))
-
-  delivering : (v u : ℕ) (l : LinkState) (items : List Item) (session : Option ℕ) → GrowsBy past (Some u) (delivered rules net past v u l items session)
-  delivering v u (Down s) items session = tt
-  delivering v u (Up s) [] session = tt
-  delivering v u (Up s) (x ∷ rest) session =
-      elim (is_session session s) as (λ t. GrowsBy past (Some u) (if t then Goes (take_item rules net v u s x past) else Idle WrongSession)) [
-        | true ↦ taking v u s x
-        | false ↦ tt
-      ]
-
-  noticing : (u v : ℕ) (session : Option ℕ) (l : LinkState) → GrowsBy past (Some u) (noticed rules net past u v session l)
-  noticing u v None l = tt
-  noticing u v (Some s) l =
-      let k = local u (log_of u past) All (cause.Down v s) in
-      elim (carries l s) as (λ t. GrowsBy past (Some u) (if t then Idle StillUp else Goes (write rules net u k past))) [
-        | true ↦ tt
-        | false ↦ entered rules net u k past
-      ]
-
-  opening_grows : (u v : ℕ) (session : Option ℕ) (l : LinkState) → GrowsBy past (Some u) (opened past u v session l)
-  opening_grows u v (Some s) l = tt
-  opening_grows u v None (Down s) = tt
-  opening_grows u v None (Up s) =
-      grown past (open_session u v s past) u (local u (log_of u past) All (cause.Up v s)) (log_opener u v s past) (λ w e. log_not_opener u v s past w e)
-
-  failing : (a b : ℕ) (l : LinkState) → GrowsBy past None (fails past a b l)
-  failing a b (Up s) = λ v. refl
-  failing a b (Down s) = tt
-
-  restoring : (a b : ℕ) (l : LinkState) → GrowsBy past None (restores past a b l)
-  restoring a b (Up s) = tt
-  restoring a b (Down s) = λ v. refl
-
-  grows : (event : Event) → GrowsBy past (node_of event) (step rules net past event)
-  unfolding step
-  grows (Originate u p) = elim (owns (reads (log_of u past)) p) as (λ t. GrowsBy past (Some u) (if t then Idle AlreadyOrigin else Goes (write rules net u (begins rules net past u p) past))) [
-    | true ↦ tt
-    | false ↦ entered rules net u (begins rules net past u p) past
-  ]
-  grows (Withdraw u p) = elim (owns (reads (log_of u past)) p) as (λ t. GrowsBy past (Some u) (if t then Goes (write rules net u (ends rules net past u p) past) else Idle NotOrigin)) [
-    | true ↦ entered rules net u (ends rules net past u p) past
-    | false ↦ tt
-  ]
-  grows (Prefer u v value) = entered rules net u (local u (log_of u past) All (cause.Prefer v value)) past
-  grows (Deliver v u) = delivering v u (link v u past) (channel v u past) (held_with u v past)
-  grows (Fail a b) = failing a b (link a b past)
-  grows (Restore a b) = restoring a b (link a b past)
-  grows (Notice u v) = noticing u v (held_with u v past) (link u v past)
-  grows (OpenSession u v) = opening_grows u v (held_with u v past) (link u v past)
-
-module _ (rules : Rules) (net : Net) (past : Chronicle) (node : Option ℕ) where
-  did_by : (s : Step) (list : List Effect) → Tells past s (outcome.Did list) → GrowsBy past node s → GrowsAt past (chronicle_of past s) node × (above_by rules net s ≡ above rules net (chronicle_of past s))
-  did_by (Idle reason) list tells grown = absurd tells
-  did_by (Goes now) list tells grown = (grown, refl)
-
-  idle_by : (s : Step) (told : Reason) (triggers : ℕ) → Tells past s (outcome.Idle told) → IsCounted rules net past triggers → IsCounted rules net (chronicle_of past s) triggers
-  idle_by (Idle reason) told triggers tells was = was
-  idle_by (Goes now) told triggers tells was = absurd tells
-
-  within_by : (s : Step) → above rules net (chronicle_of past s) ≡ None → above_by rules net s ≡ None
-  within_by (Idle reason) e = refl
-  within_by (Goes now) e = e
-
-module _ (rules : Rules) (net : Net) (past : Chronicle) (event : Event) where
-  -- what an event that did something left of the logs
-  pub did_grows : (list : List Effect) → Tells past (step rules net past event) (outcome.Did list)
-      → GrowsAt past (after rules net past event) (node_of event) × (above_by rules net (step rules net past event) ≡ above rules net (after rules net past event))
-  unfolding after
-  did_grows list tells = did_by rules net past (node_of event) (step rules net past event) list tells (grows rules net past event)
-
-  -- an idle one left the counts as they were
-  pub idle_counted : (told : Reason) (triggers : ℕ) → Tells past (step rules net past event) (outcome.Idle told) → IsCounted rules net past triggers
-      → IsCounted rules net (after rules net past event) triggers
-  unfolding after
-  idle_counted told triggers tells was = idle_by rules net past (node_of event) (step rules net past event) told triggers tells was
-
-  pub within_after : (triggers : ℕ) → IsCounted rules net (after rules net past event) triggers → above_by rules net (step rules net past event) ≡ None
-  unfolding after
-  within_after triggers now = within_by rules net past (node_of event) (step rules net past event) now.within
-
-both_true : (a b : Bool) → (a && b) ≡ true → a ≡ true
-both_true a b e = grind (arith, nat_tests)
-
--- the node is one of the network
-pub fits_node : (net : Net) (event : Event) (node : ℕ) → IsValid net → IsTrue (fits net event) → node_of event ≡ Some node → has net.nodes node ≡ true
-fits_node net (Originate u p) node valid fit is = rw (← same_some u node is) (both_true (has net.nodes u) (nat_lt p (length net.prefixes)) fit)
-fits_node net (Withdraw u p) node valid fit is = rw (← same_some u node is) (both_true (has net.nodes u) (nat_lt p (length net.prefixes)) fit)
-fits_node net (Prefer u v value) node valid fit is = rw (← same_some u node is) (linked_nodes net.nodes net.links u v valid.links_join (both_true (linked net u v) (nat_le value 1000000) fit)).0
-fits_node net (Deliver v u) node valid fit is = rw (← same_some u node is) (linked_nodes net.nodes net.links v u valid.links_join fit).1
-fits_node net (Fail a b) node valid fit is = absurd (cc is)
-fits_node net (Restore a b) node valid fit is = absurd (cc is)
-fits_node net (Notice u v) node valid fit is = rw (← same_some u node is) (linked_nodes net.nodes net.links u v valid.links_join fit).0
-fits_node net (OpenSession u v) node valid fit is = rw (← same_some u node is) (linked_nodes net.nodes net.links u v valid.links_join fit).0
-
--- ---- what it changes of the counts
+module _ (net : Net) (past now : Chronicle) (u : ℕ) (valid : IsValid net) (node : has net.nodes u ≡ true) (others : (v : ℕ) → (u == v) ≡ false → SameNode v past now) where
+  -- the triggers of all are more by those that u gave
+  pub total_now : locals (log_of u past) ≤ locals (log_of u now) → triggers_of net now ≡ triggers_of net past + (locals (log_of u now) - locals (log_of u past))
+  unfolding triggers_of
+  total_now more =
+      sum_at (λ v. locals (log_of v past)) (λ v. locals (log_of v now)) u (λ v off. ap locals (others v off).same_log) (locals (log_of u now) - locals (log_of u past))
+      net.nodes valid.nodes_differ node (omega (arith, more))
 
 -- what is above no number
-pub none_above : (a b c : Bool) → first_above a b c ≡ None → (a ≡ false) × (b ≡ false) × (c ≡ false)
-none_above true b c e = absurd (cc e)
-none_above false true c e = absurd (cc e)
-none_above false false true e = absurd (cc e)
-none_above false false false e = (refl, refl, refl)
+pub none_of_node : (a b c : Bool) → first_of_node a b c ≡ None → (a ≡ false) × (b ≡ false) × (c ≡ false)
+none_of_node true b c e = absurd (cc e)
+none_of_node false true c e = absurd (cc e)
+none_of_node false false true e = absurd (cc e)
+none_of_node false false false e = (refl, refl, refl)
 
-module _ (rules : Rules) (net : Net) (past now : Chronicle) (u : ℕ) (triggers : ℕ) (valid : IsValid net) (node : has net.nodes u ≡ true) (was : IsCounted rules net past triggers) (grow : Grows past now u) where
-  total_now : triggers + grow.more ≡ triggers_of net now
-  unfolding triggers_of
-  total_now =
-      ap (λ n. n + grow.more) was.total
-      ∙ sym (sum_at (λ v. locals (log_of v past)) (λ v. locals (log_of v now)) u (λ v e. ap locals (grow.others v e)) grow.more net.nodes valid.nodes_differ node grow.given)
+-- a node that is within its counts
+pub within_counts : (rules : Rules) (net : Net) (u : ℕ) (past : Chronicle) → node_above rules net u past ≡ None
+    → (nat_lt MOST_EPOCHS (epoch u past) ≡ false) × (nat_lt MOST_ENTRIES (length (log_of u past)) ≡ false) × (nat_lt MOST_UPDATES (length (sent_of rules net u (log_of u past))) ≡ false)
+unfolding node_above
+within_counts rules net u past within =
+    none_of_node (nat_lt MOST_EPOCHS (epoch u past)) (nat_lt MOST_ENTRIES (length (log_of u past))) (nat_lt MOST_UPDATES (length (sent_of rules net u (log_of u past)))) within
 
-  before : (nat_lt most_triggers (triggers_of net past) ≡ false) × (has_more_entries net past ≡ false) × (has_more_updates rules net past ≡ false)
-  unfolding above
-  before = none_above (nat_lt most_triggers (triggers_of net past)) (has_more_entries net past) (has_more_updates rules net past) was.within
+module _ (rules : Rules) (net : Net) (past : Chronicle) (within : (u : ℕ) → has net.nodes u ≡ true → node_above rules net u past ≡ None) where
+  -- no epoch is too high
+  no_epochs : has_more_epochs net past ≡ false
+  unfolding has_more_epochs
+  no_epochs = any_none (λ u. nat_lt MOST_EPOCHS (epoch u past)) net.nodes (λ u node. (within_counts rules net u past (within u node)).0)
 
-  entries_now : has_more_entries net now ≡ nat_lt most_entries (length (log_of u now))
+  -- no node has too many entries
+  no_entries : has_more_entries net past ≡ false
   unfolding has_more_entries
-  entries_now =
-      any_at (λ v. nat_lt most_entries (length (log_of v past))) (λ v. nat_lt most_entries (length (log_of v now))) u
-      (λ v e. ap (λ l. nat_lt most_entries (length l)) (grow.others v e)) net.nodes before.1 node
+  no_entries = any_none (λ u. nat_lt MOST_ENTRIES (length (log_of u past))) net.nodes (λ u node. (within_counts rules net u past (within u node)).1)
 
-  updates_now : has_more_updates rules net now ≡ nat_lt most_updates (length (sent_of rules net u (log_of u now)))
+  -- no node lists too many items
+  no_updates : has_more_updates rules net past ≡ false
   unfolding has_more_updates
-  updates_now =
-      any_at (λ v. nat_lt most_updates (length (sent_of rules net v (log_of v past)))) (λ v. nat_lt most_updates (length (sent_of rules net v (log_of v now)))) u
-      (λ v e. ap (λ l. nat_lt most_updates (length (sent_of rules net v l))) (grow.others v e)) net.nodes before.2 node
+  no_updates = any_none (λ u. nat_lt MOST_UPDATES (length (sent_of rules net u (log_of u past)))) net.nodes (λ u node. (within_counts rules net u past (within u node)).2)
 
-  pub above_now : (total entries updates : ℕ) → total ≡ triggers + grow.more → entries ≡ length (log_of u now) → updates ≡ length (sent_of rules net u (log_of u now))
-      → (total ≡ triggers_of net now) × (first_above (nat_lt most_triggers total) (nat_lt most_entries entries) (nat_lt most_updates updates) ≡ above rules net now)
+  -- where all nodes are within their counts, and the triggers are not too many, nothing is above its number
+  pub above_none : triggers_of net past ≤ MOST_TRIGGERS → above rules net past ≡ None
   unfolding above
-  above_now total entries updates is_total is_entries is_updates =
-      (is_total ∙ total_now, rw (is_total, is_entries, is_updates, total_now, entries_now, updates_now) refl)
+  above_none few =
+      let low : nat_lt MOST_TRIGGERS (triggers_of net past) ≡ false = grind (arith, nat_tests, few) in
+      rw (no_epochs, low, no_entries, no_updates) refl
 
--- what is added to the triggers is what the node gave
-given_now : (past now : Chronicle) (u : ℕ) (grow : Grows past now u) (triggers next before given total : ℕ) → triggers ≤ most_triggers → before ≡ suc (locals (log_of u past)) → next ≡ suc (locals (log_of u now))
-    → given ≡ next - before → (triggers + given < 2 ^ 32 → total ≡ triggers + given) → total ≡ triggers + grow.more
-given_now past now u grow triggers next before given total few was is gives adds =
-    let more : given ≡ grow.more = let by = grow.given in omega (arith, gives, was, is, by) in
-    let small : triggers + given < 2 ^ 32 = let by = grow.few in omega (arith, few, more, by) in
-    adds small ∙ ap (λ n. triggers + n) more
-
-pub next_of : (node : Option ℕ) (u : ℕ) (past : Chronicle) → node ≡ Some u → next_count node past ≡ suc (locals (log_of u past))
-next_of None u past is = absurd (cc is)
-next_of (Some v) u past is = ap (λ w. suc (locals (log_of w past))) (same_some v u is)
-
--- the same, with the site of the node as it stands after the event
-pub counted_at : {P : Type 0} (policy : P) (rules : Rules) (net : Net) (past : Chronicle) (event : Event) (sites : List (Site P)) (links : Links) (list : List Effect) (site : Site P) (rank node triggers before next given total entries : ℕ)
-    → IsTrue (fits net event) → IsCounted rules net past triggers → before ≡ next_count (node_of event) past → Happens policy rules net past event sites links (outcome.Did list)
-    → node_of event ≡ Some node → slice_get (ascending net.nodes) rank ≡ Some node → site ≡ get_or sites rank site
-    → triggers ≤ most_triggers
-    → ((u : ℕ) (h : List Entry) → StandsFor policy rules net u site.log h → (next ≡ suc (locals h)) × (entries ≡ length h))
-    → given ≡ next - before → (triggers + given < 2 ^ 32 → total ≡ triggers + given)
-    → (total ≡ triggers_of net (after rules net past event))
-    × (first_above (nat_lt most_triggers total) (nat_lt most_entries entries) (nat_lt most_updates site.updates) ≡ above rules net (after rules net past event))
-    × (above_by rules net (step rules net past event) ≡ above rules net (after rules net past event))
-counted_at policy rules net past event sites links list site rank node triggers before next given total entries fit was began happened is_node at is few count gives adds =
-    let now = after rules net past event in
-    let valid = happened.matches.are_sites.valid in
-    let here = site_at policy rules net now sites rank node site happened.matches.are_sites at is in
-    let moved = did_grows rules net past event list happened.tells in
-    let grow : Grows past now node = subst (GrowsAt past now) is_node moved.0 in
-    let counts = count node (log_of node now) here.log in
-    let sum = given_now past now node grow triggers next before given total few (began ∙ next_of (node_of event) node past is_node) counts.0 gives adds in
-    let found = above_now rules net past now node triggers valid (fits_node net event node valid fit is_node) was grow total entries site.updates sum counts.1 here.updates in
-    (found.0, found.1, moved.1)
-
--- an event of no node leaves the counts as they were
-same_sum : (f g : ℕ → ℕ) → ((v : ℕ) → g v ≡ f v) → (xs : List ℕ) → sum_by g xs ≡ sum_by f xs
-same_sum f g same [] = refl
-same_sum f g same (x ∷ xs) = sum_by-cons g x xs ∙ (ap₂ (λ a b. a + b) (same x) (same_sum f g same xs) ∙ sym (sum_by-cons f x xs))
-
-same_any : (p q : ℕ → Bool) → ((v : ℕ) → q v ≡ p v) → (xs : List ℕ) → list_any q xs ≡ list_any p xs
-same_any p q same [] = refl
-same_any p q same (x ∷ xs) = rw (same x, same_any p q same xs) refl
-
-pub counted_same : (rules : Rules) (net : Net) (past now : Chronicle) (triggers : ℕ) → ((v : ℕ) → log_of v now ≡ log_of v past) → IsCounted rules net past triggers → IsCounted rules net now triggers
-unfolding above triggers_of has_more_entries has_more_updates
-counted_same rules net past now triggers same was =
-    let total : triggers_of net now ≡ triggers_of net past = same_sum (λ v. locals (log_of v past)) (λ v. locals (log_of v now)) (λ v. ap locals (same v)) net.nodes in
-    let entries : has_more_entries net now ≡ has_more_entries net past =
-    same_any (λ v. nat_lt most_entries (length (log_of v past))) (λ v. nat_lt most_entries (length (log_of v now))) (λ v. ap (λ l. nat_lt most_entries (length l)) (same v)) net.nodes in
-    let updates : has_more_updates rules net now ≡ has_more_updates rules net past =
-    same_any (λ v. nat_lt most_updates (length (sent_of rules net v (log_of v past)))) (λ v. nat_lt most_updates (length (sent_of rules net v (log_of v now))))
-    (λ v. ap (λ l. nat_lt most_updates (length (sent_of rules net v l))) (same v)) net.nodes in
-    record {
-      total = was.total ∙ sym total;
-      within = rw (total, entries, updates) was.within;
-    }
-
-pub counted_none : (rules : Rules) (net : Net) (past : Chronicle) (event : Event) (list : List Effect) (triggers : ℕ) → node_of event ≡ None → Tells past (step rules net past event) (outcome.Did list)
-    → IsCounted rules net past triggers → IsCounted rules net (after rules net past event) triggers
-counted_none rules net past event list triggers is_none tells was =
-    let moved = did_grows rules net past event list tells in
-    counted_same rules net past (after rules net past event) triggers (subst (GrowsAt past (after rules net past event)) is_none moved.0) was
-
--- so few are the triggers
-pub few_triggers : (rules : Rules) (net : Net) (past : Chronicle) (triggers : ℕ) → IsCounted rules net past triggers → triggers ≤ most_triggers
-unfolding above
-few_triggers rules net past triggers was =
-    let none = none_above (nat_lt most_triggers (triggers_of net past)) (has_more_entries net past) (has_more_updates rules net past) was.within in
-    let few : triggers_of net past ≤ most_triggers = grind (arith, nat_tests) in
-    rw was.total few
-
--- ---- the limit that is reached
-
-module _ (rules : Rules) (net : Net) (events : List Event) (event : Event) where
-  pub limit_events : most_events ≤ length events → limit_of rules net events event ≡ Some (record { kind = Events; number = most_events })
-  unfolding limit_of
-  limit_events l = let e : nat_le most_events (length events) ≡ true = grind (arith, nat_tests) in rw e refl
-
-  limit_later : length events < most_events → limit_of rules net events event ≡ above_by rules net (step rules net (run rules net events) event)
-  unfolding limit_of
-  limit_later l = let e : nat_le most_events (length events) ≡ false = grind (arith, nat_tests) in rw e refl
-
-  pub limit_none : (triggers : ℕ) → length events < most_events → IsCounted rules net (after rules net (run rules net events) event) triggers → limit_of rules net events event ≡ None
-  limit_none triggers l now = limit_later l ∙ within_after rules net (run rules net events) event triggers now
-
-  pub stops_later : (stop : Stop) → length events < most_events → StopsAt (above_by rules net (step rules net (run rules net events) event)) stop → StopsAt (limit_of rules net events event) stop
-  stops_later stop l stops = subst (λ limit. StopsAt limit stop) (sym (limit_later l)) stops
-
--- an error that is handed on
-pub handed_on : {T : Type 0} (r : Result T Stop) (Q : Stop → Type 0) (stop : Stop) → r ≡ Err stop → Q stop → IfErr r Q
-handed_on r Q stop is q = rw is q
-
-pub memory_stops : (limit : Option Reached) (why : Stop) → why ≡ stop.NoMemory → StopsAt limit why
-memory_stops limit why is = rw is tt
-
--- ---- a world in which nothing has happened
-
-sum_none : (net : Net) (xs : List ℕ) → sum_by (λ u. locals (log_of u [])) xs ≡ 0
-sum_none net [] = refl
-sum_none net (x ∷ xs) =
-    let all = sum_by-cons (λ u. locals (log_of u [])) x xs in
-    let first : locals (log_of x []) ≡ 0 = refl in
-    let rest = sum_none net xs in
-    omega (arith, all, first, rest)
-
-any_none : (p : ℕ → Bool) (xs : List ℕ) → ((v : ℕ) → p v ≡ false) → list_any p xs ≡ false
-any_none p [] off = refl
-any_none p (x ∷ xs) off = rw (off x) (any_none p xs off)
-
-no_triggers : (net : Net) → triggers_of net [] ≡ 0
-unfolding triggers_of
-no_triggers net = sum_none net net.nodes
-
-no_entries : (net : Net) → has_more_entries net [] ≡ false
-unfolding has_more_entries
-no_entries net = any_none (λ u. nat_lt most_entries (length (log_of u []))) net.nodes (λ v. refl)
-
-no_updates : (rules : Rules) (net : Net) → has_more_updates rules net [] ≡ false
-unfolding has_more_updates sent_of
-no_updates rules net = any_none (λ u. nat_lt most_updates (length (sent_of rules net u (log_of u [])))) net.nodes (λ v. refl)
-
-pub none_counted : (rules : Rules) (net : Net) → IsCounted rules net [] 0
-unfolding above
-none_counted rules net = record {
-  total = sym (no_triggers net);
-  within = rw (no_triggers net, no_entries net, no_updates rules net) refl;
-}
+  -- where one node has changed, its own counts decide
+  pub above_own : (now : Chronicle) (u : ℕ) → has net.nodes u ≡ true → ((v : ℕ) → (u == v) ≡ false → SameNode v past now)
+      → above rules net now ≡ first_above (nat_lt MOST_EPOCHS (epoch u now)) (nat_lt MOST_TRIGGERS (triggers_of net now)) (nat_lt MOST_ENTRIES (length (log_of u now)))
+      (nat_lt MOST_UPDATES (length (sent_of rules net u (log_of u now))))
+  unfolding above has_more_epochs has_more_entries has_more_updates
+  above_own now u node others =
+      let epochs = any_at (λ v. nat_lt MOST_EPOCHS (epoch v past)) (λ v. nat_lt MOST_EPOCHS (epoch v now)) u
+      (λ v off. ap (nat_lt MOST_EPOCHS) (others v off).same_epoch) net.nodes no_epochs node in
+      let entries = any_at (λ v. nat_lt MOST_ENTRIES (length (log_of v past))) (λ v. nat_lt MOST_ENTRIES (length (log_of v now))) u
+      (λ v off. ap (λ h. nat_lt MOST_ENTRIES (length h)) (others v off).same_log) net.nodes no_entries node in
+      let updates = any_at (λ v. nat_lt MOST_UPDATES (length (sent_of rules net v (log_of v past)))) (λ v. nat_lt MOST_UPDATES (length (sent_of rules net v (log_of v now)))) u
+      (λ v off. ap (λ h. nat_lt MOST_UPDATES (length (sent_of rules net v h))) (others v off).same_log) net.nodes no_updates node in
+      rw (epochs, entries, updates) refl

@@ -15,6 +15,7 @@ use Rattle.chronicle.specs.Deliveries.{ways}
 use Rattle.world_core.specs.WaySets.{same_way}
 use Rattle.world_core.proofs.WayOrder.{by_ends, not_below, has_first}
 
+-- the way from the one to the other
 abbrev way : ℕ → ℕ → Way
 way v u = record { from = v; to = u }
 
@@ -28,6 +29,7 @@ above_at x n (y ∷ ys) h e =
     ]) refl e
 
 module _ (p : Way → Bool) where
+  -- none of these passes
   none_from : (v : ℕ) (us : List ℕ) → ((u : ℕ) → p (way v u) ≡ false) → find p (map (way v) us) ≡ None
   none_from v [] none = refl
   none_from v (u ∷ us) none = rw (none u) (none_from v us none)
@@ -61,6 +63,7 @@ module _ (p : Way → Bool) where
             rw (none_from v (near v) (λ u. low v u up), first_of near vs f t rises.1 later near_rises near_there passes least) refl
       ]) refl there)
     where
+      -- none from a lower node passes
       low : (v u : ℕ) → v < f → p (way v u) ≡ false
       low v u up =
           (elim (p (way v u)) as (λ b. p (way v u) ≡ b → b ≡ false) [
@@ -68,6 +71,7 @@ module _ (p : Way → Bool) where
             | false ↦ λ _. refl
           ]) refl
 
+  -- where none passes none is found
   none_passes : (ws : List Way) → ((w : Way) → p w ≡ false) → find p ws ≡ None
   none_passes [] none = refl
   none_passes (w ∷ ws) none = rw (none w) (none_passes ws none)

@@ -1,15 +1,21 @@
 -- A world in which nothing has happened.
-use Rattle.std.proofs.Common.{ℕ, zero, suc, Bool, true, false, Some, List, [], ◌∷◌, ◌++◌, ◌≡◌, ◌⊎◌, inl, inr, ⊎_elim, refl, sym, ◌∙◌, ap, length, slice_get, ◌&&◌}
+use Rattle.std.proofs.Common.{ℕ, zero, suc, Bool, true, false, Some, List, [], ◌∷◌, ◌++◌, ◌≡◌, ◌⊎◌, inl, inr, ⊎_elim, refl, sym, ◌∙◌, ap, arith, length, slice_get, ◌&&◌}
+use Rattle.std.specs.List.{sum_by}
+use Rattle.std.proofs.lemmas.List.Sums.{sum_by-cons}
 use Rattle.topology.specs.Net.{Net}
+use Rattle.trigger_log.specs.Entries.{locals}
+use Rattle.chronicle.specs.Logs.{log_of}
+use Rattle.world_core.specs.Limits.{triggers_of}
 use Rattle.path_vector.specs.Rules.{Rules}
 use Rattle.link_model.specs.declared.links.Links.{Links}
 use Rattle.link_model.specs.Standing.{StandsFor as LinksStandFor}
 use Rattle.chronicle.specs.declared.ways.Way.{Way}
-use Rattle.world_core.specs.declared.sites.Site.{Site}
-use Rattle.world_core.specs.Matching.{IsSite, AreLinks}
+use Rattle.node_core.specs.declared.node.Node.{Node}
+use Rattle.node_core.specs.Standing.{StandsFor}
+use Rattle.world_core.specs.Matching.{AreLinks, IsCounted}
 use Rattle.world_core.specs.Waiting.{AreWaiting}
 use Rattle.topology.specs.Net.{linked}
-use Rattle.world_core.proofs.Told.{same_some}
+use Rattle.world_core.proofs.Places.{same_some}
 
 -- a place of a list with one more at its end is one of the list, or the end
 pushed_at : {A : Type 0} (xs : List A) (y : A) (i : ℕ) (x : A) → slice_get (xs ++ y ∷ []) i ≡ Some x → (slice_get xs i ≡ Some x) ⊎ ((i ≡ length xs) × (x ≡ y))
@@ -18,22 +24,39 @@ pushed_at [] y (suc i) x e = absurd (cc e)
 pushed_at (z ∷ zs) y zero x e = inl e
 pushed_at (z ∷ zs) y (suc i) x e = ⊎_elim (λ here. inl here) (λ (last : (i ≡ length zs) × (x ≡ y)). inr (ap suc last.0, last.1)) (pushed_at zs y i x e)
 
--- the sites of the first nodes
-abbrev pub AllFresh : {P : Type 0} → P → Rules → Net → List ℕ → List (Site P) → Type 0
-AllFresh {P} policy rules net nodes sites = (i u : ℕ) (site : Site P) → slice_get nodes i ≡ Some u → slice_get sites i ≡ Some site → IsSite policy rules net [] u site
+-- the first nodes have done nothing
+abbrev pub AllFresh : {P : Type 0} → P → Rules → Net → List ℕ → List (Node P) → Type 0
+AllFresh {P} policy rules net ids nodes = (i u : ℕ) (node : Node P) → slice_get ids i ≡ Some u → slice_get nodes i ≡ Some node → StandsFor policy rules net u node []
 
-pub fresh_push : {P : Type 0} (policy : P) (rules : Rules) (net : Net) (nodes : List ℕ) (sites : List (Site P)) (n u : ℕ) (site : Site P) → AllFresh policy rules net nodes sites
-    → length sites ≡ n → slice_get nodes n ≡ Some u → IsSite policy rules net [] u site → AllFresh policy rules net nodes (sites ++ site ∷ [])
-fresh_push policy rules net nodes sites n u site was count at new i v one node here = ⊎_elim
-    (λ before. was i v one node before)
-    (λ (last : (i ≡ length sites) × (one ≡ site)).
-    let same : v ≡ u = same_some v u (sym node ∙ (ap (slice_get nodes) (last.0 ∙ count) ∙ at)) in
+-- one node more has done nothing
+pub fresh_push : {P : Type 0} (policy : P) (rules : Rules) (net : Net) (ids : List ℕ) (nodes : List (Node P)) (n u : ℕ) (node : Node P) → AllFresh policy rules net ids nodes
+    → length nodes ≡ n → slice_get ids n ≡ Some u → StandsFor policy rules net u node [] → AllFresh policy rules net ids (nodes ++ node ∷ [])
+fresh_push policy rules net ids nodes n u node was count at new i v one id here = ⊎_elim
+    (λ before. was i v one id before)
+    (λ (last : (i ≡ length nodes) × (one ≡ node)).
+    let same : v ≡ u = same_some v u (sym id ∙ (ap (slice_get ids) (last.0 ∙ count) ∙ at)) in
     rw (same, last.1) new)
-    (pushed_at sites site i one here)
+    (pushed_at nodes node i one here)
 
+-- the links at the start
 pub fresh_links : (net : Net) (links : Links) → LinksStandFor net links [] → AreLinks net [] links
 fresh_links net links stands = record { acts = []; stands = stands; states = λ a b. refl; items = λ a b. refl }
 
+-- no trigger was given
+no_sum : (xs : List ℕ) → sum_by (λ u. locals (log_of u [])) xs ≡ 0
+no_sum [] = refl
+no_sum (x ∷ xs) =
+    let all = sum_by-cons (λ u. locals (log_of u [])) x xs in
+    let first : locals (log_of x []) ≡ 0 = refl in
+    let rest = no_sum xs in
+    omega (arith, all, first, rest)
+
+-- the count at the start
+pub fresh_counted : (net : Net) → IsCounted net [] 0
+unfolding triggers_of
+fresh_counted net = record { total = sym (no_sum net.nodes); few = omega arith }
+
+-- no way waits
 no_wait : (b : Bool) → false ≡ (b && false)
 no_wait true = refl
 no_wait false = refl

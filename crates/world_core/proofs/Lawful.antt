@@ -1,20 +1,40 @@
 -- What the laws of runs give an event.
-use Rattle.std.proofs.Common.{ℕ, suc, ◌<◌, ◌≤◌, ◌-◌, ◌^◌, arith}
+use Rattle.std.proofs.Common.{ℕ, suc, ◌<◌, ◌≤◌, ◌-◌, ◌^◌, ◌≡◌, ◌≢◌, ◌∙◌, List, ◌∷◌, ap, sym, arith}
+use Rattle.topology.specs.declared.links.LinkState.TheVariants.{Up}
+use Rattle.topology.specs.declared.status.Reason.TheVariants.{WrongSeq, OldSession}
 use Rattle.topology.specs.LinkStates.{number_of}
 use Rattle.topology.specs.Net.{Net}
 use Rattle.chronicle.specs.Facts.{Chronicle}
+use Rattle.trigger_log.specs.Going.{Item}
+use Rattle.chronicle.specs.Channels.{channel}
 use Rattle.chronicle.specs.Links.{link}
+use Rattle.chronicle.specs.Steps.{Step, Idle, Goes}
+use Rattle.cut_laws.specs.Own.{MayHear}
+use Rattle.world_core.specs.declared.outcomes.Outcome.{Outcome}
+use Rattle.world_core.specs.declared.outcomes.Outcome.TheVariants as outcome
+use Rattle.world_core.specs.Effects.{Tells}
+use Rattle.world_core.specs.Sound.{IsNoStray}
 use Rattle.cut_laws.specs.Joined.{Joined, FrontFits}
 use Rattle.world_core.specs.Happening.{IsRegular}
-use Rattle.world_core.specs.Limits.{most_events}
+use Rattle.world_core.specs.declared.bounds.TheConstants.{MOST_EVENTS}
 
-few_sessions : (sessions n : ℕ) → sessions ≤ suc n → n < most_events → sessions < 2 ^ 32 - 1
+few_sessions : (sessions n : ℕ) → sessions ≤ suc n → n < MOST_EVENTS → sessions < 2 ^ 32 - 1
 few_sessions sessions n most short = omega (arith, most, short)
 
-pub regular_of : (net : Net) (past : Chronicle) (n : ℕ) → n < most_events → ((v u : ℕ) → FrontFits net past v u) → ((v u : ℕ) → Joined past v u)
+pub regular_of : (net : Net) (past : Chronicle) (n : ℕ) → n < MOST_EVENTS → ((v u : ℕ) → FrontFits net past v u)
+    → ((v u s : ℕ) (x : Item) (rest : List Item) → link v u past ≡ Up s → channel v u past ≡ x ∷ rest → MayHear net v x) → ((v u : ℕ) → Joined past v u)
     → ((a b : ℕ) → number_of (link a b past) ≤ suc n) → IsRegular net past
-regular_of net past n short fronts joined most = record {
+regular_of net past n short fronts heard joined most = record {
   fronts = fronts;
+  heard = heard;
   joined = joined;
   few = λ a b. few_sessions (number_of (link a b past)) n (most a b) short;
 }
+
+-- a step that is not idle for one of two reasons answers neither
+pub no_stray : (past : Chronicle) (s : Step) (what : Outcome) → Tells past s what → (s ≢ Idle OldSession) → ((expected got : ℕ) → s ≢ Idle (WrongSeq expected got)) → IsNoStray what
+no_stray past (Idle why) (outcome.Idle told) tells not_old not_wrong =
+    (λ same. not_old (ap Idle (sym tells ∙ same)), λ expected got same. not_wrong expected got (ap Idle (sym tells ∙ same)))
+no_stray past (Idle why) (outcome.Did list) tells not_old not_wrong = tt
+no_stray past (Goes now) (outcome.Idle told) tells not_old not_wrong = absurd tells
+no_stray past (Goes now) (outcome.Did list) tells not_old not_wrong = tt

@@ -1,17 +1,19 @@
-pub mod Told
+pub mod Places
 pub mod Near
-pub mod Listed
 pub mod Carried
-pub mod Sends
-pub mod Placed
-pub mod Wrote
-pub mod Comes
-pub mod Opened
-pub mod Taken
-pub mod Changing
 mod WayOrder
 mod FirstWay
+pub mod Telling
+pub mod Nodes
+pub mod Turned
+pub mod Handing
 pub mod Counts
 pub mod Fresh
+pub mod Stopping
+pub mod Answered
+pub mod Comes
+pub mod Handed
+pub mod Changing
 pub mod Next
 pub mod Lawful
+pub mod Stepped

@@ -11,12 +11,15 @@ use Rattle.world_core.specs.WaySets.{same_way}
 abbrev pub by_ends : Way → Way → Ordering
 by_ends v w = ordering_then (nat_cmp v.from w.from) (nat_cmp v.to w.to)
 
+-- equal ends
 equal_then : (a b c d : ℕ) → is_eq (ordering_then (nat_cmp a b) (nat_cmp c d)) ≡ (a == b && c == d)
 equal_then a b c d = grind (arith, nat_tests)
 
+-- not above by sender, then receiver
 not_above : (a b c d : ℕ) → is_gt (ordering_then (nat_cmp a b) (nat_cmp c d)) ≡ false → (a ≤ b) × (a ≡ b → c ≤ d)
 not_above a b c d e = (grind (arith, nat_tests), λ same. grind (arith, nat_tests))
 
+-- the test may be turned round
 same_turned : (v w : Way) → same_way v w ≡ same_way w v
 same_turned v w = grind (arith, nat_tests)
 
@@ -27,16 +30,20 @@ same_ends v w e =
     let to : v.to ≡ w.to = grind (arith, nat_tests) in
     make v w from to
   where
+    -- a way is its two ends
     make : (v w : Way) → v.from ≡ w.from → v.to ≡ w.to → v ≡ w
     make v w e f = ap (λ n. record { from = n; to = v.to }) e ∙ ap (λ n. record { from = w.from; to = n }) f
 
+-- a way is itself
 pub same_itself : (w : Way) → same_way w w ≡ true
 same_itself w = grind (arith, nat_tests)
 
 module _ (by : Way → Way → Ordering) (is : (v w : Way) → by v w ≡ by_ends v w) where
+  -- the order tells equal ways
   at_way : (v w : Way) → is_at (by v) w ≡ same_way v w
   at_way v w = ap is_eq (is v w) ∙ equal_then v.from w.from v.to w.to
 
+  -- a set has what the order finds
   contains_has : (way : Way) (keys : List Way) → list_any (is_at (by way)) keys ≡ list_any (same_way way) keys
   contains_has way [] = refl
   contains_has way (k ∷ keys) = rw (at_way way k) (ap (λ b. same_way way k || b) (contains_has way keys))

@@ -2,17 +2,19 @@
 use Rattle.std.specs.Prelude.{Bool, ◌&&◌, nat_lt, nat_le, length}
 use Rattle.topology.specs.Lists.{has}
 use Rattle.topology.specs.Net.{Net, linked}
+use Rattle.node_core.specs.declared.limits.TheConstants.{MOST_PREFERENCE}
 use Rattle.chronicle.specs.declared.events.Event.{Event}
-use Rattle.chronicle.specs.declared.events.Event.TheVariants.{Originate, Withdraw, Prefer, Deliver, Fail, Restore, Notice, OpenSession}
+use Rattle.chronicle.specs.declared.events.Event.TheVariants.{Originate, Withdraw, Prefer, Deliver, Fail, Restore, Notice, OpenSession, Snap}
 
 -- the names of the event are in the network: its node and prefix, or the link of its two ends; and a
 -- preference is a million at most
 abbrev pub fits : Net → Event → Bool
 fits net (Originate node prefix) = has net.nodes node && nat_lt prefix (length net.prefixes)
 fits net (Withdraw node prefix) = has net.nodes node && nat_lt prefix (length net.prefixes)
-fits net (Prefer node nbr value) = linked net node nbr && nat_le value 1000000
+fits net (Prefer node nbr value) = linked net node nbr && nat_le value MOST_PREFERENCE
 fits net (Deliver from to) = linked net from to
 fits net (Fail a b) = linked net a b
 fits net (Restore a b) = linked net a b
 fits net (Notice node nbr) = linked net node nbr
 fits net (OpenSession node nbr) = linked net node nbr
+fits net (Snap node) = has net.nodes node

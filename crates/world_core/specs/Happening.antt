@@ -1,46 +1,41 @@
--- What an event leaves of the sites and links, and what came of it.
-use Rattle.std.specs.Prelude.{ℕ, suc, ◌≡◌, ◌<◌, ◌-◌, ◌^◌, Option, Some, None, List, ◌++◌, length}
-use Rattle.topology.specs.declared.names.Scope.{Scope}
-use Rattle.topology.specs.Lists.{ascending}
+-- What an event leaves of a network, and what came of it.
+use Rattle.std.specs.Prelude.{ℕ, ◌≡◌, ◌<◌, ◌-◌, ◌^◌, Some, List, ◌∷◌, ◌++◌}
+use Rattle.topology.specs.declared.links.LinkState.TheVariants.{Up}
 use Rattle.topology.specs.LinkStates.{number_of}
-use Rattle.topology.specs.Net.{Net, IsValid}
-use Rattle.path_vector.specs.declared.causes.Cause.{Cause}
-use Rattle.path_vector.specs.Kept.{IsOfNeighbour}
+use Rattle.topology.specs.Net.{Net}
 use Rattle.path_vector.specs.Rules.{Rules}
-use Rattle.trigger_log.specs.Entries.{Entry, locals}
-use Rattle.trigger_log.specs.Fits.{CauseFits}
-use Rattle.trigger_log.specs.Offered.{IsPlaced}
+use Rattle.trigger_log.specs.Going.{Item}
 use Rattle.link_model.specs.declared.links.Links.{Links}
-use Rattle.chronicle.specs.declared.events.Event.{Event}
-use Rattle.chronicle.specs.declared.events.Event.TheVariants.{Originate, Withdraw, Prefer, Deliver, Fail, Restore, Notice, OpenSession}
-use Rattle.chronicle.specs.Facts.{Chronicle}
-use Rattle.chronicle.specs.Logs.{log_of}
+use Rattle.chronicle.specs.Facts.{Chronicle, Took}
 use Rattle.chronicle.specs.Links.{link}
-use Rattle.chronicle.specs.Run.{step, after}
+use Rattle.chronicle.specs.Channels.{channel}
+use Rattle.chronicle.specs.Inputs.{Input}
+use Rattle.chronicle.specs.Inputs as input
+use Rattle.chronicle.specs.Run.{given, chronicle_of, held_with}
+use Rattle.chronicle.specs.Steps.{Step}
+use Rattle.cut_laws.specs.Delivered.{Did}
 use Rattle.cut_laws.specs.Joined.{Joined, FrontFits}
+use Rattle.cut_laws.specs.Own.{MayHear}
+use Rattle.node_core.specs.Coming.{MayCome}
 use Rattle.world_core.specs.declared.outcomes.Effect.{Effect}
+use Rattle.world_core.specs.declared.network.Network.{Network}
 use Rattle.world_core.specs.declared.outcomes.Outcome.{Outcome}
-use Rattle.world_core.specs.declared.sites.Site.{Site}
 use Rattle.world_core.specs.Effects.{effects, Tells}
-use Rattle.world_core.specs.Matching.{AreLinks, Matches}
+use Rattle.world_core.specs.Matching.{AreLinks, AreNodes, IsCounted, Stands}
 
--- there is a site for each node
-pub record HasPlaces {P : Type 0} (net : Net) (sites : List (Site P)) : Type 0 where
-  pub valid : IsValid net
-  pub count : length sites ≡ length (ascending net.nodes)
-
--- what holds after every list of events: each node may enter what is in front of each way to it, each
--- way is joined, and no link has used up the numbers of its sessions
+-- what holds after every list of events: each node may enter what is in front of each way to it, and may
+-- hear it; each way is joined; and no link has used up the numbers of its sessions
 pub record IsRegular (net : Net) (past : Chronicle) : Type 0 where
   pub fronts : (v u : ℕ) → FrontFits net past v u
+  pub heard : (v u s : ℕ) (x : Item) (rest : List Item) → link v u past ≡ Up s → channel v u past ≡ x ∷ rest → MayHear net v x
   pub joined : (v u : ℕ) → Joined past v u
   pub few : (a b : ℕ) → number_of (link a b past) < 2 ^ 32 - 1
 
--- an entry of node u is of a neighbour and of a prefix of the network, and fits the log
-pub record MayEnter (net : Net) (u : ℕ) (h : List Entry) (scope : Scope) (cause : Cause) : Type 0 where
-  pub near : IsOfNeighbour net u cause
-  pub placed : IsPlaced net scope
-  pub fits : CauseFits h scope cause
+-- an item stands in front of the way from v to u, and would arrive in session s
+pub record MayArrive (past : Chronicle) (v u s : ℕ) : Type 0 where
+  pub up : link v u past ≡ Up s
+  pub held : held_with u v past ≡ Some s
+  pub front : (x : Item) × (rest : List Item) × (channel v u past ≡ x ∷ rest)
 
 -- the list tells the effects since the first of the two chronicles
 abbrev pub Since : Chronicle → List Effect → Chronicle → Type 0
@@ -51,36 +46,36 @@ pub record AreSending (net : Net) (first now : Chronicle) (links : Links) (list 
   pub are_links : AreLinks net now links
   pub since : Since first list now
 
--- the same of sites and links
-pub record AreMoving {P : Type 0} (policy : P) (rules : Rules) (net : Net) (first now : Chronicle)
-    (sites : List (Site P)) (links : Links) (list : List Effect) : Type 0 where
-  pub matches : Matches policy rules net now sites links
-  pub since : Since first list now
+-- what is known when a node is handed an input: the item of an arrival is taken from its way already
+abbrev pub handed : ℕ → Input → Chronicle → Chronicle
+handed u (input.Arrive v s item) past = Took v u s item ∷ past
+handed u (input.Originate p) past = past
+handed u (input.Withdraw p) past = past
+handed u (input.Prefer v value) past = past
+handed u (input.Notice v) past = past
+handed u (input.OpenSession v s) past = past
+handed u input.Snap past = past
 
--- sites and links are as the run has them after the event, and the outcome tells what it did
-pub record Happens {P : Type 0} (policy : P) (rules : Rules) (net : Net) (past : Chronicle)
-    (event : Event) (sites : List (Site P)) (links : Links) (outcome : Outcome) : Type 0 where
-  pub matches : Matches policy rules net (after rules net past event) sites links
-  pub tells : Tells past (step rules net past event) outcome
+-- an item that was taken from its way is not declined
+abbrev pub GoesWhere : Input → Step → Type 0
+GoesWhere (input.Arrive v s item) step = Did step
+GoesWhere other step = Unit {0}
 
--- the same of the links alone
-pub record LinksHappen (rules : Rules) (net : Net) (past : Chronicle) (event : Event) (links : Links)
-    (outcome : Outcome) : Type 0 where
-  pub are_links : AreLinks net (after rules net past event) links
-  pub tells : Tells past (step rules net past event) outcome
+-- node u may be handed the input: nodes, links and count are as the run has them, but that the item of an
+-- arrival is taken; its names are those of the network; and such an item is not declined
+pub record MayHand {P : Type 0} (rules : Rules) (past : Chronicle) (u : ℕ) (input : Input) (network : Network P) : Type 0 where
+  pub are_nodes : AreNodes network.policy rules network.topology.value past network.nodes.items
+  pub are_links : AreLinks network.topology.value (handed u input past) network.links
+  pub counted : IsCounted network.topology.value past network.triggers
+  pub may_come : MayCome network.topology.value u input
+  pub goes : GoesWhere input (given rules network.topology.value past u input)
 
--- the node whose log the event may change
-abbrev pub node_of : Event → Option ℕ
-node_of (Originate node prefix) = Some node
-node_of (Withdraw node prefix) = Some node
-node_of (Prefer node nbr value) = Some node
-node_of (Deliver from to) = Some to
-node_of (Fail a b) = None
-node_of (Restore a b) = None
-node_of (Notice node nbr) = Some node
-node_of (OpenSession node nbr) = Some node
+-- the network is as the run has it after the step, and the outcome tells what that did
+pub record Comes {P : Type 0} (rules : Rules) (past : Chronicle) (step : Step) (network : Network P) (outcome : Outcome) : Type 0 where
+  pub stands : Stands rules (chronicle_of past step) network
+  pub tells : Tells past step outcome
 
--- the count of its next trigger: 0 where there is no node
-abbrev pub next_count : Option ℕ → Chronicle → ℕ
-next_count None past = 0
-next_count (Some u) past = suc (locals (log_of u past))
+-- the policy and the topology are as they were
+pub record IsAsWas {P : Type 0} (old new : Network P) : Type 0 where
+  pub policy : new.policy ≡ old.policy
+  pub topology : new.topology ≡ old.topology

@@ -2,9 +2,12 @@ pub mod View
 pub mod Fits
 pub mod Effects
 pub mod Limits
-pub mod Matching
+pub mod Places
+pub mod Turning
 pub mod Waiting
 pub mod WaySets
-pub mod Sending
+pub mod Matching
 pub mod Happening
+pub mod Telling
 pub mod Refreshing
+pub mod Sound

@@ -1,39 +1,32 @@
--- How many events, triggers, entries and items a run may have.
-use Rattle.std.specs.Prelude.{ℕ, ◌≡◌, Bool, Option, Some, None, List, nat_lt, nat_le, length, if◌then◌else◌}
+-- How many events, epochs, triggers, entries and items a run may have.
+use Rattle.std.specs.Prelude.{ℕ, ◌≡◌, Bool, true, false, not, ◌&&◌, Option, Some, None, List, nat_lt, nat_le, length, if◌then◌else◌}
 use Rattle.std.specs.List.{list_any, sum_by}
 use Rattle.topology.specs.declared.status.LimitKind.{LimitKind}
-use Rattle.topology.specs.declared.status.LimitKind.TheVariants.{Events, Triggers, Entries, Updates}
+use Rattle.topology.specs.declared.status.LimitKind.TheVariants.{Bytes, Events, Epochs, Triggers, Entries, Updates}
 use Rattle.topology.specs.Net.{Net}
 use Rattle.path_vector.specs.Rules.{Rules}
 use Rattle.trigger_log.specs.Entries.{locals}
+use Rattle.trigger_log.specs.Going.{News, Marker, Hello}
 use Rattle.trigger_log.specs.Sending.{sent_of}
 use Rattle.chronicle.specs.declared.events.Event.{Event}
 use Rattle.chronicle.specs.Facts.{Chronicle}
 use Rattle.chronicle.specs.Logs.{log_of}
-use Rattle.chronicle.specs.Run.{Step, Idle, Goes, step, run}
+use Rattle.chronicle.specs.Epochs.{epoch}
+use Rattle.chronicle.specs.Inputs.{Input}
+use Rattle.chronicle.specs.Inputs as input
+use Rattle.chronicle.specs.Run.{step, run}
+use Rattle.chronicle.specs.Steps.{Step, Idle, Goes}
+use Rattle.node_core.specs.declared.limits.TheConstants.{MOST_EPOCHS, MOST_ENTRIES, MOST_UPDATES}
+use Rattle.node_core.specs.NodeLimits.{Reached}
+use Rattle.node_core.specs.declared.outputs.Stop.{Stop as NodeStop}
+use Rattle.node_core.specs.declared.outputs.Stop.TheVariants as node_stop
+use Rattle.world_core.specs.declared.bounds.TheConstants.{MOST_EVENTS, MOST_TRIGGERS}
 use Rattle.world_core.specs.declared.outcomes.Stop.{Stop}
 use Rattle.world_core.specs.declared.outcomes.Stop.TheVariants as stop
 
--- the most events of a run, idle ones among them
-abbrev pub most_events : ℕ
-most_events = 1000000
-
--- the most triggers of all nodes together
-abbrev pub most_triggers : ℕ
-most_triggers = 8192
-
--- the most entries of one node
-abbrev pub most_entries : ℕ
-most_entries = 2048
-
--- the most items that the entries of one node list, each close among them
-abbrev pub most_updates : ℕ
-most_updates = 16384
-
--- a limit that is reached: what is counted, and the number that the count may not be above
-pub record Reached : Type 0 where
-  pub kind : LimitKind
-  pub number : ℕ
+-- the epoch of some node of the network is higher than it may be
+unfoldable pub has_more_epochs : Net → Chronicle → Bool
+has_more_epochs net past = list_any (λ u. nat_lt MOST_EPOCHS (epoch u past)) net.nodes
 
 -- the triggers that the nodes of the network gave: one for each local entry
 unfoldable pub triggers_of : Net → Chronicle → ℕ
@@ -41,24 +34,26 @@ triggers_of net past = sum_by (λ u. locals (log_of u past)) net.nodes
 
 -- some node of the network has more entries than it may
 unfoldable pub has_more_entries : Net → Chronicle → Bool
-has_more_entries net past = list_any (λ u. nat_lt most_entries (length (log_of u past))) net.nodes
+has_more_entries net past = list_any (λ u. nat_lt MOST_ENTRIES (length (log_of u past))) net.nodes
 
 -- some node of the network has entries that list more items than they may
 unfoldable pub has_more_updates : Rules → Net → Chronicle → Bool
-has_more_updates rules net past = list_any (λ u. nat_lt most_updates (length (sent_of rules net u (log_of u past)))) net.nodes
+has_more_updates rules net past = list_any (λ u. nat_lt MOST_UPDATES (length (sent_of rules net u (log_of u past)))) net.nodes
 
--- the first of the three counts that is above its number, in this order
-abbrev pub first_above : (triggers entries updates : Bool) → Option Reached
-first_above triggers entries updates =
-    if triggers then Some (record { kind = Triggers; number = most_triggers })
-    else if entries then Some (record { kind = Entries; number = most_entries })
-    else if updates then Some (record { kind = Updates; number = most_updates })
+-- the first of the four counts that is above its number, in this order
+abbrev pub first_above : (epochs triggers entries updates : Bool) → Option Reached
+first_above epochs triggers entries updates =
+    if epochs then Some (record { kind = Epochs; number = MOST_EPOCHS })
+    else if triggers then Some (record { kind = Triggers; number = MOST_TRIGGERS })
+    else if entries then Some (record { kind = Entries; number = MOST_ENTRIES })
+    else if updates then Some (record { kind = Updates; number = MOST_UPDATES })
     else None
 
 -- the first count of the chronicle that is above its number
 unfoldable pub above : Rules → Net → Chronicle → Option Reached
 above rules net now =
-    first_above (nat_lt most_triggers (triggers_of net now)) (has_more_entries net now) (has_more_updates rules net now)
+    first_above (has_more_epochs net now) (nat_lt MOST_TRIGGERS (triggers_of net now))
+    (has_more_entries net now) (has_more_updates rules net now)
 
 -- the same of what an event comes to: an idle one takes no count above its number
 abbrev pub above_by : Rules → Net → Step → Option Reached
@@ -69,10 +64,37 @@ above_by rules net (Goes now) = above rules net now
 -- there may be; else the first that is above its number after the event
 unfoldable pub limit_of : Rules → Net → List Event → Event → Option Reached
 limit_of rules net events event =
-    if nat_le most_events (length events) then Some (record { kind = Events; number = most_events })
+    if nat_le MOST_EVENTS (length events) then Some (record { kind = Events; number = MOST_EVENTS })
     else above_by rules net (step rules net (run rules net events) event)
 
 -- a stop at a limit is at this one; want of memory may come at any step
 abbrev pub StopsAt : Option Reached → Stop → Type 0
 StopsAt limit stop.NoMemory = Unit {0}
 StopsAt limit (stop.Limit kind number) = limit ≡ Some (record { kind = kind; number = number })
+
+-- an entry that comes of the input gets a trigger of its node: any but that of an update
+abbrev pub makes_local : Input → Bool
+makes_local (input.Arrive v s (News number x)) = false
+makes_local (input.Arrive v s (Marker e)) = true
+makes_local (input.Arrive v s (Hello e)) = true
+makes_local (input.Originate p) = true
+makes_local (input.Withdraw p) = true
+makes_local (input.Prefer v value) = true
+makes_local (input.Notice v) = true
+makes_local (input.OpenSession v s) = true
+makes_local input.Snap = true
+
+abbrev pub is_epochs : LimitKind → Bool
+is_epochs Bytes = false
+is_epochs Events = false
+is_epochs Epochs = true
+is_epochs Triggers = false
+is_epochs Entries = false
+is_epochs Updates = false
+
+-- the stop of the run where one of its nodes stops: the triggers of all nodes come before its entries
+abbrev pub run_stop : ℕ → Bool → NodeStop → Stop
+run_stop triggers local node_stop.NoMemory = stop.NoMemory
+run_stop triggers local (node_stop.Limit kind number) =
+    if not (is_epochs kind) && (local && nat_le MOST_TRIGGERS triggers) then stop.Limit Triggers MOST_TRIGGERS
+    else stop.Limit kind number

@@ -1,22 +1,23 @@
 //! All nodes and links of a network, and what each event does to them.
 #![tactic(auto)]
 
-mod deliveries;
-mod entering;
+pub mod bounds;
+mod giving;
+pub mod laws;
 mod limits;
-mod origins;
-mod outages;
+mod network;
 pub mod outcomes;
 mod refreshing;
 mod sending;
-mod sessions;
-mod sites;
+mod starting;
 mod steps;
+mod turning;
 mod waiting;
 pub mod world;
 
 pub use chronicle::Event;
 pub use link_model::Links;
+pub use node_core::Node;
 pub use outcomes::{Effect, Effects, Outcome, Stop};
 pub use world::World;
 

@@ -3,7 +3,7 @@ ghost use Rattle.std.specs.Prelude.{◌≡◌};
 ghost use Rattle.world_core.specs.declared.outcomes.Stop.TheVariants.{NoMemory};
 
 use std::marker::Model;
-use topology::{LimitKind, NoMemory, NodeId, Reason};
+use topology::{Epoch, LimitKind, NoMemory, NodeId, Reason};
 
 /// Something that an event did.
 #[derive(Clone, Copy, Debug, PartialEq, Eq)]
@@ -14,6 +14,8 @@ pub enum Effect {
     Queued { from: NodeId, to: NodeId },
     /// A message was sent in a session that the link does not carry, and is lost.
     Lost { from: NodeId, to: NodeId },
+    /// The epoch of the node rose to this one, and it took its cut.
+    Cut { node: NodeId, epoch: Epoch },
 }
 
 /// What an event did, in the order in which it did it.

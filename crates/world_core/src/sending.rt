@@ -1,21 +1,23 @@
-//! What goes out is handed to the links.
-ghost use Rattle.std.specs.Prelude.{◌≡◌, [], ◌∷◌, true, map, OnOk, if◌then◌else◌};
+//! What a node hands out goes to the links and to the list of effects.
+ghost use Rattle.std.specs.Prelude.{◌≡◌, ◌∷◌, ◌++◌, [], ℕ, true, List, map, OnOk, if◌then◌else◌};
 ghost use Rattle.topology.specs.LinkStates.{carries};
 ghost use Rattle.topology.specs.Net.{Net, linked};
-ghost use Rattle.trigger_log.specs.Going.{going_of, item_of};
-ghost use Rattle.chronicle.specs.Facts.{Chronicle, Sent, happen};
+ghost use Rattle.trigger_log.specs.Going.{item_of};
+ghost use Rattle.chronicle.specs.Facts.{Chronicle, Fact, Sent, happen};
 ghost use Rattle.chronicle.specs.Links.{link};
-ghost use Rattle.chronicle.specs.Steps.{sends};
+ghost use Rattle.chronicle.specs.Run.{carried_by};
+ghost use Rattle.node_core.specs.Outputs.{Hands, output_by, output_of};
 ghost use Rattle.world_core.specs.Happening.{AreSending};
-ghost use Rattle.world_core.specs.Sending.{AllNear};
+ghost use Rattle.world_core.specs.Telling.{AreTold, IsTold};
 ghost use Rattle.world_core.specs.declared.outcomes.Effect.TheVariants.{Queued, Lost};
 
 use crate::outcomes::Effect;
 use link_model::Links;
+use node_core::Output;
 use topology::{NoMemory, NodeId};
 use trigger_log::Outgoing;
 
-// What is shown of a message.
+// What is shown of an item.
 fn shown(from: NodeId, to: NodeId, queued: bool) -> Effect
     ensures { result ≡ (if queued then Queued from to else Lost from to) }
 {
@@ -25,8 +27,8 @@ fn shown(from: NodeId, to: NodeId, queued: bool) -> Effect
     Effect::Lost { from, to }
 }
 
-/// Sends a message: it is queued where the link carries its session, and lost elsewhere.
-pub fn send(
+// Sends an item: it is queued where the link carries its session, and lost elsewhere.
+fn send(
     from: NodeId,
     out: Outgoing,
     links: &mut Links,
@@ -44,19 +46,40 @@ pub fn send(
     Ok(())
 }
 
-/// Sends these messages, in their order.
-pub fn send_all(
-    from: NodeId,
-    list: Vec<Outgoing>,
+// Hands on one output of a node: an item is sent, an entry and a cut are told.
+fn hand(
+    node: NodeId,
+    output: Output,
     links: &mut Links,
     effects: &mut Vec<Effect>,
 ) -> Result<(), NoMemory>
-    ensures { OnOk result ((net : Net) (first past : Chronicle) → AllNear net from (map going_of list.items) →
+    ensures { OnOk result ((net : Net) (first past : Chronicle) (f : Fact) →
+        IsTold net node past f → output_by f past ≡ output_of output ∷ [] →
         AreSending net first past links.old effects.old.items →
-        AreSending net first (happen past (sends past from (map going_of list.items))) links.new effects.new.items) }
+        AreSending net first (f ∷ past) links.new effects.new.items) }
 {
-    for out in list {
-        send(from, out, links, effects)?;
+    match output {
+        Output::Logged { index } => effects.push(Effect::Logged { node, index })?,
+        Output::Cut { epoch } => effects.push(Effect::Cut { node, epoch })?,
+        Output::Send(out) => send(node, out, links, effects)?,
+    }
+    Ok(())
+}
+
+/// Hands on the outputs of a node, in their order.
+pub fn hand_all(
+    node: NodeId,
+    outputs: Vec<Output>,
+    links: &mut Links,
+    effects: &mut Vec<Effect>,
+) -> Result<(), NoMemory>
+    ensures { OnOk result ((net : Net) (first past : Chronicle) (facts : List Fact) →
+        AreTold net node past facts → Hands past outputs.items (happen past facts) →
+        AreSending net first past links.old effects.old.items →
+        AreSending net first (happen past facts) links.new effects.new.items) }
+{
+    for output in outputs {
+        hand(node, output, links, effects)?;
     }
     Ok(())
 }

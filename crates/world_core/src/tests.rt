@@ -1,4 +1,5 @@
 //! Lists of events with what each comes to, worked out by hand.
 mod line;
+mod marks;
 mod runs;
 mod sessions;

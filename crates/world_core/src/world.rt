@@ -1,80 +1,54 @@
-//! The world: all nodes and links.
+//! The world: a network and what happened in it.
 ghost use Rattle.std.specs.Prelude.{◌≡◌, [], ◌∷◌, ◌++◌, ◌&&◌, false, nat_lt, length, None, IsTrue, IsNone, IfOk, IfErr, IfSome, option_map, ◌↔◌};
 ghost use Rattle.topology.specs.Lists.{has};
 ghost use Rattle.topology.specs.Net.{linked};
-ghost use Rattle.trigger_log.specs.Standing.{StandsFor};
 ghost use Rattle.chronicle.specs.declared.ways.Way.{Way};
 ghost use Rattle.chronicle.specs.Deliveries.{next_delivery};
-ghost use Rattle.chronicle.specs.Logs.{log_of};
 ghost use Rattle.chronicle.specs.Run.{run, step};
+ghost use Rattle.node_core.specs.Standing.{StandsFor};
 ghost use Rattle.world_core.specs.Fits.{fits};
 ghost use Rattle.world_core.specs.Effects.{Tells};
 ghost use Rattle.world_core.specs.Limits.{limit_of, StopsAt};
-ghost use Rattle.world_core.specs.Matching.{AreLinks, AreSites};
+ghost use Rattle.world_core.specs.Matching.{AreLinks};
+ghost use Rattle.world_core.specs.Sound.{IsNoStray, IsSound};
 
-use crate::limits::{MOST_EVENTS, count, next_count};
+use crate::bounds::MOST_EVENTS;
+use crate::laws;
+use crate::network::Network;
 use crate::outcomes::{Outcome, Stop};
-use crate::refreshing::refresh;
-use crate::sites::Site;
-use crate::steps::happen;
 use crate::waiting::Waiting;
 use chronicle::Event;
 use link_model::Links;
+use node_core::Node;
+use node_core::limits::MOST_PREFERENCE;
 use path_vector::Policy;
 use std::alloc::Global;
 use std::marker::Model;
 use std::rc::Rc;
 use topology::{LimitKind, NoMemory, NodeId, PrefixId, Topology};
-use trigger_log::NodeLog;
 
 /// All nodes and links of a network, and the events so far.
 #[derive(Drop)]
 pub struct World<P: Policy + Copy> {
-    alloc: Global,
-    topology: Rc<Topology>,
-    policy: P,
-    sites: Vec<Site<P>>,
-    links: Links,
+    network: Network<P>,
     // The ways over which a delivery would not be idle.
     waiting: Waiting,
     events: Vec<Event>,
-    // The triggers that all nodes gave.
-    triggers: u32,
 }
 
 impl<P: Policy + Copy> Model for World<P> {
     ghost use Rattle.world_core.specs.View.{WorldView};
-    ghost use Rattle.world_core.specs.Matching.{Matches, IsCounted};
+    ghost use Rattle.world_core.specs.Matching.{Stands};
     ghost use Rattle.world_core.specs.Waiting.{AreWaiting};
     ghost use Rattle.world_core.specs.WaySets.{has_way};
     ghost use Rattle.chronicle.specs.Run.{run};
 
     ghost Value = { WorldView P };
 
-    ghost view = { λ w. record { policy = w.policy; net = w.topology.value; events = w.events.items } };
+    ghost view = { λ w. record { policy = w.network.policy; net = w.network.topology.value; events = w.events.items } };
 
-    ghost invariant = { λ w. let past = run (P.rules w.policy) w.topology.value w.events.items in
-        Matches w.policy (P.rules w.policy) w.topology.value past w.sites.items w.links ×
-        IsCounted (P.rules w.policy) w.topology.value past w.triggers ×
-        AreWaiting w.topology.value past (has_way w.waiting) };
-}
-
-// The highest preference.
-const MOST_PREFERENCE: u32 = 1_000_000;
-
-// The sites of a world in which nothing has happened, by the ranks of the nodes.
-fn fresh_sites<P: Policy + Copy>(
-    alloc: Global,
-    topology: &Topology,
-    policy: P,
-) -> Result<Vec<Site<P>>, NoMemory>
-    ensures { IfOk result (λ sites. AreSites policy (P.rules policy) topology.now [] sites.items) }
-{
-    let mut sites = Vec::new(alloc);
-    for node in topology.nodes() {
-        sites.push(Site::new(alloc, topology, *node, policy)?)?;
-    }
-    Ok(sites)
+    ghost invariant = { λ w. let past = run (P.rules w.network.policy) w.network.topology.value w.events.items in
+        Stands (P.rules w.network.policy) past w.network × AreWaiting w.network.topology.value past (has_way w.waiting) };
 }
 
 // Whether there is such a node and such a prefix.
@@ -96,17 +70,10 @@ impl<P: Policy + Copy> World<P> {
     pub fn new(alloc: Global, topology: Rc<Topology>, policy: P) -> Result<World<P>, NoMemory>
         ensures { IfOk result (λ world. world ≡ record { policy = policy; net = topology.value; events = [] }) }
     {
-        let sites = fresh_sites(alloc, &topology, policy)?;
-        let links = Links::new(alloc, &topology)?;
         Ok(World {
-            alloc,
-            topology,
-            policy,
-            sites,
-            links,
+            network: Network::new(alloc, topology, policy)?,
             waiting: Waiting::new(alloc),
             events: Vec::new(alloc),
-            triggers: 0,
         })
     }
 
@@ -117,46 +84,48 @@ impl<P: Policy + Copy> World<P> {
         &self.events
     }
 
-    /// The network.
+    /// The topology of the network.
     pub fn topology(&self) -> &Topology
         ensures { result.now ≡ self.now.net }
     {
-        &self.topology
+        &self.network.topology
     }
 
-    /// Whether the names of the event are in the network.
+    /// Whether the names of the event are in the network, and a preference is a million at most.
     pub fn fits(&self, event: &Event) -> bool
         ensures { result ≡ fits self.now.net event.now }
     {
+        let topology = &self.network.topology;
         match event {
-            Event::Originate { node, prefix } => names(&self.topology, *node, *prefix),
-            Event::Withdraw { node, prefix } => names(&self.topology, *node, *prefix),
+            Event::Originate { node, prefix } => names(topology, *node, *prefix),
+            Event::Withdraw { node, prefix } => names(topology, *node, *prefix),
             Event::Prefer { node, nbr, value } => {
-                joined(&self.topology, *node, *nbr) && *value <= MOST_PREFERENCE
+                joined(topology, *node, *nbr) && *value <= MOST_PREFERENCE
             }
-            Event::Deliver { from, to } => joined(&self.topology, *from, *to),
-            Event::Fail { a, b } => joined(&self.topology, *a, *b),
-            Event::Restore { a, b } => joined(&self.topology, *a, *b),
-            Event::Notice { node, nbr } => joined(&self.topology, *node, *nbr),
-            Event::OpenSession { node, nbr } => joined(&self.topology, *node, *nbr),
+            Event::Deliver { from, to } => joined(topology, *from, *to),
+            Event::Fail { a, b } => joined(topology, *a, *b),
+            Event::Restore { a, b } => joined(topology, *a, *b),
+            Event::Notice { node, nbr } => joined(topology, *node, *nbr),
+            Event::OpenSession { node, nbr } => joined(topology, *node, *nbr),
+            Event::Snap { node } => topology.rank_of(*node).is_some(),
         }
     }
 
-    /// The log of a node. None exactly where there is no such node.
-    pub fn log(&self, id: NodeId) -> Option<&NodeLog<P>>
-        ensures some { IfSome result (λ log. StandsFor self.now.policy (P.rules self.now.policy) self.now.net id log.now
-            (log_of id (run (P.rules self.now.policy) self.now.net self.now.events))) }
+    /// A node. None exactly where there is no such node.
+    pub fn node(&self, id: NodeId) -> Option<&Node<P>>
+        ensures some { IfSome result (λ node. StandsFor self.now.policy (P.rules self.now.policy) self.now.net id node.now
+            (run (P.rules self.now.policy) self.now.net self.now.events)) }
         ensures none { IsNone result ↔ (has self.now.net.nodes id ≡ false) }
     {
-        let rank = self.topology.rank_of(id)?;
-        Some(&self.sites[rank].log)
+        let rank = self.network.topology.rank_of(id)?;
+        Some(&self.network.nodes[rank])
     }
 
     /// The links, and what is on its way over them.
     pub fn links(&self) -> &Links
         ensures { AreLinks self.now.net (run (P.rules self.now.policy) self.now.net self.now.events) result.now }
     {
-        &self.links
+        &self.network.links
     }
 
     /// The first way, by sender, then receiver, over which a delivery would not be idle. Takes no
@@ -178,41 +147,34 @@ impl<P: Policy + Copy> World<P> {
         ensures outcome { IfOk result (λ r.
             let past = run (P.rules self.policy) self.net self.events in
             Tells past (step (P.rules self.policy) self.net past event) r.1) }
+        ensures reasons { IfOk result (λ r. IsNoStray r.1) }
+        ensures run { IfOk result (λ r. IsSound (P.rules self.policy) self.net
+            (run (P.rules self.policy) self.net (self.events ++ event ∷ []))) }
         ensures within { IfOk result (λ r. limit_of (P.rules self.policy) self.net self.events event ≡ None) }
         ensures stopped { IfErr result (StopsAt (limit_of (P.rules self.policy) self.net self.events event)) }
     {
         let World {
-            alloc,
-            topology,
-            policy,
-            mut sites,
-            mut links,
+            network,
             mut waiting,
             mut events,
-            triggers,
         } = self;
         if events.len() >= MOST_EVENTS as usize {
             return Err(Stop::Limit(LimitKind::Events, MOST_EVENTS));
         }
+        laws::every_run_is_sound();
         cut_laws::laws::the_front_item_is_the_next();
-        cut_laws::laws::a_link_keeps_the_order();
+        cut_laws::laws::what_arrives_may_be_heard();
         cut_laws::laws::sessions_are_few();
-        let before = next_count(&topology, &sites, &event);
-        let outcome = happen(alloc, &topology, &mut sites, &mut links, &event)?;
-        let triggers = count(&topology, &sites, triggers, before, &event, &outcome)?;
-        refresh(&topology, &sites, &links, &event, &outcome, &mut waiting)?;
+        cut_laws::laws::no_world_is_out_of_turn();
+        let (network, outcome) = network.happen(&event)?;
+        network.refresh(&event, &outcome, &mut waiting)?;
         let Ok(()) = events.push(event) else {
             return Err(Stop::NoMemory);
         };
         let world = World {
-            alloc,
-            topology,
-            policy,
-            sites,
-            links,
+            network,
             waiting,
             events,
-            triggers,
         };
         Ok((world, outcome))
     }

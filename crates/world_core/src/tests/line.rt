@@ -47,7 +47,8 @@ fn a_line_of_three(rt: HostRuntime) -> Result<(), Fail> {
     assert_eq!(rt; world.events().len(), 6);
     assert!(rt; !world.fits(&event("deliver", 1, 3)));
     assert!(rt; !world.fits(&event("fail", 3, 1)));
-    assert!(rt; world.log(NodeId::new(4)).is_none());
+    assert!(rt; !world.fits(&event("snap", 4, 0)));
+    assert!(rt; world.node(NodeId::new(4)).is_none());
     Ok(())
 }
 

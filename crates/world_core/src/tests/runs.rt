@@ -5,7 +5,7 @@ use std::alloc::Global;
 use std::process::Abort;
 use std::rc::Rc;
 use std::test::Fail;
-use topology::{NodeId, Prefix, PrefixId, Reason, Relation, Topology};
+use topology::{Epoch, NodeId, Prefix, PrefixId, Reason, Relation, Topology};
 
 /// Nodes in a line: 1 - 2 - .. - `count`.
 pub fn line_of<P: Policy + Copy>(alloc: Global, count: u16, policy: P) -> Result<World<P>, Fail> {
@@ -38,6 +38,7 @@ pub fn event(word: &str, a: u16, b: u16) -> Event {
         "restore" => Event::Restore { a, b },
         "notice" => Event::Notice { node: a, nbr: b },
         "open" => Event::OpenSession { node: a, nbr: b },
+        "snap" => Event::Snap { node: a },
         _ => Event::Deliver { from: a, to: b },
     }
 }
@@ -57,6 +58,12 @@ pub fn lost(from: u16, to: u16) -> Effect {
     let from = NodeId::new(from);
     let to = NodeId::new(to);
     Effect::Lost { from, to }
+}
+
+pub fn cut(node: u16, epoch: u32) -> Effect {
+    let node = NodeId::new(node);
+    let epoch = Epoch::new(epoch);
+    Effect::Cut { node, epoch }
 }
 
 // The number of the ends of the next delivery: 0 where there is none.

@@ -1,0 +1,248 @@
+-- What a node adds are facts that it tells.
+use Rattle.std.proofs.Common.{ℕ, suc, Bool, true, false, cond, not, ◌&&◌, nat_lt, Option, Some, None, List, [], ◌∷◌, ◌++◌, ◌≡◌, refl, sym, ◌∙◌, ap, subst, arith, filter, flat_map, length}
+use Rattle.std.specs.Prelude.{if◌then◌else◌}
+use Rattle.std.specs.List.{AllByRecursion}
+use Rattle.std.proofs.lemmas.Bool.Decides.{nat_tests}
+use Rattle.topology.specs.declared.names.Scope.TheVariants.{One, All}
+use Rattle.topology.specs.declared.status.Reason.{Reason}
+use Rattle.topology.specs.declared.status.Reason.TheVariants as reason
+use Rattle.topology.specs.LinkStates.{carries}
+use Rattle.topology.specs.Lists.{has, ascending}
+use Rattle.topology.specs.Net.{Net, linked, neighbours}
+use Rattle.topology.proofs.Neighbours.{has-neighbours}
+use Rattle.path_vector.specs.declared.causes.Cause.TheVariants as cause
+use Rattle.path_vector.specs.Rules.{Rules}
+use Rattle.path_vector.specs.History.{held, last, owns, ready}
+use Rattle.trigger_log.specs.Entries.{Entry, inbox, local, reads, is_session}
+use Rattle.trigger_log.specs.Going.{Going, Item, News, Marker, Hello, going_by, going_in, going_to, spread, told}
+use Rattle.chronicle.specs.Epochs.{epoch}
+use Rattle.chronicle.specs.Facts.{Fact, Chronicle, Log, Sent, Took, Raise, happen}
+use Rattle.chronicle.specs.Giving.{unless, out_of_turn, comes, notices, opens, give}
+use Rattle.chronicle.specs.Inputs.{Input}
+use Rattle.chronicle.specs.Inputs as input
+use Rattle.chronicle.specs.Links.{link}
+use Rattle.chronicle.specs.Logs.{log_of}
+use Rattle.chronicle.specs.Steps.{Step, Idle, Goes, Carried, sends, markers, write, open_session, take_cut, meet_mark, greeted, heard, take_item}
+use Rattle.chronicle.proofs.Blocks.{AreCarried, opening, greeting, link_take_cut}
+use Rattle.node_core.specs.Coming.{MayCome}
+use Rattle.world_core.specs.Happening.{handed}
+use Rattle.world_core.specs.Telling.{AreTold}
+
+-- ---- what goes out goes to neighbours
+
+-- each goes over a link of u
+abbrev pub AllNear : Net → ℕ → List Going → Type 0
+AllNear net u [] = Unit {0}
+AllNear net u (g ∷ gs) = (linked net u g.to ≡ true) × AllNear net u gs
+
+-- two lists
+near_append : (net : Net) (u : ℕ) (gs hs : List Going) → AllNear net u gs → AllNear net u hs → AllNear net u (gs ++ hs)
+near_append net u [] hs first second = second
+near_append net u (g ∷ gs) hs first second = (first.0, near_append net u gs hs first.1 second)
+
+-- all to one neighbour
+near_to : (net : Net) (u w s : ℕ) (items : List Item) → linked net u w ≡ true → AllNear net u (going_to w s items)
+near_to net u w s [] near = tt
+near_to net u w s (x ∷ items) near = (near, near_to net u w s items near)
+
+-- where a session is held
+near_in : (net : Net) (u w : ℕ) (items : ℕ → List Item) (session : Option ℕ) → linked net u w ≡ true → AllNear net u (going_in w items session)
+near_in net u w items None near = tt
+near_in net u w items (Some s) near = near_to net u w s (items s) near
+
+-- all to these neighbours
+near_all : (net : Net) (u : ℕ) (items : ℕ → ℕ → List Item) (session : ℕ → Option ℕ) (ws : List ℕ) → AllByRecursion (λ w. linked net u w ≡ true) ws
+    → AllNear net u (flat_map (λ w. going_in w (items w) (session w)) ws)
+near_all net u items session [] near = tt
+near_all net u items session (w ∷ ws) near =
+    near_append net u (going_in w (items w) (session w)) (flat_map (λ w. going_in w (items w) (session w)) ws)
+    (near_in net u w (items w) (session w) near.0) (near_all net u items session ws near.1)
+
+-- what a filter keeps passes
+pub filter_passes : (p : ℕ → Bool) (xs : List ℕ) → AllByRecursion (λ x. p x ≡ true) (filter p xs)
+filter_passes p [] = tt
+filter_passes p (x ∷ xs) = (elim (p x) as (λ b. p x ≡ b → AllByRecursion (λ x. p x ≡ true) (cond b (x ∷ filter p xs) (filter p xs))) [
+  | true ↦ λ e. (e, filter_passes p xs)
+  | false ↦ λ e. filter_passes p xs
+]) refl
+
+-- what is spread
+spread_near : (net : Net) (u : ℕ) (session : ℕ → Option ℕ) (items : ℕ → ℕ → List Item) → AllNear net u (spread net u session items)
+unfolding spread neighbours
+spread_near net u session items = near_all net u items session (filter (linked net u) (ascending net.nodes)) (filter_passes (linked net u) (ascending net.nodes))
+
+-- what goes out with an entry
+pub going_near : (rules : Rules) (net : Net) (u : ℕ) (h : List Entry) (k : Entry) → AllNear net u (going_by rules net u h k)
+unfolding going_by
+going_near rules net u h k = spread_near net u (held (k.read ∷ reads h)) (told rules net u h k)
+
+-- what goes out with a cut
+pub markers_near : (net : Net) (u e : ℕ) (h : List Entry) → AllNear net u (markers net u e h)
+markers_near net u e h = spread_near net u (held (reads h)) (λ w s. Marker e ∷ [])
+
+-- the first of the two
+left_true : (a b : Bool) → (a && b) ≡ true → a ≡ true
+left_true a b e = grind (arith, nat_tests)
+
+-- a neighbour is one with a link
+pub neighbour_linked : (net : Net) (u v : ℕ) → has (neighbours net u) v ≡ true → linked net u v ≡ true
+neighbour_linked net u v near = left_true (linked net u v) (has net.nodes v) (sym (has-neighbours net u v) ∙ near)
+
+-- ---- facts that are told, one after the other
+
+-- after the first chronicle u told these facts
+pub record Adds (net : Net) (u : ℕ) (first now : Chronicle) : Type 0 where
+  pub facts : List Fact
+  pub told : AreTold net u first facts
+  pub same : now ≡ happen first facts
+
+-- two lists of facts that are told
+told_append : (net : Net) (u : ℕ) (first : Chronicle) (fs gs : List Fact) → AreTold net u first fs → AreTold net u (happen first fs) gs → AreTold net u first (fs ++ gs)
+told_append net u first [] gs before after = after
+told_append net u first (f ∷ fs) gs before after = (before.0, told_append net u (f ∷ first) fs gs before.1 after)
+
+-- two lists of facts, one after the other
+happen_append : (first : Chronicle) (fs gs : List Fact) → happen first (fs ++ gs) ≡ happen (happen first fs) gs
+happen_append first [] gs = refl
+happen_append first (f ∷ fs) gs = happen_append (f ∷ first) fs gs
+
+module _ (net : Net) (u : ℕ) where
+  -- no fact
+  adds_nothing : (first : Chronicle) → Adds net u first first
+  adds_nothing first = record { facts = []; told = tt; same = refl }
+
+  -- one after the other
+  adds_both : (first mid now : Chronicle) → Adds net u first mid → Adds net u mid now → Adds net u first now
+  adds_both first mid now one two = record {
+    facts = one.facts ++ two.facts;
+    told = told_append net u first one.facts two.facts one.told (subst (λ past. AreTold net u past two.facts) one.same two.told);
+    same = two.same ∙ (ap (λ past. happen past two.facts) one.same ∙ sym (happen_append first one.facts two.facts));
+  }
+
+  module _ (carried : Carried) where
+    -- items that are sent are told
+    sends_told : (now : Chronicle) (gs : List Going) → AreCarried carried u now → AllNear net u gs → AreTold net u now (sends carried u gs)
+    sends_told now [] are near = tt
+    sends_told now (g ∷ gs) are near = ((refl, near.0, are g.to g.session), sends_told (Sent u g.to g.session g.item (carried g.to g.session) ∷ now) gs are near.1)
+
+    -- an entry with its items
+    write_adds : (rules : Rules) (k : Entry) (now : Chronicle) → AreCarried carried u now → Adds net u now (write rules net carried u k now)
+    unfolding write
+    write_adds rules k now are =
+        let gs = going_by rules net u (log_of u now) k in
+        record {
+          facts = Log u k ∷ sends carried u gs;
+          told = (refl, sends_told (Log u k ∷ now) gs are (going_near rules net u (log_of u now) k));
+          same = refl;
+        }
+
+    -- an opening with its greeting
+    open_adds : (v s : ℕ) (now : Chronicle) → AreCarried carried u now → linked net u v ≡ true → Adds net u now (open_session carried u v s now)
+    unfolding open_session
+    open_adds v s now are near =
+        let k = opening carried u v s now in
+        record {
+          facts = Log u k ∷ sends carried u (greeting v s (epoch u now));
+          told = (refl, sends_told (Log u k ∷ now) (greeting v s (epoch u now)) are (near, tt));
+          same = refl;
+        }
+
+    -- a cut with its markers
+    cut_adds : (e : ℕ) (now : Chronicle) → AreCarried carried u now → Adds net u now (take_cut net carried u e now)
+    unfolding take_cut
+    cut_adds e now are =
+        let gs = markers net u e (log_of u now) in
+        record {
+          facts = Raise u e ∷ sends carried u gs;
+          told = (refl, sends_told (Raise u e ∷ now) gs are (markers_near net u e (log_of u now)));
+          same = refl;
+        }
+
+    -- a mark that is met
+    meet_adds : (e : ℕ) (now : Chronicle) → AreCarried carried u now → Adds net u now (meet_mark net carried u e now)
+    meet_adds e now are =
+        elim (nat_lt (epoch u now) e) as (λ b. Adds net u now (if b then take_cut net carried u e now else now)) [
+          | true ↦ cut_adds e now are
+          | false ↦ adds_nothing now
+        ]
+
+    -- which changes no link
+    link_meet : (e : ℕ) (now : Chronicle) (a b : ℕ) → link a b (meet_mark net carried u e now) ≡ link a b now
+    link_meet e now a b =
+        elim (nat_lt (epoch u now) e) as (λ t. link a b (if t then take_cut net carried u e now else now) ≡ link a b now) [
+          | true ↦ link_take_cut net carried u e now a b
+          | false ↦ refl
+        ]
+
+    -- a greeting
+    greet_adds : (rules : Rules) (v s : ℕ) (known : Option ℕ) (now : Chronicle) → AreCarried carried u now → Adds net u now (greeted rules net carried v u s known now)
+    greet_adds rules v s (Some t) now are = adds_nothing now
+    greet_adds rules v s None now are = write_adds rules (local u (log_of u now) All (cause.Ready v s)) now are
+
+    -- an item that is taken
+    take_adds : (rules : Rules) (v s : ℕ) (x : Item) (past : Chronicle) → AreCarried carried u past → Adds net u (Took v u s x ∷ past) (take_item rules net carried v u s x past)
+    unfolding take_item
+    take_adds rules v s (News n x) past are = write_adds rules (heard v s n x) (Took v u s (News n x) ∷ past) are
+    take_adds rules v s (Marker e) past are = meet_adds e (Took v u s (Marker e) ∷ past) are
+    take_adds rules v s (Hello e) past are =
+        let taken : Chronicle = Took v u s (Hello e) ∷ past in
+        let known = ready (reads (log_of u past)) v in
+        let met = meet_mark net carried u e taken in
+        adds_both taken met (greeted rules net carried v u s known met) (meet_adds e taken are)
+        (greet_adds rules v s known met (λ w t. are w t ∙ ap (λ l. carries l t) (sym (link_meet e taken u w))))
+
+-- ---- what an input adds
+
+-- an idle step adds nothing
+abbrev pub AddsBy : Net → ℕ → Chronicle → Step → Type 0
+AddsBy net u first (Idle why) = Unit {0}
+AddsBy net u first (Goes now) = Adds net u first now
+
+-- the same where it is declined, or not
+unless_adds : (net : Net) (u : ℕ) (first now : Chronicle) (why : Option Reason) → Adds net u first now → AddsBy net u first (unless why now)
+unless_adds net u first now None adds = adds
+unless_adds net u first now (Some why) adds = tt
+
+module _ (rules : Rules) (net : Net) (carried : Carried) (u : ℕ) (past : Chronicle) (are : AreCarried carried u past) where
+  -- an item that comes
+  comes_adds : (v s : ℕ) (x : Item) (session : Option ℕ) → AddsBy net u (Took v u s x ∷ past) (comes rules net carried u past v s x session)
+  comes_adds v s x session =
+      let turn = out_of_turn (suc (length (inbox (log_of u past) v s))) x in
+      let now = take_item rules net carried v u s x past in
+      elim (is_session session s) as (λ t. AddsBy net u (Took v u s x ∷ past) (if not t then Idle reason.WrongSession else unless turn now)) [
+        | true ↦ unless_adds net u (Took v u s x ∷ past) now turn (take_adds net u carried rules v s x past are)
+        | false ↦ tt
+      ]
+
+  -- a notice
+  notices_adds : (v : ℕ) (session : Option ℕ) → AddsBy net u past (notices rules net carried u past v session)
+  notices_adds v None = tt
+  notices_adds v (Some s) = write_adds net u carried rules (local u (log_of u past) All (cause.Down v s)) past are
+
+  -- an opening
+  opens_adds : (v s : ℕ) (session : Option ℕ) → linked net u v ≡ true → AddsBy net u past (opens carried u past v s session)
+  opens_adds v s (Some t) near = tt
+  opens_adds v s None near =
+      elim (nat_lt (last (reads (log_of u past)) v) s) as (λ t. AddsBy net u past (if t then Goes (open_session carried u v s past) else Idle reason.OldSession)) [
+        | true ↦ open_adds net u carried v s past are near
+        | false ↦ tt
+      ]
+
+  -- what an input adds, after the item of an arrival is taken, u tells
+  pub give_adds : (i : Input) → MayCome net u i → AddsBy net u (handed u i past) (give rules net carried u past i)
+  unfolding give
+  give_adds (input.Originate p) may =
+      elim (owns (reads (log_of u past)) p) as (λ t. AddsBy net u past (if t then Idle reason.AlreadyOrigin else Goes (write rules net carried u (local u (log_of u past) (One p) cause.Originate) past))) [
+        | true ↦ tt
+        | false ↦ write_adds net u carried rules (local u (log_of u past) (One p) cause.Originate) past are
+      ]
+  give_adds (input.Withdraw p) may =
+      elim (owns (reads (log_of u past)) p) as (λ t. AddsBy net u past (if t then Goes (write rules net carried u (local u (log_of u past) (One p) cause.Withdraw) past) else Idle reason.NotOrigin)) [
+        | true ↦ write_adds net u carried rules (local u (log_of u past) (One p) cause.Withdraw) past are
+        | false ↦ tt
+      ]
+  give_adds (input.Prefer v value) may = write_adds net u carried rules (local u (log_of u past) All (cause.Prefer v value)) past are
+  give_adds (input.Arrive v s x) may = comes_adds v s x (held (reads (log_of u past)) v)
+  give_adds (input.Notice v) may = notices_adds v (held (reads (log_of u past)) v)
+  give_adds (input.OpenSession v s) may = opens_adds v s (held (reads (log_of u past)) v) (neighbour_linked net u v may)
+  give_adds input.Snap may = cut_adds net u carried (suc (epoch u past)) past are

@@ -1,0 +1,42 @@
+use Rattle.std.proofs.Common.{◌≡◌, true, false, ◌∷◌, ◌∙◌, sym, refl, subst}
+use Rattle.topology.specs.declared.status.Reason.TheVariants.{AlreadyDown}
+use Rattle.topology.specs.LinkStates.{is_up}
+use Rattle.chronicle.specs.Facts as fact
+use Rattle.chronicle.specs.Links.{link}
+use Rattle.cut_laws.proofs.Beside.{same_by_fact}
+use Rattle.world_core.specs.Matching.{AreLinks}
+use Rattle.world_core.proofs.Carried.{failed_link}
+use Rattle.world_core.proofs.Comes.{did, idle, fail_counted, fails_up, fails_down}
+use Rattle.world_core.proofs.Nodes.{same_nodes}
+use Rattle.world_core.proofs.network.Network.fail.Goals as goal
+
+pub returns-then-not-fail-clause-comes : goal.returns-then-not-fail-clause-comes
+returns-then-not-fail-clause-comes g c past was =
+    let rules = g.P.Policy.rules c.args.self.policy in
+    let net = c.args.self.topology.value in
+    let a = c.args.a in
+    let b = c.args.b in
+    let links = was.are_links in
+    let told = c.fail.ensures.failed net links.acts links.stands c.requires in
+    let same = c.fail.ensures.unchanged c.if-not-fail.true in
+    idle rules past _ _ AlreadyDown
+    (fails_down rules net past a b (link a b past) refl (subst (λ l. is_up l ≡ false) (links.states a b) (sym told.0 ∙ c.if-not-fail.true)))
+    (record { are_nodes = was.are_nodes; are_links = subst (AreLinks net past) (sym same) links; counted = was.counted })
+
+pub returns-clause-comes : goal.returns-clause-comes
+returns-clause-comes g c past was =
+    let policy = c.args.self.policy in
+    let rules = g.P.Policy.rules policy in
+    let net = c.args.self.topology.value in
+    let a = c.args.a in
+    let b = c.args.b in
+    let links = was.are_links in
+    let told = c.fail.ensures.failed net links.acts links.stands c.requires in
+    did rules past _ (fact.Fail a b ∷ past) _ _
+    (fails_up rules net past a b (link a b past) refl (subst (λ l. is_up l ≡ true) (links.states a b) (sym told.0 ∙ c.if-not-fail.false)))
+    (record {
+      are_nodes = same_nodes policy rules net past c.args.self.nodes.items was.are_nodes (fact.Fail a b ∷ past) (λ v. same_by_fact v (fact.Fail a b) past tt);
+      are_links = failed_link net past c.args.self.links c.fail.new.self links a b told.1;
+      counted = fail_counted net past a b c.args.self.triggers was.counted;
+    })
+    (rw (c.new-unseen.ensures, c.new.ensures.items) refl)

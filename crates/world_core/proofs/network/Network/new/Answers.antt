@@ -1,0 +1,11 @@
+use Rattle.world_core.proofs.Fresh.{fresh_links, fresh_counted}
+use Rattle.world_core.proofs.network.Network.new.Goals as goal
+
+pub returns-clause-stands : goal.returns-clause-stands
+returns-clause-stands g c =
+    let net = c.args.topology.value in
+    record {
+      are_nodes = c.in_ok-nodes.ensures;
+      are_links = fresh_links net c.in_ok-links.links (rw c.deref.ensures at c.in_ok-links.ensures);
+      counted = fresh_counted net;
+    }

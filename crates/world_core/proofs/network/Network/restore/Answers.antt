@@ -1,0 +1,44 @@
+use Rattle.std.proofs.Common.{◌≡◌, ◌<◌, ◌-◌, ◌^◌, not, true, false, ◌∷◌, ◌∙◌, sym, refl, ap, subst}
+use Rattle.topology.specs.declared.status.Reason.TheVariants.{AlreadyUp}
+use Rattle.topology.specs.LinkStates.{is_up, number_of}
+use Rattle.chronicle.specs.Facts as fact
+use Rattle.chronicle.specs.Links.{link}
+use Rattle.cut_laws.proofs.Beside.{same_by_fact}
+use Rattle.world_core.specs.Matching.{AreLinks}
+use Rattle.world_core.proofs.Carried.{restored_link}
+use Rattle.world_core.proofs.Comes.{did, idle, restore_counted, restores_up, restores_down}
+use Rattle.world_core.proofs.Nodes.{same_nodes}
+use Rattle.world_core.proofs.network.Network.restore.Goals as goal
+
+pub returns-then-not-restore-clause-comes : goal.returns-then-not-restore-clause-comes
+returns-then-not-restore-clause-comes g c past was regular =
+    let rules = g.P.Policy.rules c.args.self.policy in
+    let net = c.args.self.topology.value in
+    let a = c.args.a in
+    let b = c.args.b in
+    let links = was.are_links in
+    let few = subst (λ l. number_of l < 2 ^ 32 - 1) (sym (links.states a b)) (regular.few a b) in
+    let told = c.restore.ensures.restored net links.acts links.stands c.requires few in
+    let same = c.restore.ensures.unchanged c.if-not-restore.true in
+    idle rules past _ _ AlreadyUp
+    (restores_up rules net past a b (link a b past) refl (subst (λ l. is_up l ≡ true) (links.states a b) (told.0 ∙ ap not c.if-not-restore.true)))
+    (record { are_nodes = was.are_nodes; are_links = subst (AreLinks net past) (sym same) links; counted = was.counted })
+
+pub returns-clause-comes : goal.returns-clause-comes
+returns-clause-comes g c past was regular =
+    let policy = c.args.self.policy in
+    let rules = g.P.Policy.rules policy in
+    let net = c.args.self.topology.value in
+    let a = c.args.a in
+    let b = c.args.b in
+    let links = was.are_links in
+    let few = subst (λ l. number_of l < 2 ^ 32 - 1) (sym (links.states a b)) (regular.few a b) in
+    let told = c.restore.ensures.restored net links.acts links.stands c.requires few in
+    did rules past _ (fact.Restore a b ∷ past) _ _
+    (restores_down rules net past a b (link a b past) refl (subst (λ l. is_up l ≡ false) (links.states a b) (told.0 ∙ ap not c.if-not-restore.false)))
+    (record {
+      are_nodes = same_nodes policy rules net past c.args.self.nodes.items was.are_nodes (fact.Restore a b ∷ past) (λ v. same_by_fact v (fact.Restore a b) past tt);
+      are_links = restored_link net past c.args.self.links c.restore.new.self links a b told.1;
+      counted = restore_counted net past a b c.args.self.triggers was.counted;
+    })
+    (rw (c.new-unseen.ensures, c.new.ensures.items) refl)

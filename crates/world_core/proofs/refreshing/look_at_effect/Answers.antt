@@ -1,9 +1,0 @@
-use Rattle.std.proofs.Common.{◌∷◌, subst}
-use Rattle.world_core.specs.Refreshing.{AreWaitingBut, queued_ways}
-use Rattle.world_core.specs.WaySets.{has_way}
-use Rattle.world_core.proofs.refreshing.look_at_effect.Goals as goal
-
-pub returns : goal.returns
-returns g c policy past rest matches was =
-    c.in_ok-look.ensures policy past (queued_ways rest) matches
-    (subst (λ effect. AreWaitingBut c.args.topology.now past (queued_ways (effect ∷ rest)) (has_way c.args.waiting.now)) c.in-Queued.is was)

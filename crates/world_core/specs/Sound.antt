@@ -1,0 +1,46 @@
+-- What holds in every network, whatever happened.
+use Rattle.std.specs.Prelude.{ℕ, ◌≡◌, ◌≢◌, true, drop}
+use Rattle.topology.specs.declared.links.LinkState.TheVariants.{Up}
+use Rattle.topology.specs.declared.status.Reason.TheVariants.{WrongSeq, OldSession}
+use Rattle.topology.specs.Lists.{has}
+use Rattle.topology.specs.Net.{Net, neighbours}
+use Rattle.path_vector.specs.Rules.{Rules}
+use Rattle.trigger_log.specs.Entries.{reads}
+use Rattle.chronicle.specs.Channels.{channel}
+use Rattle.chronicle.specs.Facts.{Chronicle}
+use Rattle.chronicle.specs.Links.{link}
+use Rattle.chronicle.specs.Logs.{log_of}
+use Rattle.cut_laws.specs.Alone.{Alone}
+use Rattle.cut_laws.specs.Counted.{failures, queued, restorings, state_after, takes}
+use Rattle.cut_laws.specs.Cuts.{Consistent, RecordsWhatIsMissing}
+use Rattle.cut_laws.specs.Joined.{Joined}
+use Rattle.cut_laws.specs.Received.{BringsFrom}
+use Rattle.world_core.specs.declared.outcomes.Outcome.{Outcome}
+use Rattle.world_core.specs.declared.outcomes.Outcome.TheVariants as outcome
+
+-- all of this holds of every run
+pub record IsSound (rules : Rules) (net : Net) (past : Chronicle) : Type 0 where
+  -- what a node said in a session is what its log sends, what it heard is what its log received, and
+  -- each entry fits those before it
+  pub said : (u : ℕ) → Alone rules net past u
+  -- what was taken of a session begins what was sent in it, and what is left of the one that the link
+  -- carries is on its way
+  pub order : (v u : ℕ) → Joined past v u
+  -- a channel is what was queued in the session that the link carries, without what was taken since the
+  -- link came up
+  pub channels : (v u s : ℕ) → link v u past ≡ Up s → channel v u past ≡ drop (takes v u past) (queued v u s past)
+  -- a link is up where it was restored as often as it failed, in the session after those that were
+  pub links : (a b : ℕ) → link a b past ≡ state_after (failures a b past) (restorings a b past)
+  -- both ends see one link
+  pub one_link : (a b : ℕ) → link a b past ≡ link b a past
+  -- each path that a node received begins with its sender, repeats no node and stays in the network
+  pub paths : (u : ℕ) → BringsFrom net (reads (log_of u past))
+  -- what the cut of an epoch has received of a neighbour, the neighbour's cut of that epoch has sent
+  pub cuts : (e u v : ℕ) → has (neighbours net v) u ≡ true → Consistent rules net past e u v
+  -- a recording that is done lists what is missing to the one cut of what the other has sent
+  pub recordings : (e u v : ℕ) → has (neighbours net v) u ≡ true → RecordsWhatIsMissing rules net past e u v
+
+-- no update was out of turn, and no session an old one: these reasons only a node alone meets
+abbrev pub IsNoStray : Outcome → Type 0
+IsNoStray (outcome.Did list) = Unit {0}
+IsNoStray (outcome.Idle why) = (why ≢ OldSession) × ((expected got : ℕ) → why ≢ WrongSeq expected got)

@@ -1,0 +1,35 @@
+-- What a node promises of an input, as its own call says it.
+use Rattle.std.specs.Prelude.{ℕ}
+use Rattle.topology.specs.Net.{Net}
+use Rattle.path_vector.specs.Rules.{Rules}
+use Rattle.chronicle.specs.Facts.{Chronicle}
+use Rattle.chronicle.specs.Giving.{give}
+use Rattle.chronicle.specs.Run.{chronicle_of}
+use Rattle.chronicle.specs.Steps.{Carried}
+use Rattle.node_core.specs.declared.inputs.Input.{Input}
+use Rattle.node_core.specs.declared.node.Node.{Node}
+use Rattle.node_core.specs.declared.outputs.Outputs.{Outputs}
+use Rattle.node_core.specs.declared.outputs.Stop.{Stop}
+use Rattle.node_core.specs.Coming.{MayCome}
+use Rattle.node_core.specs.Inputs.{input_of}
+use Rattle.node_core.specs.NodeLimits.{node_limit, StopsAt}
+use Rattle.node_core.specs.Outputs.{Answers}
+use Rattle.node_core.specs.Standing.{StandsFor}
+
+-- for every chronicle that the old node stands for: the outputs are those of the step, and the new node
+-- stands for what the step leaves
+pub record Handles {P : Type 0} (rules : P → Rules) (old : Node P) (input : Input) (new : Node P) (outputs : Outputs) : Type 0 where
+  pub stands : (policy : P) (net : Net) (u : ℕ) (carried : Carried) (past : Chronicle)
+      → StandsFor policy (rules policy) net u old past → MayCome net u (input_of input)
+      → StandsFor policy (rules policy) net u new (chronicle_of past (give (rules policy) net carried u past (input_of input)))
+  pub answers : (policy : P) (net : Net) (u : ℕ) (carried : Carried) (past : Chronicle)
+      → StandsFor policy (rules policy) net u old past → MayCome net u (input_of input)
+      → Answers past (give (rules policy) net carried u past (input_of input)) outputs
+
+-- for every chronicle that the node stands for: it stops where the step would take a count of its own above
+-- its number
+abbrev pub IsStopped : {P : Type 0} → (P → Rules) → Node P → Input → Stop → Type 0
+IsStopped {P} rules old input stop =
+    (policy : P) (net : Net) (u : ℕ) (carried : Carried) (past : Chronicle)
+    → StandsFor policy (rules policy) net u old past → MayCome net u (input_of input)
+    → StopsAt (node_limit (rules policy) net u (give (rules policy) net carried u past (input_of input))) stop

@@ -1,0 +1,7 @@
+//! How much a run may have, beside what one node may have.
+
+/// The most events of a run, idle ones among them.
+pub const MOST_EVENTS: u32 = 1_000_000;
+
+/// The most triggers of all nodes together.
+pub const MOST_TRIGGERS: u32 = 8_192;

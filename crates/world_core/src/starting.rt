@@ -1,0 +1,46 @@
+//! A network in which nothing has happened.
+ghost use Rattle.std.specs.Prelude.{◌≡◌, [], IfOk};
+ghost use Rattle.world_core.specs.Matching.{AreNodes, Stands};
+
+use crate::network::Network;
+use link_model::Links;
+use node_core::Node;
+use path_vector::Policy;
+use std::alloc::Global;
+use std::rc::Rc;
+use topology::{NoMemory, Topology};
+
+// The nodes when nothing has happened, each at its rank.
+fn fresh_nodes<P: Policy + Copy>(
+    alloc: Global,
+    topology: &Rc<Topology>,
+    policy: P,
+) -> Result<Vec<Node<P>>, NoMemory>
+    ensures { IfOk result (λ nodes. AreNodes policy (P.rules policy) topology.now.value [] nodes.items) }
+{
+    let mut nodes = Vec::new(alloc);
+    for id in topology.nodes() {
+        nodes.push(Node::new(alloc, topology.clone()?, *id, policy)?)?;
+    }
+    Ok(nodes)
+}
+
+impl<P: Policy + Copy> Network<P> {
+    /// The network in which nothing has happened.
+    pub fn new(alloc: Global, topology: Rc<Topology>, policy: P) -> Result<Network<P>, NoMemory>
+        ensures stands { IfOk result (λ network. Stands (P.rules network.policy) [] network) }
+        ensures policy { IfOk result (λ network. network.policy ≡ policy) }
+        ensures topology { IfOk result (λ network. network.topology.value ≡ topology.value) }
+    {
+        let nodes = fresh_nodes(alloc, &topology, policy)?;
+        let links = Links::new(alloc, &topology)?;
+        Ok(Network {
+            alloc,
+            topology,
+            policy,
+            nodes,
+            links,
+            triggers: 0,
+        })
+    }
+}
