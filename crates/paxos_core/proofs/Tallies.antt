@@ -10,7 +10,8 @@ use Rattle.paxos_core.proofs.Posting.{each_is, posted_has, posted_keeps, posted_
 use Rattle.paxos_core.proofs.Proposals.{length_senders, open_now}
 use Rattle.paxos_core.proofs.Refusing.{majority_is, finds, finds_not, found_in, gathering_is, is_gathering, is_preparing, not_found, preparing_is}
 use Rattle.paxos_core.specs.Answers.{answers, gathering, just_majority, named_value, or_fresh, posted, preparing, refusal, to_each}
-use Rattle.paxos_core.specs.Facts.{Accept, Accepted, Chronicle, Crash, Decision, Fact, Heard, Mail, Message, Other, Pair, Promise, Start, same_ballot}
+use Rattle.topology.specs.Ballots.{same_ballot}
+use Rattle.paxos_core.specs.Facts.{Accept, Accepted, Chronicle, Crash, Decision, Fact, Heard, Mail, Message, Other, Pair, Promise, Start}
 use Rattle.paxos_core.specs.ProposerCalls.{LetsAccept, LetsDecide, SaysPromise, SaysVote, forgotten, gathers, opened, prepares}
 use Rattle.paxos_core.specs.Readings.{Prepares, Proposed, open_by, open_ballot, promisers, promises, started, voters}
 use Rattle.paxos_core.specs.Rules.{MaySend, higher, highest, round_of}

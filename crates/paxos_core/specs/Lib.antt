@@ -7,3 +7,4 @@ pub mod Accepting
 pub mod Tallying
 pub mod AcceptorCalls
 pub mod ProposerCalls
+pub mod Decisions

@@ -6,7 +6,8 @@ use Rattle.paxos_core.specs.declared.proposer.Phase.{Phase}
 use Rattle.paxos_core.specs.declared.proposer.Phase.TheVariants.{Idle, Preparing, Gathering}
 use Rattle.paxos_core.specs.declared.proposer.Tally.{Tally}
 use Rattle.paxos_core.specs.declared.proposer.Tally.TheVariants.{Counted, Majority, Stale, Duplicate}
-use Rattle.paxos_core.specs.Facts.{same_ballot, Pair, Heard, Message, Promise, Accept, Accepted, Decision, Chronicle}
+use Rattle.topology.specs.Ballots.{same_ballot}
+use Rattle.paxos_core.specs.Facts.{Pair, Heard, Message, Promise, Accept, Accepted, Decision, Chronicle}
 use Rattle.paxos_core.specs.Readings.{Proposed}
 use Rattle.paxos_core.specs.Rules.{higher, MaySend}
 use Rattle.paxos_core.specs.Answers.{Refusal, Duplicate as refused_twice, StaleBallot, refusal, just_majority, to_each, or_fresh, announce, proposed, answers}

@@ -4,7 +4,7 @@ use Rattle.topology.specs.Lists.{Among}
 use Rattle.topology.specs.declared.ballots.Ballot.{Ballot}
 use Rattle.paxos_core.specs.declared.proposer.Phase.{Phase}
 use Rattle.paxos_core.specs.declared.proposer.Phase.TheVariants.{Idle, Preparing, Gathering}
-use Rattle.paxos_core.specs.Facts.{Pair, Message, Promise, Accept, Accepted, Decision, Fact, Start, Mail, Heard, Crash, Other, Chronicle}
+use Rattle.paxos_core.specs.Facts.{Pair, Message, Prepare, Promise, Accept, Accepted, Decision, Fact, Start, Mail, Heard, Crash, Other, Chronicle}
 use Rattle.paxos_core.specs.Readings.{started, open_ballot, Proposed, Prepares, Gathers, promises, promisers, voters}
 use Rattle.paxos_core.specs.Rules.{round_of, highest}
 
@@ -62,15 +62,19 @@ pub record StandsFor {V : Type 0} (members : ℕ) (kept : Tallying V) (past : Ch
 
 -- w heard the message: it is none that a proposer reads, or w is not u
 abbrev pub PassesBy : {V : Type 0} → ℕ → ℕ → Message V → Type 0
+PassesBy u w (Prepare b) = Unit {0}
 PassesBy u w (Promise b named) = w ≢ u
+PassesBy u w (Accept b v) = Unit {0}
 PassesBy u w (Accepted b) = w ≢ u
 PassesBy u w (Decision v) = w ≢ u
-PassesBy u w other = Unit {0}
 
 -- w sent the message: it is no Accept, or w is not u
 abbrev pub Leaves : {V : Type 0} → ℕ → ℕ → Message V → Type 0
+Leaves u w (Prepare b) = Unit {0}
+Leaves u w (Promise b named) = Unit {0}
 Leaves u w (Accept b v) = w ≢ u
-Leaves u w other = Unit {0}
+Leaves u w (Accepted b) = Unit {0}
+Leaves u w (Decision v) = Unit {0}
 
 -- the proposer of u reads nothing of this fact
 abbrev pub Unread : {V : Type 0} → ℕ → Fact V → Type 0

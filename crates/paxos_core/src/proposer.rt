@@ -255,7 +255,7 @@ fn higher_of<V: Drop>(
         None => second,
         Some(p) => match second {
             None => Some(p),
-            Some(q) => { if q.0 < p.0 { Some(p) } else { Some(q) } }
+            Some(q) => { if q.0.is_below(p.0) { Some(p) } else { Some(q) } }
         },
     }
 }

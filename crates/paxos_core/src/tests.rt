@@ -20,7 +20,7 @@ fn ballots_are_compared_by_round_then_node(rt: HostRuntime) {
         (ballot(2, 1), ballot(1, 9), false),
     ];
     for (a, b, below) in rows {
-        assert!(rt; (a < b) == below);
+        assert!(rt; a.is_below(b) == below);
     }
 }
 
