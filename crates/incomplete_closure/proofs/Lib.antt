@@ -1,0 +1,9 @@
+pub mod Gathering
+pub mod Least
+pub mod Listing
+pub mod Marked
+pub mod Opened
+pub mod Rounding
+pub mod Sorting
+pub mod Tabled
+pub mod Told

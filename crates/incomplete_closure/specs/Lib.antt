@@ -1,0 +1,10 @@
+pub mod Blocked
+pub mod Marking
+pub mod Opening
+pub mod Reaching
+pub mod Reports
+pub mod Rounds
+pub mod Seen
+pub mod Tables
+pub mod Together
+pub mod Values

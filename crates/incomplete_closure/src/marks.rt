@@ -1,0 +1,62 @@
+//! The triggers that are marked so far.
+ghost use Rattle.std.specs.Prelude.{◌≡◌, [], length, OnOk, IfOk};
+ghost use Rattle.topology.specs.Triggers.{lists};
+ghost use Rattle.incomplete_closure.specs.Rounds.{mark_if};
+
+use std::alloc::Global;
+use std::collections::BTreeSet;
+use std::marker::Model;
+use topology::{NoMemory, Trigger};
+
+/// A set of triggers, ascending.
+#[derive(Drop)]
+pub(crate) struct Marks {
+    set: BTreeSet<Trigger>,
+}
+
+impl Model for Marks {
+    ghost use Rattle.std.specs.Prelude.{List};
+    ghost use Rattle.topology.specs.declared.names.Trigger.{Trigger};
+
+    ghost Value = { List Trigger };
+
+    ghost view = { λ m. m.set.keys };
+}
+
+impl Marks {
+    pub(crate) fn new(alloc: Global) -> Marks
+        ensures { result ≡ [] }
+    {
+        Marks {
+            set: BTreeSet::new(alloc),
+        }
+    }
+
+    pub(crate) fn len(&self) -> usize
+        ensures { result ≡ length self.now }
+    {
+        self.set.len()
+    }
+
+    pub(crate) fn has(&self, trigger: Trigger) -> bool
+        ensures { result ≡ lists self.now trigger }
+    {
+        self.set.contains(&trigger)
+    }
+
+    /// Puts the trigger in, where there is cause for it.
+    pub(crate) fn mark_if(&mut self, due: bool, trigger: Trigger) -> Result<(), NoMemory>
+        ensures { OnOk result (self.new ≡ mark_if due trigger self.old) }
+    {
+        if due {
+            self.set.insert(trigger)?;
+        }
+        Ok(())
+    }
+
+    pub(crate) fn list(&self, alloc: Global) -> Result<Vec<Trigger>, NoMemory>
+        ensures { IfOk result (λ list. list.items ≡ self.now) }
+    {
+        Ok(self.set.iter().copied().collect(alloc)?)
+    }
+}

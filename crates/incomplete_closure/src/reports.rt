@@ -1,0 +1,49 @@
+//! Reports of cuts, and what is missing between two of them.
+ghost use Rattle.std.specs.Prelude.{◌≡◌, ◌==◌, ◌&&◌, List, find};
+ghost use Rattle.topology.specs.declared.names.Trigger.{Trigger as AnyTrigger};
+ghost use Rattle.incomplete_closure.specs.Reports.{missing as is_missing};
+ghost use Rattle.incomplete_closure.specs.Seen.{report_seen, item_seen};
+ghost use Rattle.incomplete_closure.specs.Opening.{row_of, received_of};
+
+use crate::{Rows, SessionRow, SessionRows};
+use topology::{Epoch, NodeId, Sent, Session};
+
+/// What a node tells of its cut of an epoch: its entries and its sessions.
+#[derive(Debug, Drop)]
+pub struct Report {
+    pub node: NodeId,
+    pub epoch: Epoch,
+    pub rows: Rows,
+    pub sessions: SessionRows,
+}
+
+// The row of the session with the neighbour: the first, where rows repeat.
+pub(crate) fn session_of(report: &Report, nbr: NodeId, session: Session) -> Option<SessionRow>
+    ensures { result ≡ row_of report.now nbr session }
+{
+    for row in report.sessions.as_slice() {
+        if row.nbr == nbr && row.session == session {
+            return Some(*row);
+        }
+    }
+    None
+}
+
+// How many updates the row tells of.
+pub(crate) fn received_of(row: Option<SessionRow>) -> u32
+    ensures { result ≡ received_of row }
+{
+    match row {
+        Some(row) => row.received,
+        None => 0,
+    }
+}
+
+/// Whether the item goes to the node of the other report, and that one has received fewer items of
+/// its session. Takes no memory.
+pub fn missing(from: &Report, to: &Report, item: Sent) -> bool
+    ensures { (triggers : List AnyTrigger) →
+        result ≡ is_missing (report_seen from.now) (report_seen to.now) (item_seen triggers item) }
+{
+    item.to == to.node && received_of(session_of(to, from.node, item.session)) < item.seq
+}

@@ -1,0 +1,105 @@
+//! The session rows of reports, by key.
+ghost use Rattle.std.specs.Prelude.{ℕ, ◌≡◌, ◌==◌, ◌&&◌, [], ◌∷◌, ◌++◌, List, map, Some, None, OnOk, IfOk, if◌then◌else◌};
+ghost use Rattle.std.specs.Option.{option_or};
+ghost use Rattle.std.specs.Rc.{rc_value};
+ghost use Rattle.incomplete_closure.specs.Opening.{row_of};
+ghost use Rattle.incomplete_closure.specs.declared.reports.Report.{Report as AnyReport};
+ghost use Rattle.incomplete_closure.specs.Tables.{has_node, row_at, IsTableOf};
+
+use crate::{Report, SessionRow};
+use std::alloc::Global;
+use std::collections::{BTreeMap, BTreeSet};
+use std::rc::Rc;
+use topology::{NoMemory, NodeId, Session, Trigger};
+
+/// A session of a node with a neighbour.
+#[derive(Clone, Copy, Debug, PartialEq, Eq, PartialOrd, Ord, Hash)]
+pub(crate) struct SessionKey {
+    node: NodeId,
+    nbr: NodeId,
+    session: Session,
+}
+
+/// The nodes of reports, and their session rows by key.
+#[derive(Drop)]
+pub(crate) struct SessionTable {
+    nodes: BTreeSet<NodeId>,
+    rows: BTreeMap<SessionKey, SessionRow>,
+}
+
+impl SessionTable {
+    /// The table of these reports: the first of each node counts, and the first row of each session.
+    pub(crate) fn of(alloc: Global, reports: &[Rc<Report>]) -> Result<SessionTable, NoMemory>
+        ensures { IfOk result (IsTableOf (map rc_value reports.now)) }
+    {
+        let mut table = SessionTable {
+            nodes: BTreeSet::new(alloc),
+            rows: BTreeMap::new(alloc),
+        };
+        for report in reports {
+            table.add(report)?;
+        }
+        Ok(table)
+    }
+
+    fn add(&mut self, report: &Report) -> Result<(), NoMemory>
+        ensures { OnOk result ((before : List AnyReport) →
+            IsTableOf before self.old → IsTableOf (before ++ report.now ∷ []) self.new) }
+    {
+        if self.has_node(report.node) {
+            return Ok(());
+        }
+        self.fill(report)?;
+        self.nodes.insert(report.node)?;
+        Ok(())
+    }
+
+    fn fill(&mut self, report: &Report) -> Result<(), NoMemory>
+        ensures nodes { OnOk result (self.new.nodes.keys ≡ self.old.nodes.keys) }
+        ensures rows { OnOk result ((n v s : ℕ) → row_at self.new n v s ≡
+            option_or (row_at self.old n v s) (if n == report.now.node then row_of report.now v s else None)) }
+    {
+        for row in report.sessions.as_slice() {
+            self.put(report.node, row)?;
+        }
+        Ok(())
+    }
+
+    // Puts the row in, where the table has none of its session.
+    fn put(&mut self, node: NodeId, row: &SessionRow) -> Result<(), NoMemory>
+        ensures nodes { OnOk result (self.new.nodes.keys ≡ self.old.nodes.keys) }
+        ensures rows { OnOk result ((n v s : ℕ) → row_at self.new n v s ≡
+            option_or (row_at self.old n v s)
+            (if n == node && (row.now.nbr == v && row.now.session == s) then Some row.now else None)) }
+    {
+        let key = SessionKey {
+            node,
+            nbr: row.nbr,
+            session: row.session,
+        };
+        if self.rows.contains_key(&key) {
+            return Ok(());
+        }
+        let down: Option<Trigger> = row.down;
+        let row = SessionRow {
+            nbr: row.nbr,
+            session: row.session,
+            received: row.received,
+            down,
+        };
+        let _ = self.rows.insert(key, row)?;
+        Ok(())
+    }
+
+    pub(crate) fn has_node(&self, node: NodeId) -> bool
+        ensures { result ≡ has_node self.now node }
+    {
+        self.nodes.contains(&node)
+    }
+
+    pub(crate) fn row(&self, node: NodeId, nbr: NodeId, session: Session) -> Option<SessionRow>
+        ensures { result ≡ row_at self.now node nbr session }
+    {
+        self.rows.get(&SessionKey { node, nbr, session }).copied()
+    }
+}

@@ -1,0 +1,3 @@
+//! Reports of three nodes, with their incomplete triggers worked out by hand.
+mod cases;
+mod reading;

@@ -1,0 +1,110 @@
+//! Values of reports of nodes 1, 2 and 3.
+ghost use Rattle.std.specs.Prelude.{◌≡◌};
+
+use super::reading::{report, trigger};
+use crate::{Report, Value, closure, missing};
+use std::alloc::Global;
+use std::process::Abort;
+use std::rc::Rc;
+use std::test::Fail;
+use topology::{NodeId, Sent, Session, Trigger};
+
+// What the case shows; the reports of nodes 1, 2 and 3; their incomplete triggers.
+const CASES: &str = "nothing was sent | 1.1:P | | | 
+an item is missing, and its receiver knows no such session | 1.1:P>2/1/1 | | | 1.1
+nothing of the session was received | 1.1:P>2/1/1 | =1/1/0 | | 1.1
+the item was received | 1.1:P>2/1/1 | =1/1/1 | | 
+the second item is above what was received | 1.1:P>2/1/1>2/1/2 | =1/1/1 | | 1.1
+another session has received more | 1.1:P>2/2/1 | =1/1/5 | | 1.1
+another neighbour has received more | 1.1:P>2/1/1 | =3/1/5 | | 1.1
+the receiver has closed the session | 1.1:P>2/1/1 | 2.1:* =1/1/0/2.1 | | 
+the receiver has closed another session | 1.1:P>2/2/1 | 2.1:* =1/1/0/2.1 | | 1.1
+cover: what closed the session is incomplete | 1.1:P>2/1/1 | 2.1:*>3/1/1 =1/1/0/2.1 | | 1.1 2.1
+cover: what closed it stands in no row | 1.1:P>2/1/1 | =1/1/0/7.7 | | 
+order: a later row of the prefix | 1.1:P>2/1/1 1.2:P | | | 1.1 1.2
+order: not one of another prefix | 1.1:P>2/1/1 1.2:Q | | | 1.1
+order: a row of all prefixes, and what follows it | 1.1:P>2/1/1 1.2:* 1.3:Q | | | 1.1 1.2 1.3
+order: not an earlier row | 1.1:P 1.2:P>2/1/1 | | | 1.2
+order: at another node | 1.1:P>2/1/1 | | 1.1:P 3.1:P | 1.1 3.1
+cover, then order | 1.1:P>2/1/1 | 2.1:*>3/1/1 =1/1/0/2.1 | 1.1:Q 3.1:Q | 1.1 2.1 3.1
+order, then cover | 1.1:P>2/1/1 | 2.2:P>3/1/1 | 1.1:P 3.1:* =2/1/0/3.1 | 1.1 2.2 3.1
+the receiver has no report | 1.1:P>9/1/1 | | | 
+an item to oneself | 1.1:P>1/1/1 | | | 1.1
+an item to oneself that was received | 1.1:P>1/1/1 =1/1/1 | | | 
+of repeated session rows the first counts | 1.1:P>2/1/1 | =1/1/0 =1/1/1 | | 1.1
+of repeated session rows the first counts, again | 1.1:P>2/1/1 | =1/1/1 =1/1/0 | | 
+so for what closed the session | 1.1:P>2/1/1 | =1/1/0/2.1 =1/1/0 | | 
+so for what closed the session, again | 1.1:P>2/1/1 | =1/1/0 =1/1/0/2.1 | | 1.1
+triggers ascend by node, then counter | 2.1:P>2/1/1 1.10:P 1.9:P | | | 1.9 1.10 2.1
+a withdrawal on its way | 1.1:P>2/1/1 1.1:P 1.2:P>2/1/2 =2/1/1 | 1.1:P>1/1/1>3/1/1 1.1:P =1/1/1 =3/1/1 | 1.1:P>2/1/1 =2/1/1 | 1.2
+what came of it on its way | 1.1:P>2/1/1 1.1:P 1.2:P>2/1/2 1.2:P =2/1/2 | 1.1:P>1/1/1>3/1/1 1.1:P 1.2:P>1/1/2>3/1/2 =1/1/2 =3/1/1 | 1.1:P>2/1/1 =2/1/1 | 1.2
+a new preference after it | 1.1:P>2/1/1 1.1:P 1.2:P>2/1/2 1.2:P =2/1/2 | 1.1:P>1/1/1>3/1/1 1.1:P 1.2:P>1/1/2>3/1/2 2.1:* =1/1/2 =3/1/1 | 1.1:P>2/1/1 =2/1/1 | 1.2 2.1
+a link that one end has closed | 3.1:P>2/1/1 1.1:*>2/1/2 =2/1/1/1.1 | 3.1:P>1/1/1>3/1/1 3.1:P =1/1/1 =3/1/1 | 3.1:P>2/1/1 3.1:P =2/1/1 | 1.1";
+
+// The value of three reports.
+fn value(alloc: Global, one: Report, two: Report, three: Report) -> Result<Value, Fail>
+    requires one { one.node ≡ 1 }
+    requires two { two.node ≡ 2 }
+    requires three { three.node ≡ 3 }
+    requires first { one.epoch ≡ 1 }
+    requires second { two.epoch ≡ 1 }
+    requires third { three.epoch ≡ 1 }
+{
+    let reports = [
+        Rc::new(alloc, one)?,
+        Rc::new(alloc, two)?,
+        Rc::new(alloc, three)?,
+    ];
+    Ok(closure(alloc, &reports)?)
+}
+
+fn triggers(alloc: Global, text: &str) -> Result<Vec<Trigger>, Fail> {
+    let mut triggers = Vec::new(alloc);
+    for word in text.split_whitespace() {
+        triggers.push(trigger(word)?)?;
+    }
+    Ok(triggers)
+}
+
+fn check(rt: &impl Abort, alloc: Global, case: &str) -> Result<(), Fail> {
+    let (name, rest) = case.split_once('|').ok_or("a name")?;
+    let (one, rest) = rest.split_once('|').ok_or("a report")?;
+    let (two, rest) = rest.split_once('|').ok_or("a report")?;
+    let (three, incomplete) = rest.split_once('|').ok_or("a report")?;
+    let one = report(alloc, 1, one)?;
+    let two = report(alloc, 2, two)?;
+    let three = report(alloc, 3, three)?;
+    let value = value(alloc, one, two, three)?;
+    let expected = triggers(alloc, incomplete)?;
+    let copy = value.copy()?;
+    assert_eq!(rt; copy.incomplete.as_slice(), expected.as_slice(), "{name}");
+    assert_eq!(rt; copy.responding.as_slice().len(), 3, "{name}");
+    Ok(())
+}
+
+#[test]
+fn incomplete_triggers(rt: HostRuntime) -> Result<(), Fail> {
+    for case in CASES.lines() {
+        check(&rt, rt.alloc(), case)?;
+    }
+    Ok(())
+}
+
+fn misses(alloc: Global, to: u16, seq: u32) -> Result<bool, Fail> {
+    let one = report(alloc, 1, "")?;
+    let two = report(alloc, 2, "=1/1/3")?;
+    let item = Sent {
+        to: NodeId::new(to),
+        session: Session::new(1),
+        seq,
+    };
+    Ok(missing(&one, &two, item))
+}
+
+#[test]
+fn missing_items(rt: HostRuntime) -> Result<(), Fail> {
+    for (to, seq, expected) in [(2, 3, false), (2, 4, true), (3, 4, false)] {
+        assert_eq!(rt; misses(rt.alloc(), to, seq)?, expected);
+    }
+    Ok(())
+}
