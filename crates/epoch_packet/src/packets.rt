@@ -1,0 +1,88 @@
+//! Packets, and what a move or a turn makes of them.
+ghost use Rattle.std.specs.Prelude.{◌≡◌};
+
+use crate::visited::only_visited;
+use crate::{Mode, Nodes, with_visited};
+use std::alloc::Global;
+use topology::{Epoch, NodeId, PrefixId, Scheme, Topology};
+
+/// A packet on its way to a prefix.
+#[derive(Debug, Drop)]
+pub struct Packet {
+    pub id: u32,
+    pub prefix: PrefixId,
+    /// The epoch whose tables it follows or has left, 0 for none.
+    pub epoch: Epoch,
+    pub mode: Mode,
+    /// How many moves it may still make once it has left the tables.
+    pub budget: u16,
+    /// It has been at the node of the detour since it left the tables.
+    pub reached: bool,
+    /// The nodes that count as visited: bit i stands for the i-th node, ascending, from 0.
+    pub visited: u64,
+    /// The way back, the last node at the end.
+    pub trail: Nodes,
+    /// The nodes that are still to come of the route that it took.
+    pub route: Nodes,
+}
+
+impl Packet {
+    ghost use Rattle.epoch_packet.specs.Packets.{moved_to, turned};
+
+    /// The packet after a move to a node along the stable tables. Takes no memory.
+    pub fn moved_to(self, topology: &Topology, node: NodeId) -> Packet
+        ensures { result ≡ moved_to topology.now node self }
+    {
+        let visited = with_visited(topology, self.visited, node);
+        Packet { visited, ..self }
+    }
+
+    /// The packet that leaves the stable tables at a node. Takes no memory.
+    #[tactic(auto, unfolding(crate::specs::Packets::turned))]
+    pub fn turned(mut self, topology: &Topology, at: NodeId) -> Packet
+        ensures { result ≡ turned topology.now at self }
+    {
+        self.mode = Mode::Transient;
+        self.budget = topology.hops();
+        self.reached = false;
+        self.visited = match topology.scheme() {
+            Scheme::Deflect | Scheme::Detour(_) => only_visited(topology, at),
+            Scheme::Backup => self.visited,
+        };
+        self.trail.clear();
+        self.route.clear();
+        self
+    }
+}
+
+ghost use Rattle.epoch_packet.specs.Packets.{stamped};
+
+/// A packet that enters the network at a node, stamped with the newest epoch that the node published.
+/// Where it published none, the stamp is 0, and the packet is off the tables at once. Takes no memory.
+#[tactic(auto, unfolding(crate::specs::Packets::stamped))]
+pub fn stamp(
+    alloc: Global,
+    topology: &Topology,
+    id: u32,
+    prefix: PrefixId,
+    at: NodeId,
+    epoch: Option<Epoch>,
+) -> Packet
+    ensures { result ≡ stamped topology.now id prefix at epoch }
+{
+    let (epoch, mode) = match epoch {
+        Some(newest) => (newest, Mode::Stable),
+        None => (Epoch::new(0), Mode::Transient),
+    };
+    Packet {
+        id,
+        prefix,
+        epoch,
+        mode,
+        budget: topology.hops(),
+        reached: false,
+        visited: only_visited(topology, at),
+        trail: Nodes::new(Vec::new(alloc)),
+        route: Nodes::new(Vec::new(alloc)),
+    }
+}
