@@ -1,0 +1,5 @@
+pub mod Holding
+pub mod Parting
+pub mod Hearing
+pub mod Projecting
+pub mod Keeping

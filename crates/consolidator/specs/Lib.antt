@@ -1,0 +1,10 @@
+pub mod Answers
+pub mod Facts
+pub mod Holding
+pub mod Keeping
+pub mod Messages
+pub mod Parts
+pub mod Readings
+pub mod Replies
+pub mod Seen
+pub mod Standing

@@ -1,0 +1,88 @@
+-- A node's part in the agreement of one epoch. What happened in that agreement is a chronicle of its own, and
+-- the reports of the epoch are a list beside it.
+use Rattle.std.specs.Prelude.{ℕ, ◌≡◌, true, false, is_some, Option, Some, None, IfSome, List, [], length}
+use Rattle.topology.specs.declared.ballots.Ballot.{Ballot}
+use Rattle.topology.specs.declared.status.Reason.{Reason}
+use Rattle.topology.specs.Lists.{has}
+use Rattle.paxos_core.specs.declared.proposer.Phase.TheVariants.{Idle, Gathering}
+use Rattle.paxos_core.specs.Facts as paxos
+use Rattle.paxos_core.specs.Readings.{started}
+use Rattle.paxos_core.specs.Decisions.{decision}
+use Rattle.paxos_core.specs.Accepting as accepting
+use Rattle.paxos_core.specs.Tallying as tallying
+use Rattle.paxos_core.specs.ProposerCalls.{forgotten}
+use Rattle.paxos_core.specs.Answers.{refusal, answers, received, proposed, opened, next_ballot, to_each}
+use Rattle.incomplete_closure.specs.Reports.{Report}
+use Rattle.incomplete_closure.specs.Marking.{value_of}
+use Rattle.incomplete_closure.specs.declared.values.Value.{Value}
+use Rattle.consolidator.specs.declared.messages.Reply.{Reply}
+use Rattle.consolidator.specs.declared.parts.Part.{Part}
+use Rattle.consolidator.specs.Answers.{reason_where, of_epoch, refuses_report, not_proposing}
+use Rattle.consolidator.specs.Readings.{put_report, nodes_of}
+use Rattle.consolidator.specs.Replies.{Says}
+
+-- the part of a node that has seen nothing of the epoch
+abbrev pub no_part : (node epoch : ℕ) → Part
+no_part node epoch = record {
+  acceptor = record { promised = None; accepted = None };
+  proposer = record { node = node; last_round = 0; phase = Idle; counted = []; best = None; won = false };
+  proposed = None;
+  reports = record { epoch = epoch; reports = [] };
+  decision = None;
+}
+
+-- what outlives a crash
+abbrev pub gone : Part → Part
+gone part = record part {
+  proposer = forgotten part.proposer;
+  proposed = None;
+  reports = record { epoch = part.reports.epoch; reports = [] };
+}
+
+-- the reports that are of use: all of them, and none once a decision is known
+abbrev pub of_use : Option Value → List Report → List Report
+of_use None reports = reports
+of_use (Some v) reports = []
+
+-- it is the part of u after these facts, where u holds these reports and there are so many consolidators: its
+-- acceptor and its proposer, whose ballots carry its number; the value that it proposed in the ballot that it
+-- gathers; the reports that are of use; the decision that it knows, after which no ballot of it is open
+pub record StandsFor (members : ℕ) (part : Part) (past : paxos.Chronicle Value) (reports : List Report) (u : ℕ) : Type 0 where
+  pub acceptor : accepting.StandsFor part.acceptor past u
+  pub proposer : tallying.StandsFor members part.proposer past u
+  pub own : IfSome (started past u) (λ b. b.node ≡ u)
+  pub value : (b : Ballot) → part.proposer.phase ≡ Gathering b → part.proposed ≡ proposed past u b
+  pub held : part.reports.reports ≡ of_use (decision past u) reports
+  pub known : part.decision ≡ decision past u
+  pub over : is_some (decision past u) ≡ true → part.proposer.phase ≡ Idle
+
+-- a message of the agreement came to u: the reply is that of the rules, and the part goes on
+pub record Hears (members nodes : List ℕ) (reply : Reply) (old new : Part) (past : paxos.Chronicle Value)
+    (reports : List Report) (u from : ℕ) (m : paxos.Message Value) : Type 0 where
+  pub answer : Says reply (reason_where (refusal past u from m))
+      (of_epoch old.reports.epoch (answers members nodes (value_of reports) past u from m))
+  pub stands : StandsFor (length members) new (received members nodes (value_of reports) past u from m) reports u
+
+-- the reports after one more that came, where a decision is known, or one of its node is held, or neither
+abbrev pub after_report : Option Reason → Report → List Report → List Report
+after_report None r reports = put_report r reports
+after_report (Some why) r reports = reports
+
+-- a report of the epoch came to u: it is kept, or refused
+pub record Keeps (members : ℕ) (reply : Reply) (new : Part) (past : paxos.Chronicle Value) (reports : List Report)
+    (u : ℕ) (r : Report) : Type 0 where
+  pub answer : Says reply (refuses_report (is_some (decision past u)) (has (nodes_of reports) r.node)) []
+  pub stands : StandsFor members new past
+      (after_report (refuses_report (is_some (decision past u)) (has (nodes_of reports) r.node)) r reports) u
+
+-- the agreement after u was to propose: as before where it does not
+abbrev pub opened_as : Option Reason → List ℕ → paxos.Chronicle Value → ℕ → paxos.Chronicle Value
+opened_as None members past u = opened members past u
+opened_as (Some why) members past u = past
+
+-- u was to propose: it asks each consolidator for a promise, or there is a reason not to
+pub record Proposes (members : List ℕ) (reply : Reply) (old new : Part) (past : paxos.Chronicle Value)
+    (reports : List Report) (u : ℕ) : Type 0 where
+  pub answer : Says reply (not_proposing past reports u)
+      (of_epoch old.reports.epoch (to_each members (paxos.Prepare (next_ballot past u))))
+  pub stands : StandsFor (length members) new (opened_as (not_proposing past reports u) members past u) reports u

@@ -1,0 +1,17 @@
+//! What consolidators hold, say and learn: reports of cuts, and the agreement on the value of each epoch.
+#![tactic(auto)]
+
+pub mod consolidators;
+pub mod held_reports;
+pub mod messages;
+pub mod parts;
+
+pub use consolidators::Consolidator;
+#[doc(hidden)]
+pub use held_reports::HeldReports;
+pub use messages::{Mail, Mails, Message, Reply};
+#[doc(hidden)]
+pub use parts::Part;
+
+#[cfg(test)]
+mod tests;

@@ -1,0 +1,192 @@
+//! What goes over the control network.
+ghost use Rattle.std.specs.Prelude.{◌≡◌, ◌∷◌, [], Option, map, IfOk};
+ghost use Rattle.consolidator.specs.Answers.{is_for_all as is_open};
+ghost use Rattle.consolidator.specs.Messages.{epoch_of};
+ghost use Rattle.consolidator.specs.Seen.{message_seen, mails_seen};
+
+use incomplete_closure::{Report, Value};
+use std::alloc::Global;
+use std::marker::Model;
+use std::rc::Rc;
+use topology::{Ballot, Epoch, NoMemory, NodeId, Reason};
+
+/// A message of the control network.
+#[derive(Debug, Drop)]
+pub enum Message {
+    /// The report of a cut, for consolidators.
+    Report(Rc<Report>),
+    /// Asks a consolidator to promise the ballot.
+    Prepare {
+        epoch: Epoch,
+        ballot: Ballot,
+    },
+    /// The ballot is promised; names what the sender accepted last.
+    Promise {
+        epoch: Epoch,
+        ballot: Ballot,
+        named: Option<(Ballot, Value)>,
+    },
+    /// Asks a consolidator to accept the value in the ballot.
+    Accept {
+        epoch: Epoch,
+        ballot: Ballot,
+        value: Value,
+    },
+    /// The value of the ballot is accepted.
+    Accepted {
+        epoch: Epoch,
+        ballot: Ballot,
+    },
+    /// The value is chosen, for every node.
+    Decision {
+        epoch: Epoch,
+        value: Value,
+    },
+}
+
+// What a Promise names.
+fn copy_named(named: &Option<(Ballot, Value)>) -> Result<Option<(Ballot, Value)>, NoMemory>
+    ensures { IfOk result (λ copy. copy ≡ named.now) }
+{
+    match named {
+        Some((ballot, value)) => Ok(Some((*ballot, value.copy()?))),
+        None => Ok(None),
+    }
+}
+
+impl Message {
+    /// The epoch that it is about.
+    pub fn epoch(&self) -> Epoch
+        ensures { result ≡ epoch_of (message_seen self.now) }
+    {
+        match self {
+            Message::Report(report) => report.epoch,
+            Message::Prepare { epoch, .. } => *epoch,
+            Message::Promise { epoch, .. } => *epoch,
+            Message::Accept { epoch, .. } => *epoch,
+            Message::Accepted { epoch, .. } => *epoch,
+            Message::Decision { epoch, .. } => *epoch,
+        }
+    }
+
+    /// Whether it is for every node, and not for consolidators alone.
+    pub fn is_for_all(&self) -> bool
+        ensures { result ≡ is_open (message_seen self.now) }
+    {
+        matches!(self, Message::Decision { .. })
+    }
+
+    /// An equal message. The report of a cut is shared.
+    pub fn copy(&self) -> Result<Message, NoMemory>
+        ensures { IfOk result (λ copy. message_seen copy ≡ message_seen self.now) }
+    {
+        match self {
+            Message::Report(report) => Ok(Message::Report(report.clone()?)),
+            Message::Prepare { epoch, ballot } => Ok(Message::Prepare {
+                epoch: *epoch,
+                ballot: *ballot,
+            }),
+            Message::Promise {
+                epoch,
+                ballot,
+                named,
+            } => Ok(Message::Promise {
+                epoch: *epoch,
+                ballot: *ballot,
+                named: copy_named(named)?,
+            }),
+            Message::Accept {
+                epoch,
+                ballot,
+                value,
+            } => Ok(Message::Accept {
+                epoch: *epoch,
+                ballot: *ballot,
+                value: value.copy()?,
+            }),
+            Message::Accepted { epoch, ballot } => Ok(Message::Accepted {
+                epoch: *epoch,
+                ballot: *ballot,
+            }),
+            Message::Decision { epoch, value } => Ok(Message::Decision {
+                epoch: *epoch,
+                value: value.copy()?,
+            }),
+        }
+    }
+}
+
+/// A message and its addressee.
+#[derive(Debug, Drop)]
+pub struct Mail {
+    pub to: NodeId,
+    pub message: Message,
+}
+
+/// Messages in the order in which they are sent.
+#[derive(Debug, Drop)]
+pub struct Mails {
+    list: Vec<Mail>,
+}
+
+impl Model for Mails {
+    ghost use Rattle.std.specs.Prelude.{List};
+    ghost use Rattle.consolidator.specs.declared.messages.Mail.{Mail};
+
+    ghost Value = { List Mail };
+
+    ghost view = { λ m. m.list.items };
+}
+
+impl Mails {
+    /// These messages. Takes no memory.
+    pub fn new(list: Vec<Mail>) -> Mails
+        ensures { result ≡ list.items }
+    {
+        Mails { list }
+    }
+
+    pub fn as_slice(&self) -> &[Mail]
+        ensures { result.now ≡ self.now }
+    {
+        &self.list
+    }
+
+    /// The messages themselves. Takes no memory.
+    pub fn into_list(self) -> Vec<Mail>
+        ensures { result.items ≡ self }
+    {
+        self.list
+    }
+}
+
+// One message.
+pub(crate) fn one(alloc: Global, to: NodeId, message: Message) -> Result<Mails, NoMemory>
+    ensures { IfOk result (λ mails. mails_seen mails ≡ (to, message_seen message) ∷ []) }
+{
+    let mut list = Vec::new(alloc);
+    list.push(Mail { to, message })?;
+    Ok(Mails::new(list))
+}
+
+// The message to each of the nodes.
+pub(crate) fn to_each(alloc: Global, nodes: &[NodeId], message: &Message) -> Result<Mails, NoMemory>
+    ensures { IfOk result (λ mails. mails_seen mails ≡ map (λ to. (to, message_seen message.now)) nodes.now) }
+{
+    let mut list = Vec::with_capacity(alloc, nodes.len())?;
+    for node in nodes {
+        let copy = message.copy()?;
+        list.push(Mail {
+            to: *node,
+            message: copy,
+        })?;
+    }
+    Ok(Mails::new(list))
+}
+
+/// What a node does with a message, or when it is to propose: it sends messages, or nothing happens.
+#[derive(Debug, Drop)]
+pub enum Reply {
+    Sent(Mails),
+    Idle(Reason),
+}

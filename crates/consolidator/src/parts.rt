@@ -1,0 +1,379 @@
+//! A node's part in the agreement on the value of one epoch.
+ghost use Rattle.std.specs.Prelude.{ℕ, ◌≡◌, ◌||◌, ◌<◌, true, [], List, length, Some, None, IfOk, OnOk, IsNone};
+ghost use Rattle.topology.specs.Lists.{has, ascending};
+ghost use Rattle.paxos_core.specs.Facts as paxos;
+ghost use Rattle.paxos_core.specs.declared.proposer.Phase.TheVariants.{Preparing};
+ghost use Rattle.paxos_core.specs.Answers.{or_fresh, to_each, announce, posted, opened, next_ballot};
+ghost use Rattle.paxos_core.specs.Decisions.{decision};
+ghost use Rattle.paxos_core.specs.ProposerCalls.{IsPreparing};
+ghost use Rattle.paxos_core.specs.Rules.{round_of};
+ghost use Rattle.incomplete_closure.specs.Seen.{report_seen};
+ghost use Rattle.incomplete_closure.specs.Reports.{Report as AnyReport};
+ghost use Rattle.incomplete_closure.specs.declared.values.Value.{Value as AnyValue};
+ghost use Rattle.incomplete_closure.specs.Marking.{value_of};
+ghost use Rattle.consolidator.specs.Answers.{of_epoch, is_for_all, no_round, not_proposing};
+ghost use Rattle.consolidator.specs.Facts.{Chronicle};
+ghost use Rattle.consolidator.specs.Messages.{epoch_of};
+ghost use Rattle.consolidator.specs.Parts.{no_part, gone, StandsFor, Hears, Keeps, Proposes};
+ghost use Rattle.consolidator.specs.Seen.{message_seen, mails_seen};
+ghost use Rattle.consolidator.specs.Standing.{IsPart, Hears as HearsMessage};
+
+use crate::messages::{one, to_each};
+use crate::{HeldReports, Mails, Message, Reply};
+use incomplete_closure::{Report, Value};
+use paxos_core::{Acceptor, Prepared, Proposer, Tally, Took};
+use std::alloc::Global;
+use std::rc::Rc;
+use topology::{Ballot, Epoch, NoMemory, NodeId, Reason, Topology};
+
+/// What a node promised, counted, holds and knows of one epoch. After an `Err` it is of no use.
+#[derive(Drop)]
+pub struct Part {
+    pub(crate) acceptor: Acceptor<Value>,
+    pub(crate) proposer: Proposer<Value>,
+    /// The value that went out with the ballot whose acceptances are counted.
+    pub(crate) proposed: Option<Value>,
+    pub(crate) reports: HeldReports,
+    pub(crate) decision: Option<Value>,
+}
+
+// What the acceptor accepted last.
+fn accepted_pair(acceptor: &Acceptor<Value>) -> Result<Option<(Ballot, Value)>, NoMemory>
+    ensures { IfOk result (λ pair. pair ≡ acceptor.now.accepted) }
+{
+    match acceptor.accepted() {
+        Some((ballot, value)) => Ok(Some((ballot, value.copy()?))),
+        None => Ok(None),
+    }
+}
+
+// The round of a ballot, 0 where there is none.
+fn round_of(ballot: Option<Ballot>) -> u32
+    ensures { result ≡ round_of ballot }
+{
+    match ballot {
+        Some(ballot) => ballot.round,
+        None => 0,
+    }
+}
+
+// The ballot above which there is no round: the promised one, or else the own one.
+fn no_round(promised: Option<Ballot>, own: Ballot) -> Option<Reason>
+    ensures reason { result ≡ no_round promised (Some own) }
+    ensures promised { IsNone result → round_of promised < 4294967295 }
+    ensures own { IsNone result → own.round < 4294967295 }
+{
+    if let Some(ballot) = promised {
+        if ballot.round == u32::MAX {
+            return Some(Reason::NoRound(ballot));
+        }
+    }
+    if own.round == u32::MAX {
+        return Some(Reason::NoRound(own));
+    }
+    None
+}
+
+impl Part {
+    /// The part of a node that has seen nothing of the epoch. Takes no memory.
+    pub fn new(alloc: Global, epoch: Epoch, node: NodeId) -> Part
+        ensures { result ≡ no_part node epoch }
+    {
+        Part {
+            acceptor: Acceptor::new(),
+            proposer: Proposer::new(alloc, node),
+            proposed: None,
+            reports: HeldReports::new(alloc, epoch),
+            decision: None,
+        }
+    }
+
+    /// A report of the epoch came.
+    pub fn on_report(&mut self, alloc: Global, report: Rc<Report>) -> Result<Reply, NoMemory>
+        requires { report.value.epoch ≡ self.old.reports.epoch }
+        ensures epoch { OnOk result (self.new.reports.epoch ≡ self.old.reports.epoch) }
+        ensures kept { IfOk result (λ reply. (n : ℕ) (past : paxos.Chronicle AnyValue) (reports : List AnyReport)
+            (u : ℕ) → StandsFor n self.old past reports u →
+            Keeps n reply self.new past reports u (report_seen report.value)) }
+    {
+        if self.decision.is_some() {
+            return Ok(Reply::Idle(Reason::Decided));
+        }
+        if self.reports.has(report.node) {
+            return Ok(Reply::Idle(Reason::Duplicate));
+        }
+        self.reports.keep(report)?;
+        Ok(Reply::Sent(Mails::new(Vec::new(alloc))))
+    }
+
+    /// Another consolidator, or this one, asks for a promise.
+    pub fn on_prepare(
+        &mut self,
+        alloc: Global,
+        from: NodeId,
+        ballot: Ballot,
+    ) -> Result<Reply, NoMemory>
+        ensures epoch { OnOk result (self.new.reports.epoch ≡ self.old.reports.epoch) }
+        ensures heard { IfOk result (λ reply. (members nodes : List ℕ) (past : paxos.Chronicle AnyValue)
+            (reports : List AnyReport) (u : ℕ) → StandsFor (length members) self.old past reports u →
+            Hears members nodes reply self.old self.new past reports u from (paxos.Prepare ballot)) }
+    {
+        match self.acceptor.on_prepare(ballot) {
+            Prepared::Refused(promised) => Ok(Reply::Idle(Reason::Promised(promised))),
+            Prepared::Promise => {
+                let epoch = self.reports.epoch();
+                let named = accepted_pair(&self.acceptor)?;
+                let message = Message::Promise {
+                    epoch,
+                    ballot,
+                    named,
+                };
+                Ok(Reply::Sent(one(alloc, from, message)?))
+            }
+        }
+    }
+
+    /// A consolidator asks to accept a value.
+    pub fn on_accept(
+        &mut self,
+        alloc: Global,
+        from: NodeId,
+        ballot: Ballot,
+        value: Value,
+    ) -> Result<Reply, NoMemory>
+        ensures epoch { OnOk result (self.new.reports.epoch ≡ self.old.reports.epoch) }
+        ensures heard { IfOk result (λ reply. (members nodes : List ℕ) (past : paxos.Chronicle AnyValue)
+            (reports : List AnyReport) (u : ℕ) → StandsFor (length members) self.old past reports u →
+            Hears members nodes reply self.old self.new past reports u from (paxos.Accept ballot value)) }
+    {
+        match self.acceptor.on_accept(ballot, value) {
+            Took::Refused(promised) => Ok(Reply::Idle(Reason::Promised(promised))),
+            Took::Again => Ok(Reply::Idle(Reason::Duplicate)),
+            Took::Accepted => {
+                let epoch = self.reports.epoch();
+                let message = Message::Accepted { epoch, ballot };
+                Ok(Reply::Sent(one(alloc, from, message)?))
+            }
+        }
+    }
+
+    // The value that an Accept is to carry: the one that is named, or that of the reports.
+    fn value_to_propose(&self, alloc: Global, named: Option<Value>) -> Result<Value, NoMemory>
+        ensures { IfOk result (λ value. value ≡ or_fresh named (value_of self.now.reports.reports)) }
+    {
+        match named {
+            Some(value) => Ok(value),
+            None => self.reports.value(alloc),
+        }
+    }
+
+    // Proposes the value to all consolidators: they promised the ballot, a majority just now.
+    fn accept_all(
+        &mut self,
+        alloc: Global,
+        members: &[NodeId],
+        ballot: Ballot,
+        value: Value,
+    ) -> Result<Mails, NoMemory>
+        requires preparing { IsPreparing self.old.proposer.phase }
+        requires majority { self.old.proposer.won ≡ true }
+        ensures epoch { OnOk result (self.new.reports.epoch ≡ self.old.reports.epoch) }
+        ensures sent { IfOk result (λ mails. mails_seen mails ≡
+            of_epoch self.old.reports.epoch (to_each members.now (paxos.Accept ballot value))) }
+        ensures stands { OnOk result ((n : ℕ) (past : paxos.Chronicle AnyValue) (reports : List AnyReport)
+            (u : ℕ) → has members.now u ≡ true → self.old.proposer.phase ≡ Preparing ballot →
+            decision past u ≡ None → StandsFor n self.old past reports u →
+            StandsFor n self.new (posted u (to_each members.now (paxos.Accept ballot value)) past) reports u) }
+    {
+        let epoch = self.reports.epoch();
+        let proposed = value.copy()?;
+        let message = Message::Accept {
+            epoch,
+            ballot,
+            value,
+        };
+        let mails = to_each(alloc, members, &message)?;
+        self.proposer.propose();
+        self.proposed = Some(proposed);
+        Ok(mails)
+    }
+
+    /// A consolidator promises a ballot.
+    pub fn on_promise(
+        &mut self,
+        alloc: Global,
+        members: &[NodeId],
+        from: NodeId,
+        ballot: Ballot,
+        named: Option<(Ballot, Value)>,
+    ) -> Result<Reply, NoMemory>
+        requires { length members.now < 4294967296 }
+        ensures epoch { OnOk result (self.new.reports.epoch ≡ self.old.reports.epoch) }
+        ensures heard { IfOk result (λ reply. (nodes : List ℕ) (past : paxos.Chronicle AnyValue)
+            (reports : List AnyReport) (u : ℕ) → has members.now u ≡ true →
+            StandsFor (length members.now) self.old past reports u →
+            Hears members.now nodes reply self.old self.new past reports u from (paxos.Promise ballot named)) }
+    {
+        match self
+            .proposer
+            .on_promise(from, ballot, named, members.len() as u32)?
+        {
+            Tally::Stale => Ok(Reply::Idle(Reason::StaleBallot)),
+            Tally::Duplicate => Ok(Reply::Idle(Reason::Duplicate)),
+            Tally::Counted => Ok(Reply::Sent(Mails::new(Vec::new(alloc)))),
+            Tally::Majority(named) => {
+                let value = self.value_to_propose(alloc, named)?;
+                Ok(Reply::Sent(self.accept_all(alloc, members, ballot, value)?))
+            }
+        }
+    }
+
+    // Tells all nodes the value that is chosen.
+    fn announce(&self, alloc: Global, nodes: &[NodeId]) -> Result<Mails, NoMemory>
+        ensures { IfOk result (λ mails. mails_seen mails ≡
+            of_epoch self.now.reports.epoch (announce nodes.now self.now.proposed)) }
+    {
+        match &self.proposed {
+            None => Ok(Mails::new(Vec::new(alloc))),
+            Some(value) => {
+                let epoch = self.reports.epoch();
+                let copy = value.copy()?;
+                let message = Message::Decision { epoch, value: copy };
+                let mails = to_each(alloc, nodes, &message)?;
+                Ok(mails)
+            }
+        }
+    }
+
+    /// A consolidator accepted the value of a ballot. There are so many consolidators.
+    pub fn on_accepted(
+        &mut self,
+        alloc: Global,
+        members: u32,
+        nodes: &[NodeId],
+        from: NodeId,
+        ballot: Ballot,
+    ) -> Result<Reply, NoMemory>
+        ensures epoch { OnOk result (self.new.reports.epoch ≡ self.old.reports.epoch) }
+        ensures heard { IfOk result (λ reply. (all : List ℕ) (past : paxos.Chronicle AnyValue)
+            (reports : List AnyReport) (u : ℕ) → length all ≡ members →
+            StandsFor (length all) self.old past reports u →
+            Hears all nodes.now reply self.old self.new past reports u from (paxos.Accepted ballot)) }
+    {
+        match self.proposer.on_accepted(from, ballot, members)? {
+            Tally::Stale => Ok(Reply::Idle(Reason::StaleBallot)),
+            Tally::Duplicate => Ok(Reply::Idle(Reason::Duplicate)),
+            Tally::Counted => Ok(Reply::Sent(Mails::new(Vec::new(alloc)))),
+            Tally::Majority(_) => Ok(Reply::Sent(self.announce(alloc, nodes)?)),
+        }
+    }
+
+    /// The value is chosen. Reports and tally are of no use any more. Takes no memory.
+    pub fn on_decision(&mut self, alloc: Global, value: Value) -> Reply
+        ensures epoch { self.new.reports.epoch ≡ self.old.reports.epoch }
+        ensures heard { (members nodes : List ℕ) (past : paxos.Chronicle AnyValue) (reports : List AnyReport)
+            (u from : ℕ) → StandsFor (length members) self.old past reports u →
+            Hears members nodes result self.old self.new past reports u from (paxos.Decision value) }
+    {
+        if self.decision.is_some() {
+            return Reply::Idle(Reason::Decided);
+        }
+        self.decision = Some(value);
+        self.forget();
+        Reply::Sent(Mails::new(Vec::new(alloc)))
+    }
+
+    // Why no ballot can be started, where there is a reason.
+    fn reason_not_to_propose(&self, node: NodeId) -> Option<Reason>
+        ensures reason { (n : ℕ) (past : paxos.Chronicle AnyValue) (reports : List AnyReport) →
+            StandsFor n self.now past reports node → result ≡ not_proposing past reports node }
+        ensures promised { IsNone result → round_of self.now.acceptor.promised < 4294967295 }
+        ensures own { IsNone result → self.now.proposer.last_round < 4294967295 }
+    {
+        if self.decision.is_some() {
+            return Some(Reason::Decided);
+        }
+        if self.reports.is_empty() {
+            return Some(Reason::NoReport);
+        }
+        let round = self.proposer.last_round();
+        no_round(self.acceptor.promised(), Ballot { round, node })
+    }
+
+    // Starts the next ballot.
+    fn ask_all(&mut self, alloc: Global, members: &[NodeId]) -> Result<Mails, NoMemory>
+        requires promised { round_of self.old.acceptor.promised < 4294967295 }
+        requires own { self.old.proposer.last_round < 4294967295 }
+        ensures epoch { OnOk result (self.new.reports.epoch ≡ self.old.reports.epoch) }
+        ensures sent { IfOk result (λ mails. (n : ℕ) (past : paxos.Chronicle AnyValue)
+            (reports : List AnyReport) (u : ℕ) → StandsFor n self.old past reports u → mails_seen mails ≡
+            of_epoch self.old.reports.epoch (to_each members.now (paxos.Prepare (next_ballot past u)))) }
+        ensures stands { OnOk result ((n : ℕ) (past : paxos.Chronicle AnyValue) (reports : List AnyReport)
+            (u : ℕ) → decision past u ≡ None → StandsFor n self.old past reports u →
+            StandsFor n self.new (opened members.now past u) reports u) }
+    {
+        let ballot = self.proposer.start(round_of(self.acceptor.promised()));
+        let epoch = self.reports.epoch();
+        let message = Message::Prepare { epoch, ballot };
+        let mails = to_each(alloc, members, &message)?;
+        Ok(mails)
+    }
+
+    /// The node is to propose a value.
+    pub fn propose(
+        &mut self,
+        alloc: Global,
+        members: &[NodeId],
+        node: NodeId,
+    ) -> Result<Reply, NoMemory>
+        ensures epoch { OnOk result (self.new.reports.epoch ≡ self.old.reports.epoch) }
+        ensures proposes { IfOk result (λ reply. (past : paxos.Chronicle AnyValue) (reports : List AnyReport) →
+            StandsFor (length members.now) self.old past reports node →
+            Proposes members.now reply self.old self.new past reports node) }
+    {
+        match self.reason_not_to_propose(node) {
+            Some(reason) => Ok(Reply::Idle(reason)),
+            None => Ok(Reply::Sent(self.ask_all(alloc, members)?)),
+        }
+    }
+
+    /// A crash of the node: what it collected is lost. Takes no memory.
+    pub fn forget(&mut self)
+        ensures { self.new ≡ gone self.old }
+    {
+        self.proposer.forget();
+        self.proposed = None;
+        self.reports.clear();
+    }
+
+    /// A message of the epoch came, which is for the node.
+    pub fn hear(
+        &mut self,
+        alloc: Global,
+        topology: &Topology,
+        from: NodeId,
+        message: Message,
+    ) -> Result<Reply, NoMemory>
+        requires { epoch_of (message_seen message) ≡ self.old.reports.epoch }
+        ensures epoch { OnOk result (self.new.reports.epoch ≡ self.old.reports.epoch) }
+        ensures heard { IfOk result (λ reply. (past : Chronicle) (u : ℕ) →
+            (has topology.now.consolidators u || is_for_all (message_seen message)) ≡ true →
+            IsPart topology.now self.old past u (epoch_of (message_seen message)) →
+            HearsMessage topology.now reply self.new past u from (message_seen message)) }
+    {
+        let members = topology.consolidators();
+        let nodes = topology.nodes();
+        match message {
+            Message::Report(report) => self.on_report(alloc, report),
+            Message::Prepare { ballot, .. } => self.on_prepare(alloc, from, ballot),
+            Message::Promise { ballot, named, .. } => {
+                self.on_promise(alloc, members, from, ballot, named)
+            }
+            Message::Accept { ballot, value, .. } => self.on_accept(alloc, from, ballot, value),
+            Message::Accepted { ballot, .. } => {
+                self.on_accepted(alloc, members.len() as u32, nodes, from, ballot)
+            }
+            Message::Decision { value, .. } => Ok(self.on_decision(alloc, value)),
+        }
+    }
+}

@@ -1,0 +1,269 @@
+//! The ballots of an epoch, step by step. Nodes 1, 2 and 3 are consolidators, node 4 is none.
+ghost use Rattle.std.specs.Prelude.{◌≡◌, ◌<◌};
+
+use crate::{Consolidator, Mail, Mails, Message, Reply};
+use incomplete_closure::{Nodes, Report, Rows, SessionRows, Triggers, Value};
+use std::alloc::Global;
+use std::process::Abort;
+use std::rc::Rc;
+use std::test::Fail;
+use topology::{Ballot, Epoch, NodeId, Reason, Topology};
+
+// What comes to node 1, what it replies, and the decision of epoch 1 that it knows then. A message is its sender
+// or its addressees, its kind, its epoch, and the rest; a value is the nodes that responded. By hand.
+const CONSOLIDATOR: &str = "propose 1 | idle no-report |
+2 report 1 2 | |
+3 report 2 3 | |
+2 report 1 2 | idle duplicate |
+1 report 1 1 | |
+propose 1 | 1,2,3 prepare 1 1/1 |
+1 prepare 1 1/1 | 1 promise 1 1/1 |
+1 prepare 1 1/1 | idle promised 1/1 |
+1 promise 1 1/1 | |
+1 promise 1 1/1 | idle duplicate |
+2 promise 1 2/1 | idle stale |
+2 prepare 1 1/2 | 2 promise 1 1/2 |
+2 promise 1 1/1 | 1,2,3 accept 1 1/1 1,2 |
+3 promise 1 1/1 | idle stale |
+1 accept 1 1/1 1,2 | idle promised 1/2 |
+2 accepted 1 1/1 | |
+2 accepted 1 1/1 | idle duplicate |
+2 accept 1 1/2 2 | 2 accepted 1 1/2 |
+2 accept 1 1/2 2 | idle duplicate |
+propose 1 | 1,2,3 prepare 1 2/1 |
+3 accepted 1 1/1 | idle stale |
+1 prepare 1 2/1 | 1 promise 1 2/1 1/2 2 |
+1 promise 1 2/1 1/2 2 | |
+crash | |
+3 promise 1 2/1 | idle stale |
+propose 1 | idle no-report |
+1 prepare 1 2/1 | idle promised 2/1 |
+1 report 1 1 | |
+3 report 1 3 | |
+propose 1 | 1,2,3 prepare 1 3/1 |
+1 prepare 1 3/1 | 1 promise 1 3/1 1/2 2 |
+3 promise 1 3/1 1/1 1,2 | |
+1 promise 1 3/1 1/2 2 | 1,2,3 accept 1 3/1 2 |
+1 accept 1 3/1 2 | 1 accepted 1 3/1 |
+1 accepted 1 3/1 | |
+2 accepted 1 3/1 | 1,2,3,4 decision 1 2 |
+3 accepted 1 3/1 | |
+1 decision 1 2 | | 2
+2 decision 1 1,2 | idle decided | 2
+2 report 1 2 | idle decided | 2
+propose 1 | idle decided | 2
+3 accepted 1 3/1 | idle stale | 2
+2 prepare 1 9/2 | 2 promise 1 9/2 3/1 2 | 2
+crash | | 2
+propose 2 | idle no-report | 2
+3 report 2 3 | | 2
+propose 2 | 1,2,3 prepare 2 1/1 | 2
+2 prepare 2 4294967295/2 | 2 promise 2 4294967295/2 | 2
+propose 2 | idle no-round 4294967295/2 | 2";
+
+// The same of node 4.
+const OTHER: &str = "propose 1 | idle no-consolidator |
+1 report 1 1 | idle no-consolidator |
+1 prepare 1 1/1 | idle no-consolidator |
+1 promise 1 1/1 | idle no-consolidator |
+1 accept 1 1/1 2 | idle no-consolidator |
+1 accepted 1 1/1 | idle no-consolidator |
+1 decision 1 2 | | 2
+1 decision 1 1,2 | idle decided | 2
+crash | | 2";
+
+fn number(word: &str) -> Result<u32, Fail> {
+    Ok(word.parse::<u32>()?)
+}
+
+fn node(word: &str) -> Result<NodeId, Fail> {
+    Ok(NodeId::new(word.parse::<u16>()?))
+}
+
+fn ballot(word: &str) -> Result<Ballot, Fail> {
+    let (round, of) = word.split_once('/').ok_or("a ballot")?;
+    Ok(Ballot {
+        round: number(round)?,
+        node: node(of)?,
+    })
+}
+
+fn nodes(alloc: Global, word: &str) -> Result<Vec<NodeId>, Fail> {
+    let mut list = Vec::new(alloc);
+    for of in word.split(',') {
+        list.push(node(of)?)?;
+    }
+    Ok(list)
+}
+
+fn value(alloc: Global, word: &str) -> Result<Value, Fail> {
+    Ok(Value {
+        responding: Nodes::new(nodes(alloc, word)?),
+        incomplete: Triggers::new(Vec::new(alloc)),
+    })
+}
+
+fn report(alloc: Global, epoch: Epoch, of: &str) -> Result<Message, Fail> {
+    let report = Report {
+        node: node(of)?,
+        epoch,
+        rows: Rows::new(Vec::new(alloc)),
+        sessions: SessionRows::new(Vec::new(alloc)),
+    };
+    Ok(Message::Report(Rc::new(alloc, report)?))
+}
+
+fn promise(alloc: Global, epoch: Epoch, rest: &str) -> Result<Message, Fail> {
+    let (of, rest) = rest.split_once(' ').unwrap_or((rest, ""));
+    let ballot = self::ballot(of)?;
+    let Some((accepted, word)) = rest.split_once(' ') else {
+        let named = None;
+        return Ok(Message::Promise {
+            epoch,
+            ballot,
+            named,
+        });
+    };
+    let named = Some((self::ballot(accepted)?, value(alloc, word)?));
+    Ok(Message::Promise {
+        epoch,
+        ballot,
+        named,
+    })
+}
+
+fn accept(alloc: Global, epoch: Epoch, rest: &str) -> Result<Message, Fail> {
+    let (of, word) = rest.split_once(' ').ok_or("a value")?;
+    Ok(Message::Accept {
+        epoch,
+        ballot: ballot(of)?,
+        value: value(alloc, word)?,
+    })
+}
+
+fn message(alloc: Global, text: &str) -> Result<Message, Fail> {
+    let (kind, rest) = text.split_once(' ').ok_or("a kind")?;
+    let (epoch, rest) = rest.split_once(' ').ok_or("an epoch")?;
+    let epoch = Epoch::new(number(epoch)?);
+    match kind {
+        "report" => report(alloc, epoch, rest),
+        "promise" => promise(alloc, epoch, rest),
+        "accept" => accept(alloc, epoch, rest),
+        "prepare" => Ok(Message::Prepare {
+            epoch,
+            ballot: ballot(rest)?,
+        }),
+        "accepted" => Ok(Message::Accepted {
+            epoch,
+            ballot: ballot(rest)?,
+        }),
+        _ => Ok(Message::Decision {
+            epoch,
+            value: value(alloc, rest)?,
+        }),
+    }
+}
+
+fn reason(text: &str) -> Result<Reason, Fail> {
+    let (word, rest) = text.split_once(' ').unwrap_or((text, ""));
+    match word {
+        "no-consolidator" => Ok(Reason::NotConsolidator),
+        "decided" => Ok(Reason::Decided),
+        "no-report" => Ok(Reason::NoReport),
+        "duplicate" => Ok(Reason::Duplicate),
+        "stale" => Ok(Reason::StaleBallot),
+        "promised" => Ok(Reason::Promised(ballot(rest)?)),
+        _ => Ok(Reason::NoRound(ballot(rest)?)),
+    }
+}
+
+fn reply(alloc: Global, text: &str) -> Result<Reply, Fail> {
+    let mut list = Vec::new(alloc);
+    let Some((first, rest)) = text.split_once(' ') else {
+        return Ok(Reply::Sent(Mails::new(list)));
+    };
+    if first == "idle" {
+        return Ok(Reply::Idle(reason(rest)?));
+    }
+    for to in nodes(alloc, first)? {
+        let message = message(alloc, rest)?;
+        list.push(Mail { to, message })?;
+    }
+    Ok(Reply::Sent(Mails::new(list)))
+}
+
+fn step(
+    alloc: Global,
+    topology: &Topology,
+    at: Consolidator,
+    text: &str,
+) -> Result<(Consolidator, Reply), Fail> {
+    let mut consolidator = at;
+    let Some((first, rest)) = text.split_once(' ') else {
+        consolidator.forget();
+        return Ok((consolidator, Reply::Sent(Mails::new(Vec::new(alloc)))));
+    };
+    if first == "propose" {
+        return Ok(consolidator.propose(topology, Epoch::new(number(rest)?))?);
+    }
+    let from = node(first)?;
+    Ok(consolidator.handle(topology, from, message(alloc, rest)?)?)
+}
+
+fn decision(alloc: Global, consolidator: &Consolidator) -> Result<String, Fail> {
+    match consolidator.decision(Epoch::new(1)) {
+        Some(value) => Ok(format!(in alloc; "{value:?}")?),
+        None => Ok(String::new(alloc)),
+    }
+}
+
+fn known(alloc: Global, word: &str) -> Result<String, Fail> {
+    if word.is_empty() {
+        return Ok(String::new(alloc));
+    }
+    let value = value(alloc, word)?;
+    Ok(format!(in alloc; "{value:?}")?)
+}
+
+fn plays(
+    rt: &impl Abort,
+    alloc: Global,
+    topology: &Topology,
+    start: Consolidator,
+    steps: &str,
+) -> Result<(), Fail> {
+    let mut consolidator = start;
+    for line in steps.lines() {
+        let (comes, rest) = line.split_once('|').ok_or("what comes")?;
+        let (replies, knows) = rest.split_once('|').ok_or("a reply")?;
+        let (next, told) = step(alloc, topology, consolidator, comes.trim())?;
+        consolidator = next;
+        let told = format!(in alloc; "{told:?}")?;
+        let expected = reply(alloc, replies.trim())?;
+        let expected = format!(in alloc; "{expected:?}")?;
+        assert_eq!(rt; told, expected, "{line}");
+        let knows = known(alloc, knows.trim())?;
+        assert_eq!(rt; decision(alloc, &consolidator)?, knows, "{line}");
+    }
+    Ok(())
+}
+
+fn fill(topology: &mut Topology) -> Result<(), Fail> {
+    for of in [1, 2, 3] {
+        topology.add_node(NodeId::new(of), true)?;
+    }
+    topology.add_node(NodeId::new(4), false)?;
+    Ok(())
+}
+
+#[test]
+fn the_ballots_of_an_epoch(rt: HostRuntime) -> Result<(), Fail> {
+    let alloc = rt.alloc();
+    let mut topology = Topology::empty(alloc);
+    fill(&mut topology)?;
+    for (node, steps) in [(1, CONSOLIDATOR), (4, OTHER)] {
+        let start = Consolidator::new(alloc, &topology, NodeId::new(node))?;
+        plays(&rt, alloc, &topology, start, steps)?;
+    }
+    Ok(())
+}
