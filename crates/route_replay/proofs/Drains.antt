@@ -12,7 +12,8 @@ use Rattle.chronicle.specs.declared.ways.Way.{Way}
 use Rattle.chronicle.specs.Deliveries.{arrives, ways, next_delivery}
 use Rattle.chronicle.specs.Facts.{Chronicle}
 use Rattle.chronicle.specs.Run.{run}
-use Rattle.world_core.specs.Limits.{Reached, limit_of, StopsAt}
+use Rattle.node_core.specs.NodeLimits.{Reached}
+use Rattle.world_core.specs.Limits.{limit_of, StopsAt}
 use Rattle.world_core.specs.declared.outcomes.Stop.{Stop}
 use Rattle.world_core.specs.declared.outcomes.Stop.TheVariants as stop
 use Rattle.route_replay.specs.Text.{Course, Leads, unless, then_on, drained}

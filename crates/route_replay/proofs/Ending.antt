@@ -1,6 +1,9 @@
 -- What each end of a replay gives of the promise.
-use Rattle.std.proofs.Common.{◌≡◌, ◌≢◌, ℕ, zero, suc, ◌++◌, ◌<◌, ◌≤◌, inl, inr, Option, Some, None, IfSome, List, [], ◌∷◌, length, Result, Ok, Err, Bool, true, false, true≢false, cond, nat_lt, nat_le, refl, sym, ap, ◌∙◌, subst, arith}
-use Rattle.std.specs.Io.KnownBytes.{Appends}
+use Rattle.std.proofs.Common.{◌≡◌, ◌≢◌, ℕ, zero, suc, ◌++◌, ◌<◌, ◌≤◌, inl, inr, Option, Some, None, IfSome, List, [], ◌∷◌, length, Result, Ok, Err, Bool, true, false, not, true≢false, cond, nat_lt, nat_le, refl, sym, ap, ◌∙◌, subst, arith}
+use Rattle.std.specs.Prelude.{MatchBool}
+use Rattle.std.specs.Io.KnownBytes.{IsAtEnd}
+use Rattle.route_io.specs.Views.{SourceView, SinkView}
+use Rattle.route_io.proofs.Bytes.{stays_quiet, risen_as}
 use Rattle.topology.specs.declared.status.Status.{Status}
 use Rattle.topology.specs.declared.status.Status.TheVariants.{Done, NoMemory, BadSchedule, Limit, WriteFault}
 use Rattle.topology.specs.declared.status.BadKind.{BadKind}
@@ -13,11 +16,12 @@ use Rattle.chronicle.specs.declared.events.Event.{Event}
 use Rattle.chronicle.specs.declared.events.Event.TheVariants as event
 use Rattle.chronicle.specs.declared.ways.Way.{Way}
 use Rattle.chronicle.specs.Deliveries.{next_delivery}
-use Rattle.chronicle.specs.Run.{Step, Idle, Goes, step, run}
-use Rattle.world_core.specs.Limits.{Reached, most_events, most_triggers, triggers_of, has_more_entries, has_more_updates, first_above, above, above_by, limit_of}
+use Rattle.chronicle.specs.Run.{step, run}
+use Rattle.chronicle.specs.Steps.{Step, Idle, Goes}
+use Rattle.node_core.specs.NodeLimits.{Reached}
+use Rattle.world_core.specs.declared.bounds.TheConstants.{MOST_EVENTS, MOST_TRIGGERS}
+use Rattle.world_core.specs.Limits.{triggers_of, has_more_epochs, has_more_entries, has_more_updates, first_above, above, above_by, limit_of}
 use Rattle.schedule_file.specs.declared.lines.Numbered.{Numbered}
-use Rattle.schedule_file.specs.declared.lines.Directive.{Directive}
-use Rattle.schedule_file.specs.declared.lines.Directive.TheVariants as directive
 use Rattle.schedule_file.specs.declared.lines.Line.{Line}
 use Rattle.schedule_file.specs.Spelling.{words_by_line}
 use Rattle.schedule_file.specs.Grammar.{Reads, net_of, directives_of}
@@ -25,10 +29,12 @@ use Rattle.schedule_file.specs.Refusals.{FirstBad}
 use Rattle.schedule_file.proofs.Readings.{same_lines, no_bad_line, one_first}
 use Rattle.route_replay.specs.declared.ends.RunEnd.{RunEnd}
 use Rattle.route_replay.specs.declared.ends.RunEnd.TheVariants as end
-use Rattle.route_replay.specs.Side.{Side}
-use Rattle.route_replay.specs.Text.{Course, Leads, Stops, unless, with_event, then_on, drained, course, text, stop, stop_by}
+use Rattle.route_replay.specs.declared.tasks.Task.{Task}
+use Rattle.route_replay.specs.declared.tasks.Task.TheVariants as task
+use Rattle.route_replay.specs.declared.runner.TheConstants.{MAX_BYTES}
+use Rattle.route_replay.specs.Text.{Course, Leads, Stops, unless, with_event, then_on, drained, course, text, stop, stop_by, task_of}
 use Rattle.route_replay.specs.Running.{Runs}
-use Rattle.route_replay.specs.Replayed.{Replayed, Comes, IsLimit, ends_early, most_bytes}
+use Rattle.route_replay.specs.Replayed.{Replayed, Comes, IsLimit, StopsRun, is_of_run}
 
 -- what a told source gave is what it told
 pub known : (told : Option (List ℕ)) (items : List ℕ) → IfSome told (λ bytes. items ≡ bytes) → (bytes : List ℕ) → told ≡ Some bytes → items ≡ bytes
@@ -55,10 +61,10 @@ one_reading_of text = record {
 }
 
 -- the file is refused by a line
-pub ends_bad : (source source' sink : Side) (bytes : List ℕ) (line : ℕ) (kind : BadKind) → ((told : List ℕ) → source.told ≡ Some told → bytes ≡ told) → OneReading bytes
-    → length bytes ≤ most_bytes → FirstBad bytes line kind → source.faults ≤ source'.faults
+pub ends_bad : (source source' : SourceView) (sink : SinkView) (bytes : List ℕ) (line : ℕ) (kind : BadKind) → ((told : List ℕ) → source.left ≡ Some told → bytes ≡ told) → OneReading bytes
+    → length bytes ≤ MAX_BYTES → FirstBad bytes line kind → IsAtEnd source'.left → source'.faults ≡ source.faults
     → Replayed source source' sink sink (BadSchedule line kind)
-ends_bad source source' sink bytes line kind read one short bad later = record {
+ends_bad source source' sink bytes line kind read one short bad at_end quiet = record {
   formed = λ e. absurd (cc e);
   done = λ e. absurd (cc e);
   front = λ told t. inl refl;
@@ -67,16 +73,16 @@ ends_bad source source' sink bytes line kind read one short bad later = record {
       let same = same_bad line n kind k e in
       subst (λ b. FirstBad b n k) (read told t) (subst (λ l. FirstBad bytes n l) same.1 (subst (λ m. FirstBad bytes m kind) same.0 bad));
   limit = λ k n e. absurd (cc e);
-  read_fault = λ e. absurd (cc e);
-  write_fault = λ e. absurd (cc e);
+  read_fault = stays_quiet source.faults source'.faults (λ e. cc e) quiet;
+  write_fault = stays_quiet sink.faults sink.faults (λ e. cc e) refl;
+  read = λ _. at_end;
+  same_room = refl;
   cut_off = λ e. absurd (cc e);
   refused = λ told t _ n k first.
       let same = one.first line n kind k bad (subst (λ b. FirstBad b n k) (sym (read told t)) first) in
       inl (same_status line n kind k same.0 same.1);
   too_long = λ told t long. absurd (let same = ap length (read told t) in omega arith);
   complete = λ told t _ run. absurd (one.apart run.lines line kind (subst (λ b. Reads [] (words_by_line b) run.lines) (sym (read told t)) run.is_run.read) bad);
-  source_counts = later;
-  sink_counts = omega arith;
 }
 
 -- the file was run, and so it ended
@@ -91,21 +97,22 @@ abbrev NotBytes : Option Reached → Type 0
 NotBytes None = Unit {0}
 NotBytes (Some reached) = reached.kind ≢ count.Bytes
 
-above_not_bytes : (triggers entries updates : Bool) → NotBytes (first_above triggers entries updates)
-above_not_bytes true entries updates = λ e. cc e
-above_not_bytes false true updates = λ e. cc e
-above_not_bytes false false true = λ e. cc e
-above_not_bytes false false false = tt
+above_not_bytes : (epochs triggers entries updates : Bool) → NotBytes (first_above epochs triggers entries updates)
+above_not_bytes true triggers entries updates = λ e. cc e
+above_not_bytes false true entries updates = λ e. cc e
+above_not_bytes false false true updates = λ e. cc e
+above_not_bytes false false false true = λ e. cc e
+above_not_bytes false false false false = tt
 
 step_not_bytes : (rules : Rules) (net : Net) (s : Step) → NotBytes (above_by rules net s)
 unfolding above
 step_not_bytes rules net (Idle reason) = tt
-step_not_bytes rules net (Goes now) = above_not_bytes (nat_lt most_triggers (triggers_of net now)) (has_more_entries net now) (has_more_updates rules net now)
+step_not_bytes rules net (Goes now) = above_not_bytes (has_more_epochs net now) (nat_lt MOST_TRIGGERS (triggers_of net now)) (has_more_entries net now) (has_more_updates rules net now)
 
 limit_not_bytes : (rules : Rules) (net : Net) (events : List Event) (e : Event) → NotBytes (limit_of rules net events e)
 unfolding limit_of
 limit_not_bytes rules net events e =
-    elim (nat_le most_events (length events)) as (λ b. NotBytes (cond b (Some (record { kind = count.Events; number = most_events })) (above_by rules net (step rules net (run rules net events) e)))) [
+    elim (nat_le MOST_EVENTS (length events)) as (λ b. NotBytes (cond b (Some (record { kind = count.Events; number = MOST_EVENTS })) (above_by rules net (step rules net (run rules net events) e)))) [
       | true ↦ λ same. cc same
       | false ↦ step_not_bytes rules net (step rules net (run rules net events) e)
     ]
@@ -138,18 +145,10 @@ drained_not_bytes rules net (suc n) events =
           (event_not_bytes rules net events (event.Deliver way.from way.to)) (drained_not_bytes rules net n)
     ]
 
-directive_not_bytes : (rules : Rules) (net : Net) (events : List Event) (d : Directive) → StopsNotBytes (course rules net events d)
-directive_not_bytes rules net events (directive.Originate u p) = event_not_bytes rules net events (event.Originate u p)
-directive_not_bytes rules net events (directive.Withdraw u p) = event_not_bytes rules net events (event.Withdraw u p)
-directive_not_bytes rules net events (directive.Prefer u v x) = event_not_bytes rules net events (event.Prefer u v x)
-directive_not_bytes rules net events (directive.Deliver v u) = event_not_bytes rules net events (event.Deliver v u)
-directive_not_bytes rules net events (directive.Fail a b) = event_not_bytes rules net events (event.Fail a b)
-directive_not_bytes rules net events (directive.Restore a b) = event_not_bytes rules net events (event.Restore a b)
-directive_not_bytes rules net events (directive.Notice u v) = event_not_bytes rules net events (event.Notice u v)
-directive_not_bytes rules net events (directive.OpenSession u v) = event_not_bytes rules net events (event.OpenSession u v)
-directive_not_bytes rules net events (directive.Drain times) = drained_not_bytes rules net times events
-directive_not_bytes rules net events directive.ShowRib = tt
-directive_not_bytes rules net events directive.ShowLog = tt
+task_not_bytes : (rules : Rules) (net : Net) (events : List Event) (t : Task) → StopsNotBytes (course rules net events t)
+task_not_bytes rules net events (task.Event e) = event_not_bytes rules net events e
+task_not_bytes rules net events (task.Deliveries times) = drained_not_bytes rules net times events
+task_not_bytes rules net events (task.Show view) = tt
 
 either_not_bytes : (led : Course) (rest : List Event → Option Reached) → StopsNotBytes led → ((events : List Event) → NotBytes (rest events)) → NotBytes (stop_by led rest)
 either_not_bytes (Leads events) rest h k = k events
@@ -158,26 +157,24 @@ either_not_bytes (Stops at) rest h k = h
 stop_not_bytes : (rules : Rules) (net : Net) (events : List Event) (ds : List Numbered) → NotBytes (stop rules net events ds)
 stop_not_bytes rules net events [] = tt
 stop_not_bytes rules net events (d ∷ ds) =
-    either_not_bytes (course rules net events d.directive) (λ later. stop rules net later ds)
-    (directive_not_bytes rules net events d.directive) (λ later. stop_not_bytes rules net later ds)
+    either_not_bytes (course rules net events (task_of d.directive)) (λ later. stop rules net later ds)
+    (task_not_bytes rules net events (task_of d.directive)) (λ later. stop_not_bytes rules net later ds)
 
 not_bytes_of : (o : Option Reached) (r : Reached) → NotBytes o → o ≡ Some r → r.kind ≢ count.Bytes
 not_bytes_of o r h e = subst NotBytes e h
 
-not_early : (kind : LimitKind) (number : ℕ) → kind ≢ count.Bytes → ends_early (Limit kind number) ≡ false
-not_early count.Bytes number ne = absurd (ne refl)
-not_early count.Events number ne = refl
-not_early count.Triggers number ne = refl
-not_early count.Entries number ne = refl
-not_early count.Updates number ne = refl
+of_run : (kind : LimitKind) → kind ≢ count.Bytes → is_of_run kind ≡ true
+of_run count.Bytes ne = absurd (ne refl)
+of_run count.Events ne = refl
+of_run count.Epochs ne = refl
+of_run count.Triggers ne = refl
+of_run count.Entries ne = refl
+of_run count.Updates ne = refl
 
 is_limit : (bytes : List ℕ) (kind : LimitKind) (number : ℕ) (held held' : Option (List ℕ)) → kind ≢ count.Bytes
-    → ((run : Comes bytes) × (run.stopped ≡ Some (record { kind = kind; number = number })) × Appends held held' run.written) → IsLimit bytes kind number held held'
-is_limit bytes count.Bytes number held held' ne h = absurd (ne refl)
-is_limit bytes count.Events number held held' ne h = h
-is_limit bytes count.Triggers number held held' ne h = h
-is_limit bytes count.Entries number held held' ne h = h
-is_limit bytes count.Updates number held held' ne h = h
+    → StopsRun bytes (record { kind = kind; number = number }) held held' → IsLimit bytes kind number held held'
+is_limit bytes kind number held held' ne h =
+    subst (λ b. MatchBool b (StopsRun bytes (record { kind = kind; number = number }) held held') ((number ≡ MAX_BYTES) × (MAX_BYTES < length bytes))) (sym (of_run kind ne)) h
 
 same_count : (k l : LimitKind) (m n : ℕ) → Limit k m ≡ Limit l n → (k ≡ l) × (m ≡ n)
 same_count k l m n e = (cc, cc)
@@ -188,15 +185,15 @@ same_reached k n r e = let same : record { kind = k; number = n } ≡ r = cc in 
 none_some : {A P : Type 0} (o : Option A) (x : A) → o ≡ None → o ≡ Some x → P
 none_some o x a b = absurd (cc (sym a ∙ b))
 
-module _ (source source' sink sink' : Side) (bytes : List ℕ) (lines : List Line)
-    (read : (told : List ℕ) → source.told ≡ Some told → bytes ≡ told) (one : OneReading bytes) (short : length bytes ≤ most_bytes) (reads : Reads [] (words_by_line bytes) lines) (later : source.faults ≤ source'.faults) where
+module _ (source source' : SourceView) (sink sink' : SinkView) (bytes : List ℕ) (lines : List Line)
+    (read : (told : List ℕ) → source.left ≡ Some told → bytes ≡ told) (one : OneReading bytes) (short : length bytes ≤ MAX_BYTES) (reads : Reads [] (words_by_line bytes) lines) (at_end : IsAtEnd source'.left) (quiet : source'.faults ≡ source.faults) where
   abbrev written : List ℕ
   written = text gao_rexford (net_of lines) [] (directives_of lines)
 
   abbrev stopped : Option Reached
   stopped = stop gao_rexford (net_of lines) [] (directives_of lines)
 
-  abbrev comes : (told : List ℕ) → source.told ≡ Some told → Comes told
+  abbrev comes : (told : List ℕ) → source.left ≡ Some told → Comes told
   comes told t = record {
     lines = lines;
     written = written;
@@ -205,15 +202,15 @@ module _ (source source' sink sink' : Side) (bytes : List ℕ) (lines : List Lin
   }
 
   -- whatever the file comes to, it is stopped so
-  same_stop : (told : List ℕ) → source.told ≡ Some told → (run : Comes told) → run.stopped ≡ stopped
+  same_stop : (told : List ℕ) → source.left ≡ Some told → (run : Comes told) → run.stopped ≡ stopped
   same_stop told t run =
       let same = one.lines run.lines lines (subst (λ b. Reads [] (words_by_line b) run.lines) (sym (read told t)) run.is_run.read) reads in
       sym run.is_run.stop ∙ ap (λ ls. stop gao_rexford (net_of ls) [] (directives_of ls)) same
 
-  never_bad : {P : Type 0} (told : List ℕ) → source.told ≡ Some told → (line : ℕ) (kind : BadKind) → FirstBad told line kind → P
+  never_bad : {P : Type 0} (told : List ℕ) → source.left ≡ Some told → (line : ℕ) (kind : BadKind) → FirstBad told line kind → P
   never_bad told t line kind first = absurd (one.apart lines line kind reads (subst (λ b. FirstBad b line kind) (sym (read told t)) first))
 
-  never_long : {P : Type 0} (told : List ℕ) → source.told ≡ Some told → most_bytes < length told → P
+  never_long : {P : Type 0} (told : List ℕ) → source.left ≡ Some told → MAX_BYTES < length told → P
   never_long told t long = absurd (let same = ap length (read told t) in omega arith)
 
   pub ends_run : (result : Result (Unit {0}) RunEnd) → Runs sink sink' written stopped result → Replayed source source' sink sink' (status_of result)
@@ -224,14 +221,14 @@ module _ (source source' sink sink' : Side) (bytes : List ℕ) (lines : List Lin
     silent = λ e. absurd (cc e);
     bad_schedule = λ n k e. absurd (cc e);
     limit = λ k n e. absurd (cc e);
-    read_fault = λ e. absurd (cc e);
-    write_fault = λ e. absurd (cc e);
+    read_fault = stays_quiet source.faults source'.faults (λ e. cc e) quiet;
+    write_fault = stays_quiet sink.faults sink'.faults (λ e. cc e) (runs.cause.quiet (λ e. cc e));
     cut_off = λ e. absurd (cc e);
     refused = λ told t _ n k first. never_bad told t n k first;
     too_long = λ told t long. never_long told t long;
     complete = λ told t _ run. (λ none. inl refl, λ r some. none_some stopped r runs.whole.1 (sym (same_stop told t run) ∙ some));
-    source_counts = later;
-    sink_counts = runs.later;
+    read = λ _. at_end;
+    same_room = runs.same_room;
   }
   ends_run (Err end.NoMemory) runs = record {
     formed = λ e. absurd (cc e);
@@ -240,14 +237,14 @@ module _ (source source' sink sink' : Side) (bytes : List ℕ) (lines : List Lin
     silent = λ e. absurd (cc e);
     bad_schedule = λ n k e. absurd (cc e);
     limit = λ k n e. absurd (cc e);
-    read_fault = λ e. absurd (cc e);
-    write_fault = λ e. absurd (cc e);
+    read_fault = stays_quiet source.faults source'.faults (λ e. cc e) quiet;
+    write_fault = stays_quiet sink.faults sink'.faults (λ e. cc e) (runs.cause.quiet (λ e. cc e));
     cut_off = λ e. absurd (cc e);
     refused = λ told t _ n k first. inr (inl refl);
     too_long = λ told t long. inr (inl refl);
     complete = λ told t _ run. (λ none. inr (inl refl), λ r some. inr (inl refl));
-    source_counts = later;
-    sink_counts = runs.later;
+    read = λ e. absurd (cc e);
+    same_room = runs.same_room;
   }
   ends_run (Err end.WriteFault) runs = record {
     formed = λ e. absurd (cc e);
@@ -256,14 +253,14 @@ module _ (source source' sink sink' : Side) (bytes : List ℕ) (lines : List Lin
     silent = λ e. absurd (cc e);
     bad_schedule = λ n k e. absurd (cc e);
     limit = λ k n e. absurd (cc e);
-    read_fault = λ e. absurd (cc e);
-    write_fault = λ e. runs.fault refl;
+    read_fault = stays_quiet source.faults source'.faults (λ e. cc e) quiet;
+    write_fault = risen_as sink.faults sink'.faults (λ _. refl) (λ _. refl) runs.cause;
     cut_off = λ e told t. (comes told t, runs.cut_off refl);
     refused = λ told t _ n k first. never_bad told t n k first;
     too_long = λ told t long. never_long told t long;
     complete = λ told t _ run. (λ none. inr (inr (inr refl)), λ r some. inr (inr (inr refl)));
-    source_counts = later;
-    sink_counts = runs.later;
+    read = λ _. at_end;
+    same_room = runs.same_room;
   }
   ends_run (Err (end.Limit kind number)) runs =
       let stops = (runs.limit kind number refl).1 in
@@ -272,15 +269,15 @@ module _ (source source' sink sink' : Side) (bytes : List ℕ) (lines : List Lin
         formed = λ e. absurd (cc e);
         done = λ e. absurd (cc e);
         front = λ told t. inr (comes told t, runs.front.0, runs.front.1, runs.front.2);
-        silent = λ e. absurd (true≢false (sym e ∙ not_early kind number ne));
+        silent = λ e. absurd (true≢false (sym e ∙ ap not (of_run kind ne)));
         bad_schedule = λ n k e. absurd (cc e);
         limit = λ k n e told t.
             let same = same_count kind k number n e in
-            subst (λ l. IsLimit told l n sink.told sink'.told) same.0
-            (subst (λ m. IsLimit told kind m sink.told sink'.told) same.1
-            (is_limit told kind number sink.told sink'.told ne (comes told t, stops, (runs.limit kind number refl).0)));
-        read_fault = λ e. absurd (cc e);
-        write_fault = λ e. absurd (cc e);
+            subst (λ l. IsLimit told l n sink.held sink'.held) same.0
+            (subst (λ m. IsLimit told kind m sink.held sink'.held) same.1
+            (is_limit told kind number sink.held sink'.held ne (comes told t, stops, (runs.limit kind number refl).0)));
+        read_fault = stays_quiet source.faults source'.faults (λ e. cc e) quiet;
+        write_fault = stays_quiet sink.faults sink'.faults (λ e. cc e) (runs.cause.quiet (λ e. cc e));
         cut_off = λ e. absurd (cc e);
         refused = λ told t _ n k first. never_bad told t n k first;
         too_long = λ told t long. never_long told t long;
@@ -288,6 +285,6 @@ module _ (source source' sink sink' : Side) (bytes : List ℕ) (lines : List Lin
           λ none. none_some stopped (record { kind = kind; number = number }) (sym (same_stop told t run) ∙ none) stops,
           λ r some. inl (same_reached kind number r (sym stops ∙ (sym (same_stop told t run) ∙ some))),
         );
-        source_counts = later;
-        sink_counts = runs.later;
+        read = λ _. at_end;
+        same_room = runs.same_room;
       }

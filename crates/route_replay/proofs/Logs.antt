@@ -2,7 +2,7 @@
 use Rattle.std.proofs.Common.{◌≡◌, ℕ, zero, suc, Some, List, [], ◌∷◌, ◌++◌, length, refl, sym, ap, ◌∙◌, slice_get, length-append, arith, ◌⊎◌, inl, inr, ⊎_elim}
 use Rattle.topology.specs.Net.{Net}
 use Rattle.path_vector.specs.Rules.{Rules}
-use Rattle.path_vector.specs.History.{Change}
+use Rattle.path_vector.specs.History.{change}
 use Rattle.trigger_log.specs.declared.entries.Entry.{Entry as Shown}
 use Rattle.trigger_log.specs.Entries.{Entry}
 use Rattle.trigger_log.specs.Standing.{Step, steps, Shows}
@@ -34,13 +34,11 @@ entries_before (k ∷ h) i step e = ⊎_elim
 
 -- the line of what is kept of an entry is that of the entry
 pub shows_line : (rules : Rules) (net : Net) (node : ℕ) (step : Step) (shown : Shown) (index : ℕ) → Shows rules net node step shown → index ≡ suc (length step.before)
-    → line_of net node index (shown.trigger ∷ []) shown.scope shown.cause shown.sent ≡ entry_line rules net node step
+    → line_of net node index (shown.trigger ∷ []) (change shown.scope shown.cause) shown.sent ≡ entry_line rules net node step
 unfolding entry_line
 shows_line rules net node step shown index shows counts =
-    let same_scope : shown.scope ≡ step.entry.read.scope = ap (λ (k : Change). k.scope) shows.read in
-    let same_cause : shown.cause ≡ step.entry.read.cause = ap (λ (k : Change). k.cause) shows.read in
-    ap (λ n. line_of net node n (shown.trigger ∷ []) shown.scope shown.cause shown.sent) counts
-    ∙ (ap (λ ts. line_of net node (suc (length step.before)) ts shown.scope shown.cause shown.sent) shows.trigger
-    ∙ (ap (λ s. line_of net node (suc (length step.before)) step.entry.triggers s shown.cause shown.sent) same_scope
-    ∙ (ap (λ c. line_of net node (suc (length step.before)) step.entry.triggers step.entry.read.scope c shown.sent) same_cause
-    ∙ ap (λ items. line_of net node (suc (length step.before)) step.entry.triggers step.entry.read.scope step.entry.read.cause items) shows.sent)))
+    let read = change shown.scope shown.cause in
+    ap (λ n. line_of net node n (shown.trigger ∷ []) read shown.sent) counts
+    ∙ (ap (λ ts. line_of net node (suc (length step.before)) ts read shown.sent) shows.trigger
+    ∙ (ap (λ k. line_of net node (suc (length step.before)) step.entry.triggers k shown.sent) shows.read
+    ∙ ap (λ items. line_of net node (suc (length step.before)) step.entry.triggers step.entry.read items) shows.sent))

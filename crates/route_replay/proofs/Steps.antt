@@ -1,14 +1,14 @@
 -- One directive of a schedule after the other.
-use Rattle.std.proofs.Common.{◌≡◌, ℕ, suc, ◌+◌, ◌<◌, Option, Some, List, [], ◌∷◌, ◌++◌, length, drop, get_or, refl, sym, ap, ◌∙◌, subst, slice_get, add-one, append_assoc}
+use Rattle.std.proofs.Common.{◌≡◌, ℕ, suc, ◌+◌, ◌<◌, Option, Some, List, [], ◌∷◌, ◌++◌, length, drop, get_or, refl, sym, ap, ◌∙◌, slice_get, add-one, append_assoc}
 use Rattle.std.proofs.Math.Seq.{drop-cons}
 use Rattle.std.proofs.lemmas.Option.{slice_get-get_or}
 use Rattle.topology.specs.Net.{Net}
 use Rattle.path_vector.specs.Rules.{Rules}
 use Rattle.chronicle.specs.declared.events.Event.{Event}
-use Rattle.world_core.specs.Limits.{Reached}
+use Rattle.node_core.specs.NodeLimits.{Reached}
 use Rattle.schedule_file.specs.declared.lines.Numbered.{Numbered}
-use Rattle.route_replay.specs.Text.{Course, Leads, Stops, text, text_by, said, course, stop, stop_by}
-use Rattle.route_replay.specs.Running.{AllFitting, Fitting, lines_by, limit_by}
+use Rattle.route_replay.specs.Text.{Course, Leads, Stops, text, text_by, said, course, stop, stop_by, task_of}
+use Rattle.route_replay.specs.Running.{lines_by, limit_by}
 
 -- what is left begins with the directive at hand
 pub next_of : (lines : List Numbered) (i : ℕ) (d : Numbered) → i < length lines → d ≡ get_or lines i d → drop i lines ≡ d ∷ drop (i + 1) lines
@@ -39,7 +39,7 @@ rest_none (Stops at) rest one e = refl
 
 module _ (rules : Rules) (net : Net) (events : List Event) (lines : List Numbered) (i : ℕ) (d : Numbered) (inside : i < length lines) (at : d ≡ get_or lines i d) where
   abbrev led : Course
-  led = course rules net events d.directive
+  led = course rules net events (task_of d.directive)
 
   abbrev words_here : List ℕ
   words_here = lines_by (said rules net events d) led
@@ -74,10 +74,6 @@ module _ (rules : Rules) (net : Net) (events : List Event) (lines : List Numbere
     rest_none led (λ later. text rules net later (drop (i + 1) lines)) one stops,
     sym so_far ∙ (ap (stop rules net events) (next_of lines i d inside at) ∙ stop_at led (λ later. stop rules net later (drop (i + 1) lines)) one stops),
   )
-
--- the directive at hand fits, and so do those that are left
-pub fits_step : (net : Net) (lines : List Numbered) (i : ℕ) (d : Numbered) → i < length lines → d ≡ get_or lines i d → AllFitting net (drop i lines) → Fitting net d.directive × AllFitting net (drop (i + 1) lines)
-fits_step net lines i d inside at fits = subst (AllFitting net) (next_of lines i d inside at) fits
 
 -- what stands at a place
 pub at_place : {X : Type 0} (xs : List X) (i : ℕ) (x : X) → i < length xs → slice_get xs i ≡ Some x → x ≡ get_or xs i x

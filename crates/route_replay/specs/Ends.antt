@@ -4,6 +4,7 @@ use Rattle.world_core.specs.declared.outcomes.Stop.TheVariants as stop
 use Rattle.route_replay.specs.declared.ends.RunEnd.{RunEnd}
 use Rattle.route_replay.specs.declared.ends.RunEnd.TheVariants as end
 
+-- a run ends as the world stops it
 abbrev pub end_of : Stop → RunEnd
 end_of stop.NoMemory = end.NoMemory
 end_of (stop.Limit kind number) = end.Limit kind number

@@ -1,7 +1,12 @@
-pub mod Side
+pub mod CutText
 pub mod Ends
 pub mod Gathering
+pub mod Lines
 pub mod LogText
-pub mod Text
-pub mod Running
+pub mod Plain
+pub mod ReasonText
 pub mod Replayed
+pub mod RibText
+pub mod Running
+pub mod Text
+pub mod Views

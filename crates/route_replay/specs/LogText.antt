@@ -1,5 +1,5 @@
 -- The text of logs: a line for each entry of each node.
-use Rattle.std.specs.Prelude.{ℕ, suc, Option, Some, None, List, [], ◌∷◌, ◌++◌, codes, length, slice_get}
+use Rattle.std.specs.Prelude.{ℕ, suc, Option, Some, None, List, [], ◌∷◌, ◌++◌, codes, length, map, slice_get}
 use Rattle.std.specs.List.{flat_map}
 use Rattle.std.specs.Fmt.{decimal}
 use Rattle.topology.specs.declared.names.Trigger.{Trigger}
@@ -7,16 +7,17 @@ use Rattle.topology.specs.declared.names.Scope.{Scope}
 use Rattle.topology.specs.declared.names.Scope.TheVariants.{One, All}
 use Rattle.topology.specs.declared.items.Sent.{Sent}
 use Rattle.topology.specs.declared.prefixes.Prefix.{Prefix}
-use Rattle.topology.specs.Lists.{ascending}
 use Rattle.topology.specs.Net.{Net}
 use Rattle.path_vector.specs.declared.causes.Cause.{Cause}
 use Rattle.path_vector.specs.declared.causes.Cause.TheVariants.{Originate, Withdraw, Recv, Down, Up, Ready, Prefer}
+use Rattle.path_vector.specs.History.{Change}
 use Rattle.path_vector.specs.Rules.{Rules}
 use Rattle.trigger_log.specs.Sending.{sent_by}
 use Rattle.trigger_log.specs.Standing.{Step, steps}
 use Rattle.chronicle.specs.Facts.{Chronicle}
 use Rattle.chronicle.specs.Logs.{log_of}
 use Rattle.schedule_file.specs.Spelling.{prefix_text}
+use Rattle.route_replay.specs.Lines.{ended}
 
 -- the node and its counter, with a point between them
 abbrev pub trigger_text : Trigger → List ℕ
@@ -47,6 +48,7 @@ abbrev pub received_nodes : List ℕ → List ℕ
 received_nodes [] = []
 received_nodes (n ∷ nodes) = decimal n ++ further_nodes nodes
 
+-- a path as it was received, or none
 abbrev pub received_path : Option (List ℕ) → List ℕ
 received_path None = codes "none"
 received_path (Some nodes) = received_nodes nodes
@@ -71,21 +73,16 @@ item_text item = codes " > " ++ session_text item.to item.session ++ codes "/" +
 
 -- the line of an entry: its node, its place in the log, from 1, its triggers, scope and cause, and
 -- all that it sent
-abbrev pub line_of : Net → ℕ → ℕ → List Trigger → Scope → Cause → List Sent → List ℕ
-line_of net node index triggers scope cause items =
-    codes "log " ++ decimal node ++ codes " " ++ decimal index ++ codes ": " ++ triggers_text triggers
-    ++ codes " " ++ scope_text net scope ++ codes " " ++ cause_text cause ++ flat_map item_text items ++ 10 ∷ []
+abbrev pub line_of : Net → ℕ → ℕ → List Trigger → Change → List Sent → List ℕ
+line_of net node index triggers read items =
+    ended (codes "log " ++ decimal node ++ codes " " ++ decimal index ++ codes ": " ++ triggers_text triggers
+    ++ codes " " ++ scope_text net read.scope ++ codes " " ++ cause_text read.cause ++ flat_map item_text items)
 
 -- the line of the last of these entries
 unfoldable pub entry_line : Rules → Net → ℕ → Step → List ℕ
 entry_line rules net node step =
-    line_of net node (suc (length step.before)) step.entry.triggers step.entry.read.scope step.entry.read.cause
-    (sent_by rules net node step.before step.entry)
+    line_of net node (suc (length step.before)) step.entry.triggers step.entry.read (sent_by rules net node step.before step.entry)
 
 -- the log of one node, the oldest entry first
-unfoldable pub log_text : Rules → Net → Chronicle → ℕ → List ℕ
-log_text rules net past node = flat_map (entry_line rules net node) (steps (log_of node past))
-
--- the logs of all nodes, ascending
-unfoldable pub logs_text : Rules → Net → Chronicle → List ℕ
-logs_text rules net past = flat_map (log_text rules net past) (ascending net.nodes)
+unfoldable pub log_lines : Rules → Net → Chronicle → ℕ → List (List ℕ)
+log_lines rules net past node = map (entry_line rules net node) (steps (log_of node past))

@@ -1,25 +1,22 @@
 -- What a user is promised of a schedule that is replayed.
-use Rattle.std.specs.Prelude.{ℕ, Bool, true, false, ◌≡◌, ◌≢◌, ◌≤◌, ◌<◌, ◌⊎◌, Option, Some, None, List, [], length}
-use Rattle.std.specs.Io.KnownBytes.{Appends}
+use Rattle.std.specs.Prelude.{ℕ, Bool, true, false, not, MatchBool, ◌≡◌, ◌≢◌, ◌≤◌, ◌<◌, ◌⊎◌, Option, Some, None, List, [], length}
+use Rattle.std.specs.Io.KnownBytes.{Appends, IsAtEnd}
 use Rattle.topology.specs.Lists.{Begins}
 use Rattle.topology.specs.declared.status.Status.{Status}
 use Rattle.topology.specs.declared.status.Status.TheVariants.{Done, Usage, NoMemory, BadSchedule, Limit, ReadFault, WriteFault}
 use Rattle.topology.specs.declared.status.BadKind.{BadKind}
 use Rattle.topology.specs.declared.status.LimitKind.{LimitKind}
-use Rattle.topology.specs.declared.status.LimitKind.TheVariants.{Bytes}
-use Rattle.route_io.specs.Causes.{Rose, AppendsFront}
+use Rattle.topology.specs.declared.status.LimitKind.TheVariants.{Bytes, Events, Epochs, Triggers, Entries, Updates}
+use Rattle.route_io.specs.Causes.{RoseIf, AppendsFront}
+use Rattle.route_io.specs.Views.{SourceView, SinkView}
 use Rattle.path_vector.specs.GaoRexford.{gao_rexford}
-use Rattle.world_core.specs.Limits.{Reached}
+use Rattle.node_core.specs.NodeLimits.{Reached}
 use Rattle.schedule_file.specs.declared.lines.Line.{Line}
 use Rattle.schedule_file.specs.Spelling.{words_by_line}
 use Rattle.schedule_file.specs.Grammar.{Reads, net_of, directives_of}
 use Rattle.schedule_file.specs.Refusals.{FirstBad}
-use Rattle.route_replay.specs.Side.{Side}
+use Rattle.route_replay.specs.declared.runner.TheConstants.{MAX_BYTES}
 use Rattle.route_replay.specs.Text.{text, stop}
-
--- the most bytes that a schedule may have
-abbrev pub most_bytes : ℕ
-most_bytes = 16777216
 
 -- what the lines of a file come to: the text of their run, up to the directive that a limit stops,
 -- and that limit, where one does
@@ -40,58 +37,80 @@ abbrev pub WroteFront : List ℕ → Option (List ℕ) → Option (List ℕ) →
 WroteFront bytes held held' =
     (held' ≡ held) ⊎ ((run : Comes bytes) × (some : List ℕ) × Begins some run.written × Appends held held' some)
 
+-- a limit of the run, and not of the file
+abbrev pub is_of_run : LimitKind → Bool
+is_of_run Bytes = false
+is_of_run Events = true
+is_of_run Epochs = true
+is_of_run Triggers = true
+is_of_run Entries = true
+is_of_run Updates = true
+
 -- the statuses before which nothing is run
 abbrev pub ends_early : Status → Bool
 ends_early Done = false
 ends_early Usage = true
 ends_early NoMemory = false
 ends_early (BadSchedule line kind) = true
-ends_early (Limit Bytes number) = true
-ends_early (Limit kind number) = false
+ends_early (Limit kind number) = not (is_of_run kind)
 ends_early ReadFault = true
 ends_early WriteFault = false
 
--- why a limit is named: the file is too long, or the run would take that count above its number; the
--- text of the directives before was written then
+-- the statuses before which the file was read to its end
+abbrev pub ends_read : Status → Bool
+ends_read Done = true
+ends_read Usage = false
+ends_read NoMemory = false
+ends_read (BadSchedule line kind) = true
+ends_read (Limit kind number) = is_of_run kind
+ends_read ReadFault = false
+ends_read WriteFault = true
+
+-- the run would take that count above its number, and the text of the directives before was written
+abbrev pub StopsRun : List ℕ → Reached → Option (List ℕ) → Option (List ℕ) → Type 0
+StopsRun bytes reached held held' = (run : Comes bytes) × (run.stopped ≡ Some reached) × Appends held held' run.written
+
+-- why a limit is named: the file is too long, or it stops the run
 abbrev pub IsLimit : List ℕ → LimitKind → ℕ → Option (List ℕ) → Option (List ℕ) → Type 0
-IsLimit bytes Bytes number held held' = (number ≡ most_bytes) × (most_bytes < length bytes)
 IsLimit bytes kind number held held' =
-    (run : Comes bytes) × (run.stopped ≡ Some (record { kind = kind; number = number })) × Appends held held' run.written
+    MatchBool (is_of_run kind) (StopsRun bytes (record { kind = kind; number = number }) held held')
+    ((number ≡ MAX_BYTES) × (MAX_BYTES < length bytes))
 
 -- how a replay ends, on a source and a sink as they were and as they are then
-pub record Replayed (source source' sink sink' : Side) (status : Status) : Type 0 where
+pub record Replayed (source source' : SourceView) (sink sink' : SinkView) (status : Status) : Type 0 where
   -- Usage: never
   pub formed : status ≢ Usage
-  -- Done: the file was read to its end, no limit stopped its run, and its whole text was written
-  pub done : status ≡ Done → (bytes : List ℕ) → source.told ≡ Some bytes
-      → (run : Comes bytes) × (run.stopped ≡ None) × Appends sink.told sink'.told run.written
-  -- whatever the end, what was written is a front of the text of the file
-  pub front : (bytes : List ℕ) → source.told ≡ Some bytes → WroteFront bytes sink.told sink'.told
-  -- and nothing was written where nothing was run
-  pub silent : ends_early status ≡ true → sink'.told ≡ sink.told
+  -- Done: no limit stopped the run of the file, and its whole text was written
+  pub done : status ≡ Done → (bytes : List ℕ) → source.left ≡ Some bytes
+      → (run : Comes bytes) × (run.stopped ≡ None) × Appends sink.held sink'.held run.written
   -- BadSchedule: the line is the first outside the grammar, and this is what is wrong with it
   pub bad_schedule : (line : ℕ) (kind : BadKind) → status ≡ BadSchedule line kind
-      → (bytes : List ℕ) → source.told ≡ Some bytes → FirstBad bytes line kind
+      → (bytes : List ℕ) → source.left ≡ Some bytes → FirstBad bytes line kind
   -- Limit: the count would pass its number
   pub limit : (kind : LimitKind) (number : ℕ) → status ≡ Limit kind number
-      → (bytes : List ℕ) → source.told ≡ Some bytes → IsLimit bytes kind number sink.told sink'.told
-  -- ReadFault, WriteFault: the count of that side rose
-  pub read_fault : status ≡ ReadFault → Rose source.faults source'.faults
-  pub write_fault : status ≡ WriteFault → Rose sink.faults sink'.faults
+      → (bytes : List ℕ) → source.left ≡ Some bytes → IsLimit bytes kind number sink.held sink'.held
+  -- ReadFault, WriteFault: a call of that side failed; after every other answer none has
+  pub read_fault : RoseIf (status ≡ ReadFault) source.faults source'.faults
+  pub write_fault : RoseIf (status ≡ WriteFault) sink.faults sink'.faults
   -- a write fault cuts the text off
-  pub cut_off : status ≡ WriteFault → (bytes : List ℕ) → source.told ≡ Some bytes
-      → (run : Comes bytes) × AppendsFront sink.told sink'.told run.written
-  -- a file outside the grammar is refused by its first bad line, unless a read fails or memory runs out
-  pub refused : (bytes : List ℕ) → source.told ≡ Some bytes → length bytes ≤ most_bytes → (line : ℕ) (kind : BadKind)
-      → FirstBad bytes line kind → (status ≡ BadSchedule line kind) ⊎ ((status ≡ NoMemory) ⊎ (status ≡ ReadFault))
-  -- so is a file that is too long, by its length
-  pub too_long : (bytes : List ℕ) → source.told ≡ Some bytes → most_bytes < length bytes
-      → (status ≡ Limit Bytes most_bytes) ⊎ ((status ≡ NoMemory) ⊎ (status ≡ ReadFault))
+  pub cut_off : status ≡ WriteFault → (bytes : List ℕ) → source.left ≡ Some bytes
+      → (run : Comes bytes) × AppendsFront sink.held sink'.held run.written
+  -- whatever the end, what was written is a front of the text of the file
+  pub front : (bytes : List ℕ) → source.left ≡ Some bytes → WroteFront bytes sink.held sink'.held
+  -- and nothing was written where nothing was run
+  pub silent : ends_early status ≡ true → sink'.held ≡ sink.held
+  -- nothing is left of the file once it was parsed
+  pub read : ends_read status ≡ true → IsAtEnd source'.left
   -- a file of the grammar is run to its end, or up to the limit that stops it, unless a side fails or memory runs out
-  pub complete : (bytes : List ℕ) → source.told ≡ Some bytes → length bytes ≤ most_bytes → (run : Comes bytes)
+  pub complete : (bytes : List ℕ) → source.left ≡ Some bytes → length bytes ≤ MAX_BYTES → (run : Comes bytes)
       → (run.stopped ≡ None → (status ≡ Done) ⊎ ((status ≡ NoMemory) ⊎ ((status ≡ ReadFault) ⊎ (status ≡ WriteFault))))
       × ((reached : Reached) → run.stopped ≡ Some reached
       → (status ≡ Limit reached.kind reached.number) ⊎ ((status ≡ NoMemory) ⊎ ((status ≡ ReadFault) ⊎ (status ≡ WriteFault))))
-  -- the counts of faults never fall
-  pub source_counts : source.faults ≤ source'.faults
-  pub sink_counts : sink.faults ≤ sink'.faults
+  -- a file outside the grammar is refused by its first bad line, unless a read fails or memory runs out
+  pub refused : (bytes : List ℕ) → source.left ≡ Some bytes → length bytes ≤ MAX_BYTES → (line : ℕ) (kind : BadKind)
+      → FirstBad bytes line kind → (status ≡ BadSchedule line kind) ⊎ ((status ≡ NoMemory) ⊎ (status ≡ ReadFault))
+  -- so is a file that is too long, by its length
+  pub too_long : (bytes : List ℕ) → source.left ≡ Some bytes → MAX_BYTES < length bytes
+      → (status ≡ Limit Bytes MAX_BYTES) ⊎ ((status ≡ NoMemory) ⊎ (status ≡ ReadFault))
+  -- no call changes how much the sink can hold
+  pub same_room : sink'.room ≡ sink.room

@@ -1,69 +1,35 @@
 -- The text of a run: for each directive its lines, read on the chronicle at its turn.
 use Rattle.std.specs.Prelude.{ℕ, zero, suc, Option, Some, None, List, [], ◌∷◌, ◌++◌, codes}
-use Rattle.std.specs.List.{flat_map, enumerate_from}
 use Rattle.std.specs.Fmt.{decimal}
-use Rattle.topology.specs.declared.prefixes.Prefix.{Prefix}
 use Rattle.topology.specs.declared.status.Reason.{Reason}
-use Rattle.topology.specs.declared.status.Reason.TheVariants.{AlreadyOrigin, NotOrigin, LinkDown, EmptyChannel, WrongSession, AlreadyDown, AlreadyUp, NotOpen, StillUp, AlreadyOpen}
-use Rattle.topology.specs.Lists.{ascending}
 use Rattle.topology.specs.Net.{Net}
 use Rattle.path_vector.specs.Rules.{Rules}
-use Rattle.path_vector.specs.Selection.{best, path_of}
-use Rattle.trigger_log.specs.Entries.{reads}
 use Rattle.chronicle.specs.declared.events.Event.{Event}
 use Rattle.chronicle.specs.declared.events.Event.TheVariants as event
 use Rattle.chronicle.specs.Facts.{Chronicle}
-use Rattle.chronicle.specs.Logs.{log_of}
-use Rattle.chronicle.specs.Run.{Step, Idle, Goes, step, run}
+use Rattle.chronicle.specs.Run.{step, run}
+use Rattle.chronicle.specs.Steps.{Step, Idle, Goes}
 use Rattle.chronicle.specs.Deliveries.{next_delivery}
-use Rattle.world_core.specs.Limits.{Reached, limit_of}
+use Rattle.node_core.specs.NodeLimits.{Reached}
+use Rattle.world_core.specs.Limits.{limit_of}
 use Rattle.schedule_file.specs.declared.lines.Directive.{Directive}
-use Rattle.schedule_file.specs.declared.lines.Directive.TheVariants.{Originate, Withdraw, Prefer, Deliver, Fail, Restore, Notice, OpenSession, Drain, ShowRib, ShowLog}
+use Rattle.schedule_file.specs.declared.lines.Directive.TheVariants.{Originate, Withdraw, Prefer, Deliver, Fail, Restore, Notice, OpenSession, Snap, Drain, ShowRib, ShowLog, ShowCut}
 use Rattle.schedule_file.specs.declared.lines.Numbered.{Numbered}
-use Rattle.schedule_file.specs.Spelling.{prefix_text}
-use Rattle.route_replay.specs.LogText.{logs_text}
-
-abbrev pub reason_words : Reason → List ℕ
-reason_words AlreadyOrigin = codes "already origin"
-reason_words NotOrigin = codes "not origin"
-reason_words LinkDown = codes "link down"
-reason_words EmptyChannel = codes "empty channel"
-reason_words WrongSession = codes "wrong session"
-reason_words AlreadyDown = codes "already down"
-reason_words AlreadyUp = codes "already up"
-reason_words NotOpen = codes "not open"
-reason_words StillUp = codes "still up"
-reason_words AlreadyOpen = codes "already open"
+use Rattle.route_replay.specs.declared.tasks.Task.{Task}
+use Rattle.route_replay.specs.declared.tasks.Task.TheVariants as task
+use Rattle.route_replay.specs.declared.views.View.TheVariants.{Rib, Log, Cut}
+use Rattle.route_replay.specs.Lines.{ended}
+use Rattle.route_replay.specs.ReasonText.{reason_words}
+use Rattle.route_replay.specs.Views.{view_text}
 
 -- the line of an event that did nothing
 abbrev pub idle_line : ℕ → Reason → List ℕ
-idle_line line reason = decimal line ++ codes ": idle " ++ reason_words reason ++ 10 ∷ []
+idle_line line reason = ended (decimal line ++ codes ": idle " ++ reason_words reason)
 
 -- an event that did something is not shown
 abbrev pub step_text : ℕ → Step → List ℕ
 step_text line (Idle reason) = idle_line line reason
 step_text line (Goes now) = []
-
--- the nodes of a path, each after a space
-abbrev pub nodes_text : List ℕ → List ℕ
-nodes_text nodes = flat_map (λ n. codes " " ++ decimal n) nodes
-
-abbrev pub path_text : Option (List ℕ) → List ℕ
-path_text None = codes " none"
-path_text (Some nodes) = nodes_text nodes
-
--- the route of one node to one prefix
-abbrev pub rib_line : ℕ → Prefix → Option (List ℕ) → List ℕ
-rib_line node prefix path = codes "rib " ++ decimal node ++ codes " " ++ prefix_text prefix ++ codes ":" ++ path_text path ++ 10 ∷ []
-
--- the routes of one node, prefix by prefix in file order
-unfoldable pub node_text : Rules → Net → Chronicle → ℕ → List ℕ
-node_text rules net past node =
-    flat_map (λ p. rib_line node p.1 (path_of node (best rules net node (reads (log_of node past)) p.0))) (enumerate_from 0 net.prefixes)
-
--- the routes of all nodes, ascending
-unfoldable pub rib_text : Rules → Net → Chronicle → List ℕ
-rib_text rules net past = flat_map (node_text rules net past) (ascending net.nodes)
 
 -- where a directive leads: to these events, or to a limit that stops it
 pub data Course : Type 0 where
@@ -93,47 +59,37 @@ drained rules net (suc n) events =
       | Some way ↦ then_on (with_event rules net events (event.Deliver way.from way.to)) (drained rules net n)
     ]
 
--- the event that a directive makes, where it makes exactly one
-abbrev pub event_of : Directive → Option Event
-event_of (Originate node prefix) = Some (event.Originate node prefix)
-event_of (Withdraw node prefix) = Some (event.Withdraw node prefix)
-event_of (Prefer node nbr value) = Some (event.Prefer node nbr value)
-event_of (Deliver from to) = Some (event.Deliver from to)
-event_of (Fail a b) = Some (event.Fail a b)
-event_of (Restore a b) = Some (event.Restore a b)
-event_of (Notice node nbr) = Some (event.Notice node nbr)
-event_of (OpenSession node nbr) = Some (event.OpenSession node nbr)
-event_of (Drain times) = None
-event_of ShowRib = None
-event_of ShowLog = None
+-- what a directive asks for
+abbrev pub task_of : Directive → Task
+task_of (Originate node prefix) = task.Event (event.Originate node prefix)
+task_of (Withdraw node prefix) = task.Event (event.Withdraw node prefix)
+task_of (Prefer node nbr value) = task.Event (event.Prefer node nbr value)
+task_of (Deliver from to) = task.Event (event.Deliver from to)
+task_of (Fail a b) = task.Event (event.Fail a b)
+task_of (Restore a b) = task.Event (event.Restore a b)
+task_of (Notice node nbr) = task.Event (event.Notice node nbr)
+task_of (OpenSession node nbr) = task.Event (event.OpenSession node nbr)
+task_of (Snap node) = task.Event (event.Snap node)
+task_of (Drain times) = task.Deliveries times
+task_of ShowRib = task.Show Rib
+task_of ShowLog = task.Show Log
+task_of (ShowCut epoch) = task.Show (Cut epoch)
 
--- where a directive leads that is no single event
-abbrev pub led_by : Rules → Net → List Event → Directive → Course
-led_by rules net events (Drain times) = drained rules net times events
-led_by rules net events other = Leads events
+-- where a task leads, after these events
+abbrev pub course : Rules → Net → List Event → Task → Course
+course rules net events (task.Event e) = with_event rules net events e
+course rules net events (task.Deliveries times) = drained rules net times events
+course rules net events (task.Show view) = Leads events
 
--- where a directive leads, after these events
-abbrev pub course_by : Rules → Net → List Event → Directive → Option Event → Course
-course_by rules net events directive None = led_by rules net events directive
-course_by rules net events directive (Some e) = with_event rules net events e
-
-abbrev pub course : Rules → Net → List Event → Directive → Course
-course rules net events directive = course_by rules net events directive (event_of directive)
-
--- what a directive shows that is no single event: a drain shows nothing
-abbrev pub shown : Rules → Net → Chronicle → Directive → List ℕ
-shown rules net past ShowRib = rib_text rules net past
-shown rules net past ShowLog = logs_text rules net past
-shown rules net past other = []
-
--- what is written for a directive: an event's idle line, or what it shows
-abbrev pub said_for : Rules → Net → Chronicle → Numbered → Option Event → List ℕ
-said_for rules net past d None = shown rules net past d.directive
-said_for rules net past d (Some e) = step_text d.line (step rules net past e)
+-- what is written for a task of this line: an event's idle line, or what is shown; deliveries write nothing
+abbrev pub said_for : Rules → Net → Chronicle → ℕ → Task → List ℕ
+said_for rules net past line (task.Event e) = step_text line (step rules net past e)
+said_for rules net past line (task.Deliveries times) = []
+said_for rules net past line (task.Show view) = view_text rules net past view
 
 -- the lines of a directive, read on the run at its turn
 abbrev pub said : Rules → Net → List Event → Numbered → List ℕ
-said rules net events d = said_for rules net (run rules net events) d (event_of d.directive)
+said rules net events d = said_for rules net (run rules net events) d.line (task_of d.directive)
 
 -- what is said, and then the text of the rest, where no limit stopped it
 abbrev pub text_by : List ℕ → Course → (List Event → List ℕ) → List ℕ
@@ -144,7 +100,7 @@ text_by said (Stops at) rest = []
 abbrev pub text : Rules → Net → List Event → List Numbered → List ℕ
 text rules net events [] = []
 text rules net events (d ∷ ds) =
-    text_by (said rules net events d) (course rules net events d.directive) (λ later. text rules net later ds)
+    text_by (said rules net events d) (course rules net events (task_of d.directive)) (λ later. text rules net later ds)
 
 -- the limit that stopped the directive, else what stops the rest
 abbrev pub stop_by : Course → (List Event → Option Reached) → Option Reached
@@ -154,4 +110,4 @@ stop_by (Stops at) rest = Some at
 -- the count that stops them, where one does
 abbrev pub stop : Rules → Net → List Event → List Numbered → Option Reached
 stop rules net events [] = None
-stop rules net events (d ∷ ds) = stop_by (course rules net events d.directive) (λ later. stop rules net later ds)
+stop rules net events (d ∷ ds) = stop_by (course rules net events (task_of d.directive)) (λ later. stop rules net later ds)

@@ -1,59 +1,64 @@
 //! What each directive does and writes.
-ghost use Rattle.std.specs.Prelude.{◌≡◌, ◌∷◌, [], ◌++◌, None, IsTrue, IfOk, IfErr, OnOk};
+ghost use Rattle.std.specs.Prelude.{◌≡◌, ◌++◌, None, IsTrue, IfOk, IfErr, OnOk};
 ghost use Rattle.std.specs.String.{string_bytes};
+ghost use Rattle.chronicle.specs.Facts.{Chronicle};
 ghost use Rattle.chronicle.specs.Run.{run, step};
+ghost use Rattle.chronicle.specs.Steps.{Step};
+ghost use Rattle.world_core.specs.Effects.{Tells};
 ghost use Rattle.world_core.specs.Fits.{fits};
-ghost use Rattle.route_replay.specs.Text.{event_of, said, shown, step_text, course, drained, with_event};
+ghost use Rattle.route_replay.specs.Text.{idle_line, task_of, said, step_text, course, drained, with_event};
+ghost use Rattle.route_replay.specs.Views.{past_of, view_text};
 ghost use Rattle.route_replay.specs.Running.{Fitting, Advances, StopsIn, lines_by, limit_by, Runs};
-ghost use Rattle.route_replay.specs.Gathering.{Gathers, Breaks};
-ghost use Rattle.route_replay.specs.Side.{side};
 
 use crate::ends::RunEnd;
-use crate::log_text::logs;
-use crate::page::flush;
-use crate::text::{event_line, routes};
+use crate::numbers::push_number;
+use crate::page::Page;
+use crate::reason_text::reason_words;
+use crate::tasks::{Task, task_of};
+use crate::views::{View, all_nodes};
 use path_vector::Policy;
 use route_io::Sink;
-use schedule_file::{Directive, Numbered};
-use std::alloc::Global;
-use world_core::{Event, Stop, World};
+use schedule_file::Numbered;
+use std::alloc::{AllocError, Global};
+use topology::Reason;
+use world_core::{Event, Outcome, Stop, World};
 
-// The event that a directive makes, where it makes exactly one.
-fn event_of(directive: &Directive) -> Option<Event>
-    ensures { result ≡ event_of directive.now }
+// Adds the line of an event that did nothing.
+fn idle_line(out: &mut String, line: u32, reason: Reason) -> Result<(), AllocError>
+    ensures { OnOk result (string_bytes out.new ≡ string_bytes out.old ++ idle_line line reason) }
 {
-    match directive {
-        Directive::Originate { node, prefix } => Some(Event::Originate {
-            node: *node,
-            prefix: *prefix,
-        }),
-        Directive::Withdraw { node, prefix } => Some(Event::Withdraw {
-            node: *node,
-            prefix: *prefix,
-        }),
-        Directive::Prefer { node, nbr, value } => Some(Event::Prefer {
-            node: *node,
-            nbr: *nbr,
-            value: *value,
-        }),
-        Directive::Deliver { from, to } => Some(Event::Deliver {
-            from: *from,
-            to: *to,
-        }),
-        Directive::Fail { a, b } => Some(Event::Fail { a: *a, b: *b }),
-        Directive::Restore { a, b } => Some(Event::Restore { a: *a, b: *b }),
-        Directive::Notice { node, nbr } => Some(Event::Notice {
-            node: *node,
-            nbr: *nbr,
-        }),
-        Directive::OpenSession { node, nbr } => Some(Event::OpenSession {
-            node: *node,
-            nbr: *nbr,
-        }),
-        Directive::Drain { .. } => None,
-        Directive::ShowRib => None,
-        Directive::ShowLog => None,
+    push_number(out, line)?;
+    out.push_str(": idle ")?;
+    reason_words(out, reason)?;
+    out.push('\n')
+}
+
+// Adds what is shown of an event: a line, where it did nothing.
+fn event_line<O: Sink>(
+    page: &mut Page<'_, String, O>,
+    line: u32,
+    outcome: &Outcome,
+) -> Result<(), AllocError>
+    ensures text { (past : Chronicle) (step : Step) → Tells past step outcome.now →
+        OnOk result (string_bytes page.new.text ≡ string_bytes page.old.text ++ step_text line step) }
+    ensures sink { page.new.sink.now ≡ page.old.sink.now }
+    ensures same_sink { page.new.sink.ghost_name ≡ page.old.sink.ghost_name }
+{
+    match outcome {
+        Outcome::Did(_) => Ok(()),
+        Outcome::Idle(reason) => idle_line(&mut page.text, line, *reason),
     }
+}
+
+// Writes what is shown of an event.
+fn tell<O: Sink>(alloc: Global, line: u32, outcome: &Outcome, sink: &mut O) -> Result<(), RunEnd>
+    ensures { (past : Chronicle) (step : Step) → Tells past step outcome.now →
+        Runs (O.seen sink.old) (O.seen sink.new) (step_text line step) None result }
+{
+    let mut page = Page::new(alloc, sink);
+    event_line(&mut page, line, outcome)?;
+    page.flush()?;
+    Ok(())
 }
 
 // The world after an event, whose line is written where it did nothing.
@@ -65,24 +70,24 @@ fn act<P: Policy + Copy, O: Sink>(
     sink: &mut O,
 ) -> Result<World<P>, RunEnd>
     requires { IsTrue (fits world.net event) }
-    ensures world { IfOk result (λ next. Advances world next (with_event (P.rules world.policy) world.net world.events event)) }
+    ensures world { IfOk result (λ next. Advances world next
+        (with_event (P.rules world.policy) world.net world.events event)) }
     ensures runs { let rules = P.rules world.policy in
-        let words = step_text line (step rules world.net (run rules world.net world.events) event) in
+        let words = step_text line (step rules world.net (past_of rules world) event) in
         let led = with_event rules world.net world.events event in
-        Runs (side (O.held sink.old) (O.faults sink.old)) (side (O.held sink.new) (O.faults sink.new))
-        (lines_by words led) (limit_by led) result }
-    ensures same_room { O.room sink.new ≡ O.room sink.old }
+        Runs (O.seen sink.old) (O.seen sink.new) (lines_by words led) (limit_by led) result }
 {
     let (world, outcome) = world.step(event)?;
-    let mut text = event_line(alloc, line, &outcome)?;
-    flush(&mut text, sink)?;
+    tell(alloc, line, &outcome, sink)?;
     Ok(world)
 }
 
 // The world after at most so many deliveries, each the next one when its turn comes.
 fn drain<P: Policy + Copy>(world: World<P>, times: u32) -> Result<World<P>, Stop>
-    ensures world { IfOk result (λ next. Advances world next (drained (P.rules world.policy) world.net times world.events)) }
-    ensures stopped { IfErr result (StopsIn (drained (P.rules world.policy) world.net times world.events)) }
+    ensures world { IfOk result (λ next. Advances world next
+        (drained (P.rules world.policy) world.net times world.events)) }
+    ensures stopped { IfErr result (StopsIn
+        (drained (P.rules world.policy) world.net times world.events)) }
 {
     let mut world = world;
     for _ in 0..times {
@@ -96,43 +101,21 @@ fn drain<P: Policy + Copy>(world: World<P>, times: u32) -> Result<World<P>, Stop
     Ok(world)
 }
 
-// Gathers what a directive shows that makes no event.
-fn gather<P: Policy + Copy, O: Sink>(
-    text: &mut String,
-    world: &World<P>,
-    directive: &Directive,
-    sink: &mut O,
-) -> Result<(), RunEnd>
-    ensures gathers { OnOk result (Gathers (side (O.held sink.old) (O.faults sink.old)) (side (O.held sink.new) (O.faults sink.new))
-        (string_bytes text.old) (string_bytes text.new)
-        (shown (P.rules world.now.policy) world.now.net (run (P.rules world.now.policy) world.now.net world.now.events) directive.now)) }
-    ensures breaks { IfErr result (Breaks (side (O.held sink.old) (O.faults sink.old)) (side (O.held sink.new) (O.faults sink.new))
-        (string_bytes text.old
-        ++ shown (P.rules world.now.policy) world.now.net (run (P.rules world.now.policy) world.now.net world.now.events) directive.now)) }
-    ensures same_room { O.room sink.new ≡ O.room sink.old }
-{
-    match directive {
-        Directive::ShowRib => routes(text, world, sink),
-        Directive::ShowLog => logs(text, world, sink),
-        _ => Ok(()),
-    }
-}
-
-// Writes what a directive shows that makes no event.
+// Writes a view.
 fn show<P: Policy + Copy, O: Sink>(
     alloc: Global,
     world: &World<P>,
-    directive: &Directive,
+    view: View,
     sink: &mut O,
 ) -> Result<(), RunEnd>
-    ensures runs { Runs (side (O.held sink.old) (O.faults sink.old)) (side (O.held sink.new) (O.faults sink.new))
-        (shown (P.rules world.now.policy) world.now.net (run (P.rules world.now.policy) world.now.net world.now.events) directive.now)
-        None result }
-    ensures same_room { O.room sink.new ≡ O.room sink.old }
+    ensures { let rules = P.rules world.now.policy in
+        Runs (O.seen sink.old) (O.seen sink.new)
+        (view_text rules world.now.net (past_of rules world.now) view) None result }
 {
-    let mut text = String::new(alloc);
-    gather(&mut text, world, directive, sink)?;
-    flush(&mut text, sink)
+    let mut page = Page::new(alloc, sink);
+    all_nodes(&mut page, world, &view)?;
+    page.flush()?;
+    Ok(())
 }
 
 /// The world after a directive, whose lines are written.
@@ -142,20 +125,20 @@ pub fn advance<P: Policy + Copy, O: Sink>(
     numbered: &Numbered,
     sink: &mut O,
 ) -> Result<World<P>, RunEnd>
-    requires { Fitting world.net numbered.now.directive }
-    ensures world { IfOk result (λ next. Advances world next (course (P.rules world.policy) world.net world.events numbered.now.directive)) }
+    requires { Fitting world.net (task_of numbered.now.directive) }
+    ensures world { IfOk result (λ next. Advances world next
+        (course (P.rules world.policy) world.net world.events (task_of numbered.now.directive))) }
     ensures runs { let rules = P.rules world.policy in
-        let led = course rules world.net world.events numbered.now.directive in
-        Runs (side (O.held sink.old) (O.faults sink.old)) (side (O.held sink.new) (O.faults sink.new))
+        let led = course rules world.net world.events (task_of numbered.now.directive) in
+        Runs (O.seen sink.old) (O.seen sink.new)
         (lines_by (said rules world.net world.events numbered.now) led) (limit_by led) result }
-    ensures same_room { O.room sink.new ≡ O.room sink.old }
 {
-    if let Some(event) = event_of(&numbered.directive) {
-        return act(alloc, world, numbered.line, event, sink);
+    match task_of(&numbered.directive) {
+        Task::Event(event) => act(alloc, world, numbered.line, event, sink),
+        Task::Deliveries(times) => Ok(drain(world, times)?),
+        Task::Show(view) => {
+            show(alloc, &world, view, sink)?;
+            Ok(world)
+        }
     }
-    if let Directive::Drain { times } = numbered.directive {
-        return Ok(drain(world, times)?);
-    }
-    show(alloc, &world, &numbered.directive, sink)?;
-    Ok(world)
 }

@@ -1,12 +1,18 @@
 //! Replays a schedule: the text of its run.
 #![tactic(auto)]
 
+pub mod cut_text;
 pub mod directives;
 pub mod ends;
 pub mod log_text;
 mod numbers;
 pub mod page;
+pub mod plain;
+pub mod reason_text;
+pub mod rib_text;
 pub mod runner;
-pub mod text;
+pub mod tasks;
+pub mod views;
 
+pub use plain::replay_plain;
 pub use runner::{MAX_BYTES, replay};

@@ -1,76 +1,40 @@
 //! The text of logs.
-ghost use Rattle.std.specs.Prelude.{◌≡◌, [], ◌∷◌, ◌++◌, true, codes, decimal, IfErr, OnOk};
+ghost use Rattle.std.specs.Prelude.{ℕ, ◌≡◌, ◌<◌, ◌≤◌, ◌-◌, [], ◌∷◌, ◌++◌, codes, decimal, length, slice_get, IfSome, OnOk};
 ghost use Rattle.std.specs.List.{flat_map};
 ghost use Rattle.std.specs.String.{string_bytes};
-ghost use Rattle.topology.specs.Lists.{has};
+ghost use Rattle.path_vector.specs.History.{change};
 ghost use Rattle.path_vector.specs.declared.causes.Cause.TheVariants.{Recv};
-ghost use Rattle.chronicle.specs.Run.{run};
-ghost use Rattle.route_replay.specs.Gathering.{Gathers, Breaks};
-ghost use Rattle.route_replay.specs.Side.{side};
-ghost use Rattle.route_replay.specs.LogText.{trigger_text, scope_text, received_path, received_nodes, further_nodes, session_text, cause_text, item_text, line_of, log_text, logs_text};
+ghost use Rattle.route_replay.specs.Views.{pieces_in, IsNodeOf};
+ghost use Rattle.route_replay.specs.LogText.{trigger_text, scope_text, received_path, received_nodes, further_nodes, session_text, cause_text, item_text, line_of};
 
-use crate::ends::RunEnd;
 use crate::numbers::{push_node, push_number};
-use crate::page::spill;
-use crate::text::prefix_words;
+use crate::rib_text::prefix_words;
+use crate::views::View;
+use node_core::Node;
 use path_vector::{Cause, Policy};
-use route_io::Sink;
 use std::alloc::AllocError;
 use topology::{NodeId, Path, Scope, Sent, Session, Topology, Trigger};
 use trigger_log::Entry;
 use world_core::World;
 
-/// The logs of all nodes.
-#[tactic(auto, unfolding(crate::specs::LogText::logs_text))]
-pub fn logs<P: Policy + Copy, O: Sink>(
-    text: &mut String,
+/// Adds the line of the entry with this number, from 1, of a node.
+#[tactic(auto, unfolding(crate::specs::LogText::log_lines))]
+pub fn log_words<P: Policy + Copy>(
+    out: &mut String,
     world: &World<P>,
-    sink: &mut O,
-) -> Result<(), RunEnd>
-    ensures gathers { OnOk result (Gathers (side (O.held sink.old) (O.faults sink.old)) (side (O.held sink.new) (O.faults sink.new))
-        (string_bytes text.old) (string_bytes text.new)
-        (logs_text (P.rules world.now.policy) world.now.net (run (P.rules world.now.policy) world.now.net world.now.events))) }
-    ensures breaks { IfErr result (Breaks (side (O.held sink.old) (O.faults sink.old)) (side (O.held sink.new) (O.faults sink.new))
-        (string_bytes text.old
-        ++ logs_text (P.rules world.now.policy) world.now.net (run (P.rules world.now.policy) world.now.net world.now.events))) }
-    ensures same_room { O.room sink.new ≡ O.room sink.old }
+    id: NodeId,
+    node: &Node<P>,
+    number: u32,
+) -> Result<(), AllocError>
+    requires node { IsNodeOf (P.rules world.now.policy) world.now id node.now }
+    requires from_one { 0 < number }
+    requires inside { number ≤ length (pieces_in (P.rules world.now.policy) world.now View.Log id) }
+    ensures { OnOk result (IfSome
+        (slice_get (pieces_in (P.rules world.now.policy) world.now View.Log id) (number - 1))
+        (λ words. string_bytes out.new ≡ string_bytes out.old ++ words)) }
 {
-    for node in world.topology().nodes() {
-        node_log(text, world, *node, sink)?;
-    }
-    Ok(())
-}
-
-// The log of one node.
-#[tactic(auto, unfolding(crate::specs::LogText::log_text))]
-fn node_log<P: Policy + Copy, O: Sink>(
-    text: &mut String,
-    world: &World<P>,
-    node: NodeId,
-    sink: &mut O,
-) -> Result<(), RunEnd>
-    requires { has world.now.net.nodes node ≡ true }
-    ensures gathers { OnOk result (Gathers (side (O.held sink.old) (O.faults sink.old)) (side (O.held sink.new) (O.faults sink.new))
-        (string_bytes text.old) (string_bytes text.new)
-        (log_text (P.rules world.now.policy) world.now.net (run (P.rules world.now.policy) world.now.net world.now.events) node)) }
-    ensures breaks { IfErr result (Breaks (side (O.held sink.old) (O.faults sink.old)) (side (O.held sink.new) (O.faults sink.new))
-        (string_bytes text.old
-        ++ log_text (P.rules world.now.policy) world.now.net (run (P.rules world.now.policy) world.now.net world.now.events) node)) }
-    ensures same_room { O.room sink.new ≡ O.room sink.old }
-{
-    let Some(log) = world.log(node) else {
-        return Err(RunEnd::NoMemory);
-    };
-    for place in 0..log.len() {
-        let Some(entry) = log.entry(place + 1) else {
-            return Err(RunEnd::NoMemory);
-        };
-        if entry_line(text, world.topology(), node, place + 1, entry).is_err() {
-            return Err(RunEnd::NoMemory);
-        }
-        spill(text, sink)?;
-    }
-    Ok(())
+    let entry = node.log().entry(number).unwrap();
+    entry_line(out, world.topology(), id, number, entry)
 }
 
 // The line of an entry.
@@ -82,14 +46,13 @@ fn entry_line(
     entry: &Entry,
 ) -> Result<(), AllocError>
     ensures { OnOk result (string_bytes out.new ≡ string_bytes out.old
-        ++ line_of topology.now node index (entry.now.trigger ∷ []) entry.now.scope entry.now.cause entry.now.sent) }
+        ++ line_of topology.now node index (entry.now.trigger ∷ []) (change entry.now.scope entry.now.cause) entry.now.sent) }
 {
     place_words(out, node, index)?;
     trigger_words(out, &entry.trigger)?;
     change_words(out, topology, &entry.scope, &entry.cause)?;
     sent_words(out, entry.sent.as_slice())?;
-    out.push('\n')?;
-    Ok(())
+    out.push('\n')
 }
 
 // The node, and the place of the entry in its log.
@@ -168,8 +131,8 @@ fn cause_words(out: &mut String, cause: &Cause) -> Result<(), AllocError>
     Ok(())
 }
 
-// A word, and a neighbour with a session.
-fn session_words(
+/// Adds a word, and a neighbour with a session.
+pub(crate) fn session_words(
     out: &mut String,
     word: &str,
     nbr: NodeId,

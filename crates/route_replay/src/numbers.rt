@@ -17,6 +17,14 @@ pub(crate) fn push_number(out: &mut String, number: u32) -> Result<(), AllocErro
     out.push_str(digits.format(number))
 }
 
+/// Adds the decimal digits of a number that may be wide.
+pub(crate) fn push_wide(out: &mut String, number: u64) -> Result<(), AllocError>
+    ensures { OnOk result (string_bytes out.new ≡ string_bytes out.old ++ decimal number) }
+{
+    let mut digits = Buffer::new();
+    out.push_str(digits.format(number))
+}
+
 /// Adds the number of a node.
 pub(crate) fn push_node(out: &mut String, node: NodeId) -> Result<(), AllocError>
     ensures { OnOk result (string_bytes out.new ≡ string_bytes out.old ++ decimal node) }

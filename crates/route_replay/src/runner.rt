@@ -1,9 +1,8 @@
 //! Runs a schedule and writes its text.
-ghost use Rattle.std.specs.Prelude.{◌≡◌, []};
+ghost use Rattle.std.specs.Prelude.{[]};
 ghost use Rattle.path_vector.specs.GaoRexford.{gao_rexford};
 ghost use Rattle.route_replay.specs.Text.{stop, text};
 ghost use Rattle.route_replay.specs.Running.{AllFitting, Runs};
-ghost use Rattle.route_replay.specs.Side.{side};
 ghost use Rattle.route_replay.specs.Replayed.{Replayed};
 
 use crate::directives::advance;
@@ -27,10 +26,9 @@ pub fn run_lines<P: Policy + Copy, O: Sink>(
     sink: &mut O,
 ) -> Result<(), RunEnd>
     requires { AllFitting world.net lines.now }
-    ensures runs { Runs (side (O.held sink.old) (O.faults sink.old)) (side (O.held sink.new) (O.faults sink.new))
+    ensures { Runs (O.seen sink.old) (O.seen sink.new)
         (text (P.rules world.policy) world.net world.events lines.now)
         (stop (P.rules world.policy) world.net world.events lines.now) result }
-    ensures same_room { O.room sink.new ≡ O.room sink.old }
 {
     let mut world = world;
     for numbered in lines {
@@ -42,10 +40,9 @@ pub fn run_lines<P: Policy + Copy, O: Sink>(
 // Runs a schedule in a new world.
 fn run_schedule<O: Sink>(alloc: Global, schedule: Schedule, sink: &mut O) -> Result<(), RunEnd>
     requires { AllFitting schedule.topology schedule.lines.items }
-    ensures runs { Runs (side (O.held sink.old) (O.faults sink.old)) (side (O.held sink.new) (O.faults sink.new))
+    ensures { Runs (O.seen sink.old) (O.seen sink.new)
         (text gao_rexford schedule.topology [] schedule.lines.items)
         (stop gao_rexford schedule.topology [] schedule.lines.items) result }
-    ensures same_room { O.room sink.new ≡ O.room sink.old }
 {
     let Schedule { topology, lines } = schedule;
     let Ok(topology) = Rc::new(alloc, topology) else {
@@ -60,10 +57,7 @@ fn run_schedule<O: Sink>(alloc: Global, schedule: Schedule, sink: &mut O) -> Res
 /// Reads a schedule from the source, runs it, and writes its text to the sink. What a user may
 /// rely on stands in `specs/Replayed.antt`.
 pub fn replay<I: Source, O: Sink>(alloc: Global, source: &mut I, sink: &mut O) -> Status
-    ensures replayed { Replayed
-        (side (I.left source.old) (I.faults source.old)) (side (I.left source.new) (I.faults source.new))
-        (side (O.held sink.old) (O.faults sink.old)) (side (O.held sink.new) (O.faults sink.new)) result }
-    ensures same_room { O.room sink.new ≡ O.room sink.old }
+    ensures { Replayed (I.seen source.old) (I.seen source.new) (O.seen sink.old) (O.seen sink.new) result }
 {
     let bytes = match read_all(alloc, source, MAX_BYTES as usize) {
         Ok(bytes) => bytes,

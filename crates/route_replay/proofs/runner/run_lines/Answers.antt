@@ -1,10 +1,10 @@
-use Rattle.std.proofs.Common.{◌++◌, drop, [], refl, sym, ap, ◌∙◌, arith}
+use Rattle.std.proofs.Common.{◌++◌, drop, [], refl, sym, ap, ◌∙◌, subst}
 use Rattle.std.proofs.lemmas.List.{drop_all}
 use Rattle.route_io.proofs.Bytes.{appends_on, appends_none, told_same, told_on}
-use Rattle.route_replay.specs.Text.{text, stop, course, said}
-use Rattle.route_replay.specs.Running.{lines_by, limit_by}
-use Rattle.route_replay.specs.Side.{side}
-use Rattle.route_replay.proofs.Steps.{text_step, text_here, stop_step, stops_here, rest_here, fits_step}
+use Rattle.route_replay.specs.Text.{text, stop, course, said, task_of}
+use Rattle.schedule_file.specs.declared.lines.Numbered.{Numbered}
+use Rattle.route_replay.specs.Running.{Fitting, lines_by, limit_by}
+use Rattle.route_replay.proofs.Steps.{text_step, text_here, stop_step, stops_here, rest_here}
 use Rattle.route_replay.proofs.Runs.{runs_whole, runs_err}
 use Rattle.route_replay.proofs.Acts.{handed_runs}
 use Rattle.route_replay.proofs.runner.run_lines.Goals as goal
@@ -13,13 +13,20 @@ pub loop-numbered-init : goal.loop-numbered-init
 loop-numbered-init g c = record {
   same_policy = refl;
   same_net = refl;
-  fits = c.requires;
   written = ([], appends_none _, refl);
   stops = refl;
   told = told_same _;
   room = refl;
-  later = omega arith;
+  quiet = refl;
 }
+
+-- the directive at hand fits
+pub advance-requires : goal.advance-requires
+advance-requires g c =
+    let was = c.loop-numbered.invariant in
+    let d = c.numbered-item.result in
+    let fits = c.requires c.loop-numbered.numbered-index d c.loop-numbered-test.true in
+    rw was.same_net (subst (λ (one : Numbered). Fitting c.args.world.net (task_of one.directive)) (sym c.numbered-item.is) fits)
 
 pub loop-numbered-preserved : goal.loop-numbered-preserved
 loop-numbered-preserved g c =
@@ -33,12 +40,11 @@ loop-numbered-preserved g c =
     let advances = c.in_ok-world.ensures.world in
     let goes = rw (was.same_policy, was.same_net) at advances.leads in
     let runs = rw (was.same_policy, was.same_net) at c.in_ok-world.ensures.runs in
-    let led = course rules net events d.directive in
+    let led = course rules net events (task_of d.directive) in
     let now = c.in_ok-world.world.events in
     record {
       same_policy = advances.same_policy ∙ was.same_policy;
       same_net = advances.same_net ∙ was.same_net;
-      fits = (fits_step net lines i d c.loop-numbered-test.true c.numbered-item.is was.fits).1;
       written = (
         was.written.0 ++ lines_by (said rules net events d) led,
         appends_on _ _ _ _ _ was.written.1 runs.whole.0,
@@ -46,24 +52,24 @@ loop-numbered-preserved g c =
       );
       stops = stop_step rules net events lines i d c.loop-numbered-test.true c.numbered-item.is now _ goes was.stops;
       told = told_on _ _ _ was.told runs.stays;
-      room = c.advance.ensures.same_room ∙ was.room;
-      later = omega (arith, was.later, runs.later);
+      room = runs.same_room ∙ was.room;
+      quiet = runs.cause.quiet (λ e. cc e) ∙ was.quiet;
     }
 
-pub returns-clause-runs : goal.returns-clause-runs
-returns-clause-runs g c =
+pub returns : goal.returns
+returns g c =
     let was = c.loop-numbered.invariant in
     let rules = g.P.Policy.rules c.args.world.policy in
     let net = c.args.world.net in
     let lines = c.args.lines.now in
     let events = c.loop-numbered.world.events in
     let none = drop_all c.loop-numbered.numbered-index lines c.loop-numbered-test.false in
-    runs_whole (side (g.O.Sink.held c.args.sink.now) (g.O.Sink.faults c.args.sink.now)) (side (g.O.Sink.held c.loop-numbered.sink) (g.O.Sink.faults c.loop-numbered.sink))
+    runs_whole (g.O.Sink.seen c.args.sink.now) (g.O.Sink.seen c.loop-numbered.sink)
     _ was.written.0 (text rules net events (drop c.loop-numbered.numbered-index lines)) _ was.written.1 was.written.2 (ap (text rules net events) none)
-    (sym was.stops ∙ ap (stop rules net events) none) was.told was.later
+    (sym was.stops ∙ ap (stop rules net events) none) was.told was.room was.quiet
 
-pub returns-in_err-world-clause-runs : goal.returns-in_err-world-clause-runs
-returns-in_err-world-clause-runs g c =
+pub returns-in_err-world : goal.returns-in_err-world
+returns-in_err-world g c =
     let was = c.loop-numbered.invariant in
     let rules = g.P.Policy.rules c.args.world.policy in
     let net = c.args.world.net in
@@ -71,13 +77,13 @@ returns-in_err-world-clause-runs g c =
     let i = c.loop-numbered.numbered-index in
     let d = c.numbered-item.result in
     let events = c.loop-numbered.world.events in
-    let led = course rules net events d.directive in
+    let led = course rules net events (task_of d.directive) in
     let runs = rw (was.same_policy, was.same_net) at c.in_err-world.ensures.runs in
     handed_runs c.from_residual.result _ _ _ _ _ c.from_residual.ensures (λ why same.
-    rw same (runs_err (side (g.O.Sink.held c.args.sink.now) (g.O.Sink.faults c.args.sink.now)) (side (g.O.Sink.held c.loop-numbered.sink) (g.O.Sink.faults c.loop-numbered.sink))
-    (side (g.O.Sink.held c.advance.new.sink) (g.O.Sink.faults c.advance.new.sink))
+    rw same (runs_err (g.O.Sink.seen c.args.sink.now) (g.O.Sink.seen c.loop-numbered.sink)
+    (g.O.Sink.seen c.advance.new.sink)
     (text rules net c.args.world.events lines) was.written.0 (lines_by (said rules net events d) led) (rest_here rules net events lines i d c.loop-numbered-test.true c.numbered-item.is)
     (limit_by led) (stop rules net c.args.world.events lines) c.in_err-world.field-0.0 was.written.1
     (text_here rules net events lines i d c.loop-numbered-test.true c.numbered-item.is _ was.written.0 was.written.2)
     (stops_here rules net events lines i d c.loop-numbered-test.true c.numbered-item.is _ was.stops)
-    runs was.told was.later))
+    runs was.told was.room was.quiet))

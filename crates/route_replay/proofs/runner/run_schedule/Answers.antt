@@ -1,5 +1,5 @@
 use Rattle.route_replay.proofs.runner.run_schedule.Goals as goal
 
 -- in a new world nothing has happened
-pub returns-clause-runs : goal.returns-clause-runs
-returns-clause-runs g c = rw (c.deref.ensures.value, c.in-Ok-new.ensures, c.in-Ok.ensures.ok) at c.run_lines.ensures.runs
+pub returns : goal.returns
+returns g c = rw (c.deref.ensures.value, c.in-Ok-new.ensures, c.in-Ok.ensures.ok) at c.run_lines.ensures

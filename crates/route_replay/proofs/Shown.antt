@@ -1,0 +1,37 @@
+-- How many pieces the text of a node has, and what is found in a list.
+use Rattle.std.proofs.Common.{◌≡◌, ℕ, zero, suc, ◌<◌, Option, Some, None, List, [], ◌∷◌, length, refl, ap, ◌∙◌, slice_get, arith}
+use Rattle.std.specs.Prelude.{IsSome, IsNone}
+use Rattle.std.proofs.lemmas.List.{length-map}
+use Rattle.std.proofs.lemmas.List.FromFn.{length-enumerate_from}
+use Rattle.topology.specs.Net.{Net, neighbours}
+use Rattle.path_vector.specs.Rules.{Rules}
+use Rattle.chronicle.specs.Facts.{Chronicle}
+use Rattle.chronicle.specs.Logs.{log_of}
+use Rattle.route_replay.specs.RibText.{rib_lines}
+use Rattle.route_replay.specs.LogText.{log_lines}
+use Rattle.route_replay.specs.CutText.{cut_lines}
+use Rattle.route_replay.proofs.Logs.{length-steps}
+
+-- a route to each prefix
+pub length-rib_lines : (rules : Rules) (net : Net) (past : Chronicle) (node : ℕ) → length (rib_lines rules net past node) ≡ length net.prefixes
+unfolding rib_lines
+length-rib_lines rules net past node = length-map _ _ ∙ length-enumerate_from 0 net.prefixes
+
+-- a line for each entry
+pub length-log_lines : (rules : Rules) (net : Net) (past : Chronicle) (node : ℕ) → length (log_lines rules net past node) ≡ length (log_of node past)
+unfolding log_lines
+length-log_lines rules net past node = length-map _ _ ∙ length-steps (log_of node past)
+
+-- that of the cut, and one of each neighbour
+pub length-cut_lines : (net : Net) (past : Chronicle) (e node : ℕ) → length (cut_lines net past e node) ≡ suc (length (neighbours net node))
+unfolding cut_lines
+length-cut_lines net past e node = ap suc (length-map _ _)
+
+pub some_at : {X : Type 0} (xs : List X) (i : ℕ) → i < length xs → IsSome (slice_get xs i)
+some_at [] i inside = absurd (omega (arith, inside))
+some_at (x ∷ xs) zero inside = refl
+some_at (x ∷ xs) (suc i) inside = some_at xs i (omega (arith, inside))
+
+pub some_unless : {X : Type 0} (o : Option X) → ¬ (IsNone o) → IsSome o
+some_unless None never = absurd (never refl)
+some_unless (Some x) never = refl

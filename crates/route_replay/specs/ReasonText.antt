@@ -1,0 +1,26 @@
+-- The text of reasons.
+use Rattle.std.specs.Prelude.{ℕ, List, ◌++◌, codes}
+use Rattle.std.specs.Fmt.{decimal}
+use Rattle.topology.specs.declared.status.Reason.{Reason}
+use Rattle.topology.specs.declared.status.Reason.TheVariants.{AlreadyOrigin, NotOrigin, LinkDown, EmptyChannel, WrongSession, AlreadyDown, AlreadyUp, NotOpen, StillUp, AlreadyOpen, WrongSeq, OldSession, NotConsolidator, Decided, NoReport, Duplicate, Promised, StaleBallot, NoRound}
+
+abbrev pub reason_words : Reason → List ℕ
+reason_words AlreadyOrigin = codes "already origin"
+reason_words NotOrigin = codes "not origin"
+reason_words LinkDown = codes "link down"
+reason_words EmptyChannel = codes "empty channel"
+reason_words WrongSession = codes "wrong session"
+reason_words AlreadyDown = codes "already down"
+reason_words AlreadyUp = codes "already up"
+reason_words NotOpen = codes "not open"
+reason_words StillUp = codes "still up"
+reason_words AlreadyOpen = codes "already open"
+reason_words (WrongSeq expected got) = codes "wrong sequence"
+reason_words OldSession = codes "old session"
+reason_words NotConsolidator = codes "not consolidator"
+reason_words Decided = codes "decided"
+reason_words NoReport = codes "no report"
+reason_words Duplicate = codes "duplicate"
+reason_words (Promised ballot) = codes "promised " ++ decimal ballot.round ++ codes "/" ++ decimal ballot.node
+reason_words StaleBallot = codes "stale ballot"
+reason_words (NoRound ballot) = codes "no round"

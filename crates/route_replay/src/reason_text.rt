@@ -1,0 +1,40 @@
+//! The text of reasons.
+ghost use Rattle.std.specs.Prelude.{◌≡◌, ◌++◌, OnOk};
+ghost use Rattle.std.specs.String.{string_bytes};
+ghost use Rattle.route_replay.specs.ReasonText.{reason_words};
+
+use crate::numbers::{push_node, push_number};
+use std::alloc::AllocError;
+use topology::Reason;
+
+/// Adds the words of a reason.
+pub fn reason_words(out: &mut String, reason: Reason) -> Result<(), AllocError>
+    ensures { OnOk result (string_bytes out.new ≡ string_bytes out.old ++ reason_words reason) }
+{
+    match reason {
+        Reason::AlreadyOrigin => out.push_str("already origin"),
+        Reason::NotOrigin => out.push_str("not origin"),
+        Reason::LinkDown => out.push_str("link down"),
+        Reason::EmptyChannel => out.push_str("empty channel"),
+        Reason::WrongSession => out.push_str("wrong session"),
+        Reason::AlreadyDown => out.push_str("already down"),
+        Reason::AlreadyUp => out.push_str("already up"),
+        Reason::NotOpen => out.push_str("not open"),
+        Reason::StillUp => out.push_str("still up"),
+        Reason::AlreadyOpen => out.push_str("already open"),
+        Reason::WrongSeq { .. } => out.push_str("wrong sequence"),
+        Reason::OldSession => out.push_str("old session"),
+        Reason::NotConsolidator => out.push_str("not consolidator"),
+        Reason::Decided => out.push_str("decided"),
+        Reason::NoReport => out.push_str("no report"),
+        Reason::Duplicate => out.push_str("duplicate"),
+        Reason::Promised(ballot) => {
+            out.push_str("promised ")?;
+            push_number(out, ballot.round)?;
+            out.push('/')?;
+            push_node(out, ballot.node)
+        }
+        Reason::StaleBallot => out.push_str("stale ballot"),
+        Reason::NoRound(_) => out.push_str("no round"),
+    }
+}
