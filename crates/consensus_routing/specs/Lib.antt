@@ -1,3 +1,2 @@
-pub mod Notes
 pub mod Headline
-pub mod Plain
+pub mod Notes

@@ -6,7 +6,7 @@ use Rattle.topology.specs.declared.status.Status.{Status}
 use Rattle.topology.specs.declared.status.Status.TheVariants.{Done, Usage, NoMemory, BadSchedule, Limit, ReadFault, WriteFault}
 use Rattle.topology.specs.Words.{bad_words, limit_words}
 use Rattle.route_io.specs.Causes.{Rose, AppendsFront}
-use Rattle.route_replay.specs.Side.{Side}
+use Rattle.route_io.specs.Views.{SinkView}
 
 -- the words of the line, without its end
 abbrev pub note_words : Status → List ℕ
@@ -18,17 +18,22 @@ note_words (Limit kind number) = codes "limit: " ++ limit_words kind ++ codes " 
 note_words ReadFault = codes "read fault"
 note_words WriteFault = codes "write fault"
 
+-- a line and its end, where there are words
+abbrev pub line_of : List ℕ → List ℕ
+line_of [] = []
+line_of (c ∷ words) = c ∷ words ++ 10 ∷ []
+
 -- one line where the run ended before its time, nothing where it is done
 abbrev pub note_line : Status → List ℕ
-note_line Done = []
-note_line status = note_words status ++ 10 ∷ []
+note_line status = line_of (note_words status)
 
--- what the notes tell after a run that ended so
-pub record Noted (notes notes' : Side) (status : Status) : Type 0 where
-  -- the line was written behind what they held; where one of their calls failed, it may be a front of it
-  pub told : Appends notes.told notes'.told (note_line status)
-      ⊎ (Rose notes.faults notes'.faults × AppendsFront notes.told notes'.told (note_line status))
-  -- a run that is done leaves them as they were
-  pub silent : status ≡ Done → notes' ≡ notes
+-- what came of the notes after a run that ended so
+pub record Noted (notes notes' : SinkView) (status : Status) : Type 0 where
+  -- the line was written behind what they held, and none of their calls failed; or one failed, and a
+  -- front of the line was written
+  pub told : (Appends notes.held notes'.held (note_line status) × (notes'.faults ≡ notes.faults))
+      ⊎ (AppendsFront notes.held notes'.held (note_line status) × Rose notes.faults notes'.faults)
   -- the count of their faults never falls
   pub counts : notes.faults ≤ notes'.faults
+  -- no call changes how much they can hold
+  pub same_room : notes'.room ≡ notes.room

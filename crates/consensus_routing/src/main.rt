@@ -1,11 +1,13 @@
 //! Replays schedules of a network whose routers agree on stable tables.
 #![tactic(auto)]
 
+mod exit;
 mod notes;
 mod run;
 #[cfg(test)]
 mod tests;
 
+use exit::exit_of;
 use route_io::{StdSink, StdSource};
 use std::process::ExitCode;
 use std::{env, io};
@@ -40,5 +42,5 @@ fn main(rt: HostRuntime) -> ExitCode {
             run::run(rt.alloc(), &words, &mut source, &mut sink, &mut notes)
         }
     };
-    ExitCode::from(status.code())
+    exit_of(&status)
 }

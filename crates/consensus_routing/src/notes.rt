@@ -1,7 +1,6 @@
 //! The line that says why a run ended before its time.
 ghost use Rattle.std.specs.Prelude.{◌≡◌, ◌+◌, ◌≤◌, [], ◌++◌, length};
-ghost use Rattle.route_replay.specs.Side.{side};
-ghost use Rattle.consensus_routing.specs.Notes.{Noted, note_words, note_line};
+ghost use Rattle.consensus_routing.specs.Notes.{Noted, note_words};
 
 use arrayvec::ArrayString;
 use itoa::Buffer;
@@ -58,9 +57,8 @@ fn words_of(status: &Status) -> ArrayString<ROOM>
 /// Writes the line of a run that ended so, where it is not done. Takes no memory. Whether the line
 /// can be written changes nothing.
 pub fn tell<E: Sink>(notes: &mut E, status: &Status)
-    ensures noted { Noted (side (E.held notes.old) (E.faults notes.old))
-        (side (E.held notes.new) (E.faults notes.new)) status.now }
-    ensures same_room { E.room notes.new ≡ E.room notes.old }
+    ensures noted { Noted (E.seen notes.old) (E.seen notes.new) status.now }
+    ensures silent { status.now ≡ Status.Done → notes.new ≡ notes.old }
 {
     if matches!(status, Status::Done) {
         return;

@@ -1,7 +1,6 @@
 //! The top call.
 ghost use Rattle.std.specs.Prelude.{◌≡◌, ◌↔◌, IsTrue, map};
 ghost use Rattle.std.specs.String.{string_bytes};
-ghost use Rattle.route_replay.specs.Side.{side};
 ghost use Rattle.consensus_routing.specs.Headline.{Headline, replay_form};
 ghost use Rattle.consensus_routing.specs.Notes.{Noted};
 
@@ -30,10 +29,8 @@ fn outcome<I: Source, O: Sink>(
     sink: &mut O,
 ) -> Status
     ensures headline { Headline (map (λ word. string_bytes word) words.now)
-        (side (I.left source.old) (I.faults source.old)) (side (I.left source.new) (I.faults source.new))
-        (side (O.held sink.old) (O.faults sink.old)) (side (O.held sink.new) (O.faults sink.new)) result }
+        (I.seen source.old) (I.seen source.new) (O.seen sink.old) (O.seen sink.new) result }
     ensures untouched { result ≡ Status.Usage → (source.new ≡ source.old) × (sink.new ≡ sink.old) }
-    ensures same_room { O.room sink.new ≡ O.room sink.old }
 {
     if !is_replay(words) {
         return Status::Usage;
@@ -53,13 +50,12 @@ pub fn run<I: Source, O: Sink, E: Sink>(
     notes: &mut E,
 ) -> Status
     ensures headline { Headline (map (λ word. string_bytes word) words.now)
-        (side (I.left source.old) (I.faults source.old)) (side (I.left source.new) (I.faults source.new))
-        (side (O.held sink.old) (O.faults sink.old)) (side (O.held sink.new) (O.faults sink.new)) result }
+        (I.seen source.old) (I.seen source.new) (O.seen sink.old) (O.seen sink.new) result }
     // Words of no form leave the source and the sink as they were.
     ensures untouched { result ≡ Status.Usage → (source.new ≡ source.old) × (sink.new ≡ sink.old) }
-    ensures noted { Noted (side (E.held notes.old) (E.faults notes.old))
-        (side (E.held notes.new) (E.faults notes.new)) result }
-    ensures same_room { (O.room sink.new ≡ O.room sink.old) × (E.room notes.new ≡ E.room notes.old) }
+    ensures noted { Noted (E.seen notes.old) (E.seen notes.new) result }
+    // A run that is done leaves the notes as they were.
+    ensures silent { result ≡ Status.Done → notes.new ≡ notes.old }
 {
     let status = outcome(alloc, words, source, sink);
     tell(notes, &status);

@@ -1,12 +1,12 @@
 //! Runs over memory: words, notes, room, and each side failing in turn. What whole files come to stands
 //! in the crate `scenarios`.
-ghost use Rattle.std.specs.Prelude.{◌≡◌, ◌≢◌};
-ghost use Rattle.consensus_routing.specs.Plain.{HasTooLongText};
-
+use crate::exit::exit_of;
 use crate::notes::tell;
 use crate::run::run;
-use route_io::{MemSink, MemSource, PlainSink, PlainSource, Sink, Source};
+use itoa::Buffer;
+use route_io::{MemSink, MemSource, PlainSink, PlainSource};
 use std::alloc::Global;
+use std::process::ExitCode;
 use std::test::Fail;
 use topology::{BadKind, LimitKind, Status};
 
@@ -194,6 +194,72 @@ fn faults_of_the_notes_change_no_status(rt: HostRuntime) -> Result<(), Fail> {
     Ok(())
 }
 
+// Words, files, and the code with which the process ends.
+const CODES: [(&[&str], &str, u8); 5] = [
+    (&["replay"], FILE, 0),
+    (&["replay"], "", 0),
+    (&["replay", "now"], FILE, 2),
+    (&[], FILE, 2),
+    (&["replay"], "node 1\nnode 1\n", 4),
+];
+
+#[test]
+fn ends_with_the_code_of_the_run(rt: HostRuntime) -> Result<(), Fail> {
+    let alloc = rt.alloc();
+    for (words, file, code) in CODES {
+        let mut sink = sink_of(alloc, 4096, &[])?;
+        let mut notes = sink_of(alloc, 64, &[])?;
+        let status = status_of(alloc, words, file, &[], &mut sink, &mut notes)?;
+        assert_eq!(rt;
+            exit_of(&status),
+            ExitCode::from(code),
+            "{words:?} {file:?}"
+        );
+    }
+    Ok(())
+}
+
+// Adds lines with so many numbers, from 0.
+fn add_lines(file: &mut String, begin: &str, count: u32, end: &str) -> Result<(), Fail> {
+    for number in 0..count {
+        file.push_str(begin)?;
+        file.push_str(Buffer::new().format(number))?;
+        file.push_str(end)?;
+    }
+    Ok(())
+}
+
+// A file whose one view has 15360 lines of about 25 bytes.
+fn long_view(alloc: Global) -> Result<String, Fail> {
+    let mut file = String::new(alloc);
+    add_lines(&mut file, "node 1", 60, "\n")?;
+    add_lines(&mut file, "prefix 10.0.", 256, ".0/24\n")?;
+    file.push_str("begin\nshow rib\n")?;
+    Ok(file)
+}
+
+#[test]
+fn writes_a_long_view_by_the_page(rt: HostRuntime) -> Result<(), Fail> {
+    let alloc = rt.alloc();
+    let file = long_view(alloc)?;
+    for (failing, pages) in [(1, 0), (2, 1), (3, 2)] {
+        let mut sink = sink_of(alloc, 1_000_000, &[failing])?;
+        let mut notes = sink_of(alloc, 64, &[])?;
+        let status = status_of(
+            alloc,
+            &["replay"],
+            file.as_str(),
+            &[],
+            &mut sink,
+            &mut notes,
+        )?;
+        assert_eq!(rt; status, Status::WriteFault, "write {failing}");
+        assert_eq!(rt; sink.held().len() / 65_536, pages, "write {failing}");
+        assert!(rt; sink.held().len() % 65_536 < 65, "write {failing}");
+    }
+    Ok(())
+}
+
 #[test]
 fn takes_no_more_bytes_than_the_limit_says(rt: HostRuntime) -> Result<(), Fail> {
     let alloc = rt.alloc();
@@ -205,23 +271,6 @@ fn takes_no_more_bytes_than_the_limit_says(rt: HostRuntime) -> Result<(), Fail> 
     assert_eq!(rt; status, Status::Limit(LimitKind::Bytes, 16_777_216));
     assert_eq!(rt; notes.held(), b"limit: bytes 16777216\n".as_slice());
     Ok(())
-}
-
-// Over a plain source no read fails, and over a plain sink a write fails only where the text is
-// longer than the room.
-fn run_plain(
-    alloc: Global,
-    words: &[String],
-    source: &mut PlainSource,
-    sink: &mut PlainSink,
-    notes: &mut PlainSink,
-) -> Status
-    ensures no_read_fault { result ≢ Status.ReadFault }
-    ensures write_fault { result ≡ Status.WriteFault →
-        HasTooLongText (⟦<PlainSource as Source>⟧.left source.old)
-        (⟦<PlainSink as Sink>⟧.room sink.old) (⟦<PlainSink as Sink>⟧.held sink.old) }
-{
-    run(alloc, words, source, sink, notes)
 }
 
 #[test]
@@ -237,7 +286,7 @@ fn fails_over_plain_memory_only_for_room(rt: HostRuntime) -> Result<(), Fail> {
         let mut source = PlainSource::new(Vec::from_slice(alloc, FILE.as_bytes())?);
         let mut sink = PlainSink::new(vec![in alloc; 0; room]?);
         let mut notes = PlainSink::new(vec![in alloc; 0; 64]?);
-        let answer = run_plain(alloc, &words, &mut source, &mut sink, &mut notes);
+        let answer = run(alloc, &words, &mut source, &mut sink, &mut notes);
         assert_eq!(rt; answer, status, "{room}");
         assert!(rt; TEXT.as_bytes().starts_with(sink.held()), "{room}");
     }

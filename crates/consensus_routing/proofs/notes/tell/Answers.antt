@@ -9,4 +9,9 @@ returns-clause-noted g c =
     let not_done : c.args.status.now ≢ Done = elim c.match-matches.branch [ in-Done w ↦ absurd (cc (c.if-matches.false, w.matches-is)) | in_default w ↦ w.in_default.not-Done ] in
     noted_by _ _ c.args.status.now _ c.write_all-told.result not_done
     (c.as_bytes.ensures.value ∙ (c.as_str.ensures.value ∙ (c.push_str.ensures.bytes ∙ ap (λ words. words ++ 10 ∷ []) c.words_of-line.ensures.words)))
-    c.write_all-told.ensures.ok c.write_all-told.ensures.err c.write_all-told.ensures.cause
+    c.write_all-told.ensures.ok c.write_all-told.ensures.err c.write_all-told.ensures.cause c.write_all-told.ensures.same_room
+
+pub returns-clause-silent : goal.returns-clause-silent
+returns-clause-silent g c =
+    let not_done : c.args.status.now ≢ Done = elim c.match-matches.branch [ in-Done w ↦ absurd (cc (c.if-matches.false, w.matches-is)) | in_default w ↦ w.in_default.not-Done ] in
+    λ done. absurd (not_done done)
