@@ -3,5 +3,7 @@ mod files;
 mod limits;
 mod lines;
 mod runs;
+mod schemes;
 mod sizes;
+mod snapshots;
 mod unrest;

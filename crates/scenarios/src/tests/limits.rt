@@ -1,11 +1,101 @@
 //! Runs up to a limit, and one event beyond it.
 use super::runs::outcome;
 use std::alloc::Global;
+use std::process::Abort;
 use std::test::Fail;
 use topology::{LimitKind, Status};
 
+// Behind this front, these two lines in turn, so many in all, and then one line more.
+fn busy(
+    alloc: Global,
+    front: &str,
+    lines: (&str, &str),
+    count: u32,
+    last: &str,
+) -> Result<String, Fail> {
+    let (first, second) = lines;
+    let mut file = String::from_str(alloc, front)?;
+    for place in 0..count {
+        file.push_str(if place % 2 == 0 { first } else { second })?;
+    }
+    file.push_str(last)?;
+    Ok(file)
+}
+
+// A run of so many of these lines ends so, and what was written before a limit stays written.
+fn check_busy(
+    rt: &impl Abort,
+    alloc: Global,
+    front: &str,
+    lines: (&str, &str),
+    cases: &[(u32, &str, Status)],
+    text: &str,
+) -> Result<(), Fail> {
+    for (count, last, status) in cases {
+        let file = busy(alloc, front, lines, *count, last)?;
+        let (answer, written) = outcome(alloc, file.as_str())?;
+        assert_eq!(rt; answer, *status, "{count} {last}");
+        assert_eq!(rt; written.as_str(), text, "{count} {last}");
+    }
+    Ok(())
+}
+
+// Lines that make an entry each, in turn.
+const TURNS: (&str, &str) = ("originate 1 10.0.0.0/8\n", "withdraw 1 10.0.0.0/8\n");
+
+const ALONE: &str = "node 1\nprefix 10.0.0.0/8\nbegin\nwithdraw 1 10.0.0.0/8\n";
+
+#[test]
+fn raises_and_enters_as_often_as_the_limits_say(rt: HostRuntime) -> Result<(), Fail> {
+    let alloc = rt.alloc();
+    let snap = ("snap 1\n", "snap 1\n");
+    let text = "4: idle not origin\n";
+    let epochs = Status::Limit(LimitKind::Epochs, 32);
+    let cases = [
+        (31, "", Status::Done),
+        (32, "", Status::Done),
+        (33, "", epochs),
+        (32, TURNS.0, Status::Done),
+    ];
+    check_busy(&rt, alloc, ALONE, snap, &cases, text)?;
+    let entries = Status::Limit(LimitKind::Entries, 2048);
+    let cases = [
+        (2047, "", Status::Done),
+        (2048, "", Status::Done),
+        (2049, "", entries),
+        (2048, "snap 1\n", Status::Done),
+    ];
+    check_busy(&rt, alloc, ALONE, TURNS, &cases, text)
+}
+
+// Node 1 with a link to each of 16 others.
+fn star(alloc: Global) -> Result<String, Fail> {
+    let mut front = String::from_str(alloc, "node 1\n")?;
+    for node in 2..18 {
+        write!(front, "node {node}\nlink 1 {node} any\n")?;
+    }
+    front.push_str("prefix 10.0.0.0/8\nbegin\n")?;
+    Ok(front)
+}
+
+#[test]
+fn sends_as_many_items_as_the_limit_says(rt: HostRuntime) -> Result<(), Fail> {
+    let alloc = rt.alloc();
+    let front = star(alloc)?;
+    let updates = Status::Limit(LimitKind::Updates, 16_384);
+    let cases = [
+        (1023, "", Status::Done),
+        (1024, "", Status::Done),
+        // the close of one session is one item more
+        (1024, "fail 1 2\nnotice 1 2\n", updates),
+        (1024, "snap 1\nfail 1 2\n", Status::Done),
+        (1025, "", updates),
+    ];
+    check_busy(&rt, alloc, front.as_str(), TURNS, &cases, "")
+}
+
 // Nodes that make so many triggers, each 2048 at most, behind a line that does nothing.
-fn busy(alloc: Global, triggers: u32) -> Result<String, Fail> {
+fn many_triggers(alloc: Global, triggers: u32) -> Result<String, Fail> {
     let mut file = String::from_str(
         alloc,
         "node 1\nnode 2\nnode 3\nnode 4\nnode 5\nprefix 10.0.0.0/8\nbegin\nwithdraw 1 10.0.0.0/8\n",
@@ -30,11 +120,27 @@ fn gives_as_many_triggers_as_the_limit_says(rt: HostRuntime) -> Result<(), Fail>
         (8192, Status::Done),
         (8193, Status::Limit(LimitKind::Triggers, 8192)),
     ] {
-        let file = busy(alloc, triggers)?;
+        let file = many_triggers(alloc, triggers)?;
         let (answer, text) = outcome(alloc, file.as_str())?;
         assert_eq!(rt; answer, status, "{triggers}");
         // what was written before the limit stays written
         assert_eq!(rt; text.as_str(), "8: idle not origin\n", "{triggers}");
     }
     Ok(())
+}
+
+#[test]
+fn takes_as_many_events_as_the_limit_says(rt: HostRuntime) -> Result<(), Fail> {
+    let front = "node 1\nnode 2\nlink 1 2 any\nbegin\nrestore 1 2\n";
+    let lines = ("fail 1 2\n", "restore 1 2\n");
+    let events = Status::Limit(LimitKind::Events, 1_000_000);
+    let cases = [(999_999, "", Status::Done), (999_999, "fail 1 2\n", events)];
+    check_busy(
+        &rt,
+        rt.alloc(),
+        front,
+        lines,
+        &cases,
+        "5: idle already up\n",
+    )
 }

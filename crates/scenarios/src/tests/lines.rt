@@ -21,10 +21,8 @@ good: begin
 unknown word: nodes 4
 unknown word: consolidator
 unknown word: NODE 4
-not built: snap
 not built: hop 1 2 3 4 5 6
 not built: transient x
-not built: show cut
 not built: show walk 1 2 3
 not here: show
 not here: show foo
@@ -37,6 +35,10 @@ not here: restore 1 2
 not here: notice 1 2 3
 not here: open 1 x
 not here: drain 0
+not here: snap
+not here: snap 1
+not here: show cut
+not here: show cut 1 2 3
 wrong count: node
 wrong count: node 1 2 3
 wrong count: link 1 2
@@ -94,11 +96,15 @@ good: notice 2 1
 good: open 1 2
 good: drain 1
 good: drain 1000000
+good: snap 1
+good: snap 3 # x
 good: show rib
 good: show log
+good: show cut 1
+good: show cut 32
 unknown word: prefixes
 unknown word: Drain 1
-not built: snap 1
+unknown word: snaps 1
 not built: propose
 not built: ctl 1 2
 not built: crash 1
@@ -107,7 +113,6 @@ not built: hops 1
 not built: transient
 not built: inject 1
 not built: hop
-not built: show cut
 not built: show closure x y
 not built: show ctl
 not built: show tables
@@ -124,6 +129,13 @@ wrong count: show rib x
 wrong count: show log log
 unknown word: show foo
 unknown word: show foo x
+unknown word: show cuts 1
+wrong count: show cut
+wrong count: show cut 1 2
+bad number: show cut 0
+bad number: show cut 33
+bad number: show cut 01
+bad number: show cut x
 wrong count: originate 1
 wrong count: originate x
 wrong count: withdraw 1 10.0.0.0/8 x
@@ -173,6 +185,13 @@ bad number: open 01 2
 unknown node: open 9 9
 self link: open 2 2
 no link: open 2 3
+wrong count: snap
+wrong count: snap 1 2
+wrong count: snap x y
+bad number: snap 0
+bad number: snap 65536
+bad number: snap one
+unknown node: snap 9
 wrong count: drain
 wrong count: drain 1 2
 wrong count: drain 0 x

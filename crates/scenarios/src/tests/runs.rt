@@ -16,8 +16,8 @@ pub fn outcome(alloc: Global, file: &str) -> Result<(Status, String), Fail> {
     Ok((status, text))
 }
 
-// Three nodes in a line, described in seven lines.
-const LINE: &str = "\
+/// Three nodes in a line, described in seven lines.
+pub const LINE: &str = "\
 node 1 consolidator
 node 2
 node 3
@@ -27,8 +27,8 @@ prefix 10.0.0.0/8
 begin
 ";
 
-// Two nodes, described in five lines.
-const PAIR: &str = "\
+/// Two nodes, described in five lines.
+pub const PAIR: &str = "\
 node 1
 node 2
 link 1 2 any
@@ -412,8 +412,8 @@ log 3 1: 1.1 10.0.0.0/8 recv 2/1/1 2-1 > 2/1/1
 log 3 2: 2.1 10.0.0.0/8 recv 2/1/2 none > 2/1/2
 ";
 
-// Runs this behind the network.
-fn check_run(
+/// Runs this behind the network.
+pub fn check_run(
     rt: &impl Abort,
     alloc: Global,
     network: &str,
