@@ -11,7 +11,7 @@ use Rattle.schedule_file.specs.declared.table.OriginEvent.TheVariants.{Originate
 use Rattle.schedule_file.specs.declared.table.NodeEvent.TheVariants.{Snap}
 use Rattle.schedule_file.specs.declared.table.PairEvent.TheVariants.{Deliver}
 use Rattle.schedule_file.specs.declared.table.PlainView.TheVariants.{Rib}
-use Rattle.schedule_file.specs.declared.table.EpochView.TheVariants.{Cut}
+use Rattle.schedule_file.specs.declared.table.EpochView.TheVariants.{Cut, Closure}
 use Rattle.schedule_file.specs.declared.table.View.{View}
 use Rattle.schedule_file.specs.declared.table.View.TheVariants.{Plain, OfEpoch}
 use Rattle.schedule_file.specs.Words.{has_word}
@@ -19,7 +19,7 @@ use Rattle.schedule_file.specs.Table.{keyword_text, keywords, keyword_in, view_t
 use Rattle.schedule_file.specs.Refusals.{fault_by}
 use Rattle.schedule_file.proofs.Passing.{word_is, other_word}
 
--- each keyword is found by its word; a new one needs no clause
+-- each keyword is found by its word
 pub keyword_found : (k : Keyword) → keyword_in (keyword_text k) ≡ Some k
 keyword_found Node = refl
 keyword_found Link = refl
@@ -39,6 +39,7 @@ pub view_found : (v : View) → view_in (view_text v) ≡ Some v
 view_found (Plain Rib) = refl
 view_found (Plain view) = refl
 view_found (OfEpoch Cut) = refl
+view_found (OfEpoch Closure) = refl
 
 passes : {X : Type 0} (p : X → Bool) (xs : List X) (x : X) → find p xs ≡ Some x → p x ≡ true
 passes p [] x e = absurd (none-some x e)

@@ -11,7 +11,7 @@ use Rattle.schedule_file.specs.declared.lines.Instruction.{Instruction}
 use Rattle.schedule_file.specs.declared.lines.Instruction.TheVariants.{Origin, Single, Pair, Prefer, Drain, Show, ShowEpoch}
 use Rattle.schedule_file.specs.declared.table.Keyword.{Keyword}
 use Rattle.schedule_file.specs.declared.table.Keyword.TheVariants as keyword
-use Rattle.schedule_file.specs.declared.table.EpochView.TheVariants.{Cut}
+use Rattle.schedule_file.specs.declared.table.EpochView.TheVariants.{Cut, Closure}
 use Rattle.schedule_file.specs.declared.table.PlainView.{PlainView}
 use Rattle.schedule_file.specs.declared.table.PlainView.TheVariants.{Rib}
 use Rattle.schedule_file.specs.declared.table.View.TheVariants.{Plain, OfEpoch}
@@ -106,6 +106,11 @@ fine_instruction (ShowEpoch Cut epoch) h = record {
   now = refl;
   counted = refl;
   fine_words = two_fine Viewed EpochNumber (codes "cut") (decimal epoch) refl (epoch_fine epoch h.0 h.1);
+}
+fine_instruction (ShowEpoch Closure epoch) h = record {
+  now = refl;
+  counted = refl;
+  fine_words = two_fine Viewed EpochNumber (codes "closure") (decimal epoch) refl (epoch_fine epoch h.0 h.1);
 }
 
 -- a line stands where lines of its keyword do

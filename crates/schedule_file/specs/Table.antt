@@ -16,7 +16,7 @@ use Rattle.schedule_file.specs.declared.table.PairEvent.TheVariants.{Deliver, Fa
 use Rattle.schedule_file.specs.declared.table.PlainView.{PlainView}
 use Rattle.schedule_file.specs.declared.table.PlainView.TheVariants.{Rib, Log}
 use Rattle.schedule_file.specs.declared.table.EpochView.{EpochView}
-use Rattle.schedule_file.specs.declared.table.EpochView.TheVariants.{Cut}
+use Rattle.schedule_file.specs.declared.table.EpochView.TheVariants.{Cut, Closure}
 use Rattle.schedule_file.specs.declared.table.View.{View}
 use Rattle.schedule_file.specs.declared.table.View.TheVariants.{Plain, OfEpoch}
 use Rattle.schedule_file.specs.declared.table.Shape.{Shape}
@@ -70,10 +70,12 @@ plain_directive Log = directive.ShowLog
 -- what is shown of one epoch: its word
 abbrev pub epoch_text : EpochView → List ℕ
 epoch_text Cut = codes "cut"
+epoch_text Closure = codes "closure"
 
 -- and what it directs
 abbrev pub epoch_directive : EpochView → ℕ → Directive
 epoch_directive Cut epoch = directive.ShowCut epoch
+epoch_directive Closure epoch = directive.ShowClosure epoch
 
 -- the word behind show
 abbrev pub view_text : View → List ℕ
@@ -81,7 +83,7 @@ view_text (Plain view) = plain_text view
 view_text (OfEpoch view) = epoch_text view
 
 abbrev pub views : List View
-views = Plain Rib ∷ Plain Log ∷ OfEpoch Cut ∷ []
+views = Plain Rib ∷ Plain Log ∷ OfEpoch Cut ∷ OfEpoch Closure ∷ []
 
 -- what the word behind show asks for
 abbrev pub view_in : List ℕ → Option View
@@ -121,7 +123,7 @@ later_words =
 
 -- what later versions show
 abbrev pub later_views : List (List ℕ)
-later_views = codes "closure" ∷ codes "ctl" ∷ codes "tables" ∷ codes "walk" ∷ []
+later_views = codes "ctl" ∷ codes "tables" ∷ codes "walk" ∷ []
 
 -- a line before begin, of so many words
 abbrev pub declares : ℕ → ℕ → Shape

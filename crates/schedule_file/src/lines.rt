@@ -124,6 +124,7 @@ pub enum Directive {
     ShowRib,
     ShowLog,
     ShowCut(Epoch),
+    ShowClosure(Epoch),
 }
 
 /// A directive and the number of its line, from 1.

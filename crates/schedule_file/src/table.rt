@@ -54,6 +54,7 @@ pub enum PlainView {
 #[derive(Clone, Copy, Debug, PartialEq, Eq)]
 pub enum EpochView {
     Cut,
+    Closure,
 }
 
 /// The word behind `show`.
@@ -124,6 +125,7 @@ pub fn view_named(word: &[u8]) -> Option<View>
         b"rib" => Some(View::Plain(PlainView::Rib)),
         b"log" => Some(View::Plain(PlainView::Log)),
         b"cut" => Some(View::OfEpoch(EpochView::Cut)),
+        b"closure" => Some(View::OfEpoch(EpochView::Closure)),
         _ => None,
     }
 }
@@ -240,6 +242,7 @@ impl EpochView {
     {
         match self {
             EpochView::Cut => Directive::ShowCut(epoch),
+            EpochView::Closure => Directive::ShowClosure(epoch),
         }
     }
 }

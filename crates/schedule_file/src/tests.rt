@@ -80,6 +80,7 @@ fn check_schedule(rt: &impl Abort, schedule: &Schedule) {
         (21, Directive::Drain { times: 1_000_000 }),
         (22, Directive::Snap { node: two }),
         (23, Directive::ShowCut(Epoch::new(32))),
+        (24, Directive::ShowClosure(Epoch::new(1))),
     ];
     assert_eq!(rt; schedule.lines.len(), want.len());
     for (place, (line, directive)) in want.iter().enumerate() {
@@ -114,7 +115,8 @@ restore 2 1
 open 1 2
 drain 1000000
 snap 2
-show cut 32";
+show cut 32
+show closure 1";
 
 #[test]
 fn reads_a_schedule(rt: HostRuntime) {

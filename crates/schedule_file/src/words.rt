@@ -29,7 +29,7 @@ const LATER_WORDS: [&[u8]; 8] = [
     b"hop",
 ];
 
-const LATER_VIEWS: [&[u8]; 4] = [b"closure", b"ctl", b"tables", b"walk"];
+const LATER_VIEWS: [&[u8]; 3] = [b"ctl", b"tables", b"walk"];
 
 /// The words of one line: how many, and the first four. One that is not there is empty.
 #[derive(Clone, Copy, Debug)]
