@@ -1,5 +1,5 @@
 -- What an entry changes in what is kept of a neighbour.
-use Rattle.std.proofs.Common.{◌≡◌, ◌≢◌, ℕ, suc, zero, ◌<◌, ◌≤◌, max, Bool, true, false, cond, ◌&&◌, ◌==◌, List, [], ◌∷◌, length, set, replicate, slice_get, refl, sym, ap, ◌∙◌, subst, arith, Option, Some, None, option_map, option_and_then}
+use Rattle.std.proofs.Common.{◌≡◌, ◌≢◌, ◌⊎◌, inl, inr, ℕ, suc, zero, ◌<◌, ◌≤◌, max, Bool, true, false, cond, ◌&&◌, ◌==◌, List, [], ◌∷◌, length, set, replicate, slice_get, refl, sym, ap, ◌∙◌, subst, arith, Option, Some, None, option_map, option_and_then}
 use Rattle.std.specs.Prelude.{if◌then◌else◌}
 use Rattle.std.proofs.lemmas.Bool.Decides.{nat_tests}
 use Rattle.topology.specs.declared.names.Scope.{Scope}
@@ -106,7 +106,7 @@ same_cond : {A : Type 0} (b : Bool) (x y : A) → x ≡ y → cond b x y ≡ y
 same_cond true x y e = e
 same_cond false x y e = refl
 
-other_candidate : (u : ℕ) (past : History) (scope : Scope) (cause : Cause) (p w : ℕ) → names cause ≢ Some w
+pub other_candidate : (u : ℕ) (past : History) (scope : Scope) (cause : Cause) (p w : ℕ) → names cause ≢ Some w
     → candidate u (change scope cause ∷ past) p w ≡ candidate u past p w
 unfolding beyond
 other_candidate u past scope cause p w n =
@@ -166,6 +166,21 @@ heard_candidate u past p v s seq path (Some t) q =
           ] refl)
       | false ↦ elim (t == s) as (λ b. candidate_by u (heard past q v) (Some t) ≡ cond b (candidate_by u (heard past q v) (Some t)) (candidate_by u (heard past q v) (Some t))) [ true ↦ refl | false ↦ refl ]
     ]
+
+-- after an update the candidate of its neighbour is the one of its path, or as it was
+pub updated : (u : ℕ) (past : History) (p v s seq : ℕ) (path : Option (List ℕ))
+    → (candidate u (change (One p) (Recv v s seq path) ∷ past) p v ≡ led_by u (Recv v s seq path)) ⊎ (candidate u (change (One p) (Recv v s seq path) ∷ past) p v ≡ candidate u past p v)
+updated u past p v s seq path =
+    let self : (p == p) ≡ true = grind (arith, nat_tests) in
+    (elim (is_held (held past v) s) as (λ b. candidate u (change (One p) (Recv v s seq path) ∷ past) p v ≡ cond b (cond (p == p) (led_by u (Recv v s seq path)) (candidate_by u (heard past p v) (held past v))) (candidate_by u (heard past p v) (held past v))
+    → (candidate u (change (One p) (Recv v s seq path) ∷ past) p v ≡ led_by u (Recv v s seq path)) ⊎ (candidate u (change (One p) (Recv v s seq path) ∷ past) p v ≡ candidate u past p v)) [
+      | true ↦ λ e. inl (e ∙ taken_where (p == p) (led_by u (Recv v s seq path)) (candidate_by u (heard past p v) (held past v)) self)
+      | false ↦ λ e. inr (e ∙ sym (candidate_is u past p v))
+    ]) (candidate_is u (change (One p) (Recv v s seq path) ∷ past) p v ∙ heard_candidate u past p v s seq path (held past v) p)
+  where
+    taken_where : {A : Type 0} (b : Bool) (x y : A) → b ≡ true → cond b x y ≡ x
+    taken_where true x y e = refl
+    taken_where false x y e = absurd (cc e)
 
 -- the row after an update
 heard_row : (row : List (Option (List ℕ))) (p q : ℕ) (held_now : Bool) (led before : Option (List ℕ)) → q < length row → slice_get row q ≡ Some before

@@ -1,7 +1,7 @@
 -- What a node keeps of its neighbours, as a list, and what an entry changes in it.
-use Rattle.std.specs.Prelude.{IfSome, ℕ, Bool, true, false, ◌==◌, max, length, slice_set, ◌≡◌, ◌<◌, Option, Some, None, List, [], ◌∷◌, map, fold, slice_get, option_map, option_and_then, if◌then◌else◌}
+use Rattle.std.specs.Prelude.{IfSome, ℕ, suc, ◌≢◌, Bool, true, false, ◌==◌, max, length, slice_set, ◌≡◌, ◌<◌, Option, Some, None, List, [], ◌∷◌, map, fold, slice_get, option_map, option_and_then, if◌then◌else◌}
 use Rattle.std.specs.List.{AllByRecursion}
-use Rattle.topology.specs.Lists.{has}
+use Rattle.topology.specs.Lists.{has, Among}
 use Rattle.topology.specs.Net.{Net, IsValid, neighbours}
 use Rattle.path_vector.specs.declared.causes.Cause.{Cause}
 use Rattle.path_vector.specs.declared.causes.Cause.TheVariants.{Originate, Withdraw, Recv, Down, Up, Ready, Prefer}
@@ -109,6 +109,14 @@ kept_choice p n =
 -- the first by rank of those candidates
 abbrev pub first_kept : (Ranked → Ranked → Bool) → ℕ → List Neighbour → Option Choice
 first_kept before p ns = fold (λ found n. consider before found (kept_choice p n)) None ns
+
+-- the first of those candidates is of another neighbour than v, and a path of v would not be before it
+pub record Leads (before : Ranked → Ranked → Bool) (p v : ℕ) (path : Option (List ℕ)) (ns : List Neighbour) : Type 0 where
+  pub leader : Choice
+  pub is_first : first_kept before p ns ≡ Some leader
+  pub other : leader.nbr ≢ v
+  pub later : (q : List ℕ) → path ≡ Some q → (n : Neighbour) × Among n ns × (n.id ≡ v)
+      × (before (record { nbr = v; preference = n.preference; length = suc (length q) }) (ranked leader) ≡ false)
 
 -- nothing was found so far, or this rank is before what was found
 abbrev pub is_sooner : (Ranked → Ranked → Bool) → Option Found → Ranked → Bool

@@ -1,5 +1,5 @@
 //! What a node keeps of its neighbours.
-ghost use Rattle.std.specs.Prelude.{◌≡◌, ℕ, [], ◌∷◌, Some, None, IfOk, IfSome, IfNone, true, false, if◌then◌else◌, length, replicate, slice_get, option_map, option_and_then};
+ghost use Rattle.std.specs.Prelude.{◌≡◌, ℕ, [], ◌∷◌, Some, None, IfOk, IfSome, IfNone, IsTrue, true, false, if◌then◌else◌, length, replicate, slice_get, option_map, option_and_then};
 ghost use Rattle.std.specs.List.{AllZip};
 ghost use Rattle.topology.specs.Lists.{Among, has};
 ghost use Rattle.topology.specs.Net.{Net, neighbours};
@@ -7,7 +7,7 @@ ghost use Rattle.path_vector.specs.History.{History, HasScope, Accepts, change};
 ghost use Rattle.path_vector.specs.Selection.{ranked};
 ghost use Rattle.topology.specs.declared.names.Scope.TheVariants.{All};
 ghost use Rattle.path_vector.specs.Standing.{Remembers};
-ghost use Rattle.path_vector.specs.Kept.{IsCopy, Hears, Turns, Keeps, Rises, ids, names, led_by, kept_path, kept_choice, first_kept, is_sooner};
+ghost use Rattle.path_vector.specs.Kept.{IsCopy, Hears, Turns, Keeps, Rises, ids, names, led_by, kept_path, kept_choice, first_kept, is_sooner, Leads};
 
 use crate::{Cause, Policy, Ranked};
 use std::alloc::Global;
@@ -320,4 +320,38 @@ pub(crate) fn first<'a, P: Policy>(
         None => None,
         Some(found) => neighbours.get(found.place),
     }
+}
+
+// Whether the first candidate is of another neighbour than this one, and stays the first where that
+// one tells of this path, or withdraws.
+pub(crate) fn leads<P: Policy>(
+    policy: &P,
+    neighbours: &[Neighbour],
+    prefix: PrefixId,
+    from: NodeId,
+    path: &Option<Path>,
+) -> bool
+    ensures { IsTrue result → Leads (P.rules policy.now).before prefix from path.now neighbours.now }
+{
+    let Some(leader) = first(policy, neighbours, prefix) else {
+        return false;
+    };
+    let Some(rank) = leader.rank(prefix) else {
+        return false;
+    };
+    if leader.id == from {
+        return false;
+    }
+    let Some(path) = path else {
+        return true;
+    };
+    let Some(teller) = find(neighbours, from) else {
+        return false;
+    };
+    let told = Ranked {
+        nbr: from,
+        preference: teller.preference,
+        length: path.nodes().len() as u32 + 1,
+    };
+    !policy.before(told, rank)
 }

@@ -1,6 +1,8 @@
 //! The routing state of one node.
 ghost use Rattle.std.specs.Prelude.{◌≡◌, ◌↔◌, ◌<◌, ◌≤◌, ℕ, [], ◌∷◌, Some, true, IsTrue, IfOk, OnOk, OnErr, length, slice_get, option_map};
 ghost use Rattle.topology.specs.Lists.{has};
+ghost use Rattle.topology.specs.declared.names.Scope.TheVariants.{One};
+ghost use Rattle.path_vector.specs.declared.causes.Cause.TheVariants.{Recv};
 ghost use Rattle.topology.specs.Net.{Net, neighbours, relation};
 ghost use Rattle.path_vector.specs.History.{History, HasScope, Accepts, change, held, owns};
 ghost use Rattle.path_vector.specs.Selection.{Route, candidate, best, choices, path_of};
@@ -215,6 +217,22 @@ impl<P: Policy + Copy> RouteState<P> {
             path: Some(taken.path.copy()?),
             learned: Some(taken.learned),
         })
+    }
+
+    /// Whether an update of a neighbour leaves the best route of its prefix as it is: the node
+    /// originates the prefix, or the route goes by another neighbour and no path of this one is before
+    /// it. Where it answers no, the route may change or not.
+    pub fn stays(&self, prefix: PrefixId, from: NodeId, path: &Option<Path>) -> bool
+        ensures { (policy : P) (net : Net) (u session seq : ℕ) (h : History) → StandsFor policy net u self.now h →
+            prefix < length net.prefixes → IsTrue result →
+            best (P.rules policy) net u (change (One prefix) (Recv from session seq path.now) ∷ h) prefix
+            ≡ best (P.rules policy) net u h prefix }
+    {
+        let is_own = self.owns(prefix);
+        if is_own {
+            return true;
+        }
+        neighbours::leads(&self.policy, &self.neighbours, prefix, from, path)
     }
 
     /// What the node offers a neighbour: its best route where export allows it, else none.
