@@ -21,7 +21,7 @@ use Rattle.trigger_log.specs.Entries.{Entry, entry, reads, is_local, locals}
 use Rattle.trigger_log.specs.Sending.{sent_by, sent_to}
 use Rattle.trigger_log.specs.Going.{going_of, going_by, going_in, spread, told}
 use Rattle.trigger_log.specs.Fits.{CauseFits, Fits}
-use Rattle.trigger_log.specs.Standing.{Shows, StandsFor, steps}
+use Rattle.trigger_log.specs.Standing.{Shows, StandsFor, all_entered}
 use Rattle.trigger_log.specs.Marked.{Enters, ToldTo}
 use Rattle.trigger_log.specs.Offered.{AreChosen, IsPlaced, asked, prefixes_of}
 use Rattle.trigger_log.proofs.Holding.{accepted}
@@ -59,8 +59,8 @@ module _ {P : Type 0} (policy : P) (rules : Rules) (net : Net) (u : ℕ) (h : Li
     near = near ∙ was.near;
     count = len ∙ ap suc was.count;
     next = next ∙ (ap (λ m. if is_local cause then suc m else m) was.next ∙ either (is_local cause));
-    shown = subst (AllZip (Shows rules net u) (steps (made ∷ h))) (sym entries)
-        (zip_push (Shows rules net u) (steps h) old.entries.items (record { before = h; entry = made }) (record { trigger = trigger; scope = scope; cause = cause; sent = kept }) was.shown
+    shown = subst (AllZip (Shows rules net u) (all_entered (made ∷ h))) (sym entries)
+        (zip_push (Shows rules net u) (all_entered h) old.entries.items (record { before = h; entry = made }) (record { trigger = trigger; scope = scope; cause = cause; sent = kept }) was.shown
         (record { trigger = refl; read = refl; sent = same ∙ sent_all n sent all whole none told.sent }));
     marks = told_all rules net u h made (fits, was.fitting) n new.sessions.rows sent all out all_out whole told;
   }

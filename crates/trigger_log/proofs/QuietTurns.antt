@@ -23,11 +23,12 @@ use Rattle.trigger_log.specs.declared.sessions.SessionMark.{SessionMark}
 use Rattle.trigger_log.specs.declared.telling.Turn.{Turn}
 use Rattle.trigger_log.specs.Entries.{Entry, Update, reads}
 use Rattle.trigger_log.specs.Sending.{close_sent, news, sent_count, sent_to, update_of}
-use Rattle.trigger_log.specs.Going.{going_in, going_of, told}
+use Rattle.trigger_log.specs.Going.{going_by, going_in, going_of, spread, told}
 use Rattle.trigger_log.specs.Sessions.{AreMarks, IsMark, ever}
-use Rattle.trigger_log.specs.Offered.{AreChosen, differs, prefixes_of, updates_over}
+use Rattle.trigger_log.specs.Offered.{AreChosen, IsPlaced, differs, prefixes_of, updates_over}
+use Rattle.trigger_log.specs.Fits.{Fits}
 use Rattle.trigger_log.specs.Marked.{AreMarked, Enters, Says, ToldTo, ends_with, readies}
-use Rattle.trigger_log.specs.Quiet.{IsQuiet, turns_session}
+use Rattle.trigger_log.specs.Quiet.{IsQuiet, Stays, turns_session}
 use Rattle.trigger_log.proofs.Closings.{count_held, count_other}
 use Rattle.trigger_log.proofs.Speaking.{close_none, going_none, knew, not_closed, over_asked, unready_news, updates_none}
 use Rattle.trigger_log.proofs.Rounds.{is_mark}
@@ -103,20 +104,13 @@ flat_none : {A : Type 0} (f : ℕ → List A) (ns : List ℕ) → ((n : ℕ) →
 flat_none f [] none = refl
 flat_none f (n ∷ ns) none = ap (λ l. l ++ flat_map f ns) (none n) ∙ flat_none f ns none
 
-module _ {P : Type 0} (policy : P) (rules : Rules) (net : Net) (u : ℕ) (h : List Entry) (k : Entry) (routes : RouteState P) (turn : Turn)
-    (enters : Enters policy rules net u h k routes turn) (quiet : IsQuiet turn) where
-  turns_none : turns_session k.read.cause ≡ false
-  turns_none = ap turns_session enters.cause ∙ quiet.0
+-- ---- an entry that turns no session, and has no news for those that are ready
 
+module _ (rules : Rules) (net : Net) (u : ℕ) (h : List Entry) (k : Entry) (fitting : Fits (k ∷ h)) (turns_none : turns_session k.read.cause ≡ false)
+    (none_ready : (w s : ℕ) → ready (k.read ∷ reads h) w ≡ Some s → news rules net u h k w ≡ []) where
   none_in : (w : ℕ) (a : Option ℕ) → ready (k.read ∷ reads h) w ≡ a → news rules net u h k w ≡ []
   none_in w None e = unready_news rules net u h k w e
-  none_in w (Some s) e =
-      let knows : is_some (ready (reads h) w) ≡ true = (knew k h w s enters.fitting e).1 ∙ ap not (not_readied k.read.cause w turns_none) in
-      let before : AreChosen rules net u (reads h) turn.after.now = subst (AreChosen rules net u (reads h)) quiet.1 enters.before in
-      sym (over_asked rules net u h k w s enters.fitting e enters.placed)
-      ∙ (ap (updates_over rules net u h k (is_some (ready (reads h) w)) w) (sym enters.covers)
-      ∙ (ap (λ b. updates_over rules net u h k b w (prefixes_of turn.after.now)) knows
-      ∙ none_over rules net u h k w turn.after.now before enters.after))
+  none_in w (Some s) e = none_ready w s e
 
   -- there is no news for any neighbour
   no_news : (w : ℕ) → news rules net u h k w ≡ []
@@ -127,11 +121,16 @@ module _ {P : Type 0} (policy : P) (rules : Rules) (net : Net) (u : ℕ) (h : Li
 
   nothing_sent : (w : ℕ) → sent_to rules net u h k w ≡ []
   nothing_sent w =
-      ap (λ l. l ++ close_sent rules net u h k w (ready (reads h) w)) (updates_none rules net u h k w enters.fitting (held (k.read ∷ reads h) w) (no_news w))
-      ∙ close_none rules net u h k w enters.fitting (ready (reads h) w) (open_still w)
+      ap (λ l. l ++ close_sent rules net u h k w (ready (reads h) w)) (updates_none rules net u h k w fitting (held (k.read ∷ reads h) w) (no_news w))
+      ∙ close_none rules net u h k w fitting (ready (reads h) w) (open_still w)
 
   nothing_told : (w : ℕ) → going_in w (told rules net u h k w) (held (k.read ∷ reads h) w) ≡ []
-  nothing_told w = going_none rules net u h k w enters.fitting (held (k.read ∷ reads h) w) (no_news w)
+  nothing_told w = going_none rules net u h k w fitting (held (k.read ∷ reads h) w) (no_news w)
+
+  -- nothing goes out
+  pub nothing_goes : going_by rules net u h k ≡ []
+  unfolding going_by spread
+  nothing_goes = flat_none (λ w. going_in w (told rules net u h k w) (held (k.read ∷ reads h) w)) (neighbours net u) nothing_told
 
   -- no session has more items than before
   count_in : (w s : ℕ) (a : Option ℕ) → held (k.read ∷ reads h) w ≡ a → sent_count rules net u (k ∷ h) w s ≡ sent_count rules net u h w s
@@ -147,12 +146,12 @@ module _ {P : Type 0} (policy : P) (rules : Rules) (net : Net) (u : ℕ) (h : Li
   quiet_row : (w : ℕ) (row : List SessionMark) → AreMarked rules net u h k w row → AreMarks rules net u (k ∷ h) w row
   quiet_row w row was =
       zip_map (λ s mark. Says (k ∷ h) w s (sent_count rules net u h w s) mark) (IsMark rules net u (k ∷ h) w)
-      (λ s mark says. is_mark rules net u h k w enters.fitting s (sent_count rules net u h w s) mark (as_before w s) says) (ever (k ∷ h) w) row was
+      (λ s mark says. is_mark rules net u h k w fitting s (sent_count rules net u h w s) mark (as_before w s) says) (ever (k ∷ h) w) row was
 
   -- all are told where none is
-  pub told_quiet : (n : ℕ) (rows : List (List SessionMark)) (sent all : List Sent) (out all_out : List Outgoing) → ToldTo rules net u h k 0 rows sent all out all_out
+  pub told_silent : (n : ℕ) (rows : List (List SessionMark)) (sent all : List Sent) (out all_out : List Outgoing) → ToldTo rules net u h k 0 rows sent all out all_out
       → ToldTo rules net u h k n rows sent all out all_out
-  told_quiet n rows sent all out all_out was = record {
+  told_silent n rows sent all out all_out was = record {
     width = was.width;
     done = λ j w row below near found. quiet_row w row (was.rest j w row (omega arith) near found);
     rest = λ j w row above near found. was.rest j w row (omega arith) near found;
@@ -160,3 +159,50 @@ module _ {P : Type 0} (policy : P) (rules : Rules) (net : Net) (u : ℕ) (h : Li
     out = was.out
         ∙ ap (λ l. map going_of out ++ l) (sym (flat_none (λ w. going_in w (told rules net u h k w) (held (k.read ∷ reads h) w)) (take n (neighbours net u)) nothing_told));
   }
+
+-- a neighbour that is ready after the entry was so before
+was_known : (h : List Entry) (k : Entry) (w s : ℕ) → Fits (k ∷ h) → turns_session k.read.cause ≡ false → ready (k.read ∷ reads h) w ≡ Some s → is_some (ready (reads h) w) ≡ true
+was_known h k w s fitting turns e = (knew k h w s fitting e).1 ∙ ap not (not_readied k.read.cause w turns)
+
+-- ---- the best routes are the same
+
+module _ {P : Type 0} (policy : P) (rules : Rules) (net : Net) (u : ℕ) (h : List Entry) (k : Entry) (routes : RouteState P) (turn : Turn)
+    (enters : Enters policy rules net u h k routes turn) (quiet : IsQuiet turn) where
+  turns_no_session : turns_session k.read.cause ≡ false
+  turns_no_session = ap turns_session enters.cause ∙ quiet.0
+
+  same_news : (w s : ℕ) → ready (k.read ∷ reads h) w ≡ Some s → news rules net u h k w ≡ []
+  same_news w s e =
+      let before : AreChosen rules net u (reads h) turn.after.now = subst (AreChosen rules net u (reads h)) quiet.1 enters.before in
+      sym (over_asked rules net u h k w s enters.fitting e enters.placed)
+      ∙ (ap (updates_over rules net u h k (is_some (ready (reads h) w)) w) (sym enters.covers)
+      ∙ (ap (λ b. updates_over rules net u h k b w (prefixes_of turn.after.now)) (was_known h k w s enters.fitting turns_no_session e)
+      ∙ none_over rules net u h k w turn.after.now before enters.after))
+
+  -- all are told where none is
+  pub told_quiet : (n : ℕ) (rows : List (List SessionMark)) (sent all : List Sent) (out all_out : List Outgoing) → ToldTo rules net u h k 0 rows sent all out all_out
+      → ToldTo rules net u h k n rows sent all out all_out
+  told_quiet n rows sent all out all_out was = told_silent rules net u h k enters.fitting turns_no_session same_news n rows sent all out all_out was
+
+-- ---- the one best route stays
+
+module _ (rules : Rules) (net : Net) (u : ℕ) (h : List Entry) (k : Entry) (fitting : Fits (k ∷ h)) (placed : IsPlaced net k.read.scope) (stays : Stays rules net u h k) where
+  still_offered : (w : ℕ) → differs rules net u h k true w stays.prefix ≡ false
+  unfolding offered_route
+  still_offered w =
+      ap not (ap (same_path (offer rules net u (k.read ∷ reads h) stays.prefix w)) (sym (ap (λ (r : Route). path_of u (exported rules net u w r)) stays.still))
+      ∙ same_path_self (offer rules net u (k.read ∷ reads h) stays.prefix w))
+
+  still_no_news : (w s : ℕ) → ready (k.read ∷ reads h) w ≡ Some s → news rules net u h k w ≡ []
+  still_no_news w s e =
+      sym (over_asked rules net u h k w s fitting e placed)
+      ∙ (ap (updates_over rules net u h k (is_some (ready (reads h) w)) w) stays.covers
+      ∙ (ap (λ b. updates_over rules net u h k b w (stays.prefix ∷ [])) (was_known h k w s fitting stays.turns e)
+      ∙ rw (still_offered w) refl))
+
+  pub told_still : (n : ℕ) (rows : List (List SessionMark)) (sent all : List Sent) (out all_out : List Outgoing) → ToldTo rules net u h k 0 rows sent all out all_out
+      → ToldTo rules net u h k n rows sent all out all_out
+  told_still n rows sent all out all_out was = told_silent rules net u h k fitting stays.turns still_no_news n rows sent all out all_out was
+
+  pub goes_nowhere : going_by rules net u h k ≡ []
+  goes_nowhere = nothing_goes rules net u h k fitting stays.turns still_no_news

@@ -3,7 +3,7 @@ use Rattle.std.proofs.Common.{ℕ, zero, suc, ◌+◌, ◌<◌, ◌≤◌, Bool,
 use Rattle.std.specs.Prelude.{if◌then◌else◌, IfSome, IfNone, ◌↔◌, IsTrue, is_some, is_none}
 use Rattle.std.proofs.lemmas.Option.{same_Some, slice_get_read}
 use Rattle.std.proofs.lemmas.Bool.Decides.{nat_tests}
-use Rattle.trigger_log.specs.Standing.{steps}
+use Rattle.trigger_log.specs.Standing.{all_entered}
 use Rattle.std.specs.List.{AllZip}
 use Rattle.topology.specs.Net.{Net, neighbours}
 use Rattle.path_vector.specs.Rules.{Rules}
@@ -103,9 +103,9 @@ missing None n i place within from is = (λ none. inr (let out : n ≤ place = g
 missing (Some x) n i place within from is =
     (λ none. absurd (cc none), λ past. absurd (let inside : place < n = grind (arith, nat_tests) in ⊎_elim (λ (e : i ≡ 0). omega arith) (λ (e : n < i). omega arith) past))
 
-pub count_steps : (h : List Entry) → length (steps h) ≡ length h
+pub count_steps : (h : List Entry) → length (all_entered h) ≡ length h
 count_steps [] = refl
-count_steps (k ∷ h) = let before = count_steps h in omega (arith, length-append (steps h) (record { before = h; entry = k } ∷ []))
+count_steps (k ∷ h) = let before = count_steps h in omega (arith, length-append (all_entered h) (record { before = h; entry = k } ∷ []))
 
 -- ---- tests
 

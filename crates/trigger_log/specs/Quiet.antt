@@ -1,8 +1,13 @@
 -- The entries that say nothing to any neighbour.
-use Rattle.std.specs.Prelude.{◌≡◌, Bool, true, false}
+use Rattle.std.specs.Prelude.{ℕ, ◌≡◌, Bool, true, false, List, [], ◌∷◌}
+use Rattle.topology.specs.Net.{Net}
 use Rattle.path_vector.specs.declared.causes.Cause.{Cause}
 use Rattle.path_vector.specs.declared.causes.Cause.TheVariants.{Originate, Withdraw, Recv, Down, Up, Ready, Prefer}
+use Rattle.path_vector.specs.Rules.{Rules}
+use Rattle.path_vector.specs.Selection.{best}
 use Rattle.trigger_log.specs.declared.telling.Turn.{Turn}
+use Rattle.trigger_log.specs.Entries.{Entry, reads}
+use Rattle.trigger_log.specs.Offered.{asked}
 
 -- the cause ends a session, or makes one ready
 abbrev pub turns_session : Cause → Bool
@@ -17,3 +22,10 @@ turns_session (Prefer v x) = false
 -- the entry turns no session, and the best routes after it are those before it
 abbrev pub IsQuiet : Turn → Type 0
 IsQuiet turn = (turns_session turn.cause.now ≡ false) × (turn.before.now ≡ turn.after.now)
+
+-- entry k, after h, turns no session, and leaves the best route of its one prefix as it was
+pub record Stays (rules : Rules) (net : Net) (u : ℕ) (h : List Entry) (k : Entry) : Type 0 where
+  pub prefix : ℕ
+  pub covers : asked net k.read.scope k.read.cause ≡ prefix ∷ []
+  pub turns : turns_session k.read.cause ≡ false
+  pub still : best rules net u (k.read ∷ reads h) prefix ≡ best rules net u (reads h) prefix

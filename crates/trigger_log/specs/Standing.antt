@@ -13,17 +13,17 @@ use Rattle.trigger_log.specs.Fits.{Fits}
 use Rattle.trigger_log.specs.Sessions.{AreRows}
 
 -- an entry, and those before it
-pub record Step : Type 0 where
+pub record Entered : Type 0 where
   pub before : List Entry
   pub entry : Entry
 
 -- the entries one by one, the oldest first
-abbrev pub steps : List Entry → List Step
-steps [] = []
-steps (k ∷ h) = steps h ++ record { before = h; entry = k } ∷ []
+abbrev pub all_entered : List Entry → List Entered
+all_entered [] = []
+all_entered (k ∷ h) = all_entered h ++ record { before = h; entry = k } ∷ []
 
 -- the kept entry shows this one: its trigger, its scope and cause, and all that it sent
-pub record Shows (rules : Rules) (net : Net) (u : ℕ) (step : Step) (shown : Shown) : Type 0 where
+pub record Shows (rules : Rules) (net : Net) (u : ℕ) (step : Entered) (shown : Shown) : Type 0 where
   pub trigger : shown.trigger ∷ [] ≡ step.entry.triggers
   pub read : change shown.scope shown.cause ≡ step.entry.read
   pub sent : shown.sent ≡ sent_by rules net u step.before step.entry
@@ -37,5 +37,5 @@ pub record StandsFor {P : Type 0} (policy : P) (rules : Rules) (net : Net) (u : 
   pub near : log.sessions.near ≡ neighbours net u
   pub count : log.len ≡ length h
   pub next : log.next_count ≡ suc (locals h)
-  pub shown : AllZip (Shows rules net u) (steps h) log.entries.items
+  pub shown : AllZip (Shows rules net u) (all_entered h) log.entries.items
   pub marks : AreRows rules net u h log.sessions.rows

@@ -1,5 +1,5 @@
 //! The log of a node.
-ghost use Rattle.std.specs.Prelude.{ℕ, suc, ◌≡◌, ◌<◌, ◌≤◌, ◌⊎◌, ◌↔◌, ◌-◌, [], ◌∷◌, true, List, length, map, slice_get, is_some, Some, None, false, IsTrue, IsNone, IfOk, IfSome, IfNone, OnOk, if◌then◌else◌};
+ghost use Rattle.std.specs.Prelude.{ℕ, suc, ◌≡◌, ◌<◌, ◌≤◌, ◌⊎◌, ◌↔◌, ◌-◌, [], ◌∷◌, ◌++◌, true, List, length, map, slice_get, is_some, Some, None, false, IsTrue, IsNone, IfOk, IfSome, IfNone, OnOk, if◌then◌else◌};
 ghost use Rattle.std.specs.List.{AllZip};
 ghost use Rattle.topology.specs.Lists.{has};
 ghost use Rattle.topology.specs.Net.{Net, neighbours};
@@ -15,15 +15,17 @@ ghost use Rattle.trigger_log.specs.Due.{SendsWhatIsDue};
 ghost use Rattle.trigger_log.specs.Sessions.{ever, IsMark, AreAllMarks};
 ghost use Rattle.trigger_log.specs.Offered.{IsPlaced};
 ghost use Rattle.trigger_log.specs.Marked.{Says};
-ghost use Rattle.trigger_log.specs.Standing.{Step, steps, Shows, StandsFor};
+ghost use Rattle.trigger_log.specs.Quiet.{Stays};
+ghost use Rattle.trigger_log.specs.Standing.{Entered, all_entered, Shows, StandsFor};
 
 use crate::counting::next_number;
 use crate::entries::Entry;
 use crate::marking::mark;
 use crate::offers::offers_for;
 use crate::outgoing::Outgoing;
+use crate::quiet::stays;
 use crate::sessions::{SessionMark, Sessions};
-use crate::telling::Turn;
+use crate::telling::{Said, Turn};
 use crate::turns::tell_all;
 use path_vector::{Cause, Policy, RouteState};
 use std::alloc::Global;
@@ -152,7 +154,7 @@ impl<P: Policy + Copy> NodeLog<P> {
     pub fn entry(&self, index: u32) -> Option<&Entry>
         ensures some { IfSome result (λ shown. (policy : P) (net : Net) (u : ℕ) (h : List Logged) →
             StandsFor policy (P.rules policy) net u self.now h →
-            (step : Step) × (slice_get (steps h) (index - 1) ≡ Some step) × Shows (P.rules policy) net u step shown.now) }
+            (one : Entered) × (slice_get (all_entered h) (index - 1) ≡ Some one) × Shows (P.rules policy) net u one shown.now) }
         ensures none { (policy : P) (net : Net) (u : ℕ) (h : List Logged) →
             StandsFor policy (P.rules policy) net u self.now h →
             IsNone result ↔ ((index ≡ 0) ⊎ (length h < index)) }
@@ -165,7 +167,7 @@ impl<P: Policy + Copy> NodeLog<P> {
     pub fn entries(&self) -> &[Entry]
         ensures { (policy : P) (net : Net) (u : ℕ) (h : List Logged) →
             StandsFor policy (P.rules policy) net u self.now h →
-            AllZip (Shows (P.rules policy) net u) (steps h) result.now }
+            AllZip (Shows (P.rules policy) net u) (all_entered h) result.now }
     {
         &self.entries
     }
@@ -251,6 +253,55 @@ impl<P: Policy + Copy> NodeLog<P> {
             IsPlaced topology.now scope → CauseFits h scope cause →
             map going_of outgoing.items ≡ going_by (P.rules policy) topology.now u h (entry (trigger ∷ []) scope cause)) }
     {
+        if stays(&self.routes, &scope, &cause) {
+            self.enter_quietly(trigger, scope, cause)?;
+            return Ok(Vec::new(self.alloc));
+        }
+        Ok(self.enter_aloud(topology, trigger, scope, cause)?)
+    }
+
+    // An entry that has nothing to tell.
+    fn enter_quietly(
+        &mut self,
+        trigger: Trigger,
+        scope: Scope,
+        cause: Cause,
+    ) -> Result<(), NoMemory>
+        ensures { OnOk result ((policy : P) (net : Net) (u : ℕ) (h : List Logged) →
+            StandsFor policy (P.rules policy) net u self.old h → IsOfNeighbour net u cause →
+            IsPlaced net scope → CauseFits h scope cause →
+            Stays (P.rules policy) net u h (entry (trigger ∷ []) scope cause) →
+            StandsFor policy (P.rules policy) net u self.new (entry (trigger ∷ []) scope cause ∷ h)) }
+    {
+        self.routes.apply(copied(&scope), &cause)?;
+        mark(&mut self.sessions, &trigger, &cause)?;
+        let sent = SentItems::new(Vec::new(self.alloc));
+        self.keep(Entry {
+            trigger,
+            scope,
+            cause,
+            sent,
+        })?;
+        Ok(())
+    }
+
+    // An entry of which each neighbour is told what changes for it.
+    fn enter_aloud(
+        &mut self,
+        topology: &Topology,
+        trigger: Trigger,
+        scope: Scope,
+        cause: Cause,
+    ) -> Result<Vec<Outgoing>, NoMemory>
+        ensures log { OnOk result ((policy : P) (u : ℕ) (h : List Logged) →
+            StandsFor policy (P.rules policy) topology.now u self.old h → IsOfNeighbour topology.now u cause →
+            IsPlaced topology.now scope → CauseFits h scope cause →
+            StandsFor policy (P.rules policy) topology.now u self.new (entry (trigger ∷ []) scope cause ∷ h)) }
+        ensures outgoing { IfOk result (λ outgoing. (policy : P) (u : ℕ) (h : List Logged) →
+            StandsFor policy (P.rules policy) topology.now u self.old h → IsOfNeighbour topology.now u cause →
+            IsPlaced topology.now scope → CauseFits h scope cause →
+            map going_of outgoing.items ≡ going_by (P.rules policy) topology.now u h (entry (trigger ∷ []) scope cause)) }
+    {
         let before = offers_for(self.alloc, &self.routes, topology, &scope, &cause)?;
         self.routes.apply(copied(&scope), &cause)?;
         let after = offers_for(self.alloc, &self.routes, topology, &scope, &cause)?;
@@ -261,25 +312,33 @@ impl<P: Policy + Copy> NodeLog<P> {
             before: &before,
             after: &after,
         };
-        let mut sent = Vec::new(self.alloc);
-        let mut outgoing = Vec::new(self.alloc);
-        tell_all(
-            &self.routes,
-            &mut self.sessions,
-            &turn,
-            &mut sent,
-            &mut outgoing,
-        )?;
-        self.len = next_number(self.len)?;
-        self.next_count = counted(self.next_count, &cause)?;
+        let mut said = Said::with_room(self.alloc, self.sessions.len())?;
+        tell_all(&self.routes, &mut self.sessions, &turn, &mut said)?;
+        let Said { sent, outgoing } = said;
         let sent = SentItems::new(sent);
-        self.entries.push(Entry {
+        self.keep(Entry {
             trigger,
             scope,
             cause,
             sent,
         })?;
         Ok(outgoing)
+    }
+
+    // Keeps the entry, and counts it.
+    fn keep(&mut self, entry: Entry) -> Result<(), NoMemory>
+        ensures node { OnOk result (self.new.node ≡ self.old.node) }
+        ensures routes { OnOk result (self.new.routes ≡ self.old.routes) }
+        ensures sessions { OnOk result (self.new.sessions ≡ self.old.sessions) }
+        ensures count { OnOk result (self.new.len ≡ suc self.old.len) }
+        ensures next { OnOk result (self.new.next_count
+            ≡ (if is_local entry.cause then suc self.old.next_count else self.old.next_count)) }
+        ensures entries { OnOk result (self.new.entries.items ≡ self.old.entries.items ++ entry ∷ []) }
+    {
+        self.len = next_number(self.len)?;
+        self.next_count = counted(self.next_count, &entry.cause)?;
+        self.entries.push(entry)?;
+        Ok(())
     }
 
     // Whether an entry of one prefix may follow.

@@ -1,10 +1,16 @@
 //! Which entries say nothing to any neighbour.
-ghost use Rattle.std.specs.Prelude.{◌≡◌, ◌↔◌, IsTrue};
-ghost use Rattle.trigger_log.specs.Quiet.{IsQuiet, turns_session};
+ghost use Rattle.std.specs.Prelude.{ℕ, ◌≡◌, ◌∷◌, ◌↔◌, [], List, IsTrue};
+ghost use Rattle.topology.specs.declared.names.Trigger.{Trigger};
+ghost use Rattle.topology.specs.Net.{Net};
+ghost use Rattle.path_vector.specs.Standing.{StandsFor};
+ghost use Rattle.trigger_log.specs.Entries.{Entry, entry, reads};
+ghost use Rattle.trigger_log.specs.Offered.{IsPlaced};
+ghost use Rattle.trigger_log.specs.Quiet.{IsQuiet, Stays, turns_session};
 
 use crate::offers::Offer;
 use crate::telling::{Turn, same};
-use path_vector::Cause;
+use path_vector::{Cause, Policy, RouteState};
+use topology::Scope;
 
 // Whether the entry ends a session, or makes one ready.
 fn turns_session(cause: &Cause) -> bool
@@ -48,4 +54,20 @@ pub fn is_quiet(turn: &Turn<'_>) -> bool
     ensures { IsTrue result ↔ IsQuiet turn.now }
 {
     !turns_session(turn.cause) && same_offers(turn.before, turn.after)
+}
+
+/// Whether an entry is an update that leaves the best route of its prefix as it is: there is nothing
+/// to tell then, and nothing need be compared.
+pub fn stays<P: Policy + Copy>(routes: &RouteState<P>, scope: &Scope, cause: &Cause) -> bool
+    ensures { (policy : P) (net : Net) (u : ℕ) (h : List Entry) (trigger : Trigger) →
+        StandsFor policy net u routes.now (reads h) → IsPlaced net scope.now → IsTrue result →
+        Stays (P.rules policy) net u h (entry (trigger ∷ []) scope.now cause.now) }
+{
+    let Scope::One(prefix) = scope else {
+        return false;
+    };
+    let Cause::Recv { from, path, .. } = cause else {
+        return false;
+    };
+    routes.stays(*prefix, *from, path)
 }

@@ -17,6 +17,7 @@ use crate::counting::next_number;
 use crate::offers::Offer;
 use crate::outgoing::Outgoing;
 use path_vector::{Cause, Policy, RouteState};
+use std::alloc::Global;
 use topology::{Item, NoMemory, NodeId, Path, PrefixId, Sent, Session, Trigger};
 
 fn same_slice(a: &[NodeId], b: &[NodeId]) -> bool
@@ -49,6 +50,26 @@ fn copy(path: Option<&Path>) -> Result<Option<Path>, NoMemory>
     match path {
         None => Ok(None),
         Some(path) => Ok(Some(path.copy()?)),
+    }
+}
+
+/// What an entry says: the items that it lists, and what goes out with it.
+#[derive(Drop)]
+pub struct Said {
+    pub sent: Vec<Sent>,
+    pub outgoing: Vec<Outgoing>,
+}
+
+impl Said {
+    /// Nothing yet, with room for this many items.
+    pub fn with_room(alloc: Global, items: usize) -> Result<Said, NoMemory>
+        ensures sent { IfOk result (λ said. said.sent.items ≡ []) }
+        ensures outgoing { IfOk result (λ said. said.outgoing.items ≡ []) }
+    {
+        Ok(Said {
+            sent: Vec::with_capacity(alloc, items)?,
+            outgoing: Vec::with_capacity(alloc, items)?,
+        })
     }
 }
 
@@ -96,23 +117,22 @@ fn say(
     prefix: PrefixId,
     trigger: &Trigger,
     path: Option<&Path>,
-    sent: &mut Vec<Sent>,
-    outgoing: &mut Vec<Outgoing>,
+    said: &mut Said,
 ) -> Result<u32, NoMemory>
     ensures count { IfOk result (λ seq. seq ≡ suc count) }
-    ensures sent { IfOk result (λ seq. sent.new.items
-        ≡ sent.old.items ++ record { to = listener.now.nbr; session = listener.now.session; seq = seq } ∷ []) }
-    ensures outgoing { IfOk result (λ seq. map going_of outgoing.new.items
-        ≡ map going_of outgoing.old.items ++ update_going listener.now seq (record { prefix = prefix; triggers = trigger.now ∷ []; path = option_copied path.entry }) ∷ []) }
+    ensures sent { IfOk result (λ seq. said.new.sent.items
+        ≡ said.old.sent.items ++ record { to = listener.now.nbr; session = listener.now.session; seq = seq } ∷ []) }
+    ensures outgoing { IfOk result (λ seq. map going_of said.new.outgoing.items
+        ≡ map going_of said.old.outgoing.items ++ update_going listener.now seq (record { prefix = prefix; triggers = trigger.now ∷ []; path = option_copied path.entry }) ∷ []) }
 {
     let seq = next_number(count)?;
     let path = copy(path)?;
-    sent.push(Sent {
+    said.sent.push(Sent {
         to: listener.nbr,
         session: listener.session,
         seq,
     })?;
-    outgoing.push(Outgoing {
+    said.outgoing.push(Outgoing {
         to: listener.nbr,
         session: listener.session,
         item: Item::Update {
@@ -131,8 +151,7 @@ pub fn tell<P: Policy + Copy>(
     routes: &RouteState<P>,
     turn: &Turn<'_>,
     listener: &Listener,
-    sent: &mut Vec<Sent>,
-    outgoing: &mut Vec<Outgoing>,
+    said: &mut Said,
 ) -> Result<u32, NoMemory>
     requires same_prefixes { prefixes_of turn.now.before.now ≡ prefixes_of turn.now.after.now }
     ensures { IfOk result (λ count. (policy : P) (net : Net) (u : ℕ) (h : List Entry) (k : Entry) →
@@ -141,7 +160,7 @@ pub fn tell<P: Policy + Copy>(
         AreChosen (P.rules policy) net u (k.read ∷ reads h) turn.now.after.now →
         has (neighbours net u) listener.now.nbr ≡ true →
         Tells listener.now (updates_over (P.rules policy) net u h k listener.now.knows listener.now.nbr (prefixes_of turn.now.after.now))
-        sent.old.items sent.new.items outgoing.old.items outgoing.new.items count) }
+        said.old.sent.items said.new.sent.items said.old.outgoing.items said.new.outgoing.items count) }
 {
     let mut count = listener.sent;
     for i in 0..turn.after.len() {
@@ -150,15 +169,7 @@ pub fn tell<P: Policy + Copy>(
         if same(offered, known(routes, &turn.before[i], listener)) {
             continue;
         }
-        count = say(
-            listener,
-            count,
-            offer.prefix,
-            turn.trigger,
-            offered,
-            sent,
-            outgoing,
-        )?;
+        count = say(listener, count, offer.prefix, turn.trigger, offered, said)?;
     }
     Ok(count)
 }

@@ -12,10 +12,9 @@ ghost use Rattle.trigger_log.specs.Offered.{prefixes_of};
 ghost use Rattle.trigger_log.specs.Marked.{Says, Enters, Spoken, ToldTo, ends_with, readies};
 
 use crate::counting::next_number;
-use crate::outgoing::Outgoing;
 use crate::quiet::is_quiet;
 use crate::sessions::{SessionMark, Sessions};
-use crate::telling::{Listener, Turn, tell};
+use crate::telling::{Listener, Said, Turn, tell};
 use path_vector::{Cause, Policy, RouteState};
 use topology::{NoMemory, NodeId, Sent};
 
@@ -64,17 +63,16 @@ fn speak<P: Policy + Copy>(
     routes: &RouteState<P>,
     turn: &Turn<'_>,
     mark: &SessionMark,
-    sent: &mut Vec<Sent>,
-    outgoing: &mut Vec<Outgoing>,
+    said: &mut Said,
 ) -> Result<u32, NoMemory>
     requires same_prefixes { prefixes_of turn.now.before.now ≡ prefixes_of turn.now.after.now }
     ensures { IfOk result (λ count. (policy : P) (net : Net) (u : ℕ) (h : List Entry) (k : Entry) (w : ℕ) →
         Enters policy (P.rules policy) net u h k routes.now turn.now → has (neighbours net u) w ≡ true →
         Says (k ∷ h) w (last (reads (k ∷ h)) w) (sent_count (P.rules policy) net u h w (last (reads (k ∷ h)) w)) mark.now →
-        Spoken (P.rules policy) net u h k w (last (reads (k ∷ h)) w) sent.old.items sent.new.items outgoing.old.items outgoing.new.items count) }
+        Spoken (P.rules policy) net u h k w (last (reads (k ∷ h)) w) said.old.sent.items said.new.sent.items said.old.outgoing.items said.new.outgoing.items count) }
 {
     if ends_with(turn.cause, mark.nbr) {
-        return Ok(close(mark, sent)?);
+        return Ok(close(mark, &mut said.sent)?);
     }
     if !mark.is_ready() {
         return Ok(mark.sent);
@@ -85,7 +83,7 @@ fn speak<P: Policy + Copy>(
         sent: mark.sent,
         knows: !readies(turn.cause, mark.nbr),
     };
-    Ok(tell(routes, turn, &listener, sent, outgoing)?)
+    Ok(tell(routes, turn, &listener, said)?)
 }
 
 // Lists what the entry says to the neighbour at this place, and counts it.
@@ -94,21 +92,20 @@ fn tell_at<P: Policy + Copy>(
     sessions: &mut Sessions,
     place: usize,
     turn: &Turn<'_>,
-    sent: &mut Vec<Sent>,
-    outgoing: &mut Vec<Outgoing>,
+    said: &mut Said,
 ) -> Result<(), NoMemory>
     requires same_prefixes { prefixes_of turn.now.before.now ≡ prefixes_of turn.now.after.now }
     requires within { place < length sessions.old.rows }
     ensures told { OnOk result ((policy : P) (net : Net) (u : ℕ) (h : List Entry) (k : Entry) (w : ℕ) (sent_first : List Sent)
         (out_first : List Outgoing) → Enters policy (P.rules policy) net u h k routes.now turn.now →
         slice_get (neighbours net u) place ≡ Some w →
-        ToldTo (P.rules policy) net u h k place sessions.old.rows sent_first sent.old.items out_first outgoing.old.items →
-        ToldTo (P.rules policy) net u h k (place + 1) sessions.new.rows sent_first sent.new.items out_first outgoing.new.items) }
+        ToldTo (P.rules policy) net u h k place sessions.old.rows sent_first said.old.sent.items out_first said.old.outgoing.items →
+        ToldTo (P.rules policy) net u h k (place + 1) sessions.new.rows sent_first said.new.sent.items out_first said.new.outgoing.items) }
     ensures width { length sessions.new.rows ≡ length sessions.old.rows }
     ensures near { sessions.new.near ≡ sessions.old.near }
 {
     let mark = *sessions.newest(place);
-    let count = speak(routes, turn, &mark, sent, outgoing)?;
+    let count = speak(routes, turn, &mark, said)?;
     let mark = SessionMark {
         sent: count,
         ..mark
@@ -122,18 +119,17 @@ fn tell_each<P: Policy + Copy>(
     routes: &RouteState<P>,
     sessions: &mut Sessions,
     turn: &Turn<'_>,
-    sent: &mut Vec<Sent>,
-    outgoing: &mut Vec<Outgoing>,
+    said: &mut Said,
 ) -> Result<(), NoMemory>
     requires same_prefixes { prefixes_of turn.now.before.now ≡ prefixes_of turn.now.after.now }
     ensures told { OnOk result ((policy : P) (net : Net) (u : ℕ) (h : List Entry) (k : Entry) (sent_first : List Sent)
         (out_first : List Outgoing) → Enters policy (P.rules policy) net u h k routes.now turn.now →
-        ToldTo (P.rules policy) net u h k 0 sessions.old.rows sent_first sent.old.items out_first outgoing.old.items →
-        ToldTo (P.rules policy) net u h k (length sessions.old.rows) sessions.new.rows sent_first sent.new.items out_first outgoing.new.items) }
+        ToldTo (P.rules policy) net u h k 0 sessions.old.rows sent_first said.old.sent.items out_first said.old.outgoing.items →
+        ToldTo (P.rules policy) net u h k (length sessions.old.rows) sessions.new.rows sent_first said.new.sent.items out_first said.new.outgoing.items) }
     ensures near { sessions.new.near ≡ sessions.old.near }
 {
     for place in 0..sessions.len() {
-        tell_at(routes, sessions, place, turn, sent, outgoing)?;
+        tell_at(routes, sessions, place, turn, said)?;
     }
     Ok(())
 }
@@ -144,18 +140,17 @@ pub fn tell_all<P: Policy + Copy>(
     routes: &RouteState<P>,
     sessions: &mut Sessions,
     turn: &Turn<'_>,
-    sent: &mut Vec<Sent>,
-    outgoing: &mut Vec<Outgoing>,
+    said: &mut Said,
 ) -> Result<(), NoMemory>
     requires same_prefixes { prefixes_of turn.now.before.now ≡ prefixes_of turn.now.after.now }
     ensures told { OnOk result ((policy : P) (net : Net) (u : ℕ) (h : List Entry) (k : Entry) (sent_first : List Sent)
         (out_first : List Outgoing) → Enters policy (P.rules policy) net u h k routes.now turn.now →
-        ToldTo (P.rules policy) net u h k 0 sessions.old.rows sent_first sent.old.items out_first outgoing.old.items →
-        ToldTo (P.rules policy) net u h k (length sessions.old.rows) sessions.new.rows sent_first sent.new.items out_first outgoing.new.items) }
+        ToldTo (P.rules policy) net u h k 0 sessions.old.rows sent_first said.old.sent.items out_first said.old.outgoing.items →
+        ToldTo (P.rules policy) net u h k (length sessions.old.rows) sessions.new.rows sent_first said.new.sent.items out_first said.new.outgoing.items) }
     ensures near { sessions.new.near ≡ sessions.old.near }
 {
     if is_quiet(turn) {
         return Ok(());
     }
-    tell_each(routes, sessions, turn, sent, outgoing)
+    tell_each(routes, sessions, turn, said)
 }

@@ -28,7 +28,7 @@ loop-i-preserved-then-same g c = λ policy net u h k stands lists before after n
     let knew = c.known.ensures policy net u (reads h) (k.read ∷ reads h) stands (chosen_at rules net u (reads h) turn.before.now i b before (omega arith) is_b) near in
     let same = differs_is rules net u h k l.knows l.nbr o.prefix b.prefix (option_copied c.offered_path-offered.result) (option_copied c.known.result) true c.if-same.ensures offered knew
     (same_prefix_at turn.before.now turn.after.now i b o c.requires.same_prefixes inside is_b c.index-turn-i.is) in
-    subst (λ list. Tells l list c.args.sent.now.items c.loop-i.sent.items c.args.outgoing.now.items c.loop-i.outgoing.items c.loop-i.count)
+    subst (λ list. Tells l list c.args.said.now.sent.items c.loop-i.said.sent.items c.args.said.now.outgoing.items c.loop-i.said.outgoing.items c.loop-i.count)
     (sym (over_same rules net u h k l.knows l.nbr (prefixes_of turn.after.now) i o.prefix (prefix_at turn.after.now i o inside c.index-turn-i.is) (omega (arith, length-map turn.after.now (λ (o : Offer). o.prefix))) same))
     (c.loop-i.invariant policy net u h k stands lists before after near)
 
@@ -50,13 +50,13 @@ loop-i-preserved g c = λ policy net u h k stands lists before after near.
     (same_prefix_at turn.before.now turn.after.now i b o c.requires.same_prefixes inside is_b c.index-turn-i.is) in
     let list = updates_over rules net u h k l.knows l.nbr (take i (prefixes_of turn.after.now)) in
     let more = tells_more l list (update_of rules net u h k l.nbr o.prefix)
-    c.args.sent.now.items c.loop-i.sent.items c.say.new.sent.items c.args.outgoing.now.items c.loop-i.outgoing.items c.say.new.outgoing.items c.loop-i.count c.in_ok-count.count
+    c.args.said.now.sent.items c.loop-i.said.sent.items c.say.new.said.sent.items c.args.said.now.outgoing.items c.loop-i.said.outgoing.items c.say.new.said.outgoing.items c.loop-i.count c.in_ok-count.count
     c.in_ok-count.ensures.count c.in_ok-count.ensures.sent
-    (c.in_ok-count.ensures.outgoing ∙ ap (λ (x : Update). map going_of c.loop-i.outgoing.items ++ update_going l c.in_ok-count.count x ∷ [])
+    (c.in_ok-count.ensures.outgoing ∙ ap (λ (x : Update). map going_of c.loop-i.said.outgoing.items ++ update_going l c.in_ok-count.count x ∷ [])
     (same_update (slice_index_or turn.after.now i o).prefix o.prefix (turn.trigger.now ∷ []) k.triggers (option_copied c.offered_path-offered.result) (offer rules net u (k.read ∷ reads h) o.prefix l.nbr)
     (ap (λ (x : Offer). x.prefix) (sym c.index-turn-i.is)) (sym lists) offered))
     (c.loop-i.invariant policy net u h k stands lists before after near) in
-    subst (λ list. Tells l list c.args.sent.now.items c.say.new.sent.items c.args.outgoing.now.items c.say.new.outgoing.items c.in_ok-count.count)
+    subst (λ list. Tells l list c.args.said.now.sent.items c.say.new.said.sent.items c.args.said.now.outgoing.items c.say.new.said.outgoing.items c.in_ok-count.count)
     (sym (over_other rules net u h k l.knows l.nbr (prefixes_of turn.after.now) i o.prefix (prefix_at turn.after.now i o inside c.index-turn-i.is) (omega (arith, length-map turn.after.now (λ (o : Offer). o.prefix))) other))
     more
 
@@ -65,5 +65,5 @@ returns g c = λ policy net u h k stands lists before after near.
     let l = c.args.listener.now in
     let ps = prefixes_of c.args.turn.now.after.now in
     let all : take c.loop-i.i ps ≡ ps = take_all c.loop-i.i ps (omega (arith, length-map c.args.turn.now.after.now (λ (o : Offer). o.prefix))) in
-    subst (λ list. Tells l (updates_over (g.P.Policy.rules policy) net u h k l.knows l.nbr list) c.args.sent.now.items c.loop-i.sent.items c.args.outgoing.now.items c.loop-i.outgoing.items c.loop-i.count) all
+    subst (λ list. Tells l (updates_over (g.P.Policy.rules policy) net u h k l.knows l.nbr list) c.args.said.now.sent.items c.loop-i.said.sent.items c.args.said.now.outgoing.items c.loop-i.said.outgoing.items c.loop-i.count) all
     (c.loop-i.invariant policy net u h k stands lists before after near)

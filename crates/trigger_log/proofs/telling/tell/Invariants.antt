@@ -12,4 +12,4 @@ invariant-loop-i g l = (policy : _) (net : Net) (u : ℕ) (h : List Entry) (k : 
     → AreChosen (g.P.Policy.rules policy) net u (reads h) l.turn.before.now → AreChosen (g.P.Policy.rules policy) net u (k.read ∷ reads h) l.turn.after.now
     → has (neighbours net u) l.listener.nbr ≡ true
     → Tells l.listener (updates_over (g.P.Policy.rules policy) net u h k l.listener.knows l.listener.nbr (take l.i (prefixes_of l.turn.after.now)))
-    l.initial.sent.items l.sent.items l.initial.outgoing.items l.outgoing.items l.count
+    l.initial.said.sent.items l.said.sent.items l.initial.said.outgoing.items l.said.outgoing.items l.count

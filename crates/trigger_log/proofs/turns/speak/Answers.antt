@@ -17,7 +17,7 @@ returns-then-ends_with g c = λ policy net u h k w enters near says.
     let mark = c.args.mark.now in
     let ends : ends_with k.read.cause w ≡ true =
     ap (λ x. ends_with x w) enters.cause ∙ (ap (ends_with c.args.turn.now.cause.now) (sym says.nbr) ∙ (sym c.ends_with.ensures ∙ c.if-ends_with.true)) in
-    spoken_closed (g.P.Policy.rules policy) net u h k w c.in_ok-close.field-0 mark c.args.sent.now.items c.close.new.sent.items c.args.outgoing.now.items
+    spoken_closed (g.P.Policy.rules policy) net u h k w c.in_ok-close.field-0 mark c.args.said.now.sent.items c.close.new.sent.items c.args.said.now.outgoing.items
     enters.fitting ends says c.in_ok-close.ensures.count c.in_ok-close.ensures.sent
 
 pub returns-then-not-is_ready : goal.returns-then-not-is_ready
@@ -29,7 +29,7 @@ returns-then-not-is_ready g c = λ policy net u h k w enters near says.
     ap (λ x. ends_with x w) enters.cause ∙ (ap (ends_with c.args.turn.now.cause.now) (sym says.nbr) ∙ (sym c.ends_with.ensures ∙ c.if-ends_with.false)) in
     let unready : ready (k.read ∷ reads h) w ≡ None =
     ready_mark (k ∷ h) w (sent_count rules net u h w s) mark enters.fitting says ∙ ap (λ b. if b then Some s else None) (sym c.is_ready.ensures ∙ c.if-not-is_ready.true) in
-    spoken_none rules net u h k w enters.fitting mark.sent c.args.sent.now.items c.args.outgoing.now.items says.sent open_still unready
+    spoken_none rules net u h k w enters.fitting mark.sent c.args.said.now.sent.items c.args.said.now.outgoing.items says.sent open_still unready
 
 pub returns : goal.returns
 returns g c = λ policy net u h k w enters near says.
@@ -50,6 +50,6 @@ returns g c = λ policy net u h k w enters near says.
     ∙ (ap (λ n. updates_over rules net u h k (is_some (ready (reads h) w)) n (prefixes_of turn.after.now)) says.nbr
     ∙ (ap (updates_over rules net u h k (is_some (ready (reads h) w)) w) enters.covers
     ∙ over_asked rules net u h k w s enters.fitting now enters.placed)) in
-    spoken_told rules net u h k w enters.fitting s c.in_ok-tell.field-0 listener c.args.sent.now.items c.tell.new.sent.items c.args.outgoing.now.items c.tell.new.outgoing.items
+    spoken_told rules net u h k w enters.fitting s c.in_ok-tell.field-0 listener c.args.said.now.sent.items c.tell.new.said.sent.items c.args.said.now.outgoing.items c.tell.new.said.outgoing.items
     says.nbr says.session says.sent open_still now
-    (subst (λ (l : List Update). Tells listener l c.args.sent.now.items c.tell.new.sent.items c.args.outgoing.now.items c.tell.new.outgoing.items c.in_ok-tell.field-0) list told)
+    (subst (λ (l : List Update). Tells listener l c.args.said.now.sent.items c.tell.new.said.sent.items c.args.said.now.outgoing.items c.tell.new.said.outgoing.items c.in_ok-tell.field-0) list told)

@@ -11,11 +11,11 @@ returns-clause-told g c = λ policy net u h k w sent_first out_first enters at w
     let n = c.args.place in
     let rows = c.args.sessions.now.rows in
     let mark = c.newest.result.now in
-    let found = next_row rules net u h k enters.fitting n w rows sent_first c.args.sent.now.items out_first c.args.outgoing.now.items at was in
+    let found = next_row rules net u h k enters.fitting n w rows sent_first c.args.said.now.sent.items out_first c.args.said.now.outgoing.items at was in
     let ends = c.newest.ensures found.0 found.1 in
     let here : slice_get rows n ≡ Some (ends.0 ++ mark ∷ []) = found.1 ∙ ap (λ r. Some r) ends.1 in
     let marked = subst (AreMarked rules net u h k w) ends.1 found.2 in
     let spoken = c.in_ok-count.ensures policy net u h k w enters (has_placed (neighbours net u) n w at) (newest_says rules net u h k w enters.fitting ends.0 mark marked) in
     told_more rules net u h k enters.fitting n w c.in_ok-count.count rows c.put.new.self.rows ends.0 mark
-    sent_first c.args.sent.now.items c.speak.new.sent.items out_first c.args.outgoing.now.items c.speak.new.outgoing.items
+    sent_first c.args.said.now.sent.items c.speak.new.said.sent.items out_first c.args.said.now.outgoing.items c.speak.new.said.outgoing.items
     at was here marked (c.put.ensures.put ends.0 mark here) spoken

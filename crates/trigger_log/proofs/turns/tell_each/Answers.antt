@@ -19,5 +19,5 @@ loop-place-preserved g c = record {
 pub returns-clause-told : goal.returns-clause-told
 returns-clause-told g c = λ policy net u h k sent out enters was.
     let whole : c.loop-place.place ≡ length c.args.sessions.now.rows = omega arith in
-    subst (λ n. ToldTo (g.P.Policy.rules policy) net u h k n c.loop-place.sessions.rows sent c.loop-place.sent.items out c.loop-place.outgoing.items) whole
+    subst (λ n. ToldTo (g.P.Policy.rules policy) net u h k n c.loop-place.sessions.rows sent c.loop-place.said.sent.items out c.loop-place.said.outgoing.items) whole
     (c.loop-place.invariant.told policy net u h k sent out enters was)

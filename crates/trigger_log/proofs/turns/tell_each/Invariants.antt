@@ -11,6 +11,6 @@ invariant-loop-place g l = record {
   width : length l.sessions.rows ≡ length l.initial.sessions.rows;
   near : l.sessions.near ≡ l.initial.sessions.near;
   told : (policy : _) (net : Net) (u : ℕ) (h : List Entry) (k : Entry) (sent : List Sent) (out : List Outgoing) → Enters policy (g.P.Policy.rules policy) net u h k l.routes l.turn
-      → ToldTo (g.P.Policy.rules policy) net u h k 0 l.initial.sessions.rows sent l.initial.sent.items out l.initial.outgoing.items
-      → ToldTo (g.P.Policy.rules policy) net u h k l.place l.sessions.rows sent l.sent.items out l.outgoing.items;
+      → ToldTo (g.P.Policy.rules policy) net u h k 0 l.initial.sessions.rows sent l.initial.said.sent.items out l.initial.said.outgoing.items
+      → ToldTo (g.P.Policy.rules policy) net u h k l.place l.sessions.rows sent l.said.sent.items out l.said.outgoing.items;
 }

@@ -1,0 +1,29 @@
+use Rattle.std.proofs.Common.{◌∙◌, ◌∷◌, [], refl, sym, ap, subst, arith, length}
+use Rattle.topology.specs.Net.{neighbours}
+use Rattle.path_vector.specs.Standing.{StandsFor as RoutesStandFor}
+use Rattle.trigger_log.specs.Entries.{entry, reads}
+use Rattle.trigger_log.specs.Marked.{ToldTo}
+use Rattle.trigger_log.specs.Rows.{MarkRows}
+use Rattle.trigger_log.proofs.Rounds.{told_none}
+use Rattle.trigger_log.proofs.Entering.{entered, fits_now, took}
+use Rattle.trigger_log.proofs.QuietTurns.{told_still}
+use Rattle.trigger_log.proofs.log.NodeLog.enter_quietly.Goals as goal
+
+pub returns : goal.returns
+returns g c = λ policy net u h was near placed fits stays.
+    let rules = g.P.Policy.rules policy in
+    let trigger = c.args.trigger in
+    let scope = c.args.scope in
+    let cause = c.args.cause in
+    let k = entry (trigger ∷ []) scope cause in
+    let fitting = fits_now policy rules net u h trigger scope cause was fits in
+    let stands = took policy rules net u h trigger scope cause c.args.self.now.routes c.apply.new.self c.copied.result c.copied.ensures fitting
+    (c.in_ok-apply.ensures.ok policy net u (reads h) was.routes) in
+    let marked = c.in_ok-mark.ensures.marked rules net u h scope was.routes.valid was.near fitting near was.marks in
+    let n = length (neighbours net u) in
+    let told = told_still rules net u h k fitting placed stays n c.mark.new.sessions.rows [] [] [] [] (told_none rules net u h k fitting c.mark.new.sessions.rows [] [] marked) in
+    entered policy rules net u h trigger scope cause c.args.self.now c.keep.new.self
+    n [] [] [] [] c.new-sent.result
+    was fits (subst (λ r. RoutesStandFor policy net u r (k.read ∷ reads h)) (sym c.in_ok-keep.ensures.routes) stands) c.in_ok-keep.ensures.node
+    (ap (λ (s : MarkRows). s.near) c.in_ok-keep.ensures.sessions ∙ c.mark.ensures.near) c.in_ok-keep.ensures.count c.in_ok-keep.ensures.next c.in_ok-keep.ensures.entries (c.new-sent.ensures ∙ c.new.ensures.items) (omega arith) refl
+    (subst (λ (s : MarkRows). ToldTo rules net u h k n s.rows [] [] [] []) (sym c.in_ok-keep.ensures.sessions) told)
