@@ -13,7 +13,7 @@ use Rattle.path_vector.specs.declared.causes.Cause.{Cause}
 use Rattle.path_vector.specs.declared.causes.Cause.TheVariants.{Originate, Withdraw, Recv, Down, Up, Ready, Prefer}
 use Rattle.path_vector.specs.Rules.{Rules}
 use Rattle.path_vector.specs.History.{held, last, opened, ready, owns}
-use Rattle.trigger_log.specs.Entries.{Entry, Update, reads, local, inbox}
+use Rattle.trigger_log.specs.Entries.{Entry, Update, reads, local, inbox, is_session}
 use Rattle.trigger_log.specs.Going.{Item, News, Marker, Hello, mark_of}
 use Rattle.trigger_log.specs.Fits.{CauseFits, Inherits}
 use Rattle.chronicle.specs.declared.events.Event.{Event}
@@ -24,10 +24,10 @@ use Rattle.chronicle.specs.Logs.{log_of}
 use Rattle.chronicle.specs.Links.{link}
 use Rattle.chronicle.specs.Channels.{channel}
 use Rattle.chronicle.specs.Epochs.{epoch}
-use Rattle.chronicle.specs.Inputs.{Input}
+use Rattle.chronicle.specs.Inputs.{Input, arrival}
 use Rattle.chronicle.specs.Inputs as input
-use Rattle.chronicle.specs.Steps.{Step, Idle, Goes, Carried, write, open_session, take_cut, meet_mark, heard, greeted, take_item}
-use Rattle.chronicle.specs.Giving.{unless, out_of_turn, comes, notices, opens, give}
+use Rattle.chronicle.specs.Steps.{Step, Idle, Goes, Carried, write, open_session, take_cut, meet_mark, heard, unless_ready, take_item}
+use Rattle.chronicle.specs.Giving.{unless, out_of_turn, closes, opens, give}
 use Rattle.chronicle.specs.Run.{held_with, carried_by, given, delivered, is_carried, opened_by_link, fails, restores, step, chronicle_of, after, run}
 use Rattle.chronicle.proofs.Blocks.{AreCarried, log_take_cut, link_take_cut}
 
@@ -47,20 +47,26 @@ pub record MayWriteWhere (Over : ℕ → ℕ → Type 0) (past : Chronicle) (u :
   pub lists : Inherits u (log_of u past) k.read.cause k.triggers
   pub own : IsOwnWhere Over k.read.cause
 
--- P is kept by each move of u: an entry of its own, an update that is heard, a mark that is met and not
--- higher, a cut, a mark that is met and higher, and an opening. What is known beside is a parameter: of the links, of an item that comes, of a session that is closed, and of
--- one that is opened
-pub record NodeMoves (rules : Rules) (net : Net) (u : ℕ) (Carries : Carried → Chronicle → Type 0) (Comes : Chronicle → ℕ → ℕ → Item → Type 0) (Over Opens : Chronicle → ℕ → ℕ → Type 0)
-    (P : Chronicle → Type 0) : Type 0 where
-  pub writes : (past : Chronicle) (carried : Carried) (k : Entry) → P past → Carries carried past → MayWriteWhere (Over past) past u k → P (write rules net carried u k past)
-  pub meets_update : (past : Chronicle) (v s : ℕ) (carried : Carried) (n : ℕ) (x : Update) → P past → Carries carried past → Comes past v s (News n x) → held_with u v past ≡ Some s
+-- what is known where something comes to a node: of its links, of an item that comes, of a session that is
+-- closed, and of one that is opened
+pub record Known : Type 1 where
+  pub Carries : Carried → Chronicle → Type 0
+  pub Comes : Chronicle → ℕ → ℕ → Item → Type 0
+  pub Over : Chronicle → ℕ → ℕ → Type 0
+  pub Opens : Chronicle → ℕ → ℕ → Type 0
+
+-- P is kept by each move of u, with what is known there: an entry of its own, an update that is heard, a mark
+-- that is met and not higher, a cut, a mark that is met and higher, and an opening
+pub record NodeMoves (rules : Rules) (net : Net) (u : ℕ) (known : Known) (P : Chronicle → Type 0) : Type 0 where
+  pub writes : (past : Chronicle) (carried : Carried) (k : Entry) → P past → known.Carries carried past → MayWriteWhere (known.Over past) past u k → P (write rules net carried u k past)
+  pub meets_update : (past : Chronicle) (v s : ℕ) (carried : Carried) (n : ℕ) (x : Update) → P past → known.Carries carried past → known.Comes past v s (News n x) → held_with u v past ≡ Some s
       → n ≡ suc (length (inbox (log_of u past) v s)) → P (write rules net carried u (heard v s n x) (Took v u s (News n x) ∷ past))
-  pub meets : (past : Chronicle) (v s : ℕ) (x : Item) (e : ℕ) → P past → Comes past v s x → held_with u v past ≡ Some s → mark_of x ≡ Some e → e ≤ epoch u past
+  pub meets : (past : Chronicle) (v s : ℕ) (x : Item) (e : ℕ) → P past → known.Comes past v s x → held_with u v past ≡ Some s → mark_of x ≡ Some e → e ≤ epoch u past
       → P (Took v u s x ∷ past)
-  pub rises : (past : Chronicle) (carried : Carried) (e : ℕ) → P past → Carries carried past → epoch u past < e → P (take_cut net carried u e past)
-  pub meets_higher : (past : Chronicle) (v s : ℕ) (carried : Carried) (x : Item) (e : ℕ) → P past → Carries carried past → Comes past v s x → held_with u v past ≡ Some s
+  pub rises : (past : Chronicle) (carried : Carried) (e : ℕ) → P past → known.Carries carried past → epoch u past < e → P (take_cut net carried u e past)
+  pub meets_higher : (past : Chronicle) (v s : ℕ) (carried : Carried) (x : Item) (e : ℕ) → P past → known.Carries carried past → known.Comes past v s x → held_with u v past ≡ Some s
       → mark_of x ≡ Some e → epoch u past < e → P (take_cut net carried u e (Took v u s x ∷ past))
-  pub opens : (past : Chronicle) (v s : ℕ) (carried : Carried) → P past → Carries carried past → Opens past v s
+  pub opens : (past : Chronicle) (v s : ℕ) (carried : Carried) → P past → known.Carries carried past → known.Opens past v s
       → held_with u v past ≡ None → last (reads (log_of u past)) v < s → P (open_session carried u v s past)
 
 -- ---- in a run
@@ -86,28 +92,32 @@ abbrev pub MayWrite : Chronicle → ℕ → Entry → Type 0
 MayWrite past u k = MayWriteWhere (IsOver u past) past u k
 
 -- an item stands in front of the way from v to u, and u holds the session that the link carries
-pub record MayTake (past : Chronicle) (v u s : ℕ) (x : Item) : Type 0 where
+pub record Arrives (past : Chronicle) (v u s : ℕ) (x : Item) : Type 0 where
   pub up : link v u past ≡ state.Up s
   pub held : held_with u v past ≡ Some s
   pub front : (rest : List Item) × (channel v u past ≡ x ∷ rest)
 
+-- what is known in a run where something comes to u
+abbrev pub known_to : ℕ → Known
+known_to u = record { Carries = λ carried past. AreCarried carried u past; Comes = IsFront u; Over = IsOver u; Opens = IsUp u }
+
 -- P is kept by each move of each node, in a run
 abbrev pub ByNodes : Rules → Net → (Chronicle → Type 0) → Type 0
-ByNodes rules net P = (u : ℕ) → NodeMoves rules net u (λ carried past. AreCarried carried u past) (IsFront u) (IsOver u) (IsUp u) P
+ByNodes rules net P = (u : ℕ) → NodeMoves rules net u (known_to u) P
 
 -- P is kept by each move of a run: those of nodes, and a link that fails or is restored
 pub record Kept (rules : Rules) (net : Net) (P : Chronicle → Type 0) : Type 0 where
   pub writes : (past : Chronicle) (u : ℕ) (carried : Carried) (k : Entry) → P past → AreCarried carried u past → MayWrite past u k
       → P (write rules net carried u k past)
   pub meets_update : (past : Chronicle) (v u s : ℕ) (carried : Carried) (n : ℕ) (x : Update) → P past → AreCarried carried u past
-      → MayTake past v u s (News n x) → n ≡ suc (length (inbox (log_of u past) v s))
+      → Arrives past v u s (News n x) → n ≡ suc (length (inbox (log_of u past) v s))
       → P (write rules net carried u (heard v s n x) (Took v u s (News n x) ∷ past))
-  pub meets : (past : Chronicle) (v u s : ℕ) (x : Item) (e : ℕ) → P past → MayTake past v u s x → mark_of x ≡ Some e → e ≤ epoch u past
+  pub meets : (past : Chronicle) (v u s : ℕ) (x : Item) (e : ℕ) → P past → Arrives past v u s x → mark_of x ≡ Some e → e ≤ epoch u past
       → P (Took v u s x ∷ past)
   pub rises : (past : Chronicle) (u : ℕ) (carried : Carried) (e : ℕ) → P past → AreCarried carried u past → epoch u past < e
       → P (take_cut net carried u e past)
   pub meets_higher : (past : Chronicle) (v u s : ℕ) (carried : Carried) (x : Item) (e : ℕ) → P past → AreCarried carried u past
-      → MayTake past v u s x → mark_of x ≡ Some e → epoch u past < e → P (take_cut net carried u e (Took v u s x ∷ past))
+      → Arrives past v u s x → mark_of x ≡ Some e → epoch u past < e → P (take_cut net carried u e (Took v u s x ∷ past))
   pub opens : (past : Chronicle) (u v s : ℕ) (carried : Carried) → P past → AreCarried carried u past → link u v past ≡ state.Up s
       → held_with u v past ≡ None → last (reads (log_of u past)) v < s → P (open_session carried u v s past)
   pub breaks : (past : Chronicle) (a b s : ℕ) → P past → link a b past ≡ state.Up s → P (fact.Fail a b ∷ past)
@@ -127,14 +137,14 @@ by_nodes rules net P kept u = record {
 -- ---- what is known of an input
 
 -- what is known of an input to u where it comes
-abbrev pub MayCome : (Chronicle → ℕ → ℕ → Item → Type 0) → (Over Opens : Chronicle → ℕ → ℕ → Type 0) → ℕ → Chronicle → Input → Type 0
-MayCome Comes Over Opens u past (input.Arrive v s x) = Comes past v s x
-MayCome Comes Over Opens u past (input.Notice v) = (s : ℕ) → held_with u v past ≡ Some s → Over past v s
-MayCome Comes Over Opens u past (input.OpenSession v s) = Opens past v s
-MayCome Comes Over Opens u past (input.Originate p) = Unit {0}
-MayCome Comes Over Opens u past (input.Withdraw p) = Unit {0}
-MayCome Comes Over Opens u past (input.Prefer v value) = Unit {0}
-MayCome Comes Over Opens u past input.Snap = Unit {0}
+abbrev pub KnownOf : Known → ℕ → Chronicle → Input → Type 0
+KnownOf known u past (input.Arrive v s x) = known.Comes past v s x
+KnownOf known u past (input.Notice v) = (s : ℕ) → held_with u v past ≡ Some s → known.Over past v s
+KnownOf known u past (input.OpenSession v s) = known.Opens past v s
+KnownOf known u past (input.Originate p) = Unit {0}
+KnownOf known u past (input.Withdraw p) = Unit {0}
+KnownOf known u past (input.Prefer v value) = Unit {0}
+KnownOf known u past input.Snap = Unit {0}
 
 -- what is held and not ready was not opened by the other end
 unopened : (a : Option ℕ) (o : ℕ → Bool) (s : ℕ) → a ≡ Some s → option_and_then (λ t. if o t then Some t else None) a ≡ None → o s ≡ false
@@ -147,17 +157,16 @@ unopened (Some t) o s e none =
 abbrev pub Leaves : (Chronicle → Type 0) → Chronicle → Step → Type 0
 Leaves P past s = P (chronicle_of past s)
 
-module _ (rules : Rules) (net : Net) (u : ℕ) (Carries : Carried → Chronicle → Type 0) (Comes : Chronicle → ℕ → ℕ → Item → Type 0) (Over Opens : Chronicle → ℕ → ℕ → Type 0)
-    (P : Chronicle → Type 0) (moves : NodeMoves rules net u Carries Comes Over Opens P)
-    (stable : (past now : Chronicle) (carried : Carried) → ((a b : ℕ) → link a b now ≡ link a b past) → Carries carried past → Carries carried now) where
+module _ (rules : Rules) (net : Net) (u : ℕ) (known : Known) (P : Chronicle → Type 0) (moves : NodeMoves rules net u known P)
+    (stable : (past now : Chronicle) (carried : Carried) → ((a b : ℕ) → link a b now ≡ link a b past) → known.Carries carried past → known.Carries carried now) where
   -- nothing is done where there is a reason
   unless_kept : (past now : Chronicle) (why : Option Reason) → P past → (why ≡ None → P now) → Leaves P past (unless why now)
   unless_kept past now None before goes = goes refl
   unless_kept past now (Some why) before goes = before
 
-  module _ (past : Chronicle) (before : P past) (carried : Carried) (are : Carries carried past) where
+  module _ (past : Chronicle) (before : P past) (carried : Carried) (are : known.Carries carried past) where
     -- a mark that is met
-    mark_kept : (v s : ℕ) (x : Item) (e : ℕ) → Comes past v s x → held_with u v past ≡ Some s → mark_of x ≡ Some e → P (meet_mark net carried u e (Took v u s x ∷ past))
+    mark_kept : (v s : ℕ) (x : Item) (e : ℕ) → known.Comes past v s x → held_with u v past ≡ Some s → mark_of x ≡ Some e → P (meet_mark net carried u e (Took v u s x ∷ past))
     mark_kept v s x e front holds is =
         (elim (nat_lt (epoch u past) e) as (λ t. nat_lt (epoch u past) e ≡ t → P (if t then take_cut net carried u e (Took v u s x ∷ past) else Took v u s x ∷ past)) [
           | true ↦ λ q. moves.meets_higher past v s carried x e before are front holds is (grind (arith, nat_tests))
@@ -181,9 +190,9 @@ module _ (rules : Rules) (net : Net) (u : ℕ) (Carries : Carried → Chronicle 
         ]
 
     -- a greeting is answered by an entry where it is the first
-    greeted_kept : (v s : ℕ) (now : Chronicle) (known : Option ℕ) → P now → ((w : ℕ) → log_of w now ≡ log_of w past) → ((a b : ℕ) → link a b now ≡ link a b past)
-        → held_with u v past ≡ Some s → ready (reads (log_of u past)) v ≡ known → P (greeted rules net carried v u s known now)
-    greeted_kept v s now (Some known) later logs links holds is = later
+    greeted_kept : (v s : ℕ) (now : Chronicle) (is_ready : Option ℕ) → P now → ((w : ℕ) → log_of w now ≡ log_of w past) → ((a b : ℕ) → link a b now ≡ link a b past)
+        → held_with u v past ≡ Some s → ready (reads (log_of u past)) v ≡ is_ready → P (unless_ready is_ready now (write rules net carried u (local u (log_of u now) All (Ready v s)) now))
+    greeted_kept v s now (Some t) later logs links holds is = later
     greeted_kept v s now None later logs links holds is =
         let k = local u (log_of u now) All (Ready v s) in
         moves.writes now carried k later (stable past now carried links are)
@@ -196,7 +205,7 @@ module _ (rules : Rules) (net : Net) (u : ℕ) (Carries : Carried → Chronicle 
         })
 
     -- an item that is taken
-    item_kept : (v s : ℕ) (x : Item) → Comes past v s x → held_with u v past ≡ Some s → out_of_turn (suc (length (inbox (log_of u past) v s))) x ≡ None → P (take_item rules net carried v u s x past)
+    item_kept : (v s : ℕ) (x : Item) → known.Comes past v s x → held_with u v past ≡ Some s → out_of_turn (suc (length (inbox (log_of u past) v s))) x ≡ None → P (take_item rules net carried u (arrival v s x) past)
     unfolding take_item
     item_kept v s (News n x) front holds turn =
         moves.meets_update past v s carried n x before are front holds (in_turn n (suc (length (inbox (log_of u past) v s))) turn)
@@ -213,30 +222,30 @@ module _ (rules : Rules) (net : Net) (u : ℕ) (Carries : Carried → Chronicle 
         (mark_kept v s (Hello e) e front holds refl) (mark_log v s (Hello e) e) (mark_link v s (Hello e) e) holds refl
 
     -- an item that comes, in the session that is held or another
-    comes_kept : (v s : ℕ) (x : Item) (session : Option ℕ) → Comes past v s x → held_with u v past ≡ session
-        → Leaves P past (comes rules net carried u past v s x session)
+    comes_kept : (v s : ℕ) (x : Item) (session : Option ℕ) → known.Comes past v s x → held_with u v past ≡ session
+        → Leaves P past (if not (is_session session s) then Idle reason.WrongSession else unless (out_of_turn (suc (length (inbox (log_of u past) v s))) x) (take_item rules net carried u (arrival v s x) past))
     comes_kept v s x None front holds = before
     comes_kept v s x (Some t) front holds =
-        (elim (t == s) as (λ b. (t == s) ≡ b → Leaves P past (if not b then Idle reason.WrongSession else unless (out_of_turn (suc (length (inbox (log_of u past) v s))) x) (take_item rules net carried v u s x past))) [
+        (elim (t == s) as (λ b. (t == s) ≡ b → Leaves P past (if not b then Idle reason.WrongSession else unless (out_of_turn (suc (length (inbox (log_of u past) v s))) x) (take_item rules net carried u (arrival v s x) past))) [
           | true ↦ λ e.
               let same : t ≡ s = grind (arith, nat_tests) in
-              unless_kept past (take_item rules net carried v u s x past) (out_of_turn (suc (length (inbox (log_of u past) v s))) x) before
+              unless_kept past (take_item rules net carried u (arrival v s x) past) (out_of_turn (suc (length (inbox (log_of u past) v s))) x) before
               (item_kept v s x front (subst (λ y. held_with u v past ≡ Some y) same holds))
           | false ↦ λ e. before
         ]) refl
 
     -- an entry of the node's own
-    own_kept : (k : Entry) → MayWriteWhere (Over past) past u k → P (write rules net carried u k past)
+    own_kept : (k : Entry) → MayWriteWhere (known.Over past) past u k → P (write rules net carried u k past)
     own_kept k may = moves.writes past carried k before are may
 
     -- a session that the link does not carry is closed
-    notices_kept : (v : ℕ) (session : Option ℕ) → held_with u v past ≡ session → ((s : ℕ) → held_with u v past ≡ Some s → Over past v s) → Leaves P past (notices rules net carried u past v session)
+    notices_kept : (v : ℕ) (session : Option ℕ) → held_with u v past ≡ session → ((s : ℕ) → held_with u v past ≡ Some s → known.Over past v s) → Leaves P past (closes session (λ s. write rules net carried u (local u (log_of u past) All (Down v s)) past))
     notices_kept v None holds over = before
     notices_kept v (Some s) holds over =
         own_kept (local u (log_of u past) All (Down v s)) (record { fits = holds; lists = refl; own = over s holds })
 
     -- a session is opened
-    opens_kept : (v s : ℕ) (session : Option ℕ) → Opens past v s → held_with u v past ≡ session → Leaves P past (opens carried u past v s session)
+    opens_kept : (v s : ℕ) (session : Option ℕ) → known.Opens past v s → held_with u v past ≡ session → Leaves P past (opens carried u past v s session)
     opens_kept v s (Some t) up holds = before
     opens_kept v s None up holds =
         (elim (nat_lt (last (reads (log_of u past)) v) s) as (λ b. nat_lt (last (reads (log_of u past)) v) s ≡ b → Leaves P past (if b then Goes (open_session carried u v s past) else Idle reason.OldSession)) [
@@ -245,7 +254,7 @@ module _ (rules : Rules) (net : Net) (u : ℕ) (Carries : Carried → Chronicle 
         ]) refl
 
     -- what each move of the node keeps is kept where it gets an input
-    pub give_kept : (i : Input) → MayCome Comes Over Opens u past i → Leaves P past (give rules net carried u past i)
+    pub give_kept : (i : Input) → KnownOf known u past i → Leaves P past (give rules net carried u past i)
     unfolding give
     give_kept (input.Originate p) may =
         (elim (owns (reads (log_of u past)) p) as (λ t. owns (reads (log_of u past)) p ≡ t → Leaves P past (if t then Idle reason.AlreadyOrigin else Goes (write rules net carried u (local u (log_of u past) (One p) Originate) past))) [
@@ -268,9 +277,9 @@ module _ (rules : Rules) (net : Net) (u : ℕ) (Carries : Carried → Chronicle 
 module _ (rules : Rules) (net : Net) (P : Chronicle → Type 0) (moves : ByNodes rules net P) where
   module _ (past : Chronicle) (before : P past) (breaks : (a b s : ℕ) → link a b past ≡ state.Up s → P (fact.Fail a b ∷ past)) (mends : (a b s : ℕ) → link a b past ≡ state.Down s → P (fact.Restore a b ∷ past)) where
     -- an input that comes in a run
-    given_kept : (u : ℕ) (i : Input) → MayCome (IsFront u) (IsOver u) (IsUp u) u past i → Leaves P past (given rules net past u i)
+    given_kept : (u : ℕ) (i : Input) → KnownOf (known_to u) u past i → Leaves P past (given rules net past u i)
     given_kept u i may =
-        give_kept rules net u (λ carried now. AreCarried carried u now) (IsFront u) (IsOver u) (IsUp u) P (moves u)
+        give_kept rules net u (known_to u) P (moves u)
         (λ was now carried links are w s. are w s ∙ ap (λ l. carries l s) (sym (links u w))) past before (carried_by u past) (λ w s. refl) i may
 
     -- a session that is held is not carried
@@ -279,13 +288,13 @@ module _ (rules : Rules) (net : Net) (P : Chronicle → Type 0) (moves : ByNodes
     not_carried l (Some t) off s holds = let same : t ≡ s = cc holds in subst (λ y. carries l y ≡ false) same off
 
     -- a delivery
-    delivered_kept : (v u : ℕ) (l : LinkState) (items : List Item) → link v u past ≡ l → channel v u past ≡ items → Leaves P past (delivered rules net past v u l items)
+    delivered_kept : (v u : ℕ) (l : LinkState) (items : List Item) → link v u past ≡ l → channel v u past ≡ items → Leaves P past (delivered (given rules net past u) v l items)
     delivered_kept v u (state.Down s) items is front = before
     delivered_kept v u (state.Up s) [] is front = before
     delivered_kept v u (state.Up s) (x ∷ rest) is front = given_kept u (input.Arrive v s x) (is, (rest, front))
 
     -- an opening
-    opened_kept : (u v : ℕ) (session : Option ℕ) (l : LinkState) → link u v past ≡ l → Leaves P past (opened_by_link rules net past u v session l)
+    opened_kept : (u v : ℕ) (session : Option ℕ) (l : LinkState) → link u v past ≡ l → Leaves P past (opened_by_link (given rules net past u) v session l)
     opened_kept u v (Some s) l is = before
     opened_kept u v None (state.Down s) is = before
     opened_kept u v None (state.Up s) is = given_kept u (input.OpenSession v s) is

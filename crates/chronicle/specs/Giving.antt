@@ -12,7 +12,7 @@ use Rattle.trigger_log.specs.Going.{Item, News, Marker, Hello}
 use Rattle.chronicle.specs.Facts.{Chronicle}
 use Rattle.chronicle.specs.Logs.{log_of}
 use Rattle.chronicle.specs.Epochs.{epoch}
-use Rattle.chronicle.specs.Inputs.{Input}
+use Rattle.chronicle.specs.Inputs.{Input, Arrival, arrival}
 use Rattle.chronicle.specs.Inputs as input
 use Rattle.chronicle.specs.Steps.{Step, Idle, Goes, Carried, write, open_session, take_cut, take_item}
 
@@ -27,17 +27,23 @@ out_of_turn next (News n x) = if n == next then None else Some (reason.WrongSeq 
 out_of_turn next (Marker e) = None
 out_of_turn next (Hello e) = None
 
--- an item of v comes to u in session s, while u holds this session
-abbrev pub comes : Rules → Net → Carried → ℕ → Chronicle → ℕ → ℕ → Item → Option ℕ → Step
-comes rules net carried u past v s item session =
-    if not (is_session session s) then Idle reason.WrongSession
-    else unless (out_of_turn (suc (length (inbox (log_of u past) v s))) item) (take_item rules net carried v u s item past)
+-- an item comes to u, and is taken where u holds the session that it came in, and where it is its turn
+abbrev pub comes : Rules → Net → Carried → ℕ → Chronicle → Arrival → Step
+comes rules net carried u past arrival =
+    if not (is_session (held (reads (log_of u past)) arrival.from) arrival.session) then Idle reason.WrongSession
+    else unless (out_of_turn (suc (length (inbox (log_of u past) arrival.from arrival.session))) arrival.item)
+    (take_item rules net carried u arrival past)
+
+-- the session that is held is closed by this, where one is held
+abbrev pub closes : Option ℕ → (ℕ → Chronicle) → Step
+closes None closed = Idle reason.NotOpen
+closes (Some s) closed = Goes (closed s)
 
 -- the session that u holds with v is over
-abbrev pub notices : Rules → Net → Carried → ℕ → Chronicle → ℕ → Option ℕ → Step
-notices rules net carried u past v None = Idle reason.NotOpen
-notices rules net carried u past v (Some s) =
-    Goes (write rules net carried u (local u (log_of u past) All (cause.Down v s)) past)
+abbrev pub notices : Rules → Net → Carried → ℕ → Chronicle → ℕ → Step
+notices rules net carried u past v =
+    closes (held (reads (log_of u past)) v)
+    (λ s. write rules net carried u (local u (log_of u past) All (cause.Down v s)) past)
 
 -- session s is opened, where none is held and it is above those that were
 abbrev pub opens : Carried → ℕ → Chronicle → ℕ → ℕ → Option ℕ → Step
@@ -56,9 +62,8 @@ give rules net carried u past (input.Withdraw p) =
 give rules net carried u past (input.Prefer v value) =
     Goes (write rules net carried u (local u (log_of u past) All (cause.Prefer v value)) past)
 give rules net carried u past (input.Arrive v s item) =
-    comes rules net carried u past v s item (held (reads (log_of u past)) v)
-give rules net carried u past (input.Notice v) =
-    notices rules net carried u past v (held (reads (log_of u past)) v)
+    comes rules net carried u past (arrival v s item)
+give rules net carried u past (input.Notice v) = notices rules net carried u past v
 give rules net carried u past (input.OpenSession v s) =
     opens carried u past v s (held (reads (log_of u past)) v)
 give rules net carried u past input.Snap = Goes (take_cut net carried u (suc (epoch u past)) past)

@@ -2,6 +2,16 @@
 use Rattle.std.specs.Prelude.{ℕ}
 use Rattle.trigger_log.specs.Going.{Item}
 
+-- an item as it arrives: the neighbour that it is from, and the session that it came in
+pub record Arrival : Type 0 where
+  pub from : ℕ
+  pub session : ℕ
+  pub item : Item
+
+-- the item of a neighbour in a session
+abbrev pub arrival : ℕ → ℕ → Item → Arrival
+arrival v s x = record { from = v; session = s; item = x }
+
 -- it is to originate a prefix, or to withdraw it; to prefer a neighbour by this value; an item of a
 -- neighbour arrives in a session; the link does not carry the held session with a neighbour any more; it
 -- carries this session with it; the epoch is to rise by one

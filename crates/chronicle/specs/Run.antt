@@ -33,22 +33,26 @@ carried_by u past w s = carries (link u w past) s
 abbrev pub given : Rules → Net → Chronicle → ℕ → Input → Step
 given rules net past u input = give rules net (carried_by u past) u past input
 
--- the front item of the channel comes to u, where the link is up
-abbrev pub delivered : Rules → Net → Chronicle → ℕ → ℕ → LinkState → List Item → Step
-delivered rules net past v u (Down s) items = Idle LinkDown
-delivered rules net past v u (Up s) [] = Idle EmptyChannel
-delivered rules net past v u (Up s) (x ∷ rest) = given rules net past u (input.Arrive v s x)
+-- what a node does with each input
+abbrev pub Gives : Type 0
+Gives = Input → Step
+
+-- the front item of the channel from v comes to a node, where the link is up
+abbrev pub delivered : Gives → ℕ → LinkState → List Item → Step
+delivered gives v (Down s) items = Idle LinkDown
+delivered gives v (Up s) [] = Idle EmptyChannel
+delivered gives v (Up s) (x ∷ rest) = gives (input.Arrive v s x)
 
 -- a session is held, and the link carries it
 abbrev pub is_carried : LinkState → Option ℕ → Bool
 is_carried state None = false
 is_carried state (Some s) = carries state s
 
--- u learns that the link carries this session, unless it holds one
-abbrev pub opened_by_link : Rules → Net → Chronicle → ℕ → ℕ → Option ℕ → LinkState → Step
-opened_by_link rules net past u v (Some s) state = Idle AlreadyOpen
-opened_by_link rules net past u v None (Down s) = Idle LinkDown
-opened_by_link rules net past u v None (Up s) = given rules net past u (input.OpenSession v s)
+-- a node learns that the link to v carries this session, unless it holds one
+abbrev pub opened_by_link : Gives → ℕ → Option ℕ → LinkState → Step
+opened_by_link gives v (Some s) state = Idle AlreadyOpen
+opened_by_link gives v None (Down s) = Idle LinkDown
+opened_by_link gives v None (Up s) = gives (input.OpenSession v s)
 
 abbrev pub fails : Chronicle → ℕ → ℕ → LinkState → Step
 fails past a b (Up s) = Goes (fact.Fail a b ∷ past)
@@ -63,12 +67,12 @@ unfoldable pub step : Rules → Net → Chronicle → Event → Step
 step rules net past (Originate u p) = given rules net past u (input.Originate p)
 step rules net past (Withdraw u p) = given rules net past u (input.Withdraw p)
 step rules net past (Prefer u v value) = given rules net past u (input.Prefer v value)
-step rules net past (Deliver v u) = delivered rules net past v u (link v u past) (channel v u past)
+step rules net past (Deliver v u) = delivered (given rules net past u) v (link v u past) (channel v u past)
 step rules net past (Fail a b) = fails past a b (link a b past)
 step rules net past (Restore a b) = restores past a b (link a b past)
 step rules net past (Notice u v) =
     if is_carried (link u v past) (held_with u v past) then Idle StillUp else given rules net past u (input.Notice v)
-step rules net past (OpenSession u v) = opened_by_link rules net past u v (held_with u v past) (link u v past)
+step rules net past (OpenSession u v) = opened_by_link (given rules net past u) v (held_with u v past) (link u v past)
 step rules net past (Snap u) = given rules net past u input.Snap
 
 -- the chronicle that a step leaves: an idle event adds nothing

@@ -7,10 +7,11 @@ use Rattle.path_vector.specs.declared.causes.Cause.TheVariants.{Recv, Up, Ready}
 use Rattle.path_vector.specs.Rules.{Rules}
 use Rattle.path_vector.specs.History.{held, ready}
 use Rattle.trigger_log.specs.Entries.{Entry, Update, entry, local, reads}
-use Rattle.trigger_log.specs.Going.{Item, News, Marker, Hello, Going, spread, going_by}
+use Rattle.trigger_log.specs.Going.{News, Marker, Hello, Going, spread, going_by}
 use Rattle.chronicle.specs.Facts.{Fact, Chronicle, Log, Sent, Took, Raise, happen}
 use Rattle.chronicle.specs.Logs.{log_of}
 use Rattle.chronicle.specs.Epochs.{epoch}
+use Rattle.chronicle.specs.Inputs.{Arrival}
 
 -- what an event or an input comes to: nothing, for a reason, or a chronicle that has gone on
 pub data Step : Type 0 where
@@ -52,17 +53,23 @@ meet_mark net carried u e past = if nat_lt (epoch u past) e then take_cut net ca
 abbrev pub heard : ℕ → ℕ → ℕ → Update → Entry
 heard v s n x = entry x.triggers (One x.prefix) (Recv v s n x.path)
 
--- u is greeted by v in session s: it enters that the other end is ready, unless it knows that
-abbrev pub greeted : Rules → Net → Carried → ℕ → ℕ → ℕ → Option ℕ → Chronicle → Chronicle
-greeted rules net carried v u s (Some known) past = past
-greeted rules net carried v u s None past = write rules net carried u (local u (log_of u past) All (Ready v s)) past
+-- the chronicle goes on so, unless a session is ready already
+abbrev pub unless_ready : Option ℕ → Chronicle → Chronicle → Chronicle
+unless_ready (Some s) past now = past
+unless_ready None past now = now
 
--- u takes an item of v in session s, which it holds: an update is entered, a marker is met as a mark, and
--- so is a greeting, which then greets u
-unfoldable pub take_item : Rules → Net → Carried → ℕ → ℕ → ℕ → Item → Chronicle → Chronicle
-take_item rules net carried v u s (News n x) past =
-    write rules net carried u (heard v s n x) (Took v u s (News n x) ∷ past)
-take_item rules net carried v u s (Marker e) past = meet_mark net carried u e (Took v u s (Marker e) ∷ past)
-take_item rules net carried v u s (Hello e) past =
-    greeted rules net carried v u s (ready (reads (log_of u past)) v)
-    (meet_mark net carried u e (Took v u s (Hello e) ∷ past))
+-- u takes an item that arrives in the session that it holds: an update is entered, a marker is met as a mark,
+-- and so is a greeting, after which u enters that the other end is ready, unless it knows that
+unfoldable pub take_item : Rules → Net → Carried → ℕ → Arrival → Chronicle → Chronicle
+take_item rules net carried u arrival past =
+    let v = arrival.from in
+    let s = arrival.session in
+    let took = Took v u s arrival.item ∷ past in
+    elim arrival.item [
+      | News n x ↦ write rules net carried u (heard v s n x) took
+      | Marker e ↦ meet_mark net carried u e took
+      | Hello e ↦
+          let met = meet_mark net carried u e took in
+          unless_ready (ready (reads (log_of u past)) v) met
+          (write rules net carried u (local u (log_of u met) All (Ready v s)) met)
+    ]
