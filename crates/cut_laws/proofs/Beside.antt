@@ -15,7 +15,7 @@ use Rattle.chronicle.specs.Steps.{Carried, sends, write, open_session, markers, 
 use Rattle.chronicle.specs.Giving.{give}
 use Rattle.chronicle.specs.Run.{chronicle_of}
 use Rattle.chronicle.proofs.Blocks.{opening, greeting}
-use Rattle.chronicle.proofs.Moves.{NodeMoves, MayCome, give_kept}
+use Rattle.chronicle.proofs.Moves.{Known, NodeMoves, KnownOf, give_kept}
 use Rattle.cut_laws.specs.Own.{IsBeside, SameNode}
 use Rattle.cut_laws.proofs.Taking.{took_elsewhere}
 
@@ -85,8 +85,12 @@ same_on u past now next first second = record {
 abbrev pub Nothing : Chronicle → ℕ → ℕ → Type 0
 Nothing past v s = Unit {0}
 
--- nor of an input
-any_input : (u : ℕ) (past : Chronicle) (i : Input) → MayCome (λ past v s x. Unit {0}) Nothing Nothing u past i
+-- nor of anything that comes
+abbrev unknown : Known
+unknown = record { Carries = λ carried past. Unit {0}; Comes = λ past v s x. Unit {0}; Over = Nothing; Opens = Nothing }
+
+-- so each input may come
+any_input : (u : ℕ) (past : Chronicle) (i : Input) → KnownOf unknown u past i
 any_input u past (input.Originate p) = tt
 any_input u past (input.Withdraw p) = tt
 any_input u past (input.Prefer v value) = tt
@@ -129,7 +133,7 @@ module _ (rules : Rules) (net : Net) (u v : ℕ) (off : (v == u) ≡ false) (pas
   took_same w s x now before = more (Took w v s x) now off before
 
   -- each move of v
-  moves_same : NodeMoves rules net v (λ carried past. Unit {0}) (λ past w s x. Unit {0}) Nothing Nothing (SameNode u past)
+  moves_same : NodeMoves rules net v unknown (SameNode u past)
   moves_same = record {
     writes = λ now carried k before are may. write_same carried k now before;
     meets_update = λ now w s carried n x before are hears holds turn. write_same carried (heard w s n x) (Took w v s (News n x) ∷ now) (took_same w s (News n x) now before);
@@ -142,5 +146,5 @@ module _ (rules : Rules) (net : Net) (u v : ℕ) (off : (v == u) ≡ false) (pas
   -- so all that v does with an input
   pub give_same : (carried : Carried) (i : Input) → SameNode u past (chronicle_of past (give rules net carried v past i))
   give_same carried i =
-      give_kept rules net v (λ carried past. Unit {0}) (λ past w s x. Unit {0}) Nothing Nothing (SameNode u past) moves_same (λ was now carried links are. tt) past
+      give_kept rules net v unknown (SameNode u past) moves_same (λ was now carried links are. tt) past
       (record { same_log = refl; same_epoch = refl; same_raised = refl; same_cut = λ e. refl; same_sent = λ w s. refl; same_took = λ w s. refl }) carried tt i (any_input v past i)

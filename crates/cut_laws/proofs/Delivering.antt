@@ -1,6 +1,8 @@
 -- The next delivery: the first way over a link whose delivery is not idle.
-use Rattle.std.proofs.Common.{ℕ, suc, Bool, true, false, ◌==◌, ◌<◌, nat_lt, Option, Some, None, List, [], ◌∷◌, ◌≡◌, refl, sym, ◌∙◌, arith, length}
+use Rattle.std.proofs.Common.{ℕ, suc, Bool, true, false, not, ◌==◌, ◌<◌, nat_lt, Option, Some, None, List, [], ◌∷◌, ◌≡◌, refl, sym, ◌∙◌, arith, length}
+use Rattle.std.specs.Prelude.{if◌then◌else◌}
 use Rattle.std.proofs.lemmas.Bool.Decides.{nat_tests}
+use Rattle.topology.specs.declared.status.Reason.TheVariants.{WrongSession}
 use Rattle.topology.specs.declared.links.LinkState.{LinkState}
 use Rattle.topology.specs.declared.links.LinkState.TheVariants.{Up, Down}
 use Rattle.topology.specs.Lists.{has, ascending}
@@ -17,8 +19,10 @@ use Rattle.chronicle.specs.Facts.{Chronicle}
 use Rattle.chronicle.specs.Links.{link}
 use Rattle.chronicle.specs.Channels.{channel}
 use Rattle.chronicle.specs.Logs.{log_of}
-use Rattle.chronicle.specs.Giving.{out_of_turn, comes, opens, give}
-use Rattle.chronicle.specs.Run.{held_with, carried_by, delivered, step}
+use Rattle.chronicle.specs.Inputs.{arrival}
+use Rattle.chronicle.specs.Steps.{Idle, take_item}
+use Rattle.chronicle.specs.Giving.{unless, out_of_turn, opens, give}
+use Rattle.chronicle.specs.Run.{held_with, carried_by, given, delivered, step}
 use Rattle.chronicle.specs.Deliveries.{may_arrive, arrives, ways, next_delivery}
 use Rattle.cut_laws.specs.Joined.{Joined, FrontFits}
 use Rattle.cut_laws.proofs.Marked.{session_is}
@@ -30,11 +34,11 @@ use Rattle.cut_laws.proofs.Earliest.{FirstOf, found_passes, first_of, none_of}
 module _ (rules : Rules) (net : Net) (past : Chronicle) (v u : ℕ) where
   -- an item that is the next one, in the session that is held
   comes_goes : (s : ℕ) (x : Item) (session : Option ℕ) → is_session session s ≡ true → out_of_turn (suc (length (inbox (log_of u past) v s))) x ≡ None
-      → Did (comes rules net (carried_by u past) u past v s x session)
+      → Did (if not (is_session session s) then Idle WrongSession else unless (out_of_turn (suc (length (inbox (log_of u past) v s))) x) (take_item rules net (carried_by u past) u (arrival v s x) past))
   comes_goes s x session is turn = rw (is, turn) tt
 
   -- an item of a session that is not held does nothing
-  comes_rests : (s : ℕ) (x : Item) (session : Option ℕ) → is_session session s ≡ false → Rests (comes rules net (carried_by u past) u past v s x session)
+  comes_rests : (s : ℕ) (x : Item) (session : Option ℕ) → is_session session s ≡ false → Rests (if not (is_session session s) then Idle WrongSession else unless (out_of_turn (suc (length (inbox (log_of u past) v s))) x) (take_item rules net (carried_by u past) u (arrival v s x) past))
   comes_rests s x session is = rw is tt
 
   -- the item in front is the next one
@@ -49,7 +53,7 @@ module _ (rules : Rules) (net : Net) (past : Chronicle) (v u : ℕ) where
 
   -- an item that may arrive is taken
   arrival_goes : FrontFits net past v u → (state : LinkState) (items : List Item) → link v u past ≡ state → channel v u past ≡ items → may_arrive state items (held_with u v past) ≡ true
-      → Did (delivered rules net past v u state items)
+      → Did (delivered (given rules net past u) v state items)
   unfolding give
   arrival_goes fits (Down s) items up front e = absurd (cc e)
   arrival_goes fits (Up s) [] up front e = absurd (cc e)
@@ -57,7 +61,7 @@ module _ (rules : Rules) (net : Net) (past : Chronicle) (v u : ℕ) where
       comes_goes s x (held_with u v past) e (in_turn fits s x rest up front (session_is (held_with u v past) s e))
 
   -- where none may arrive nothing happens
-  no_arrival_rests : (state : LinkState) (items : List Item) → may_arrive state items (held_with u v past) ≡ false → Rests (delivered rules net past v u state items)
+  no_arrival_rests : (state : LinkState) (items : List Item) → may_arrive state items (held_with u v past) ≡ false → Rests (delivered (given rules net past u) v state items)
   unfolding give
   no_arrival_rests (Down s) items e = tt
   no_arrival_rests (Up s) [] e = tt

@@ -17,7 +17,7 @@ abbrev pub IsNews : Net → Update → Type 0
 IsNews net x = (x.triggers ≢ []) × (x.prefix < length net.prefixes)
 
 -- what an entry lists is something
-lists_some : (u : ℕ) (h : List Entry) (cause : Cause) (triggers : List Trigger) → Inherits u h cause triggers → triggers ≢ []
+pub lists_some : (u : ℕ) (h : List Entry) (cause : Cause) (triggers : List Trigger) → Inherits u h cause triggers → triggers ≢ []
 lists_some u h (Recv v s n path) triggers is none = is none
 lists_some u h Originate triggers is none = absurd (cc (is, none))
 lists_some u h Withdraw triggers is none = absurd (cc (is, none))

@@ -21,7 +21,7 @@ use Rattle.chronicle.specs.Steps.{Carried, heard, write, open_session, take_cut}
 use Rattle.chronicle.specs.Giving.{give}
 use Rattle.chronicle.specs.Run.{held_with, chronicle_of, run}
 use Rattle.chronicle.proofs.Blocks.{same_number, log_own, took_write, sent_own, entered, log_entered, took_entered, sent_entered, opening, greeting, log_take_cut, took_take_cut, sent_cut}
-use Rattle.chronicle.proofs.Moves.{NodeMoves, MayCome, give_kept}
+use Rattle.chronicle.proofs.Moves.{Known, NodeMoves, KnownOf, give_kept}
 use Rattle.cut_laws.specs.Alone.{Alone}
 use Rattle.cut_laws.specs.Marks.{Marks}
 use Rattle.cut_laws.specs.Received.{BringsFrom, Comes}
@@ -164,8 +164,12 @@ module _ (rules : Rules) (net : Net) (u v s : ℕ) (carried : Carried) (past : C
 
 -- ---- all moves of the node
 
+-- what is known of an input to a node alone: what an item that comes may be
+abbrev pub hearing : Net → Known
+hearing net = record { Carries = λ carried past. Unit {0}; Comes = Hears net; Over = Nothing; Opens = Nothing }
+
 -- what holds of a node alone is kept by each of its moves
-pub own_moves : (rules : Rules) (net : Net) → IsValid net → (u : ℕ) → NodeMoves rules net u (λ carried past. Unit {0}) (Hears net) Nothing Nothing (λ past. Own rules net past u)
+pub own_moves : (rules : Rules) (net : Net) → IsValid net → (u : ℕ) → NodeMoves rules net u (hearing net) (λ past. Own rules net past u)
 own_moves rules net valid u = record {
   writes = λ past carried k own are may.
       own_enters rules net valid u carried k past own.alone.fits own.alone.inherits own.alone.said own.alone.fresh
@@ -199,7 +203,7 @@ own_moves rules net valid u = record {
 }
 
 -- what is known of an input is what each move asks
-may_come : (net : Net) (u : ℕ) (past : Chronicle) (i : Input) → MayReach net i → MayCome (Hears net) Nothing Nothing u past i
+may_come : (net : Net) (u : ℕ) (past : Chronicle) (i : Input) → MayReach net i → KnownOf (hearing net) u past i
 may_come net u past (input.Arrive v s x) may = may
 may_come net u past (input.Notice v) may = λ s holds. tt
 may_come net u past (input.Originate p) may = tt
@@ -212,7 +216,7 @@ may_come net u past input.Snap may = tt
 pub own_given : (rules : Rules) (net : Net) (u : ℕ) (carried : Carried) (past : Chronicle) (i : Input) → IsValid net → Own rules net past u → MayReach net i
     → Own rules net (chronicle_of past (give rules net carried u past i)) u
 own_given rules net u carried past i valid own may =
-    give_kept rules net u (λ carried past. Unit {0}) (Hears net) Nothing Nothing (λ past. Own rules net past u) (own_moves rules net valid u) (λ was now carried links are. tt) past own carried tt i (may_come net u past i may)
+    give_kept rules net u (hearing net) (λ past. Own rules net past u) (own_moves rules net valid u) (λ was now carried links are. tt) past own carried tt i (may_come net u past i may)
 
 -- ---- facts of others
 

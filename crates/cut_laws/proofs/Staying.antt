@@ -16,14 +16,14 @@ use Rattle.chronicle.proofs.Blocks.{cut_write, cut_open, cut_take_cut}
 use Rattle.chronicle.proofs.Moves.{Kept, after_kept}
 use Rattle.cut_laws.proofs.Keeping.{Whole, whole_kept, run_whole}
 
-module _ (rules : Rules) (net : Net) (valid : IsValid net) (w d : ℕ) (c : List Entry) where
-  -- all that holds, and this cut
-  pub record Stands (past : Chronicle) : Type 0 where
-    pub all : Whole rules net past
-    pub is : cut w d past ≡ Some c
+-- all that holds, and this cut of epoch d at w
+pub record WithCut (rules : Rules) (net : Net) (w d : ℕ) (c : List Entry) (past : Chronicle) : Type 0 where
+  pub all : Whole rules net past
+  pub is : cut w d past ≡ Some c
 
+module _ (rules : Rules) (net : Net) (valid : IsValid net) (w d : ℕ) (c : List Entry) where
   -- a cut of a higher epoch is another one
-  rise_stays : (past : Chronicle) (u : ℕ) (carried : Carried) (e : ℕ) (before : Stands past) → epoch u past < e → (base : Chronicle) → cut w d base ≡ cut w d past → cut w d (take_cut net carried u e base) ≡ Some c
+  rise_stays : (past : Chronicle) (u : ℕ) (carried : Carried) (e : ℕ) (before : WithCut rules net w d c past) → epoch u past < e → (base : Chronicle) → cut w d base ≡ cut w d past → cut w d (take_cut net carried u e base) ≡ Some c
   rise_stays past u carried e before high base same =
       cut_take_cut net carried u e base w d
       ∙ ((elim (u == w && e == d) as (λ t. (u == w && e == d) ≡ t → (if t then Some (log_of w base) else cut w d base) ≡ cut w d base) [
@@ -36,8 +36,8 @@ module _ (rules : Rules) (net : Net) (valid : IsValid net) (w d : ℕ) (c : List
       ]) refl ∙ (same ∙ before.is))
 
   -- a cut stays by each move
-  stands_kept : Kept rules net Stands
-  stands_kept =
+  stays : Kept rules net (WithCut rules net w d c)
+  stays =
       let kept = whole_kept rules net valid in
       record {
         writes = λ past u carried k before are may. record { all = kept.writes past u carried k before.all are may; is = cut_write rules net carried u k past w d ∙ before.is };
@@ -59,4 +59,4 @@ module _ (rules : Rules) (net : Net) (valid : IsValid net) (w d : ℕ) (c : List
   -- so by each event of a run
   pub cut_stays : (events : List Event) (event : Event) → cut w d (run rules net events) ≡ Some c → cut w d (after rules net (run rules net events) event) ≡ Some c
   cut_stays events event is =
-      (after_kept rules net Stands stands_kept (run rules net events) (record { all = run_whole rules net valid events; is = is }) event).is
+      (after_kept rules net (WithCut rules net w d c) stays (run rules net events) (record { all = run_whole rules net valid events; is = is }) event).is

@@ -2,7 +2,7 @@
 use Rattle.std.proofs.Common.{ℕ, suc, ◌<◌, Bool, true, false, not, nat_lt, Option, Some, None, List, [], ◌∷◌, ◌≡◌, ◌≢◌, refl, ◌∙◌, arith, length}
 use Rattle.std.specs.Prelude.{if◌then◌else◌}
 use Rattle.std.proofs.lemmas.Bool.Decides.{nat_tests}
-use Rattle.topology.specs.declared.names.Scope.TheVariants.{One}
+use Rattle.topology.specs.declared.names.Scope.TheVariants.{One, All}
 use Rattle.topology.specs.declared.status.Reason.{Reason}
 use Rattle.topology.specs.declared.status.Reason.TheVariants as reason
 use Rattle.topology.specs.declared.links.LinkState.{LinkState}
@@ -19,9 +19,10 @@ use Rattle.chronicle.specs.Facts.{Chronicle}
 use Rattle.chronicle.specs.Logs.{log_of}
 use Rattle.chronicle.specs.Links.{link}
 use Rattle.chronicle.specs.Channels.{channel}
+use Rattle.chronicle.specs.Inputs.{arrival}
 use Rattle.chronicle.specs.Steps.{Step, Idle, Goes, write, take_item}
-use Rattle.chronicle.specs.Giving.{unless, out_of_turn, comes, notices, opens, give}
-use Rattle.chronicle.specs.Run.{held_with, carried_by, delivered, is_carried, opened_by_link, fails, restores, step, run}
+use Rattle.chronicle.specs.Giving.{unless, out_of_turn, closes, notices, opens, give}
+use Rattle.chronicle.specs.Run.{held_with, carried_by, given, delivered, is_carried, opened_by_link, fails, restores, step, run}
 use Rattle.cut_laws.specs.Joined.{Joined, FrontFits}
 use Rattle.cut_laws.proofs.Marked.{session_is}
 use Rattle.cut_laws.proofs.Concluding.{joined, front_fits}
@@ -41,16 +42,16 @@ Runs (Goes now) = Unit {0}
 module _ (rules : Rules) (net : Net) (past : Chronicle) where
   -- an item in front, over a link that is up
   comes_runs : (v u s : ℕ) (x : Item) (rest : List Item) (session : Option ℕ) → FrontFits net past v u → link v u past ≡ Up s → channel v u past ≡ x ∷ rest → held_with u v past ≡ session
-      → Runs (comes rules net (carried_by u past) u past v s x session)
+      → Runs (if not (is_session session s) then Idle reason.WrongSession else unless (out_of_turn (suc (length (inbox (log_of u past) v s))) x) (take_item rules net (carried_by u past) u (arrival v s x) past))
   comes_runs v u s x rest session fits up front holds =
       (elim (is_session session s) as (λ t. is_session session s ≡ t
-      → Runs (if not t then Idle reason.WrongSession else unless (out_of_turn (suc (length (inbox (log_of u past) v s))) x) (take_item rules net (carried_by u past) v u s x past))) [
+      → Runs (if not t then Idle reason.WrongSession else unless (out_of_turn (suc (length (inbox (log_of u past) v s))) x) (take_item rules net (carried_by u past) u (arrival v s x) past))) [
         | true ↦ λ is. rw (in_turn rules net past v u fits s x rest up front (holds ∙ session_is session s is)) tt
         | false ↦ λ is. refl
       ]) refl
 
   -- a delivery
-  delivered_runs : (v u : ℕ) (l : LinkState) (items : List Item) → FrontFits net past v u → link v u past ≡ l → channel v u past ≡ items → Runs (delivered rules net past v u l items)
+  delivered_runs : (v u : ℕ) (l : LinkState) (items : List Item) → FrontFits net past v u → link v u past ≡ l → channel v u past ≡ items → Runs (delivered (given rules net past u) v l items)
   unfolding give
   delivered_runs v u (Down s) items fits up front = refl
   delivered_runs v u (Up s) [] fits up front = refl
@@ -64,14 +65,14 @@ module _ (rules : Rules) (net : Net) (past : Chronicle) where
       let test : nat_lt (last (reads (log_of u past)) v) s ≡ true = grind (arith, nat_tests, above) in
       rw test tt
 
-  opened_runs : (u v : ℕ) (session : Option ℕ) (l : LinkState) → Joined past u v → link u v past ≡ l → Runs (opened_by_link rules net past u v session l)
+  opened_runs : (u v : ℕ) (session : Option ℕ) (l : LinkState) → Joined past u v → link u v past ≡ l → Runs (opened_by_link (given rules net past u) v session l)
   unfolding give
   opened_runs u v (Some t) l joins is = refl
   opened_runs u v None (Down s) joins is = refl
   opened_runs u v None (Up s) joins is = opens_runs u v s (held_with u v past) (joins.below s is)
 
   -- a session that is closed
-  notices_runs : (u v : ℕ) (session : Option ℕ) → Runs (notices rules net (carried_by u past) u past v session)
+  notices_runs : (u v : ℕ) (session : Option ℕ) → Runs (closes session (λ s. write rules net (carried_by u past) u (local u (log_of u past) All (cause.Down v s)) past))
   notices_runs u v None = refl
   notices_runs u v (Some s) = tt
 
@@ -104,7 +105,7 @@ module _ (rules : Rules) (net : Net) (past : Chronicle) where
     step_runs (Fail a b) = fails_runs a b (link a b past)
     step_runs (Restore a b) = restores_runs a b (link a b past)
     step_runs (Notice u v) =
-        elim (is_carried (link u v past) (held_with u v past)) as (λ t. Runs (if t then Idle reason.StillUp else notices rules net (carried_by u past) u past v (held_with u v past))) [
+        elim (is_carried (link u v past) (held_with u v past)) as (λ t. Runs (if t then Idle reason.StillUp else notices rules net (carried_by u past) u past v)) [
           | true ↦ refl
           | false ↦ notices_runs u v (held_with u v past)
         ]
