@@ -1,6 +1,9 @@
 mod Acting
 mod Places
+mod Ranked
+pub mod Numbers
+mod Tables
 mod Keeping
 mod Again
-mod Standing
+pub mod Standing
 mod Fresh

@@ -40,7 +40,7 @@ pushed_at (z ∷ zs) y (suc i) x e = ⊎_elim (λ here. inl here) (λ (last : (i
 
 -- ---- lists that rise
 
-at_most : (xs : List ℕ) → IsStrictlyIncreasing xs → (i j : ℕ) → i ≤ j → j < length xs → get_or xs i 0 ≤ get_or xs j 0
+pub at_most : (xs : List ℕ) → IsStrictlyIncreasing xs → (i j : ℕ) → i ≤ j → j < length xs → get_or xs i 0 ≤ get_or xs j 0
 at_most xs rises i j h l = ⊎_elim
     (λ (same : i ≡ j). rw same (omega arith))
     (λ (ne : i ≢ j). let below : get_or xs i 0 < get_or xs j 0 = AllPairs-from_increasing xs rises i j 0 (omega (arith, apart i j h ne)) l in omega arith)
@@ -49,7 +49,7 @@ at_most xs rises i j h l = ⊎_elim
     apart : (i j : ℕ) → i ≤ j → i ≢ j → i < j
     apart i j h ne = grind (arith, nat_tests)
 
-read_or : (xs : List ℕ) (i x : ℕ) → slice_get xs i ≡ Some x → get_or xs i 0 ≡ x
+pub read_or : (xs : List ℕ) (i x : ℕ) → slice_get xs i ≡ Some x → get_or xs i 0 ≡ x
 read_or xs i x e = same_some (get_or xs i 0) x (sym (slice_get-get_or xs i 0 (slice_get_within xs i x e)) ∙ e)
 
 beside : (xs : List ℕ) (n i k : ℕ) → k < length xs → ((k : ℕ) → k < i → get_or xs k 0 < n) → ((k : ℕ) → i ≤ k → k < length xs → n < get_or xs k 0) → (get_or xs k 0 == n) ≡ false

@@ -27,31 +27,19 @@ ways_after acts u w = record { state = state u w acts; items = channel u w acts 
 pub keeps_of : (net : Net) (links : Links) (acts : Acts) → StandsFor net links acts → Keeps net links (ways_after acts)
 keeps_of net links acts stands = record {
   valid = stands.valid;
-  ids = stands.ids;
-  count = stands.count;
-  each = λ i u row node here.
-      let its = stands.each i u row node here in
-      record {
-        near = its.near;
-        width = its.width;
-        each = λ j w kept at there. let is = its.each j w kept at there in same_way kept (state u w acts) (channel u w acts) is.state is.items;
-      };
+  numbered = stands.numbered;
+  each = λ way e kept at here.
+      let is = stands.each way e kept at here in
+      same_way kept (state e.from e.to acts) (channel e.from e.to acts) is.state is.items;
 }
 
 pub stands_of : (net : Net) (links : Links) (ways : Ways) (acts : Acts) → Keeps net links ways → ((u w : ℕ) → ways u w ≡ ways_after acts u w) → StandsFor net links acts
 stands_of net links ways acts keeps same = record {
   valid = keeps.valid;
-  ids = keeps.ids;
-  count = keeps.count;
-  each = λ i u row node here.
-      let its = keeps.each i u row node here in
-      record {
-        near = its.near;
-        width = its.width;
-        each = λ j w kept at there.
-            let is = its.each j w kept at there ∙ same u w in
-            record { state = ap (λ (k : OneWay). k.state) is; items = ap (λ (k : OneWay). k.items) is };
-      };
+  numbered = keeps.numbered;
+  each = λ way e kept at here.
+      let is = keeps.each way e kept at here ∙ same e.from e.to in
+      record { state = ap (λ (k : OneWay). k.state) is; items = ap (λ (k : OneWay). k.items) is };
 }
 
 -- ---- what each call leaves

@@ -1,5 +1,6 @@
 pub mod Acts
 pub mod Readings
 pub mod Ways
+pub mod Tables
 pub mod Keeping
 pub mod Standing

@@ -1,10 +1,10 @@
 -- When links stand for a list of acts: all that they keep is what is read of the list.
-use Rattle.std.specs.Prelude.{ℕ, ◌≡◌, Some, length, slice_get}
-use Rattle.topology.specs.Lists.{ascending}
-use Rattle.topology.specs.Net.{Net, IsValid, neighbours}
-use Rattle.link_model.specs.declared.links.Row.{Row}
+use Rattle.std.specs.Prelude.{ℕ, ◌≡◌, Some, slice_get}
+use Rattle.topology.specs.Net.{Net, IsValid}
+use Rattle.link_model.specs.declared.ends.Ends.{Ends}
 use Rattle.link_model.specs.declared.links.Links.{Links}
 use Rattle.link_model.specs.Acts.{Acts}
+use Rattle.link_model.specs.Tables.{ways_of}
 use Rattle.link_model.specs.Ways.{OneWay}
 use Rattle.link_model.specs.Readings.{state, channel}
 
@@ -13,17 +13,9 @@ pub record IsChannel (acts : Acts) (u w : ℕ) (kept : OneWay) : Type 0 where
   pub state : kept.state ≡ state u w acts
   pub items : kept.items ≡ channel u w acts
 
--- a channel for each neighbour of u, ascending
-pub record IsRow (net : Net) (acts : Acts) (u : ℕ) (row : Row) : Type 0 where
-  pub near : row.near.items ≡ neighbours net u
-  pub width : length row.channels.items ≡ length (neighbours net u)
-  pub each : (i w : ℕ) (kept : OneWay) → slice_get (neighbours net u) i ≡ Some w
-      → slice_get row.channels.items i ≡ Some kept → IsChannel acts u w kept
-
--- a row for each node, ascending
+-- a channel for each way, at its number
 pub record StandsFor (net : Net) (links : Links) (acts : Acts) : Type 0 where
   pub valid : IsValid net
-  pub ids : links.ids.items ≡ ascending net.nodes
-  pub count : length links.rows.items ≡ length (ascending net.nodes)
-  pub each : (i u : ℕ) (row : Row) → slice_get (ascending net.nodes) i ≡ Some u
-      → slice_get links.rows.items i ≡ Some row → IsRow net acts u row
+  pub numbered : links.table ≡ ways_of net
+  pub each : (way : ℕ) (e : Ends) (kept : OneWay) → slice_get links.table way ≡ Some e
+      → slice_get links.channels.items way ≡ Some kept → IsChannel acts e.from e.to kept

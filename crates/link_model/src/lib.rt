@@ -6,9 +6,14 @@
 #![tactic(auto)]
 
 pub mod channels;
+pub mod ends;
 pub mod laws;
 pub mod links;
+mod ranks;
+mod way_table;
 
+pub use channels::Channel;
+pub use ends::{Ends, MOST_WAYS};
 pub use links::Links;
 pub use topology::LinkState;
 

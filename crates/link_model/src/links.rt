@@ -1,102 +1,84 @@
 //! The links of a network.
-ghost use Rattle.std.specs.Prelude.{ℕ, ◌≡◌, ◌<◌, ◌-◌, ◌^◌, [], ◌∷◌, List, Some, true, false, not, slice_get, IfOk, OnErr, IfSome, IfNone};
+ghost use Rattle.std.specs.Prelude.{ℕ, ◌≡◌, ◌<◌, ◌-◌, ◌^◌, [], ◌∷◌, List, Some, true, false, not, length, slice_get, IfOk, OnErr, IfSome, IfNone};
 ghost use Rattle.topology.specs.declared.items.Item.{Item as Carried};
-ghost use Rattle.topology.specs.Lists.{has};
 ghost use Rattle.topology.specs.Net.{Net, linked};
 ghost use Rattle.topology.specs.LinkStates.{carries, is_up, number_of};
-ghost use Rattle.std.specs.List.Sorted.{IsStrictlyIncreasing};
+ghost use Rattle.link_model.specs.declared.ends.TheConstants.{MOST_WAYS};
 ghost use Rattle.link_model.specs.Acts.{Acts, Push, Take, Fail, Restore};
 ghost use Rattle.link_model.specs.Readings.{state, channel};
-ghost use Rattle.link_model.specs.Ways.{emptied};
-ghost use Rattle.link_model.specs.Keeping.{Ways, Keeps, IsInside, IsPlaced, IsUnused, replaced};
-ghost use Rattle.link_model.specs.Standing.{StandsFor};
+ghost use Rattle.link_model.specs.Tables.{ways_of};
+ghost use Rattle.link_model.specs.Ways.{OneWay, emptied, unused};
 
 use crate::channels::Channel;
+use crate::ends::Ends;
+use crate::way_table::WayTable;
 use std::alloc::Global;
 use topology::{Item, LinkState, NoMemory, NodeId, Session, Topology};
 
-/// The ways from one node to each of its neighbours, ascending.
-#[derive(Drop)]
-pub struct Row {
-    near: Vec<NodeId>,
-    channels: Vec<Channel>,
-}
-
-/// The links of a network: a row for each node, ascending. Each call speaks of two nodes that have a
+/// The links of a network: a channel for each way. Each call by two nodes speaks of two that have a
 /// link; of others nothing is promised.
 #[derive(Drop)]
 pub struct Links {
-    ids: Vec<NodeId>,
-    rows: Vec<Row>,
+    table: WayTable,
+    // Each way at its number.
+    channels: Vec<Channel>,
+    ghost sized: { length channels.items ≡ length table },
 }
 
-// The ways from a node, each link up in its session 1, and nothing on its way.
-fn fresh_row(alloc: Global, near: &[NodeId]) -> Result<Row, NoMemory>
-    ensures { IfOk result (λ row. IsUnused near.now row) }
+// So many ways, each link up in its session 1, and nothing on its way.
+fn fresh_channels(alloc: Global, count: usize) -> Result<Vec<Channel>, NoMemory>
+    ensures length { IfOk result (λ channels. length channels.items ≡ count) }
+    ensures each { IfOk result (λ channels. (way : ℕ) (kept : OneWay) → slice_get channels.items way ≡ Some kept → kept ≡ unused) }
 {
-    let mut channels = Vec::with_capacity(alloc, near.len())?;
-    for _ in near {
+    let mut channels = Vec::with_capacity(alloc, count)?;
+    for _way in 0..count {
         channels.push(Channel::new(alloc))?;
     }
-    Ok(Row {
-        near: Vec::from_slice(alloc, near)?,
-        channels,
-    })
-}
-
-// The place of a node in a list that rises.
-fn place_of(nodes: &[NodeId], node: NodeId) -> Option<usize>
-    ensures some { IfSome result (λ place. slice_get nodes.now place ≡ Some node) }
-    ensures none { IfNone result (IsStrictlyIncreasing nodes.now → has nodes.now node ≡ false) }
-{
-    nodes.binary_search(&node).ok()
+    Ok(channels)
 }
 
 impl Links {
+    ghost use Rattle.link_model.specs.Keeping.{Ways, Keeps, IsPlaced, replaced};
+    ghost use Rattle.link_model.specs.Standing.{StandsFor, IsChannel};
+
     /// The links of a network, each up in its session 1, with nothing on its way.
     pub fn new(alloc: Global, topology: &Topology) -> Result<Links, NoMemory>
         ensures { IfOk result (λ links. StandsFor topology.now links []) }
     {
-        let mut rows = Vec::new(alloc);
-        for node in topology.nodes() {
-            rows.push(fresh_row(alloc, topology.neighbours(*node))?)?;
-        }
-        Ok(Links {
-            ids: Vec::from_slice(alloc, topology.nodes())?,
-            rows,
-        })
+        let _valid = topology.nodes();
+        let table = WayTable::new(alloc, topology)?;
+        let channels = fresh_channels(alloc, table.len())?;
+        Ok(Links { table, channels })
     }
 
-    // The places of a way: that of its row, and that in the row. None where the two have no link.
-    fn locate(&self, from: NodeId, to: NodeId) -> Option<(usize, usize)>
-        ensures some { IfSome result (λ places. IsPlaced self.now from to places.0 places.1) }
+    /// The number of the way from one node to another: ways are numbered by sender, then receiver. None
+    /// where the two have no link. Takes no memory.
+    pub fn way_of(&self, from: NodeId, to: NodeId) -> Option<usize>
+        ensures some { IfSome result (λ way. IsPlaced self.now from to way) }
         ensures none { IfNone result ((net : Net) (ways : Ways) → Keeps net self.now ways →
             linked net from to ≡ false) }
+        ensures few { IfSome result (λ way. way < MOST_WAYS) }
     {
-        let Some(rank) = place_of(&self.ids, from) else {
-            return None;
-        };
-        let Some(row) = self.rows.get(rank) else {
-            return None;
-        };
-        let Some(place) = place_of(&row.near, to) else {
-            return None;
-        };
-        if place >= row.channels.len() {
-            return None;
-        }
-        Some((rank, place))
+        self.table.way_of(from, to)
     }
 
-    // The way from one node to another. None where the two have no link.
-    fn way(&self, from: NodeId, to: NodeId) -> Option<&Channel>
-        ensures some { IfSome result (λ channel. (net : Net) (ways : Ways) → Keeps net self.now ways →
-            channel.now ≡ ways from to) }
-        ensures none { IfNone result ((net : Net) (ways : Ways) → Keeps net self.now ways →
+    /// The two ends of a way. None exactly where no way has the number.
+    pub fn ends(&self, way: usize) -> Option<Ends>
+        ensures { (net : Net) (acts : Acts) → StandsFor net self.now acts → result ≡ slice_get (ways_of net) way }
+    {
+        self.table.ends(way)
+    }
+
+    /// The way from one node to another: the state of the link, and what is on its way. None where the
+    /// two have no link. Takes no memory.
+    pub fn channel(&self, from: NodeId, to: NodeId) -> Option<&Channel>
+        ensures some { IfSome result (λ channel. (net : Net) (acts : Acts) → StandsFor net self.now acts →
+            IsChannel acts from to channel.now) }
+        ensures none { IfNone result ((net : Net) (acts : Acts) → StandsFor net self.now acts →
             linked net from to ≡ false) }
     {
-        let (rank, place) = self.locate(from, to)?;
-        Some(&self.rows[rank].channels[place])
+        let way = self.way_of(from, to)?;
+        Some(&self.channels[way])
     }
 
     /// Sends an item on its way in a session. True where it is queued; false where the link does not
@@ -113,21 +95,21 @@ impl Links {
             StandsFor net self.new (Push from to session item ∷ acts)) }
         ensures err { OnErr result (self.new ≡ self.old) }
     {
-        let Some((rank, place)) = self.locate(from, to) else {
+        let Some(way) = self.way_of(from, to) else {
             return Ok(false);
         };
-        let queued = self.rows[rank].channels[place].push(session, item)?;
+        let queued = self.channels[way].push(session, item)?;
         Ok(queued)
     }
 
-    // The way at these places is over a link in this state from now on, and what was on it is lost.
-    fn restart(&mut self, rank: usize, place: usize, state: LinkState)
-        requires { IsInside self.old rank place }
+    // The way is over a link in this state from now on, and what was on it is lost.
+    fn restart(&mut self, way: usize, state: LinkState)
+        requires { way < length self.old.table }
         ensures restarted { (net : Net) (ways : Ways) (from to : ℕ) → Keeps net self.old ways →
-            IsPlaced self.old from to rank place → Keeps net self.new (replaced from to (emptied state) ways) }
-        ensures places { (from to i j : ℕ) → IsPlaced self.old from to i j → IsPlaced self.new from to i j }
+            IsPlaced self.old from to way → Keeps net self.new (replaced from to (emptied state) ways) }
+        ensures table { self.new.table ≡ self.old.table }
     {
-        self.rows[rank].channels[place].restart(state);
+        self.channels[way].restart(state);
     }
 
     /// The link fails: what is on its way over it, both ways, is lost. False exactly where it is down
@@ -137,17 +119,17 @@ impl Links {
             (result ≡ is_up (state a b acts)) × StandsFor net self.new (Fail a b ∷ acts) }
         ensures unchanged { result ≡ false → self.new ≡ self.old }
     {
-        let Some((rank, place)) = self.locate(a, b) else {
+        let Some(way) = self.way_of(a, b) else {
             return false;
         };
-        let Some((rank_back, place_back)) = self.locate(b, a) else {
+        let Some(back) = self.way_of(b, a) else {
             return false;
         };
-        let LinkState::Up(session) = self.rows[rank].channels[place].state() else {
+        let LinkState::Up(session) = self.channels[way].state() else {
             return false;
         };
-        self.restart(rank, place, LinkState::Down(session));
-        self.restart(rank_back, place_back, LinkState::Down(session));
+        self.restart(way, LinkState::Down(session));
+        self.restart(back, LinkState::Down(session));
         true
     }
 
@@ -161,21 +143,21 @@ impl Links {
             number_of (state a b acts) ≡ 2 ^ 32 - 1 → result ≡ false }
         ensures unchanged { result ≡ false → self.new ≡ self.old }
     {
-        let Some((rank, place)) = self.locate(a, b) else {
+        let Some(way) = self.way_of(a, b) else {
             return false;
         };
-        let Some((rank_back, place_back)) = self.locate(b, a) else {
+        let Some(back) = self.way_of(b, a) else {
             return false;
         };
-        let LinkState::Down(session) = self.rows[rank].channels[place].state() else {
+        let LinkState::Down(session) = self.channels[way].state() else {
             return false;
         };
         let Some(number) = session.number().checked_add(1) else {
             return false;
         };
         let next = Session::new(number);
-        self.restart(rank, place, LinkState::Up(next));
-        self.restart(rank_back, place_back, LinkState::Up(next));
+        self.restart(way, LinkState::Up(next));
+        self.restart(back, LinkState::Up(next));
         true
     }
 
@@ -184,7 +166,7 @@ impl Links {
         ensures { (net : Net) (acts : Acts) → StandsFor net self.now acts → linked net a b ≡ true →
             result ≡ state a b acts }
     {
-        match self.way(a, b) {
+        match self.channel(a, b) {
             Some(channel) => channel.state(),
             None => LinkState::Down(Session::new(1)),
         }
@@ -197,7 +179,7 @@ impl Links {
         ensures none { IfNone result ((net : Net) (acts : Acts) → StandsFor net self.now acts →
             linked net from to ≡ true → channel from to acts ≡ []) }
     {
-        let Some(channel) = self.way(from, to) else {
+        let Some(channel) = self.channel(from, to) else {
             return None;
         };
         channel.front()
@@ -212,9 +194,9 @@ impl Links {
             linked net from to ≡ true → channel from to acts ≡ []) }
         ensures unchanged { IfNone result (self.new ≡ self.old) }
     {
-        let Some((rank, place)) = self.locate(from, to) else {
+        let Some(way) = self.way_of(from, to) else {
             return None;
         };
-        self.rows[rank].channels[place].pop_front()
+        self.channels[way].pop_front()
     }
 }

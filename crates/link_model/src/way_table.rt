@@ -1,0 +1,124 @@
+//! The ways over the links of a network, by number.
+ghost use Rattle.std.specs.Prelude.{ℕ, ◌≡◌, ◌<◌, ◌++◌, ◌∷◌, [], Some, None, map, length, slice_get, IfOk, OnOk, IfSome, if◌then◌else◌};
+ghost use Rattle.std.specs.List.Sorted.{IsStrictlyIncreasing};
+ghost use Rattle.topology.specs.Lists.{ascending, has};
+ghost use Rattle.topology.specs.Net.{linked, neighbours};
+ghost use Rattle.link_model.specs.declared.ends.TheConstants.{MOST_WAYS};
+ghost use Rattle.link_model.specs.Tables.{cells, ends, ways_of};
+
+use crate::ends::Ends;
+use crate::ranks::{Ranks, entry, place_of};
+use std::alloc::Global;
+use std::marker::Model;
+use topology::{NoMemory, NodeId, Topology};
+
+/// Different ways, each with a number, from 0.
+#[derive(Drop)]
+pub struct WayTable {
+    ranks: Ranks,
+    // The number of each way: at the rank of its sender, then at that of its receiver.
+    rows: Vec<Vec<Option<usize>>>,
+    ways: Vec<Ends>,
+}
+
+impl Model for WayTable {
+    ghost use Rattle.std.specs.Prelude.{List, map};
+    ghost use Rattle.link_model.specs.declared.ends.Ends.{Ends};
+    ghost use Rattle.link_model.specs.Tables.{IsTabled};
+
+    ghost Value = { List Ends };
+
+    ghost view = { λ t. t.ways.items };
+
+    ghost invariant = { λ t. IsTabled t.ranks (map (λ row. row.items) t.rows.items) t.ways.items };
+}
+
+// Whether a node is one of those in a list that rises.
+fn is_near(near: &[NodeId], node: NodeId) -> bool
+    ensures { IsStrictlyIncreasing near.now → result ≡ has near.now node }
+{
+    place_of(near, node).is_some()
+}
+
+// The number of the way between two nodes, where one of these is near the other: it is new.
+fn fresh_cell(
+    near: &[NodeId],
+    from: NodeId,
+    to: NodeId,
+    ways: &mut Vec<Ends>,
+) -> Result<Option<usize>, NoMemory>
+    requires { IsStrictlyIncreasing near.now }
+    ensures cell { IfOk result (λ cell. cell ≡ (if has near.now to then Some (length ways.old.items) else None)) }
+    ensures ways { OnOk result (ways.new.items ≡ (if has near.now to then ways.old.items ++ ends from to ∷ [] else ways.old.items)) }
+{
+    if !is_near(near, to) {
+        return Ok(None);
+    }
+    let number = ways.len();
+    ways.push(Ends { from, to })?;
+    Ok(Some(number))
+}
+
+// The numbers of the ways from a node, which are new.
+fn fresh_row(
+    alloc: Global,
+    topology: &Topology,
+    from: NodeId,
+    ways: &mut Vec<Ends>,
+) -> Result<Vec<Option<usize>>, NoMemory>
+    ensures row { IfOk result (λ row. row.items ≡ cells (linked topology.now from) (length ways.old.items) (ascending topology.now.nodes)) }
+    ensures ways { OnOk result (ways.new.items ≡ ways.old.items ++ map (ends from) (neighbours topology.now from)) }
+{
+    topology::laws::neighbours_are_linked();
+    let near = topology.neighbours(from);
+    let mut row = Vec::new(alloc);
+    for to in topology.nodes() {
+        row.push(fresh_cell(near, from, *to, ways)?)?;
+    }
+    Ok(row)
+}
+
+impl WayTable {
+    /// The ways over the links of a network, by sender, then receiver.
+    pub fn new(alloc: Global, topology: &Topology) -> Result<WayTable, NoMemory>
+        ensures { IfOk result (λ table. table ≡ ways_of topology.now) }
+    {
+        topology::laws::ascending_is_sorted();
+        let nodes = topology.nodes();
+        let mut rows = Vec::with_capacity(alloc, nodes.len())?;
+        let mut ways = Vec::new(alloc);
+        for from in nodes {
+            rows.push(fresh_row(alloc, topology, *from, &mut ways)?)?;
+        }
+        Ok(WayTable {
+            ranks: Ranks::new(alloc, nodes)?,
+            rows,
+            ways,
+        })
+    }
+
+    /// How many ways there are.
+    pub fn len(&self) -> usize
+        ensures { result ≡ length self.now }
+    {
+        self.ways.len()
+    }
+
+    /// The two ends of a way. None exactly where no way has the number.
+    pub fn ends(&self, way: usize) -> Option<Ends>
+        ensures { result ≡ slice_get self.now way }
+    {
+        self.ways.get(way).copied()
+    }
+
+    /// The number of a way. None where it is none of them. Takes no memory.
+    pub fn way_of(&self, from: NodeId, to: NodeId) -> Option<usize>
+        ensures some { IfSome result (λ way. slice_get self.now way ≡ Some (ends from to)) }
+        ensures found { (way : ℕ) → slice_get self.now way ≡ Some (ends from to) → result ≡ Some way }
+        ensures few { IfSome result (λ way. way < MOST_WAYS) }
+    {
+        let sender = self.ranks.rank(from)?;
+        let receiver = self.ranks.rank(to)?;
+        entry(&self.rows[sender], receiver)
+    }
+}
