@@ -203,10 +203,10 @@ promise_majority members nodes mails old new t past reports u from b named best 
     (goes (undecided (length members) part (Heard u from (Promise b named) ∷ past) reports u b (phase ∙ preparing) counted) counted)
 
 pub vote_counted : (members nodes : List ℕ) (mails : List TheMail) (old : Part) (t : Tallying Value) (past : Chronicle Value) (reports : List Report) (u from : ℕ) (b : Ballot)
-    → mails ≡ [] → SaysVote tally.Counted (length members) old.proposer t past u from b → t.phase ≡ old.proposer.phase
+    → mails_seen mails ≡ [] → SaysVote tally.Counted (length members) old.proposer t past u from b → t.phase ≡ old.proposer.phase
     → StandsFor (length members) old past reports u → Hears members nodes (told.Sent mails) old (record old { proposer = t }) past reports u from (Accepted b)
 vote_counted members nodes mails old t past reports u from b none says phase h =
-    is_heard members nodes mails old (record old { proposer = t }) past reports u from (Accepted b) [] says.heard (says.sends members nodes (value_of reports) refl) (ap mails_seen none)
+    is_heard members nodes mails old (record old { proposer = t }) past reports u from (Accepted b) [] says.heard (says.sends members nodes (value_of reports) refl) none
     (tallied (length members) old t past reports u from (Accepted b) [] (λ d. refl) tt tt says.stands phase h)
 
 pub vote_refused : (members nodes : List ℕ) (old : Part) (t : Tallying Value) (past : Chronicle Value) (reports : List Report) (u from : ℕ) (b : Ballot) (why : Refusal)

@@ -1,5 +1,5 @@
 //! A node's part in the agreement on the value of one epoch.
-ghost use Rattle.std.specs.Prelude.{ℕ, ◌≡◌, ◌||◌, ◌<◌, true, [], List, length, Some, None, IfOk, OnOk, IsNone};
+ghost use Rattle.std.specs.Prelude.{ℕ, ◌≡◌, ◌||◌, ◌<◌, true, [], List, length, Some, None, option_copied, IfOk, OnOk, IsNone};
 ghost use Rattle.topology.specs.Lists.{has, ascending};
 ghost use Rattle.paxos_core.specs.Facts as paxos;
 ghost use Rattle.paxos_core.specs.declared.proposer.Phase.TheVariants.{Preparing};
@@ -228,12 +228,17 @@ impl Part {
         }
     }
 
-    // Tells all nodes the value that is chosen.
-    fn announce(&self, alloc: Global, nodes: &[NodeId]) -> Result<Mails, NoMemory>
+    // Tells all nodes the value, where one is chosen.
+    fn announce(
+        &self,
+        alloc: Global,
+        nodes: &[NodeId],
+        chosen: Option<&Value>,
+    ) -> Result<Mails, NoMemory>
         ensures { IfOk result (λ mails. mails_seen mails ≡
-            of_epoch self.now.reports.epoch (announce nodes.now self.now.proposed)) }
+            of_epoch self.now.reports.epoch (announce nodes.now (option_copied chosen.entry))) }
     {
-        match &self.proposed {
+        match chosen {
             None => Ok(Mails::new(Vec::new(alloc))),
             Some(value) => {
                 let epoch = self.reports.epoch();
@@ -263,8 +268,11 @@ impl Part {
         match self.proposer.on_accepted(from, ballot, members)? {
             Tally::Stale => Ok(Reply::Idle(Reason::StaleBallot)),
             Tally::Duplicate => Ok(Reply::Idle(Reason::Duplicate)),
-            Tally::Counted => Ok(Reply::Sent(Mails::new(Vec::new(alloc)))),
-            Tally::Majority(_) => Ok(Reply::Sent(self.announce(alloc, nodes)?)),
+            Tally::Counted => Ok(Reply::Sent(self.announce(alloc, nodes, None)?)),
+            Tally::Majority(_) => {
+                let chosen = self.proposed.as_ref();
+                Ok(Reply::Sent(self.announce(alloc, nodes, chosen)?))
+            }
         }
     }
 

@@ -1,4 +1,4 @@
-//! The ballots of an epoch, step by step. Nodes 1, 2 and 3 are consolidators, node 4 is none.
+//! The ballots of an epoch, step by step.
 ghost use Rattle.std.specs.Prelude.{◌≡◌, ◌<◌};
 
 use crate::{Consolidator, Mail, Mails, Message, Reply};
@@ -9,8 +9,9 @@ use std::rc::Rc;
 use std::test::Fail;
 use topology::{Ballot, Epoch, NodeId, Reason, Topology};
 
-// What comes to node 1, what it replies, and the decision of epoch 1 that it knows then. A message is its sender
-// or its addressees, its kind, its epoch, and the rest; a value is the nodes that responded. By hand.
+// Nodes 1, 2 and 3 are consolidators, node 4 is none. What comes to node 1, what it replies, and the
+// decision of epoch 1 that it knows then. A message is its sender or its addressees, its kind, its epoch,
+// and the rest; a value is the nodes that responded. By hand.
 const CONSOLIDATOR: &str = "propose 1 | idle no-report |
 2 report 1 2 | |
 3 report 2 3 | |
@@ -71,6 +72,15 @@ const OTHER: &str = "propose 1 | idle no-consolidator |
 1 decision 1 2 | | 2
 1 decision 1 1,2 | idle decided | 2
 crash | | 2";
+
+// The same of node 1 as an acceptor, where nodes 1 and 2 are all there is.
+const ACCEPTOR: &str = "2 prepare 1 1/1 | 2 promise 1 1/1 |
+2 accept 1 1/1 1 | 2 accepted 1 1/1 |
+2 prepare 1 1/1 | idle promised 1/1 |
+2 prepare 1 2/2 | 2 promise 1 2/2 1/1 1 |
+2 accept 1 1/1 1 | idle promised 2/2 |
+2 accept 1 2/2 1 | 2 accepted 1 2/2 |
+2 accept 1 2/2 1 | idle duplicate |";
 
 fn number(word: &str) -> Result<u32, Fail> {
     Ok(word.parse::<u32>()?)
@@ -248,11 +258,13 @@ fn plays(
     Ok(())
 }
 
-fn fill(topology: &mut Topology) -> Result<(), Fail> {
-    for of in [1, 2, 3] {
-        topology.add_node(NodeId::new(of), true)?;
+fn fill(topology: &mut Topology, consolidators: &[u16], others: &[u16]) -> Result<(), Fail> {
+    for of in consolidators {
+        topology.add_node(NodeId::new(*of), true)?;
     }
-    topology.add_node(NodeId::new(4), false)?;
+    for of in others {
+        topology.add_node(NodeId::new(*of), false)?;
+    }
     Ok(())
 }
 
@@ -260,10 +272,20 @@ fn fill(topology: &mut Topology) -> Result<(), Fail> {
 fn the_ballots_of_an_epoch(rt: HostRuntime) -> Result<(), Fail> {
     let alloc = rt.alloc();
     let mut topology = Topology::empty(alloc);
-    fill(&mut topology)?;
+    fill(&mut topology, &[1, 2, 3], &[4])?;
     for (node, steps) in [(1, CONSOLIDATOR), (4, OTHER)] {
         let start = Consolidator::new(alloc, &topology, NodeId::new(node))?;
         plays(&rt, alloc, &topology, start, steps)?;
     }
+    Ok(())
+}
+
+#[test]
+fn an_acceptor_promises_and_accepts(rt: HostRuntime) -> Result<(), Fail> {
+    let alloc = rt.alloc();
+    let mut topology = Topology::empty(alloc);
+    fill(&mut topology, &[1, 2], &[])?;
+    let start = Consolidator::new(alloc, &topology, NodeId::new(1))?;
+    plays(&rt, alloc, &topology, start, ACCEPTOR)?;
     Ok(())
 }
