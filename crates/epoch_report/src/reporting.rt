@@ -1,0 +1,35 @@
+//! The report of a cut.
+ghost use Rattle.std.specs.Prelude.{ℕ, List, ◌≡◌, IfOk};
+ghost use Rattle.topology.specs.Net.{Net};
+ghost use Rattle.trigger_log.specs.Entries.{Entry};
+ghost use Rattle.trigger_log.specs.Standing.{StandsFor};
+ghost use Rattle.incomplete_closure.specs.Seen.{report_seen};
+ghost use Rattle.epoch_report.specs.Reporting.{report_of};
+
+use crate::telling::{rows_of, sessions_of};
+use incomplete_closure::Report;
+use path_vector::Policy;
+use std::alloc::Global;
+use topology::{Epoch, NoMemory};
+use trigger_log::NodeLog;
+
+/// What the node of a log reports of an epoch, where its cut is the whole log: a row for each
+/// entry, the oldest first, with all items that the entry sent, `close` included; and a row for
+/// each session that it ever held, by neighbour, ascending, then by session. Takes time and memory
+/// in proportion to the entries, their items and the sessions.
+pub fn report_of<P: Policy + Copy>(
+    alloc: Global,
+    log: &NodeLog<P>,
+    epoch: Epoch,
+) -> Result<Report, NoMemory>
+    ensures { IfOk result (λ report. (policy : P) (net : Net) (u : ℕ) (h : List Entry) →
+        StandsFor policy (P.rules policy) net u log.now h →
+        report_seen report ≡ report_of (P.rules policy) net u epoch h) }
+{
+    Ok(Report {
+        node: log.next_trigger().node,
+        epoch,
+        rows: rows_of(alloc, log.entries())?,
+        sessions: sessions_of(alloc, log.sessions())?,
+    })
+}

@@ -1,0 +1,58 @@
+//! Entries and sessions of a log as rows of a report.
+ghost use Rattle.std.specs.Prelude.{◌≡◌, map, IfOk};
+ghost use Rattle.epoch_report.specs.Telling.{row_told, session_told};
+
+use incomplete_closure::{Row, Rows, SessionRow, SessionRows};
+use std::alloc::Global;
+use topology::{NoMemory, Sent, SentItems};
+use trigger_log::{Entry, SessionMark};
+
+// An equal list of items.
+fn copy_of(alloc: Global, sent: &[Sent]) -> Result<SentItems, NoMemory>
+    ensures { IfOk result (λ copy. copy ≡ sent.now) }
+{
+    Ok(SentItems::new(Vec::from_slice(alloc, sent)?))
+}
+
+fn row_of(alloc: Global, entry: &Entry) -> Result<Row, NoMemory>
+    ensures { IfOk result (λ row. row ≡ row_told entry.now) }
+{
+    Ok(Row {
+        trigger: entry.trigger,
+        scope: entry.scope,
+        sent: copy_of(alloc, entry.sent.as_slice())?,
+    })
+}
+
+/// A row for each entry, in their order.
+pub(crate) fn rows_of(alloc: Global, entries: &[Entry]) -> Result<Rows, NoMemory>
+    ensures { IfOk result (λ rows. rows ≡ map row_told entries.now) }
+{
+    let mut rows = Vec::with_capacity(alloc, entries.len())?;
+    for entry in entries {
+        rows.push(row_of(alloc, entry)?)?;
+    }
+    Ok(Rows::new(rows))
+}
+
+fn session_of(mark: &SessionMark) -> SessionRow
+    ensures { result ≡ session_told mark.now }
+{
+    SessionRow {
+        nbr: mark.nbr,
+        session: mark.session,
+        received: mark.received,
+        down: mark.down,
+    }
+}
+
+/// A row for each mark, in their order.
+pub(crate) fn sessions_of(alloc: Global, marks: &[SessionMark]) -> Result<SessionRows, NoMemory>
+    ensures { IfOk result (λ rows. rows ≡ map session_told marks.now) }
+{
+    let mut rows = Vec::with_capacity(alloc, marks.len())?;
+    for mark in marks {
+        rows.push(session_of(mark))?;
+    }
+    Ok(SessionRows::new(rows))
+}
