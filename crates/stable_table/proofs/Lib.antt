@@ -1,0 +1,5 @@
+pub mod Searching
+pub mod Keeping
+pub mod Simple
+pub mod Backed
+pub mod Tabled

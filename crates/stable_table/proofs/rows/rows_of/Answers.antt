@@ -1,0 +1,20 @@
+use Rattle.std.proofs.Common.{◌≡◌, length, subst, arith}
+use Rattle.std.specs.List.{AllZip, range_with_len}
+use Rattle.topology.specs.Net.{places}
+use Rattle.stable_table.specs.Rows.{IsRow}
+use Rattle.stable_table.proofs.Tabled.{rows_more}
+use Rattle.stable_table.proofs.rows.rows_of.Goals as goal
+
+pub loop-place-preserved : goal.loop-place-preserved
+loop-place-preserved g c = λ policy h stands brings.
+    let IsRowAt = IsRow (g.P.Policy.rules policy) c.args.topology.now c.args.node c.args.value.now h in
+    let row = c.in_ok-row_of.field-0 in
+    rw c.in_ok-push.ensures.items
+    (rows_more IsRowAt c.loop-place.rows.items c.loop-place.place row (c.loop-place.invariant policy h stands brings)
+    (subst (λ p. IsRowAt p row) c.new.ensures (c.in_ok-row_of.ensures policy c.args.topology.now h stands brings (omega arith))))
+
+pub returns : goal.returns
+unfolding places
+returns g c = λ policy h stands brings.
+    let end : c.loop-place.place ≡ length c.args.topology.now.prefixes = omega arith in
+    subst (λ n. AllZip (IsRow (g.P.Policy.rules policy) c.args.topology.now c.args.node c.args.value.now h) (range_with_len 0 n) c.loop-place.rows.items) end (c.loop-place.invariant policy h stands brings)

@@ -1,0 +1,4 @@
+pub mod Tables
+pub mod Keeping
+pub mod Backups
+pub mod Rows

@@ -1,0 +1,88 @@
+//! What a table has of a prefix.
+ghost use Rattle.std.specs.Prelude.{ℕ, ◌≡◌, ◌<◌, true, length, option_and_then, IfOk};
+ghost use Rattle.std.specs.List.{AllZip};
+ghost use Rattle.topology.specs.Lists.{has};
+ghost use Rattle.topology.specs.Net.{Net, places};
+ghost use Rattle.path_vector.specs.History.{History};
+ghost use Rattle.path_vector.specs.Selection.{best, path_of};
+ghost use Rattle.path_vector.specs.Simple.{BringsPaths};
+ghost use Rattle.path_vector.specs.Standing.{StandsFor};
+ghost use Rattle.stable_table.specs.Tables.{answered};
+ghost use Rattle.stable_table.specs.Rows.{IsRow};
+
+use crate::backups::backups_of;
+use crate::responders::{all_responded, responded};
+use incomplete_closure::Value;
+use path_vector::{Policy, RouteState};
+use std::alloc::Global;
+use topology::{NoMemory, NodeId, Path, PrefixId, Topology};
+
+/// The path of a prefix, where there is one, and its backups.
+#[derive(Debug, Drop)]
+pub struct Row {
+    pub path: Option<Path>,
+    pub backups: Vec<Path>,
+}
+
+// The best path, where all its nodes responded.
+fn path_of<P: Policy + Copy>(
+    state: &RouteState<P>,
+    value: &Value,
+    prefix: PrefixId,
+) -> Result<Option<Path>, NoMemory>
+    ensures { IfOk result (λ path. (policy : P) (net : Net) (u : ℕ) (h : History) →
+        StandsFor policy net u state.now h → prefix < length net.prefixes →
+        has value.now.responding u ≡ true →
+        path ≡ option_and_then (answered value.now u) (path_of u (best (P.rules policy) net u h prefix))) }
+{
+    let Some(path) = state.best_path(prefix) else {
+        return Ok(None);
+    };
+    if !all_responded(value, path.nodes()) {
+        return Ok(None);
+    }
+    Ok(Some(path.copy()?))
+}
+
+// The row of a prefix: nothing where the own node did not respond.
+fn row_of<P: Policy + Copy>(
+    alloc: Global,
+    state: &RouteState<P>,
+    value: &Value,
+    node: NodeId,
+    prefix: PrefixId,
+) -> Result<Row, NoMemory>
+    ensures { IfOk result (λ row. (policy : P) (net : Net) (h : History) →
+        StandsFor policy net node state.now h → BringsPaths h → prefix < length net.prefixes →
+        IsRow (P.rules policy) net node value.now h prefix row) }
+{
+    if !responded(value, node) {
+        return Ok(Row {
+            path: None,
+            backups: Vec::new(alloc),
+        });
+    }
+    Ok(Row {
+        path: path_of(state, value, prefix)?,
+        backups: backups_of(alloc, state, value, node, prefix)?,
+    })
+}
+
+/// A row for each prefix, in file order.
+pub(crate) fn rows_of<P: Policy + Copy>(
+    alloc: Global,
+    topology: &Topology,
+    state: &RouteState<P>,
+    value: &Value,
+    node: NodeId,
+) -> Result<Vec<Row>, NoMemory>
+    ensures { IfOk result (λ rows. (policy : P) (h : History) →
+        StandsFor policy topology.now node state.now h → BringsPaths h →
+        AllZip (IsRow (P.rules policy) topology.now node value.now h) (places topology.now) rows.items) }
+{
+    let mut rows = Vec::with_capacity(alloc, topology.prefix_count() as usize)?;
+    for place in 0..topology.prefix_count() {
+        rows.push(row_of(alloc, state, value, node, PrefixId::new(place))?)?;
+    }
+    Ok(rows)
+}

@@ -1,0 +1,197 @@
+//! What no clause says: each call on its happy path, with ample memory.
+use crate::{Table, table_of};
+use incomplete_closure::{Nodes, Triggers, Value};
+use path_vector::{Cause, ShortestAll};
+use std::alloc::Global;
+use std::process::Abort;
+use std::test::Fail;
+use topology::{
+    Epoch, NodeId, Path, Prefix, PrefixId, Relation, Scope, Session, Topology, Trigger,
+};
+use trigger_log::NodeLog;
+
+// How many entries the cut has, the nodes that responded, the counter of the incomplete trigger of node
+// 9, or 0; and what the table has: the path of the first prefix, its backups one after the other, and
+// the path of the second one, which node 2 originates after all updates. In turn: two updates; four of
+// them; without the fourth; 4 did not respond, so there is no path, but the other candidates; after the
+// withdrawal, with the own prefix; 2 did not respond. By hand: fewer nodes are better, then the lower
+// neighbour.
+const CASES: &str = "2 1,2,3,4,9 0 2,1,9 2,1,9,2,3,9 -
+4 1,2,3,4,9 0 2,3 2,3,2,4,2,1,9 -
+4 1,2,3,4,9 4 2,4 2,4,2,1,9,2,3,9 -
+4 1,2,3,9 4 - 2,1,9,2,3,9 -
+6 1,2,3,4,9 4 2,4 2,4,2,3,9 2
+6 1,3,4,9 4 - - -";
+
+fn fill(net: &mut Topology) -> Result<(), Fail> {
+    for id in [1, 2, 3, 4, 9] {
+        net.add_node(NodeId::new(id), false)?;
+    }
+    for id in [1, 3, 4] {
+        net.add_link(NodeId::new(2), NodeId::new(id), Relation::Any)?;
+    }
+    net.add_prefix(Prefix { bits: 0, len: 0 })?;
+    net.add_prefix(Prefix { bits: 0, len: 1 })?;
+    Ok(())
+}
+
+fn number(word: &str) -> Result<u32, Fail> {
+    Ok(word.parse::<u32>()?)
+}
+
+fn node(word: &str) -> Result<NodeId, Fail> {
+    Ok(NodeId::new(word.parse::<u16>()?))
+}
+
+fn ids(alloc: Global, word: &str) -> Result<Vec<NodeId>, Fail> {
+    let mut nodes = Vec::new(alloc);
+    if word == "-" {
+        return Ok(nodes);
+    }
+    for of in word.split(',') {
+        nodes.push(node(of)?)?;
+    }
+    Ok(nodes)
+}
+
+// The first word of the line, and the others.
+fn split(line: &str) -> Result<(&str, &str), Fail> {
+    Ok(line.split_once(' ').ok_or("a further word")?)
+}
+
+fn trigger(count: u32) -> Trigger {
+    Trigger {
+        node: NodeId::new(9),
+        count,
+    }
+}
+
+fn update(alloc: Global, from: &str, seq: &str, path: &str) -> Result<Cause, Fail> {
+    Ok(Cause::Recv {
+        from: node(from)?,
+        session: Session::new(1),
+        seq: number(seq)?,
+        path: Path::new(ids(alloc, path)?),
+    })
+}
+
+// Node 2 hears of the first prefix: from which neighbour, with which number, which path (none: a
+// withdrawal), and the counter of the trigger, which is one of node 9.
+fn hear(
+    alloc: Global,
+    net: &Topology,
+    log: NodeLog<ShortestAll>,
+    line: &str,
+) -> Result<NodeLog<ShortestAll>, Fail> {
+    let (from, rest) = split(line)?;
+    let (seq, rest) = split(rest)?;
+    let (path, count) = split(rest)?;
+    let cause = update(alloc, from, seq, path)?;
+    let scope = Scope::One(PrefixId::new(0));
+    let (log, _) = log.append(net, trigger(number(count)?), scope, cause)?;
+    Ok(log)
+}
+
+fn play(
+    alloc: Global,
+    net: &Topology,
+    start: NodeLog<ShortestAll>,
+) -> Result<NodeLog<ShortestAll>, Fail> {
+    let log = hear(alloc, net, start, "1 1 1,9 1")?;
+    let log = hear(alloc, net, log, "3 1 3,9 2")?;
+    let log = hear(alloc, net, log, "4 1 4 3")?;
+    let log = hear(alloc, net, log, "3 2 3 4")?;
+    hear(alloc, net, log, "1 2 - 5")
+}
+
+fn begin(net: &Topology, log: NodeLog<ShortestAll>) -> Result<NodeLog<ShortestAll>, Fail> {
+    let next = log.next_trigger();
+    let scope = Scope::One(PrefixId::new(1));
+    let (log, _) = log.append(net, next, scope, Cause::Originate)?;
+    Ok(log)
+}
+
+fn value(alloc: Global, responding: &str, incomplete: &str) -> Result<Value, Fail> {
+    let mut triggers = Vec::new(alloc);
+    let count = number(incomplete)?;
+    if count > 0 {
+        triggers.push(trigger(count))?;
+    }
+    Ok(Value {
+        responding: Nodes::new(ids(alloc, responding)?),
+        incomplete: Triggers::new(triggers),
+    })
+}
+
+fn has_path(
+    rt: &impl Abort,
+    alloc: Global,
+    table: &Table,
+    prefix: u16,
+    path: &str,
+) -> Result<(), Fail> {
+    let wanted = ids(alloc, path)?;
+    match table.path(PrefixId::new(prefix)) {
+        None => assert!(rt; wanted.is_empty()),
+        Some(nodes) => assert_eq!(rt; nodes, wanted.as_slice()),
+    }
+    Ok(())
+}
+
+fn has_backups(rt: &impl Abort, alloc: Global, table: &Table, backups: &str) -> Result<(), Fail> {
+    let mut nodes = Vec::new(alloc);
+    for path in table.backups(PrefixId::new(0)) {
+        nodes.extend_from_slice(path.nodes())?;
+    }
+    let wanted = ids(alloc, backups)?;
+    assert_eq!(rt; nodes.as_slice(), wanted.as_slice());
+    Ok(())
+}
+
+// The path of the first prefix, its backups, and the path of the second one.
+fn has(rt: &impl Abort, alloc: Global, table: &Table, wanted: &str) -> Result<(), Fail> {
+    let (path, rest) = split(wanted)?;
+    let (backups, own) = split(rest)?;
+    assert_eq!(rt; table.epoch(), Epoch::new(3));
+    has_path(rt, alloc, table, 0, path)?;
+    has_backups(rt, alloc, table, backups)?;
+    has_path(rt, alloc, table, 1, own)?;
+    has_path(rt, alloc, table, 2, "-")
+}
+
+fn shows(
+    rt: &impl Abort,
+    alloc: Global,
+    net: &Topology,
+    log: &NodeLog<ShortestAll>,
+    line: &str,
+) -> Result<(), Fail> {
+    let (cut, rest) = split(line)?;
+    let (responding, rest) = split(rest)?;
+    let (incomplete, wanted) = split(rest)?;
+    let agreed = value(alloc, responding, incomplete)?;
+    let epoch = Epoch::new(3);
+    let table = table_of(alloc, net, log, number(cut)?, epoch, &agreed, ShortestAll)?;
+    has(rt, alloc, &table, wanted)
+}
+
+fn show_all(
+    rt: &impl Abort,
+    alloc: Global,
+    net: &Topology,
+    log: &NodeLog<ShortestAll>,
+) -> Result<(), Fail> {
+    for line in CASES.lines() {
+        shows(rt, alloc, net, log, line)?;
+    }
+    Ok(())
+}
+
+#[test]
+fn tables_follow_the_value(rt: HostRuntime) -> Result<(), Fail> {
+    let mut net = Topology::empty(rt.alloc());
+    fill(&mut net)?;
+    let log = NodeLog::new(rt.alloc(), &net, NodeId::new(2), ShortestAll)?;
+    let log = begin(&net, play(rt.alloc(), &net, log)?)?;
+    show_all(&rt, rt.alloc(), &net, &log)
+}
