@@ -1,0 +1,11 @@
+pub mod Complete
+pub mod Sender
+pub mod Receiver
+pub mod AtComplete
+pub mod SessionRows
+pub mod SentRows
+pub mod ValueClosed
+pub mod AtCuts
+pub mod Candidates
+pub mod Continuing
+pub mod EveryRun

@@ -1,0 +1,69 @@
+-- What the cuts of one epoch leave at rest.
+use Rattle.std.specs.Prelude.{ℕ, Bool, true, false, Option, Some, None, List, [], ◌∷◌, ◌≡◌, ◌⊎◌, filter_map, option_map, option_and_then, if◌then◌else◌}
+use Rattle.topology.specs.Lists.{has, Among}
+use Rattle.topology.specs.Net.{Net, neighbours, places}
+use Rattle.path_vector.specs.Rules.{Rules}
+use Rattle.path_vector.specs.History.{held, ready}
+use Rattle.path_vector.specs.Selection.{candidate, usable}
+use Rattle.path_vector.specs.Offers.{offer}
+use Rattle.trigger_log.specs.Entries.{Entry, reads, is_session}
+use Rattle.incomplete_closure.specs.Reports.{Report}
+use Rattle.incomplete_closure.specs.declared.values.Value.{Value}
+use Rattle.incomplete_closure.specs.Values.{IsValue}
+use Rattle.epoch_report.specs.Reporting.{report_of}
+use Rattle.stable_table.specs.Tables.{complete_in, table_path}
+use Rattle.chronicle.specs.Facts.{Chronicle}
+use Rattle.chronicle.specs.Epochs.{cut}
+
+-- there is a session, and the other is the same
+abbrev pub same_session : Option ℕ → Option ℕ → Bool
+same_session None other = false
+same_session (Some s) other = is_session other s
+
+-- u and the path after it, which does not come back to u
+abbrev pub led_by : ℕ → List ℕ → Option (List ℕ)
+led_by u path = option_map (λ rest. u ∷ rest) (usable u path)
+
+-- what u has of v over these entries of theirs: where v is ready in the session that u holds, u and then what
+-- v offers; else nothing
+abbrev pub sees : Rules → Net → ℕ → ℕ → List Entry → List Entry → ℕ → Option (List ℕ)
+sees rules net u v mine theirs p =
+    if same_session (held (reads mine) v) (ready (reads theirs) u)
+    then option_and_then (led_by u) (offer rules net v (reads theirs) p u) else None
+
+-- the candidate of v at u is what v offers
+abbrev pub Agrees : Rules → Net → ℕ → ℕ → List Entry → List Entry → ℕ → Type 0
+Agrees rules net u v mine theirs p = candidate u (reads mine) p v ≡ sees rules net u v mine theirs p
+
+-- the reports of epoch e of those of the nodes that have a cut of it
+abbrev pub reports : Rules → Net → Chronicle → ℕ → List ℕ → List Report
+reports rules net past e nodes = filter_map (λ u. option_map (report_of rules net u e) (cut u e past)) nodes
+
+-- over the complete entries of the cuts of these nodes, by the value of their reports, each candidate is what its
+-- neighbour offers
+pub record AtRest (rules : Rules) (net : Net) (past : Chronicle) (e : ℕ) (nodes : List ℕ) : Type 0 where
+  pub rest : (value : Value) → IsValue (reports rules net past e nodes) value
+      → (u v p : ℕ) (a b : List Entry) → Among u nodes → Among v nodes → has (neighbours net u) v ≡ true
+      → has (places net) p ≡ true → cut u e past ≡ Some a → cut v e past ≡ Some b
+      → Agrees rules net u v (complete_in value p a) (complete_in value p b) p
+
+-- u and then a path that begins with a neighbour, in whose table of the same value it stands; it does not come back to u
+pub record GoesOn (rules : Rules) (net : Net) (past : Chronicle) (e : ℕ) (nodes : List ℕ) (value : Value) (u p : ℕ)
+    (path : List ℕ) : Type 0 where
+  pub next : ℕ
+  pub rest : List ℕ
+  pub is : path ≡ u ∷ next ∷ rest
+  pub apart : has (next ∷ rest) u ≡ false
+  pub near : has (neighbours net u) next ≡ true
+  pub among : Among next nodes
+  pub there : List Entry
+  pub cut_there : cut next e past ≡ Some there
+  pub goes : table_path rules net next value there p ≡ Some (next ∷ rest)
+
+-- each path in the tables of these nodes, by the value of their reports, is its node alone, or goes on as the path
+-- of its next node
+pub record TablesContinue (rules : Rules) (net : Net) (past : Chronicle) (e : ℕ) (nodes : List ℕ) : Type 0 where
+  pub continues : (value : Value) → IsValue (reports rules net past e nodes) value
+      → (u p : ℕ) (a : List Entry) (path : List ℕ) → Among u nodes → has (places net) p ≡ true → cut u e past ≡ Some a
+      → table_path rules net u value a p ≡ Some path
+      → (path ≡ u ∷ []) ⊎ GoesOn rules net past e nodes value u p path
