@@ -19,7 +19,7 @@ use Rattle.chronicle.specs.Giving.{give, opens, out_of_turn}
 use Rattle.chronicle.specs.Inputs.{Arrive, Notice, OpenSession}
 use Rattle.chronicle.specs.Logs.{log_of}
 use Rattle.chronicle.specs.Run.{held_with}
-use Rattle.chronicle.specs.Steps.{Carried, Idle}
+use Rattle.chronicle.specs.Steps.{Carried, Goes, Idle}
 use Rattle.cut_laws.proofs.Marked.{session_is}
 use Rattle.node_core.specs.declared.inputs.Input.{Input as Given}
 use Rattle.node_core.specs.declared.inputs.Input.TheVariants as given
@@ -27,7 +27,7 @@ use Rattle.node_core.specs.declared.deciding.Act.{Act}
 use Rattle.node_core.specs.declared.deciding.Act.TheVariants.{Enter, Open, Take, Rise}
 use Rattle.node_core.specs.Inputs.{input_of}
 use Rattle.node_core.specs.Coming.{MayCome}
-use Rattle.node_core.specs.Deciding.{Does, IsInTurn}
+use Rattle.node_core.specs.Deciding.{MayDo, acted, IsInTurn}
 
 -- what is not out of turn is in turn
 in_turn : (u v s : ℕ) (past : Chronicle) (x : Item) → out_of_turn (suc (length (inbox (log_of u past) v s))) x ≡ None → IsInTurn u v s past x
@@ -54,9 +54,9 @@ open_by carried u past v s (Some t) e = refl
 
 module _ (rules : Rules) (net : Net) (u : ℕ) (carried : Carried) (past : Chronicle) where
   module _ (input : Given) where
-    does_as : (i : Given) (act : Act) → input ≡ i → Does rules net carried u past (give rules net carried u past (input_of i)) act
-        → Does rules net carried u past (give rules net carried u past (input_of input)) act
-    does_as i act is does = subst (λ x. Does rules net carried u past (give rules net carried u past (input_of x)) act) (sym is) does
+    does_as : (i : Given) (act : Act) → input ≡ i → MayDo net u past act × (give rules net carried u past (input_of i) ≡ Goes (acted rules net carried u past act))
+        → MayDo net u past act × (give rules net carried u past (input_of input) ≡ Goes (acted rules net carried u past act))
+    does_as i act is does = (does.0, subst (λ x. give rules net carried u past (input_of x) ≡ Goes (acted rules net carried u past act)) (sym is) does.1)
 
     idle_as : (i : Given) (why : Reason) → input ≡ i → give rules net carried u past (input_of i) ≡ Idle why → give rules net carried u past (input_of input) ≡ Idle why
     idle_as i why is idle = subst (λ x. give rules net carried u past (input_of x) ≡ Idle why) (sym is) idle
@@ -64,9 +64,14 @@ module _ (rules : Rules) (net : Net) (u : ℕ) (carried : Carried) (past : Chron
     comes_as : (i : Given) → input ≡ i → MayCome net u (input_of input) → MayCome net u (input_of i)
     comes_as i is may = subst (λ x. MayCome net u (input_of x)) is may
 
+    -- what is decided of an input that is this one
+    pub decides_as : (i : Given) (act : Act) → input ≡ i → (MayCome net u (input_of i) → MayDo net u past act × (give rules net carried u past (input_of i) ≡ Goes (acted rules net carried u past act)))
+        → MayCome net u (input_of input) → MayDo net u past act × (give rules net carried u past (input_of input) ≡ Goes (acted rules net carried u past act))
+    decides_as i act is does may = does_as i act is (does (comes_as i is may))
+
     module _ (p : ℕ) (r : Bool) (owned : p < length net.prefixes → r ≡ owns (reads (log_of u past)) p) (may : MayCome net u (input_of input)) where
       pub originates : input ≡ given.Originate p → r ≡ false
-          → Does rules net carried u past (give rules net carried u past (input_of input)) (Enter (One p) cause.Originate)
+          → MayDo net u past (Enter (One p) cause.Originate) × (give rules net carried u past (input_of input) ≡ Goes (acted rules net carried u past (Enter (One p) cause.Originate)))
       unfolding give
       originates is not_own =
           let inside = comes_as (given.Originate p) is may in
@@ -81,7 +86,7 @@ module _ (rules : Rules) (net : Net) (u : ℕ) (carried : Carried) (past : Chron
           idle_as (given.Originate p) reason.AlreadyOrigin is (rw test refl)
 
       pub withdraws : input ≡ given.Withdraw p → r ≡ true
-          → Does rules net carried u past (give rules net carried u past (input_of input)) (Enter (One p) cause.Withdraw)
+          → MayDo net u past (Enter (One p) cause.Withdraw) × (give rules net carried u past (input_of input) ≡ Goes (acted rules net carried u past (Enter (One p) cause.Withdraw)))
       unfolding give
       withdraws is own =
           let inside = comes_as (given.Withdraw p) is may in
@@ -96,20 +101,20 @@ module _ (rules : Rules) (net : Net) (u : ℕ) (carried : Carried) (past : Chron
           idle_as (given.Withdraw p) reason.NotOrigin is (rw test refl)
 
     pub prefers : (v value : ℕ) → MayCome net u (input_of input) → input ≡ given.Prefer v value
-        → Does rules net carried u past (give rules net carried u past (input_of input)) (Enter All (cause.Prefer v value))
+        → MayDo net u past (Enter All (cause.Prefer v value)) × (give rules net carried u past (input_of input) ≡ Goes (acted rules net carried u past (Enter All (cause.Prefer v value))))
     unfolding give
     prefers v value may is =
         does_as (given.Prefer v value) (Enter All (cause.Prefer v value)) is
         (record { near = comes_as (given.Prefer v value) is may; placed = tt; fits = tt }, refl)
 
     pub snaps : (e : ℕ) → e ≡ suc (epoch u past) → input ≡ given.Snap
-        → Does rules net carried u past (give rules net carried u past (input_of input)) (Rise e)
+        → MayDo net u past (Rise e) × (give rules net carried u past (input_of input) ≡ Goes (acted rules net carried u past (Rise e)))
     unfolding give
     snaps e next is = does_as given.Snap (Rise e) is (rw next (omega arith, refl))
 
   module _ (v : ℕ) (near : has (neighbours net u) v ≡ true) where
     module _ (o : Option ℕ) (holds : o ≡ held (reads (log_of u past)) v) where
-      pub closes : (s : ℕ) → o ≡ Some s → Does rules net carried u past (give rules net carried u past (Notice v)) (Enter All (cause.Down v s))
+      pub closes : (s : ℕ) → o ≡ Some s → MayDo net u past (Enter All (cause.Down v s)) × (give rules net carried u past (Notice v) ≡ Goes (acted rules net carried u past (Enter All (cause.Down v s))))
       unfolding give
       closes s is =
           let test : held (reads (log_of u past)) v ≡ Some s = sym holds ∙ is in
@@ -124,7 +129,7 @@ module _ (rules : Rules) (net : Net) (u : ℕ) (carried : Carried) (past : Chron
       already_open s some = open_by carried u past v s (held (reads (log_of u past)) v) (ap is_some (sym holds) ∙ some)
 
       module _ (s : ℕ) (r : Bool) (fits : IsTrue r ↔ ((held (reads (log_of u past)) v ≡ None) × (last (reads (log_of u past)) v < s))) where
-        pub opens_higher : r ≡ true → Does rules net carried u past (give rules net carried u past (OpenSession v s)) (Open v s)
+        pub opens_higher : r ≡ true → MayDo net u past (Open v s) × (give rules net carried u past (OpenSession v s) ≡ Goes (acted rules net carried u past (Open v s)))
         unfolding give
         opens_higher is =
             let both = fits.0 is in
@@ -154,7 +159,7 @@ module _ (rules : Rules) (net : Net) (u : ℕ) (carried : Carried) (past : Chron
             rw test (rw out refl)
 
         pub takes : MayCome net u (Arrive v s (item_of item)) → o ≡ None
-            → Does rules net carried u past (give rules net carried u past (Arrive v s (item_of item))) (Take v s item)
+            → MayDo net u past (Take v s item) × (give rules net carried u past (Arrive v s (item_of item)) ≡ Goes (acted rules net carried u past (Take v s item)))
         unfolding give
         takes may none =
             let test : is_session (held (reads (log_of u past)) v) s ≡ true = sym holds ∙ is in

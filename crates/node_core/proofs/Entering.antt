@@ -23,12 +23,13 @@ use Rattle.chronicle.specs.Facts.{Chronicle, Log, Sent, happen}
 use Rattle.chronicle.specs.Logs.{log_of}
 use Rattle.chronicle.specs.Epochs.{epoch, cut}
 use Rattle.chronicle.specs.Messages.{took}
-use Rattle.chronicle.specs.Steps.{Carried, sends, write, open_session, greeted}
+use Rattle.chronicle.specs.Steps.{Carried, sends, write, open_session, unless_ready}
 use Rattle.chronicle.proofs.Blocks.{log_own, took_write, epoch_write, cut_write}
 use Rattle.node_core.specs.declared.node.Node.{Node}
 use Rattle.node_core.specs.declared.outputs.Output.{Output as Given}
 use Rattle.node_core.specs.Keeping.{Keeps, MayEnter}
 use Rattle.node_core.specs.Outputs.{Logged, Send, output_of, Hands}
+use Rattle.node_core.specs.Reports.{AreReports}
 use Rattle.node_core.proofs.Alike.{same_alike}
 use Rattle.node_core.proofs.Handing.{hands_more, outputs_write}
 
@@ -67,14 +68,15 @@ same_keeps policy rules net u node past now logs epochs cuts items was = record 
   acts = was.acts;
   snapshots = was.snapshots;
   alike = same_alike was.acts u past now epochs cuts items was.alike;
+  reports = was.reports;
 }
 
 -- an entry is made
 pub entered : {P : Type 0} (policy : P) (rules : Rules) (net : Net) (u : ℕ) (carried : Carried) (past : Chronicle) (k : Entry) (old new : Node P)
-    → Keeps policy rules net u old past → new.topology.value ≡ old.topology.value → new.id ≡ old.id → new.snapshots ≡ old.snapshots
+    → Keeps policy rules net u old past → new.topology.value ≡ old.topology.value → new.id ≡ old.id → new.snapshots ≡ old.snapshots → new.reports ≡ old.reports
     → LogStandsFor policy rules net u new.log (k ∷ log_of u past) → new.updates ≡ length (sent_of rules net u (k ∷ log_of u past))
     → Keeps policy rules net u new (write rules net carried u k past)
-entered policy rules net u carried past k old new was nets ids snapshots log updates =
+entered policy rules net u carried past k old new was nets ids snapshots reports log updates =
     let same = sym (log_own rules net carried u k past) in
     record {
       same_net = nets ∙ was.same_net;
@@ -85,6 +87,7 @@ entered policy rules net u carried past k old new was nets ids snapshots log upd
       snapshots = subst (λ kept. SnapshotsStandFor net u kept was.acts) (sym snapshots) was.snapshots;
       alike = same_alike was.acts u past (write rules net carried u k past) (epoch_write rules net carried u k past u) (cut_write rules net carried u k past u)
           (λ v s. took_write rules net carried u k past v u s) was.alike;
+      reports = subst (AreReports rules net u was.acts) (sym reports) was.reports;
     }
 
 -- its place and what goes out are handed out
@@ -163,11 +166,11 @@ unopened h v s holds unready =
 
 module _ (rules : Rules) (net : Net) (carried : Carried) (v u s : ℕ) (past : Chronicle) where
   -- one that is known to be ready is not greeted again
-  pub greeted_again : (known : Option ℕ) → is_some known ≡ true → greeted rules net carried v u s known past ≡ past
+  pub greeted_again : (known : Option ℕ) → is_some known ≡ true → unless_ready known past (write rules net carried u (local u (log_of u past) All (Ready v s)) past) ≡ past
   greeted_again None e = absurd (cc e)
   greeted_again (Some t) e = refl
 
   -- the first greeting is entered
-  pub greeted_first : (known : Option ℕ) → is_some known ≡ false → greeted rules net carried v u s known past ≡ write rules net carried u (local u (log_of u past) All (Ready v s)) past
+  pub greeted_first : (known : Option ℕ) → is_some known ≡ false → unless_ready known past (write rules net carried u (local u (log_of u past) All (Ready v s)) past) ≡ write rules net carried u (local u (log_of u past) All (Ready v s)) past
   greeted_first None e = refl
   greeted_first (Some t) e = absurd (cc e)

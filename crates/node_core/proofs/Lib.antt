@@ -5,6 +5,7 @@ pub mod Alike
 pub mod Handing
 pub mod Listed
 pub mod Entering
+pub mod Reporting
 pub mod Raising
 pub mod Received
 pub mod Stepping

@@ -7,10 +7,10 @@ use Rattle.path_vector.specs.Rules.{Rules}
 use Rattle.trigger_log.specs.declared.entries.Entry.{Entry as Shown}
 use Rattle.trigger_log.specs.Entries.{Entry}
 use Rattle.trigger_log.specs.Sending.{sent_by, sent_of}
-use Rattle.trigger_log.specs.Standing.{Step, steps, Shows}
+use Rattle.trigger_log.specs.Standing.{Entered, all_entered, Shows}
 
 -- what is there is one thing
-same_some : (x y : Step) → Some x ≡ Some y → x ≡ y
+same_some : (x y : Entered) → Some x ≡ Some y → x ≡ y
 same_some x y e = cc
 
 -- nothing is listed at the start
@@ -24,31 +24,31 @@ pub length_sent : (rules : Rules) (net : Net) (u : ℕ) (k : Entry) (h : List En
 unfolding sent_of
 length_sent rules net u k h = length-append (sent_of rules net u h) (sent_by rules net u h k)
 
--- as many steps as entries
-length_steps : (h : List Entry) → length (steps h) ≡ length h
+-- there is one for each entry
+length_steps : (h : List Entry) → length (all_entered h) ≡ length h
 length_steps [] = refl
-length_steps (k ∷ h) = length-append (steps h) (record { before = h; entry = k } ∷ []) ∙ rw (length_steps h) (omega arith)
+length_steps (k ∷ h) = length-append (all_entered h) (record { before = h; entry = k } ∷ []) ∙ rw (length_steps h) (omega arith)
 
 -- what is put at the end stands there
-at_end : (xs : List Step) (x : Step) → slice_get (xs ++ x ∷ []) (length xs) ≡ Some x
+at_end : (xs : List Entered) (x : Entered) → slice_get (xs ++ x ∷ []) (length xs) ≡ Some x
 at_end [] x = refl
 at_end (y ∷ ys) x = at_end ys x
 
 -- the newest entry stands at the end
-pub newest : (k : Entry) (h : List Entry) → slice_get (steps (k ∷ h)) (length h) ≡ Some (record { before = h; entry = k })
-newest k h = ap (slice_get (steps (k ∷ h))) (sym (length_steps h)) ∙ at_end (steps h) (record { before = h; entry = k })
+pub newest : (k : Entry) (h : List Entry) → slice_get (all_entered (k ∷ h)) (length h) ≡ Some (record { before = h; entry = k })
+newest k h = ap (slice_get (all_entered (k ∷ h))) (sym (length_steps h)) ∙ at_end (all_entered h) (record { before = h; entry = k })
 
 -- there is a newest entry
 pub has_newest : (index n : ℕ) → index ≡ suc n → (index ≡ 0) ⊎ (suc n < index) → ⊥
 has_newest index n is none = ⊎_elim (λ (e : index ≡ 0). omega arith) (λ (l : suc n < index). omega arith) none
 
 -- what is kept of the newest entry shows what that lists
-pub shown_newest : (rules : Rules) (net : Net) (u : ℕ) (k : Entry) (h : List Entry) (index : ℕ) (at : Step) (shown : Shown) → index ≡ suc (length h)
-    → slice_get (steps (k ∷ h)) (index - 1) ≡ Some at → Shows rules net u at shown → shown.sent ≡ sent_by rules net u h k
+pub shown_newest : (rules : Rules) (net : Net) (u : ℕ) (k : Entry) (h : List Entry) (index : ℕ) (at : Entered) (shown : Shown) → index ≡ suc (length h)
+    → slice_get (all_entered (k ∷ h)) (index - 1) ≡ Some at → Shows rules net u at shown → shown.sent ≡ sent_by rules net u h k
 shown_newest rules net u k h index at shown is here shows =
     let place : index - 1 ≡ length h = omega arith in
-    let same : at ≡ record { before = h; entry = k } = same_some at (record { before = h; entry = k }) (sym here ∙ (ap (slice_get (steps (k ∷ h))) place ∙ newest k h)) in
-    shows.sent ∙ ap (λ (s : Step). sent_by rules net u s.before s.entry) same
+    let same : at ≡ record { before = h; entry = k } = same_some at (record { before = h; entry = k }) (sym here ∙ (ap (slice_get (all_entered (k ∷ h))) place ∙ newest k h)) in
+    shows.sent ∙ ap (λ (s : Entered). sent_by rules net u s.before s.entry) same
 
 -- a sum that does not wrap
 pub added : (P : Type 0) (a b n : ℕ) (sum : Option ℕ) → sum ≡ Some n → SomeIff sum P (a + b) → n ≡ a + b

@@ -22,13 +22,16 @@ use Rattle.chronicle.specs.Messages.{took_by}
 use Rattle.chronicle.specs.Steps.{Carried, markers, meet_mark, take_cut}
 use Rattle.chronicle.proofs.Blocks.{log_take_cut, epoch_take_cut, cut_take_cut, took_take_cut}
 use Rattle.cut_laws.specs.Own.{Own}
+use Rattle.epoch_report.specs.Reporting.{report_of}
 use Rattle.node_core.specs.declared.node.Node.{Node}
 use Rattle.node_core.specs.declared.outputs.Output.{Output as Given}
 use Rattle.node_core.specs.Alike.{Alike}
 use Rattle.node_core.specs.Keeping.{Keeps, KeepsAllBut}
 use Rattle.node_core.specs.Outputs.{Cut, Send, output_of, outputs, Hands}
 use Rattle.node_core.proofs.Alike.{mark_alike, rise_alike}
+use Rattle.node_core.specs.Reports.{AreReports}
 use Rattle.node_core.proofs.Entering.{same_keeps}
+use Rattle.node_core.proofs.Reporting.{one_report_more}
 use Rattle.node_core.proofs.Handing.{hands_more, outputs_cut}
 
 -- ---- the markers, one by one
@@ -66,11 +69,11 @@ pub taken_at : {P : Type 0} (policy : P) (rules : Rules) (topo net : Net) (u : �
 taken_at policy rules topo net u log h old new acts e same taken =
     subst (λ n. SnapshotsStandFor n u old acts → LogStandsFor policy rules n u log h → epoch_of acts < e → SnapshotsStandFor n u new (Takes e h ∷ acts)) same taken
 
--- its snapshots were told more, and the log is as it was
+-- its snapshots were told more, its reports are those of its cuts, and the log is as it was
 pub told_keeps : {P : Type 0} (policy : P) (rules : Rules) (net : Net) (u : ℕ) (past now : Chronicle) (old new : Node P) (acts : Acts)
-    → Keeps policy rules net u old past → KeepsAllBut old new → log_of u now ≡ log_of u past → SnapshotsStandFor net u new.snapshots acts → Alike acts u now
+    → Keeps policy rules net u old past → KeepsAllBut old new → log_of u now ≡ log_of u past → SnapshotsStandFor net u new.snapshots acts → Alike acts u now → AreReports rules net u acts new.reports
     → Keeps policy rules net u new now
-told_keeps policy rules net u past now old new acts was rest logs snapshots alike = record {
+told_keeps policy rules net u past now old new acts was rest logs snapshots alike reports = record {
   same_net = (λ k. (rest.topology k).value) ∙ was.same_net;
   same_id = rest.id ∙ was.same_id;
   log = subst (LogStandsFor policy rules net u new.log) (sym logs) (subst (λ l. LogStandsFor policy rules net u l (log_of u past)) (sym rest.log) was.log);
@@ -78,16 +81,20 @@ told_keeps policy rules net u past now old new acts was rest logs snapshots alik
   acts = acts;
   snapshots = snapshots;
   alike = alike;
+  reports = reports;
 }
 
 -- the epoch rises
 pub risen : {P : Type 0} (policy : P) (rules : Rules) (net : Net) (u : ℕ) (carried : Carried) (past : Chronicle) (e : ℕ) (old new : Node P)
     → Own rules net past u → Keeps policy rules net u old past → epoch u past < e → KeepsAllBut old new
     → ((acts : Acts) → SnapshotsStandFor net u old.snapshots acts → epoch_of acts < e → SnapshotsStandFor net u new.snapshots (Takes e (log_of u past) ∷ acts))
+    → new.reports ≡ old.reports ++ report_of rules net u e (log_of u past) ∷ []
     → Keeps policy rules net u new (take_cut net carried u e past)
-risen policy rules net u carried past e old new own was high rest taken =
+risen policy rules net u carried past e old new own was high rest taken kept =
+    let above : epoch_of was.acts < e = subst (λ n. n < e) (sym was.alike.same_epoch) high in
     told_keeps policy rules net u past (take_cut net carried u e past) old new (Takes e (log_of u past) ∷ was.acts) was rest (log_take_cut net carried u e past u)
-    (taken was.acts was.snapshots (subst (λ n. n < e) (sym was.alike.same_epoch) high)) (rise_alike rules net u carried e past was.acts own was.alike high)
+    (taken was.acts was.snapshots above) (rise_alike rules net u carried e past was.acts own was.alike high)
+    (one_report_more rules net u was.acts old.reports new.reports e (log_of u past) was.reports (was.snapshots.newest e above) kept)
 
 -- what was taken is not handed out
 pub hands_took : (first past : Chronicle) (list : List Given) (v u s : ℕ) (x : Item) → Hands first list past → Hands first list (Took v u s x ∷ past)
@@ -130,20 +137,21 @@ is_below a b c t test off same = let so : is_lt (nat_cmp a b) ≡ false = sym te
 
 module _ {P : Type 0} (policy : P) (rules : Rules) (net : Net) (u : ℕ) (carried : Carried) (past : Chronicle) (v s e : ℕ) (x : Item) (old mid new : Node P)
     (own : Own rules net past u) (was : Keeps policy rules net u old past) (is : mark_of x ≡ Some e)
-    (meets : (acts : Acts) → SnapshotsStandFor net u mid.snapshots acts → SnapshotsStandFor net u new.snapshots (Meets v s e ∷ acts)) (rest : KeepsAllBut mid new) where
+    (meets : (acts : Acts) → SnapshotsStandFor net u mid.snapshots acts → SnapshotsStandFor net u new.snapshots (Meets v s e ∷ acts)) (rest : KeepsAllBut mid new) (same_reports : new.reports ≡ mid.reports) where
   -- a mark is met
   marked_keeps : (now : Chronicle) → Keeps policy rules net u mid now → Keeps policy rules net u new (Took v u s x ∷ now)
   marked_keeps now then' =
       told_keeps policy rules net u now (Took v u s x ∷ now) mid new (Meets v s e ∷ then'.acts) then' rest refl (meets then'.acts then'.snapshots)
-      (mark_alike u now then'.acts v s e x is then'.alike)
+      (mark_alike u now then'.acts v s e x is then'.alike) (subst (AreReports rules net u then'.acts) (sym same_reports) then'.reports)
 
   -- a higher one is met after the cut that it asks for
   pub met_above : (raised : Node P) → mid ≡ raised → epoch u past < e → KeepsAllBut old raised
       → ((acts : Acts) → SnapshotsStandFor net u old.snapshots acts → epoch_of acts < e → SnapshotsStandFor net u raised.snapshots (Takes e (log_of u past) ∷ acts))
+      → raised.reports ≡ old.reports ++ report_of rules net u e (log_of u past) ∷ []
       → Keeps policy rules net u new (meet_mark net carried u e (Took v u s x ∷ past))
-  met_above raised same high others taken =
+  met_above raised same high others taken kept =
       let keeps : Keeps policy rules net u mid (take_cut net carried u e past) =
-      subst (λ n. Keeps policy rules net u n (take_cut net carried u e past)) (sym same) (risen policy rules net u carried past e old raised own was high others taken) in
+      subst (λ n. Keeps policy rules net u n (take_cut net carried u e past)) (sym same) (risen policy rules net u carried past e old raised own was high others taken kept) in
       meets_above net u carried past v s e x (Keeps policy rules net u new) high
       (same_keeps policy rules net u new (Took v u s x ∷ take_cut net carried u e past) (take_cut net carried u e (Took v u s x ∷ past))
       (log_take_cut net carried u e (Took v u s x ∷ past) u ∙ sym (log_take_cut net carried u e past u))

@@ -3,48 +3,50 @@ use Rattle.std.proofs.Common.{ℕ, Option, List, [], ◌∷◌, ◌≡◌, refl,
 use Rattle.topology.specs.declared.items.Item.{Item as Message}
 use Rattle.topology.specs.declared.items.Item.TheVariants as message
 use Rattle.topology.specs.declared.names.Trigger.{Trigger}
-use Rattle.topology.specs.declared.names.Scope.TheVariants.{One}
+use Rattle.topology.specs.declared.names.Scope.TheVariants.{One, All}
 use Rattle.topology.specs.Net.{Net}
-use Rattle.path_vector.specs.declared.causes.Cause.TheVariants.{Recv}
+use Rattle.path_vector.specs.declared.causes.Cause.TheVariants.{Recv, Ready}
 use Rattle.path_vector.specs.Rules.{Rules}
 use Rattle.path_vector.specs.History.{ready}
-use Rattle.trigger_log.specs.Entries.{Update, entry, reads}
+use Rattle.trigger_log.specs.Entries.{Update, entry, local, reads}
 use Rattle.trigger_log.specs.Going.{News, Marker, Hello, item_of}
 use Rattle.marker_snapshot.specs.Acts.{Acts, Hears}
 use Rattle.marker_snapshot.specs.Cuts.{Continues}
 use Rattle.marker_snapshot.specs.Standing.{StandsFor as SnapshotsStandFor}
 use Rattle.chronicle.specs.Facts.{Chronicle, Took}
+use Rattle.chronicle.specs.Inputs.{arrival}
 use Rattle.chronicle.specs.Logs.{log_of}
-use Rattle.chronicle.specs.Steps.{Carried, write, meet_mark, greeted, take_item}
+use Rattle.chronicle.specs.Steps.{Carried, write, meet_mark, unless_ready, take_item}
 use Rattle.cut_laws.specs.Own.{Own}
 use Rattle.node_core.specs.declared.node.Node.{Node}
 use Rattle.node_core.specs.Deciding.{MayTake}
 use Rattle.node_core.specs.Keeping.{Keeps, KeepsAllBut, MayEnter}
+use Rattle.node_core.specs.Reports.{AreReports}
 use Rattle.node_core.proofs.Alike.{news_alike, continues}
 use Rattle.node_core.proofs.Raising.{told_keeps, log_meet}
 
 module _ (rules : Rules) (net : Net) (u : ℕ) (carried : Carried) (past : Chronicle) (v s : ℕ) (Q : Chronicle → Type 0) where
   -- a marker is met
-  pub marker_taken : (item : Message) (e : ℕ) → item ≡ message.Marker e → Q (meet_mark net carried u e (Took v u s (Marker e) ∷ past)) → Q (take_item rules net carried v u s (item_of item) past)
+  pub marker_taken : (item : Message) (e : ℕ) → item ≡ message.Marker e → Q (meet_mark net carried u e (Took v u s (Marker e) ∷ past)) → Q (take_item rules net carried u (arrival v s (item_of item)) past)
   unfolding take_item
-  marker_taken item e is made = subst (λ i. Q (take_item rules net carried v u s (item_of i) past)) (sym is) made
+  marker_taken item e is made = subst (λ i. Q (take_item rules net carried u (arrival v s (item_of i)) past)) (sym is) made
 
   -- a greeting is met, and then greets
   pub hello_taken : (item : Message) (e : ℕ) → item ≡ message.Hello e
-      → Q (greeted rules net carried v u s (ready (reads (log_of u (meet_mark net carried u e (Took v u s (Hello e) ∷ past)))) v) (meet_mark net carried u e (Took v u s (Hello e) ∷ past)))
-      → Q (take_item rules net carried v u s (item_of item) past)
+      → (let now = meet_mark net carried u e (Took v u s (Hello e) ∷ past) in Q (unless_ready (ready (reads (log_of u now)) v) now (write rules net carried u (local u (log_of u now) All (Ready v s)) now)))
+      → Q (take_item rules net carried u (arrival v s (item_of item)) past)
   unfolding take_item
   hello_taken item e is made =
       let now = meet_mark net carried u e (Took v u s (Hello e) ∷ past) in
-      subst (λ i. Q (take_item rules net carried v u s (item_of i) past)) (sym is)
-      (subst (λ h. Q (greeted rules net carried v u s (ready (reads h) v) now)) (log_meet net u carried (Took v u s (Hello e) ∷ past) e) made)
+      subst (λ i. Q (take_item rules net carried u (arrival v s (item_of i)) past)) (sym is)
+      (subst (λ h. Q (unless_ready (ready (reads h) v) now (write rules net carried u (local u (log_of u now) All (Ready v s)) now))) (log_meet net u carried (Took v u s (Hello e) ∷ past) e) made)
 
   -- an update is entered
   pub news_taken : (item : Message) (p n : ℕ) (t : Trigger) (path : Option (List ℕ)) → item ≡ message.Update p n t path
       → Q (write rules net carried u (entry (t ∷ []) (One p) (Recv v s n path)) (Took v u s (News n (record { prefix = p; triggers = t ∷ []; path = path })) ∷ past))
-      → Q (take_item rules net carried v u s (item_of item) past)
+      → Q (take_item rules net carried u (arrival v s (item_of item)) past)
   unfolding take_item
-  news_taken item p n t path is made = subst (λ i. Q (take_item rules net carried v u s (item_of i) past)) (sym is) made
+  news_taken item p n t path is made = subst (λ i. Q (take_item rules net carried u (arrival v s (item_of i)) past)) (sym is) made
 
 module _ {P : Type 0} (policy : P) (rules : Rules) (net : Net) (u : ℕ) (past : Chronicle) (v s : ℕ) (item : Message) (p n : ℕ) (t : Trigger) (path : Option (List ℕ)) (is : item ≡ message.Update p n t path)
     (may : MayTake net u past v s (item_of item)) where
@@ -57,11 +59,11 @@ module _ {P : Type 0} (policy : P) (rules : Rules) (net : Net) (u : ℕ) (past :
   may_enter = record { near = may_so.near; placed = may_so.placed; fits = (may_so.held, may_so.in_turn) }
 
   -- the snapshots were told of it
-  pub heard_keeps : (old new : Node P) → Own rules net past u → Keeps policy rules net u old past → KeepsAllBut old new
+  pub heard_keeps : (old new : Node P) → Own rules net past u → Keeps policy rules net u old past → KeepsAllBut old new → new.reports ≡ old.reports
       → ((acts : Acts) → SnapshotsStandFor net u old.snapshots acts → Continues acts v s n → SnapshotsStandFor net u new.snapshots (Hears v s n ∷ acts))
       → Keeps policy rules net u new (Took v u s (News n (record { prefix = p; triggers = t ∷ []; path = path })) ∷ past)
-  heard_keeps old new own was rest hears =
+  heard_keeps old new own was rest same hears =
       let x : Update = record { prefix = p; triggers = t ∷ []; path = path } in
       told_keeps policy rules net u past (Took v u s (News n x) ∷ past) old new (Hears v s n ∷ was.acts) was rest refl
       (hears was.acts was.snapshots (continues rules net u past was.acts own was.alike v s n may_so.in_turn))
-      (news_alike rules net u past was.acts own was.alike v s n x)
+      (news_alike rules net u past was.acts own was.alike v s n x) (subst (AreReports rules net u was.acts) (sym same) was.reports)

@@ -10,9 +10,10 @@ use Rattle.trigger_log.specs.Going.{Item, News, Marker, Hello, item_of}
 use Rattle.cut_laws.specs.Own.{MayHear}
 use Rattle.chronicle.specs.Epochs.{epoch}
 use Rattle.chronicle.specs.Facts.{Chronicle}
+use Rattle.chronicle.specs.Inputs.{arrival}
 use Rattle.chronicle.specs.Logs.{log_of}
 use Rattle.chronicle.specs.Run.{held_with}
-use Rattle.chronicle.specs.Steps.{Carried, Step, Goes, open_session, take_cut, take_item, write}
+use Rattle.chronicle.specs.Steps.{Carried, open_session, take_cut, take_item, write}
 use Rattle.node_core.specs.declared.deciding.Act.{Act}
 use Rattle.node_core.specs.declared.deciding.Act.TheVariants.{Enter, Open, Take, Rise}
 use Rattle.node_core.specs.Coming.{IsPlaced}
@@ -33,13 +34,16 @@ pub record MayTake (net : Net) (u : ℕ) (past : Chronicle) (v s : ℕ) (item : 
   pub placed : IsPlaced net item
   pub may_hear : MayHear net v item
 
--- the step goes on by this act, and u may do it
-abbrev pub Does : Rules → Net → Carried → ℕ → Chronicle → Step → Act → Type 0
-Does rules net carried u past step (Enter scope cause) =
-    MayEnter net u (log_of u past) scope cause
-    × (step ≡ Goes (write rules net carried u (local u (log_of u past) scope cause) past))
-Does rules net carried u past step (Open v s) =
-    MayEnter net u (log_of u past) All (Up v s) × (step ≡ Goes (open_session carried u v s past))
-Does rules net carried u past step (Take v s item) =
-    MayTake net u past v s (item_of item) × (step ≡ Goes (take_item rules net carried v u s (item_of item) past))
-Does rules net carried u past step (Rise e) = (epoch u past < e) × (step ≡ Goes (take_cut net carried u e past))
+-- u may do it
+abbrev pub MayDo : Net → ℕ → Chronicle → Act → Type 0
+MayDo net u past (Enter scope cause) = MayEnter net u (log_of u past) scope cause
+MayDo net u past (Open v s) = MayEnter net u (log_of u past) All (Up v s)
+MayDo net u past (Take v s item) = MayTake net u past v s (item_of item)
+MayDo net u past (Rise e) = epoch u past < e
+
+-- the chronicle goes on so where u does it
+abbrev pub acted : Rules → Net → Carried → ℕ → Chronicle → Act → Chronicle
+acted rules net carried u past (Enter scope cause) = write rules net carried u (local u (log_of u past) scope cause) past
+acted rules net carried u past (Open v s) = open_session carried u v s past
+acted rules net carried u past (Take v s item) = take_item rules net carried u (arrival v s (item_of item)) past
+acted rules net carried u past (Rise e) = take_cut net carried u e past

@@ -16,6 +16,7 @@ use Rattle.chronicle.specs.Facts.{Chronicle}
 use Rattle.chronicle.specs.Logs.{log_of}
 use Rattle.node_core.specs.declared.node.Node.{Node}
 use Rattle.node_core.specs.Alike.{Alike}
+use Rattle.node_core.specs.Reports.{AreReports}
 
 -- an entry of node u is of a neighbour and of a prefix of the network, and fits the log
 pub record MayEnter (net : Net) (u : ℕ) (h : List Entry) (scope : Scope) (cause : Cause) : Type 0 where
@@ -24,7 +25,7 @@ pub record MayEnter (net : Net) (u : ℕ) (h : List Entry) (scope : Scope) (caus
   pub fits : CauseFits h scope cause
 
 -- the node is u in this network; its log, and how many items that lists, are those of u after these facts,
--- and its snapshots were told what u did
+-- its snapshots were told what u did, and its reports are those of the cuts of u
 pub record Keeps {P : Type 0} (policy : P) (rules : Rules) (net : Net) (u : ℕ) (node : Node P) (past : Chronicle) : Type 0 where
   pub same_net : node.topology.value ≡ net
   pub same_id : node.id ≡ u
@@ -33,8 +34,9 @@ pub record Keeps {P : Type 0} (policy : P) (rules : Rules) (net : Net) (u : ℕ)
   pub acts : Acts
   pub snapshots : SnapshotsStandFor net u node.snapshots acts
   pub alike : Alike acts u past
+  pub reports : AreReports rules net u acts node.reports
 
--- the second is as the first but for its snapshots
+-- the second is as the first but for its snapshots and its reports
 pub record KeepsAllBut {P : Type 0} (old new : Node P) : Type 0 where
   pub topology : new.topology ≡ old.topology
   pub id : new.id ≡ old.id

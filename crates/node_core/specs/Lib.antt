@@ -3,6 +3,7 @@ pub mod Coming
 pub mod Fits
 pub mod Outputs
 pub mod Alike
+pub mod Reports
 pub mod Keeping
 pub mod Deciding
 pub mod Standing

@@ -3,17 +3,18 @@ ghost use Rattle.std.specs.Prelude.{◌≡◌, ◌∷◌, [], ℕ, Some, true, L
 ghost use Rattle.topology.specs.declared.names.Scope.TheVariants.{All};
 ghost use Rattle.topology.specs.Lists.{has};
 ghost use Rattle.topology.specs.Net.{Net, neighbours};
-ghost use Rattle.path_vector.specs.declared.causes.Cause.TheVariants.{Up};
+ghost use Rattle.path_vector.specs.declared.causes.Cause.TheVariants.{Ready, Up};
 ghost use Rattle.path_vector.specs.History.{ready};
 ghost use Rattle.trigger_log.specs.Entries.{Entry, entry, local, reads};
 ghost use Rattle.trigger_log.specs.Going.{going_of, item_of};
 ghost use Rattle.trigger_log.specs.Sending.{sent_by, sent_of};
 ghost use Rattle.trigger_log.specs.Standing.{StandsFor as LogStandsFor};
 ghost use Rattle.chronicle.specs.Facts.{Chronicle};
+ghost use Rattle.chronicle.specs.Inputs.{arrival};
 ghost use Rattle.chronicle.specs.Logs.{log_of};
 ghost use Rattle.chronicle.specs.Run.{held_with};
-ghost use Rattle.chronicle.specs.Steps.{Carried, Goes, greeted, open_session, take_item, write};
-ghost use Rattle.node_core.specs.Deciding.{Does, MayTake};
+ghost use Rattle.chronicle.specs.Steps.{Carried, open_session, take_item, unless_ready, write};
+ghost use Rattle.node_core.specs.Deciding.{MayDo, MayTake, acted};
 ghost use Rattle.node_core.specs.Keeping.{Keeps, MayEnter};
 ghost use Rattle.node_core.specs.Outputs.{Hands, Send, output_of};
 ghost use Rattle.node_core.specs.Standing.{StandsFor};
@@ -50,12 +51,19 @@ fn more<P: Policy + Copy>(updates: usize, log: &NodeLog<P>) -> Result<usize, NoM
     }
 }
 
+// Makes room for an entry and what goes out with it.
+fn make_room(outputs: &mut Vec<Output>, outgoing: &[Outgoing]) -> Result<(), NoMemory>
+    ensures { outputs.new.items ≡ outputs.old.items }
+{
+    outputs.reserve_exact(outgoing.len().saturating_add(1))?;
+    Ok(())
+}
+
 // Hands out what goes out, in its order.
 fn send_all(list: Vec<Outgoing>, outputs: &mut Vec<Output>) -> Result<(), NoMemory>
     ensures { OnOk result (map output_of outputs.new.items
         ≡ map output_of outputs.old.items ++ map Send (map going_of list.items)) }
 {
-    outputs.reserve(list.len())?;
     for out in list {
         outputs.push(Output::Send(out))?;
     }
@@ -88,9 +96,11 @@ impl<P: Policy + Copy> Node<P> {
             log,
             updates,
             snapshots,
+            reports,
         } = self;
         let (log, outgoing) = log.append(&topology, trigger, scope, cause)?;
         let updates = more(updates, &log)?;
+        make_room(outputs, &outgoing)?;
         outputs.push(Output::Logged { index: log.len() })?;
         send_all(outgoing, outputs)?;
         Ok(Node {
@@ -100,6 +110,7 @@ impl<P: Policy + Copy> Node<P> {
             log,
             updates,
             snapshots,
+            reports,
         })
     }
 
@@ -165,12 +176,14 @@ impl<P: Policy + Copy> Node<P> {
             Keeps policy (P.rules policy) net u self past → has (neighbours net u) nbr ≡ true →
             held_with u nbr past ≡ Some session →
             Keeps policy (P.rules policy) net u node
-            (greeted (P.rules policy) net carried nbr u session (ready (reads (log_of u past)) nbr) past)) }
+            (unless_ready (ready (reads (log_of u past)) nbr) past
+            (write (P.rules policy) net carried u (local u (log_of u past) All (Ready nbr session)) past))) }
         ensures outputs { OnOk result ((policy : P) (net : Net) (u : ℕ) (carried : Carried) (past first : Chronicle) →
             Keeps policy (P.rules policy) net u self past → has (neighbours net u) nbr ≡ true →
             held_with u nbr past ≡ Some session → Hands first outputs.old.items past →
             Hands first outputs.new.items
-            (greeted (P.rules policy) net carried nbr u session (ready (reads (log_of u past)) nbr) past)) }
+            (unless_ready (ready (reads (log_of u past)) nbr) past
+            (write (P.rules policy) net carried u (local u (log_of u past) All (Ready nbr session)) past))) }
     {
         if self.log.ready(nbr) {
             return Ok(self);
@@ -192,11 +205,11 @@ impl<P: Policy + Copy> Node<P> {
         ensures node { IfOk result (λ node. (policy : P) (net : Net) (u : ℕ) (carried : Carried) (past : Chronicle) →
             StandsFor policy (P.rules policy) net u self past → MayTake net u past from session (item_of item) →
             Keeps policy (P.rules policy) net u node
-            (take_item (P.rules policy) net carried from u session (item_of item) past)) }
+            (take_item (P.rules policy) net carried u (arrival from session (item_of item)) past)) }
         ensures outputs { OnOk result ((policy : P) (net : Net) (u : ℕ) (carried : Carried) (past first : Chronicle) →
             StandsFor policy (P.rules policy) net u self past → MayTake net u past from session (item_of item) →
             Hands first outputs.old.items past → Hands first outputs.new.items
-            (take_item (P.rules policy) net carried from u session (item_of item) past)) }
+            (take_item (P.rules policy) net carried u (arrival from session (item_of item)) past)) }
     {
         match item {
             Item::Update {
@@ -227,13 +240,12 @@ impl<P: Policy + Copy> Node<P> {
     /// Does what the node is to do, and hands out what comes of it.
     #[inline(always)]
     pub(crate) fn act(self, act: Act, outputs: &mut Vec<Output>) -> Result<Node<P>, NoMemory>
-        ensures node { IfOk result (λ node. (policy : P) (net : Net) (u : ℕ) (carried : Carried) (past now : Chronicle) →
-            StandsFor policy (P.rules policy) net u self past →
-            Does (P.rules policy) net carried u past (Goes now) act → Keeps policy (P.rules policy) net u node now) }
-        ensures outputs { OnOk result ((policy : P) (net : Net) (u : ℕ) (carried : Carried) (past now : Chronicle) →
-            StandsFor policy (P.rules policy) net u self past →
-            Does (P.rules policy) net carried u past (Goes now) act →
-            outputs.old.items ≡ [] → Hands past outputs.new.items now) }
+        ensures node { IfOk result (λ node. (policy : P) (net : Net) (u : ℕ) (carried : Carried) (past : Chronicle) →
+            StandsFor policy (P.rules policy) net u self past → MayDo net u past act →
+            Keeps policy (P.rules policy) net u node (acted (P.rules policy) net carried u past act)) }
+        ensures outputs { OnOk result ((policy : P) (net : Net) (u : ℕ) (carried : Carried) (past : Chronicle) →
+            StandsFor policy (P.rules policy) net u self past → MayDo net u past act → outputs.old.items ≡ [] →
+            Hands past outputs.new.items (acted (P.rules policy) net carried u past act)) }
     {
         match act {
             Act::Enter { scope, cause } => self.enter_own(scope, cause, outputs),

@@ -10,9 +10,9 @@ ghost use Rattle.chronicle.specs.Giving.{give, out_of_turn};
 ghost use Rattle.chronicle.specs.Inputs.{Arrive, Notice, OpenSession};
 ghost use Rattle.chronicle.specs.Logs.{log_of};
 ghost use Rattle.chronicle.specs.Run.{held_with};
-ghost use Rattle.chronicle.specs.Steps.{Carried, Idle};
+ghost use Rattle.chronicle.specs.Steps.{Carried, Goes, Idle};
 ghost use Rattle.node_core.specs.Coming.{MayCome};
-ghost use Rattle.node_core.specs.Deciding.{Does};
+ghost use Rattle.node_core.specs.Deciding.{MayDo, acted};
 ghost use Rattle.node_core.specs.Inputs.{input_of};
 ghost use Rattle.node_core.specs.Standing.{StandsFor};
 
@@ -51,7 +51,7 @@ impl<P: Policy + Copy> Node<P> {
     pub(crate) fn decide(&self, input: Input) -> Result<Act, Reason>
         ensures act { IfOk result (λ act. (policy : P) (net : Net) (u : ℕ) (carried : Carried) (past : Chronicle) →
             StandsFor policy (P.rules policy) net u self.now past → MayCome net u (input_of input) →
-            Does (P.rules policy) net carried u past (give (P.rules policy) net carried u past (input_of input)) act) }
+            MayDo net u past act × (give (P.rules policy) net carried u past (input_of input) ≡ Goes (acted (P.rules policy) net carried u past act))) }
         ensures reason { IfErr result (λ reason. (policy : P) (net : Net) (u : ℕ) (carried : Carried) (past : Chronicle) →
             StandsFor policy (P.rules policy) net u self.now past → MayCome net u (input_of input) →
             give (P.rules policy) net carried u past (input_of input) ≡ Idle reason) }
@@ -95,7 +95,7 @@ impl<P: Policy + Copy> Node<P> {
     fn decide_item(&self, from: NodeId, session: Session, item: Item) -> Result<Act, Reason>
         ensures act { IfOk result (λ act. (policy : P) (net : Net) (u : ℕ) (carried : Carried) (past : Chronicle) →
             StandsFor policy (P.rules policy) net u self.now past → MayCome net u (Arrive from session (item_of item)) →
-            Does (P.rules policy) net carried u past (give (P.rules policy) net carried u past (Arrive from session (item_of item))) act) }
+            MayDo net u past act × (give (P.rules policy) net carried u past (Arrive from session (item_of item)) ≡ Goes (acted (P.rules policy) net carried u past act))) }
         ensures reason { IfErr result (λ reason. (policy : P) (net : Net) (u : ℕ) (carried : Carried) (past : Chronicle) →
             StandsFor policy (P.rules policy) net u self.now past → MayCome net u (Arrive from session (item_of item)) →
             give (P.rules policy) net carried u past (Arrive from session (item_of item)) ≡ Idle reason) }
@@ -156,7 +156,7 @@ impl<P: Policy + Copy> Node<P> {
     fn decide_closing(&self, nbr: NodeId) -> Result<Act, Reason>
         ensures act { IfOk result (λ act. (policy : P) (net : Net) (u : ℕ) (carried : Carried) (past : Chronicle) →
             StandsFor policy (P.rules policy) net u self.now past → MayCome net u (Notice nbr) →
-            Does (P.rules policy) net carried u past (give (P.rules policy) net carried u past (Notice nbr)) act) }
+            MayDo net u past act × (give (P.rules policy) net carried u past (Notice nbr) ≡ Goes (acted (P.rules policy) net carried u past act))) }
         ensures reason { IfErr result (λ reason. (policy : P) (net : Net) (u : ℕ) (carried : Carried) (past : Chronicle) →
             StandsFor policy (P.rules policy) net u self.now past → MayCome net u (Notice nbr) →
             give (P.rules policy) net carried u past (Notice nbr) ≡ Idle reason) }
@@ -173,7 +173,7 @@ impl<P: Policy + Copy> Node<P> {
     fn decide_opening(&self, nbr: NodeId, session: Session) -> Result<Act, Reason>
         ensures act { IfOk result (λ act. (policy : P) (net : Net) (u : ℕ) (carried : Carried) (past : Chronicle) →
             StandsFor policy (P.rules policy) net u self.now past → MayCome net u (OpenSession nbr session) →
-            Does (P.rules policy) net carried u past (give (P.rules policy) net carried u past (OpenSession nbr session)) act) }
+            MayDo net u past act × (give (P.rules policy) net carried u past (OpenSession nbr session) ≡ Goes (acted (P.rules policy) net carried u past act))) }
         ensures reason { IfErr result (λ reason. (policy : P) (net : Net) (u : ℕ) (carried : Carried) (past : Chronicle) →
             StandsFor policy (P.rules policy) net u self.now past → MayCome net u (OpenSession nbr session) →
             give (P.rules policy) net carried u past (OpenSession nbr session) ≡ Idle reason) }

@@ -10,6 +10,7 @@ pub mod limits;
 mod marks;
 pub mod node;
 pub mod outputs;
+mod reports;
 
 pub use inputs::Input;
 pub use node::Node;

@@ -1,5 +1,5 @@
 //! Markers, and the cuts that they ask for.
-ghost use Rattle.std.specs.Prelude.{◌≡◌, ◌<◌, ℕ, Some, ◌∷◌, ◌++◌, List, map, true, IfOk, OnOk};
+ghost use Rattle.std.specs.Prelude.{◌≡◌, ◌<◌, ℕ, Some, [], ◌∷◌, ◌++◌, List, map, true, IfOk, OnOk};
 ghost use Rattle.topology.specs.Lists.{has};
 ghost use Rattle.topology.specs.Net.{Net, neighbours};
 ghost use Rattle.trigger_log.specs.Entries.{Entry};
@@ -8,6 +8,7 @@ ghost use Rattle.trigger_log.specs.Standing.{StandsFor as LogStandsFor};
 ghost use Rattle.marker_snapshot.specs.Acts.{Acts, Takes};
 ghost use Rattle.marker_snapshot.specs.Cuts.{epoch_of};
 ghost use Rattle.marker_snapshot.specs.Standing.{StandsFor as SnapshotsStandFor};
+ghost use Rattle.epoch_report.specs.Reporting.{report_of};
 ghost use Rattle.chronicle.specs.Facts.{Chronicle, Took};
 ghost use Rattle.chronicle.specs.Logs.{log_of};
 ghost use Rattle.chronicle.specs.Run.{held_with};
@@ -18,6 +19,7 @@ ghost use Rattle.node_core.specs.Standing.{StandsFor};
 
 use crate::node::Node;
 use crate::outputs::Output;
+use epoch_report::report_of;
 use path_vector::Policy;
 use topology::{Epoch, Item, NoMemory, NodeId, Session};
 use trigger_log::Outgoing;
@@ -43,7 +45,7 @@ impl<P: Policy + Copy> Node<P> {
         Ok(())
     }
 
-    /// The epoch rises: the node takes its cut, and sends its markers.
+    /// The epoch rises: the node takes its cut, sends its markers, and keeps its report of the cut.
     #[inline(always)]
     pub(crate) fn raise(self, epoch: Epoch, outputs: &mut Vec<Output>) -> Result<Node<P>, NoMemory>
         ensures others { IfOk result (λ node. KeepsAllBut self node) }
@@ -51,6 +53,9 @@ impl<P: Policy + Copy> Node<P> {
             self.topology.value ≡ net → LogStandsFor policy (P.rules policy) net u self.log h →
             SnapshotsStandFor net u self.snapshots acts → epoch_of acts < epoch →
             SnapshotsStandFor net u node.snapshots (Takes epoch h ∷ acts)) }
+        ensures reports { IfOk result (λ node. (policy : P) (net : Net) (u : ℕ) (h : List Entry) →
+            LogStandsFor policy (P.rules policy) net u self.log h →
+            node.reports ≡ self.reports ++ report_of (P.rules policy) net u epoch h ∷ []) }
         ensures outputs { OnOk result ((policy : P) (net : Net) (u : ℕ) (carried : Carried) (first past : Chronicle) →
             self.topology.value ≡ net → self.id ≡ u →
             LogStandsFor policy (P.rules policy) net u self.log (log_of u past) →
@@ -65,8 +70,10 @@ impl<P: Policy + Copy> Node<P> {
             log,
             updates,
             snapshots,
+            mut reports,
         } = self;
         let snapshots = snapshots.take(epoch, &log, &topology)?;
+        reports.keep(report_of(alloc, &log, epoch)?)?;
         Ok(Node {
             alloc,
             topology,
@@ -74,6 +81,7 @@ impl<P: Policy + Copy> Node<P> {
             log,
             updates,
             snapshots,
+            reports,
         })
     }
 

@@ -1,7 +1,10 @@
-//! A node: its log and its snapshots.
-ghost use Rattle.std.specs.Prelude.{◌≡◌, ℕ, [], IfOk, IfErr};
+//! A node: its log, its snapshots and its reports.
+ghost use Rattle.std.specs.Prelude.{◌≡◌, ℕ, [], option_map, IfOk, IfErr};
 ghost use Rattle.topology.specs.Net.{Net};
 ghost use Rattle.trigger_log.specs.Standing.{StandsFor as LogStandsFor};
+ghost use Rattle.incomplete_closure.specs.Seen.{report_seen};
+ghost use Rattle.epoch_report.specs.Reporting.{report_of};
+ghost use Rattle.chronicle.specs.Epochs.{cut};
 ghost use Rattle.chronicle.specs.Facts.{Chronicle};
 ghost use Rattle.chronicle.specs.Giving.{give};
 ghost use Rattle.chronicle.specs.Logs.{log_of};
@@ -15,14 +18,16 @@ ghost use Rattle.node_core.specs.Standing.{HasSnapshots, StandsFor};
 
 use crate::inputs::Input;
 use crate::outputs::{OutputList, Outputs, Stop};
+use crate::reports::Reports;
+use incomplete_closure::Report;
 use marker_snapshot::Snapshots;
 use path_vector::Policy;
 use std::alloc::Global;
 use std::rc::Rc;
-use topology::{NoMemory, NodeId, Topology};
+use topology::{Epoch, NoMemory, NodeId, Topology};
 use trigger_log::NodeLog;
 
-/// One node of a network: its log and its snapshots. It knows its neighbours by the network, and
+/// One node of a network: its log, its snapshots and its reports. It knows its neighbours by the network, and
 /// nothing of its links: whether an item that it sends arrives is not its affair.
 #[derive(Drop)]
 pub struct Node<P: Policy + Copy> {
@@ -33,6 +38,7 @@ pub struct Node<P: Policy + Copy> {
     // How many items the entries of the log list.
     pub(crate) updates: usize,
     pub(crate) snapshots: Snapshots,
+    pub(crate) reports: Reports,
 }
 
 impl<P: Policy + Copy> Node<P> {
@@ -53,6 +59,7 @@ impl<P: Policy + Copy> Node<P> {
             log,
             updates: 0,
             snapshots: Snapshots::new(alloc),
+            reports: Reports::new(alloc),
         })
     }
 
@@ -106,5 +113,15 @@ impl<P: Policy + Copy> Node<P> {
             StandsFor policy (P.rules policy) net u self.now past → HasSnapshots net u past result.now }
     {
         &self.snapshots
+    }
+
+    /// What the node reported of its cut of an epoch. None exactly where it has no such cut. Takes no memory.
+    pub fn report(&self, epoch: Epoch) -> Option<&Rc<Report>>
+        ensures { (policy : P) (net : Net) (u : ℕ) (past : Chronicle) →
+            StandsFor policy (P.rules policy) net u self.now past →
+            option_map (λ report. report_seen report.now.value) result
+            ≡ option_map (report_of (P.rules policy) net u epoch) (cut u epoch past) }
+    {
+        self.reports.of(epoch)
     }
 }

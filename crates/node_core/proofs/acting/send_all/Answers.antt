@@ -9,7 +9,7 @@ use Rattle.node_core.proofs.acting.send_all.Goals as goal
 
 pub loop-out-init : goal.loop-out-init
 loop-out-init c = record {
-  sent = ap (map output_of) c.reserve.ensures.items ∙ sym (append-nil (map output_of c.args.outputs.now.items));
+  sent = sym (append-nil (map output_of c.args.outputs.now.items));
 }
 
 pub loop-out-preserved : goal.loop-out-preserved

@@ -1,6 +1,8 @@
+use Rattle.std.proofs.lemmas.Result.{IfOk-weaker}
 use Rattle.trigger_log.specs.Entries.{reads}
 use Rattle.chronicle.specs.Logs.{log_of}
-use Rattle.node_core.proofs.Answering.{originates, originates_not, withdraws, withdraws_not, prefers, snaps}
+use Rattle.node_core.specs.declared.inputs.Input.TheVariants as given
+use Rattle.node_core.proofs.Answering.{decides_as, originates, originates_not, withdraws, withdraws_not, prefers, snaps}
 use Rattle.node_core.proofs.node.Node.decide.Goals as goal
 
 pub returns-then-owns-clause-reason : goal.returns-then-owns-clause-reason
@@ -30,3 +32,24 @@ returns-in-Prefer-clause-act g c policy net u carried past was may =
 pub returns-in-Snap-clause-act : goal.returns-in-Snap-clause-act
 returns-in-Snap-clause-act g c policy net u carried past was may =
     snaps (g.P.Policy.rules policy) net u carried past c.args.input c.next_epoch.result (c.next_epoch.ensures policy net u past was) c.in-Snap.is
+
+pub returns-in-Arrive-clause-act : goal.returns-in-Arrive-clause-act
+returns-in-Arrive-clause-act g c = IfOk-weaker c.decide_item.result _ _
+    (λ act h policy net u carried past was may.
+    decides_as (g.P.Policy.rules policy) net u carried past c.args.input (given.Arrive c.in-Arrive.from c.in-Arrive.session c.in-Arrive.item) act c.in-Arrive.is
+    (h policy net u carried past was) may)
+    c.decide_item.ensures.act
+
+pub returns-in-Notice-clause-act : goal.returns-in-Notice-clause-act
+returns-in-Notice-clause-act g c = IfOk-weaker c.decide_closing.result _ _
+    (λ act h policy net u carried past was may.
+    decides_as (g.P.Policy.rules policy) net u carried past c.args.input (given.Notice c.in-Notice.nbr) act c.in-Notice.is
+    (h policy net u carried past was) may)
+    c.decide_closing.ensures.act
+
+pub returns-in-OpenSession-clause-act : goal.returns-in-OpenSession-clause-act
+returns-in-OpenSession-clause-act g c = IfOk-weaker c.decide_opening.result _ _
+    (λ act h policy net u carried past was may.
+    decides_as (g.P.Policy.rules policy) net u carried past c.args.input (given.OpenSession c.in-OpenSession.nbr c.in-OpenSession.session) act c.in-OpenSession.is
+    (h policy net u carried past was) may)
+    c.decide_opening.ensures.act

@@ -1,4 +1,4 @@
-use Rattle.std.proofs.Common.{[], ◌∷◌, ◌∙◌, refl, map}
+use Rattle.std.proofs.Common.{[], ◌∷◌, ◌++◌, ◌∙◌, refl, ap, map}
 use Rattle.trigger_log.specs.Entries.{entry}
 use Rattle.trigger_log.specs.Going.{going_of}
 use Rattle.chronicle.specs.Logs.{log_of}
@@ -16,7 +16,7 @@ returns-clause-node g c policy net u carried past was may =
     let made = appended policy rules c.deref.result.now net u h k c.args.self.log c.in_ok-log.log c.in_ok-log.outgoing.items (c.deref.ensures ∙ was.same_net) was.log may
     (λ stands near placed fits. c.in_ok-log.ensures.log policy u h stands near placed fits)
     (λ stands near placed fits. c.in_ok-log.ensures.outgoing policy u h stands near placed fits) in
-    entered policy rules net u carried past k c.args.self _ was refl refl refl made.log (c.in_ok-updates.ensures policy net u k h made.log was.listed)
+    entered policy rules net u carried past k c.args.self _ was refl refl refl refl made.log (c.in_ok-updates.ensures policy net u k h made.log was.listed)
 
 pub returns-clause-outputs : goal.returns-clause-outputs
 returns-clause-outputs g c policy net u carried past first was may hands =
@@ -30,5 +30,5 @@ returns-clause-outputs g c policy net u carried past first was may hands =
     entered_hands rules net u carried past first k c.args.outputs.now.items c.send_all.new.outputs.items c.len.result gs
     (c.len.ensures policy net u (k ∷ h) made.log) made.outgoing_is
     (two_lists c.args.outputs.now.items c.push.new.self.items c.send_all.new.outputs.items (Logged c.len.result) (map Send gs)
-    (one_more c.args.outputs.now.items c.push.new.self.items (given.Logged c.len.result) c.in_ok-push.ensures.items) c.in_ok-send_all.ensures)
+    (one_more c.args.outputs.now.items c.push.new.self.items (given.Logged c.len.result) (c.in_ok-push.ensures.items ∙ ap (λ l. l ++ given.Logged c.len.result ∷ []) c.make_room.ensures)) c.in_ok-send_all.ensures)
     hands

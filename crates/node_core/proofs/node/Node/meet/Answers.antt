@@ -15,12 +15,13 @@ returns-clause-node g c policy net u carried past item was near holds is =
     elim c.if-lt.branch [
       | then-lt+in_ok-node w ↦
           met_above policy rules net u carried past c.args.nbr c.args.session e item c.args.self c.if-lt.node _ was.own was.keeps is
-          (λ acts stands. c.on_marker.ensures net u acts stands) (record { topology = refl; id = refl; log = refl; updates = refl })
+          (λ acts stands. c.on_marker.ensures net u acts stands) (record { topology = refl; id = refl; log = refl; updates = refl }) refl
           w.in_ok-node.node w.node-is (is_above c.epoch.result e (epoch u past) c.lt.result c.lt.ensures w.if-lt.true test) w.in_ok-node.ensures.others
           (λ acts stands above. w.in_ok-node.ensures.snapshots policy net u (log_of u past) acts was.keeps.same_net was.keeps.log stands above)
+          (w.in_ok-node.ensures.reports policy net u (log_of u past) was.keeps.log)
       | else-lt w ↦
           met_below policy rules net u carried past c.args.nbr c.args.session e item c.args.self c.if-lt.node _ was.own was.keeps is
-          (λ acts stands. c.on_marker.ensures net u acts stands) (record { topology = refl; id = refl; log = refl; updates = refl })
+          (λ acts stands. c.on_marker.ensures net u acts stands) (record { topology = refl; id = refl; log = refl; updates = refl }) refl
           w.node-is (is_below c.epoch.result e (epoch u past) c.lt.result c.lt.ensures w.if-lt.false test)
     ]
 

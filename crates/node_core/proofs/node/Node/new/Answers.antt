@@ -1,8 +1,10 @@
 use Rattle.std.proofs.Common.{[], refl, sym, subst}
 use Rattle.trigger_log.specs.Standing.{StandsFor as LogStandsFor}
 use Rattle.cut_laws.proofs.Owning.{start_own}
+use Rattle.node_core.specs.Reports.{AreReports}
 use Rattle.node_core.proofs.Alike.{start_alike}
 use Rattle.node_core.proofs.Listed.{none_sent}
+use Rattle.node_core.proofs.Reporting.{no_reports}
 use Rattle.node_core.proofs.Stepping.{start_within}
 use Rattle.node_core.proofs.node.Node.new.Goals as goal
 
@@ -21,6 +23,7 @@ returns g c =
         acts = [];
         snapshots = c.new-2.ensures net u;
         alike = start_alike u;
+        reports = subst (AreReports rules net u []) (sym c.new-3.ensures) (no_reports rules net u);
       };
       within = start_within rules net u;
     }

@@ -24,7 +24,7 @@ returns-in-Update-clause-node g c = IfOk-weaker c.enter.result _ _
     let path = c.in-Update.path in
     news_taken rules net u carried past v s (Keeps policy rules net u node) c.args.item p n t path c.in-Update.is
     (h policy net u carried (Took v u s (News n (record { prefix = p; triggers = t ∷ []; path = path })) ∷ past)
-    (heard_keeps policy rules net u past v s c.args.item p n t path c.in-Update.is may c.args.self _ was.own was.keeps (record { topology = refl; id = refl; log = refl; updates = refl })
+    (heard_keeps policy rules net u past v s c.args.item p n t path c.in-Update.is may c.args.self _ was.own was.keeps (record { topology = refl; id = refl; log = refl; updates = refl }) refl
     (λ acts stands next. c.on_update.ensures net u acts stands next))
     (may_enter policy rules net u past v s c.args.item p n t path c.in-Update.is may)))
     c.enter.ensures.node
@@ -41,7 +41,7 @@ returns-in-Update-clause-outputs g c = on_ok_weaker c.enter.result
     let path = c.in-Update.path in
     news_taken rules net u carried past v s (Hands first c.enter.new.outputs.items) c.args.item p n t path c.in-Update.is
     (h policy net u carried (Took v u s (News n (record { prefix = p; triggers = t ∷ []; path = path })) ∷ past) first
-    (heard_keeps policy rules net u past v s c.args.item p n t path c.in-Update.is may c.args.self _ was.own was.keeps (record { topology = refl; id = refl; log = refl; updates = refl })
+    (heard_keeps policy rules net u past v s c.args.item p n t path c.in-Update.is may c.args.self _ was.own was.keeps (record { topology = refl; id = refl; log = refl; updates = refl }) refl
     (λ acts stands next. c.on_update.ensures net u acts stands next))
     (may_enter policy rules net u past v s c.args.item p n t path c.in-Update.is may)
     (hands_took first past c.args.outputs.now.items v u s (News n (record { prefix = p; triggers = t ∷ []; path = path })) hands)))
