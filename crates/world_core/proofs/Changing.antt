@@ -23,11 +23,12 @@ use Rattle.chronicle.specs.Facts as fact
 use Rattle.chronicle.specs.Channels.{channel}
 use Rattle.chronicle.specs.Deliveries.{arrives, may_arrive}
 use Rattle.chronicle.specs.Epochs.{epoch}
-use Rattle.chronicle.specs.Giving.{unless, out_of_turn, comes, notices, opens, give}
+use Rattle.chronicle.specs.Giving.{unless, out_of_turn, closes, opens, give}
 use Rattle.chronicle.specs.Links.{link}
 use Rattle.chronicle.specs.Logs.{log_of}
-use Rattle.chronicle.specs.Steps.{Step, Idle, Goes, Carried, greeted, heard, markers, meet_mark, open_session, sends, take_cut, take_item, write}
+use Rattle.chronicle.specs.Steps.{Step, Idle, Goes, Carried, unless_ready, heard, markers, meet_mark, open_session, sends, take_cut, take_item, write}
 use Rattle.chronicle.specs.Run.{held_with, carried_by, given, delivered, is_carried, opened_by_link, fails, restores, step, after, chronicle_of}
+use Rattle.chronicle.specs.Inputs.{arrival}
 use Rattle.chronicle.specs.Inputs as input
 use Rattle.topology.specs.declared.status.Reason.{Reason}
 use Rattle.topology.specs.declared.status.Reason.TheVariants.{AlreadyOrigin, NotOrigin, StillUp, WrongSession, OldSession}
@@ -264,12 +265,12 @@ restore_change net past a b = record {
 -- ---- events
 
 -- a greeting changes no more
-greet_change : (rules : Rules) (net : Net) (carried : Carried) (past : Chronicle) (v u s : ℕ) (known : Option ℕ) (ways : List Way) → Changed net past (greeted rules net carried v u s known past) ways
+greet_change : (rules : Rules) (net : Net) (carried : Carried) (past : Chronicle) (v u s : ℕ) (known : Option ℕ) (ways : List Way) → Changed net past (unless_ready known past (write rules net carried u (local u (log_of u past) All (cause.Ready v s)) past)) ways
 greet_change rules net carried past v u s (Some t) ways = unchanged net past ways
 greet_change rules net carried past v u s None ways = write_change rules net carried u ways past (local u (log_of u past) All (cause.Ready v s)) (λ one session misses at. refl)
 
 -- what an item changes that u takes
-take_change : (rules : Rules) (net : Net) (carried : Carried) (past : Chronicle) (v u s : ℕ) (x : Item) → Changed net past (take_item rules net carried v u s x past) (way v u ∷ [])
+take_change : (rules : Rules) (net : Net) (carried : Carried) (past : Chronicle) (v u s : ℕ) (x : Item) → Changed net past (take_item rules net carried u (arrival v s x) past) (way v u ∷ [])
 unfolding take_item
 take_change rules net carried past v u s (News n x) =
     let mid : Chronicle = Took v u s (News n x) ∷ past in
@@ -282,8 +283,8 @@ take_change rules net carried past v u s (Hello e) =
     let mid : Chronicle = Took v u s (Hello e) ∷ past in
     let met = meet_mark net carried u e mid in
     let known = ready (reads (log_of u past)) v in
-    both net past mid (greeted rules net carried v u s known met) (way v u ∷ []) (took_change net past v u s (Hello e))
-    (both net mid met (greeted rules net carried v u s known met) (way v u ∷ []) (meet_change rules net carried u (way v u ∷ []) mid e)
+    both net past mid (unless_ready known met (write rules net carried u (local u (log_of u met) All (cause.Ready v s)) met)) (way v u ∷ []) (took_change net past v u s (Hello e))
+    (both net mid met (unless_ready known met (write rules net carried u (local u (log_of u met) All (cause.Ready v s)) met)) (way v u ∷ []) (meet_change rules net carried u (way v u ∷ []) mid e)
     (greet_change rules net carried met v u s known (way v u ∷ [])))
 
 -- a session that is closed changes the way to u
@@ -313,17 +314,17 @@ unless_change net past now ways (Some why) change = tt
 
 module _ (rules : Rules) (net : Net) (carried : Carried) (past : Chronicle) where
   -- an item that comes
-  comes_change : (v u s : ℕ) (x : Item) (session : Option ℕ) → ChangedBy net past (way v u ∷ []) (comes rules net carried u past v s x session)
+  comes_change : (v u s : ℕ) (x : Item) (session : Option ℕ) → ChangedBy net past (way v u ∷ []) (if not (is_session session s) then Idle WrongSession else unless (out_of_turn (suc (length (inbox (log_of u past) v s))) x) (take_item rules net carried u (arrival v s x) past))
   comes_change v u s x session =
       let turn = out_of_turn (suc (length (inbox (log_of u past) v s))) x in
-      let now = take_item rules net carried v u s x past in
+      let now = take_item rules net carried u (arrival v s x) past in
       elim (is_session session s) as (λ t. ChangedBy net past (way v u ∷ []) (if not t then Idle WrongSession else unless turn now)) [
         | true ↦ unless_change net past now (way v u ∷ []) turn (take_change rules net carried past v u s x)
         | false ↦ tt
       ]
 
   -- a notice
-  notices_change : (u v : ℕ) (session : Option ℕ) → ChangedBy net past (way v u ∷ []) (notices rules net carried u past v session)
+  notices_change : (u v : ℕ) (session : Option ℕ) → ChangedBy net past (way v u ∷ []) (closes session (λ s. write rules net carried u (local u (log_of u past) All (cause.Down v s)) past))
   notices_change u v None = tt
   notices_change u v (Some s) = close_change rules net carried past u v s
 
@@ -338,7 +339,7 @@ module _ (rules : Rules) (net : Net) (carried : Carried) (past : Chronicle) wher
 
 module _ (rules : Rules) (net : Net) (past : Chronicle) where
   -- a delivery
-  delivery_change : (v u : ℕ) (l : LinkState) (items : List Item) → ChangedBy net past (way v u ∷ []) (delivered rules net past v u l items)
+  delivery_change : (v u : ℕ) (l : LinkState) (items : List Item) → ChangedBy net past (way v u ∷ []) (delivered (given rules net past u) v l items)
   unfolding give
   delivery_change v u (Down s) items = tt
   delivery_change v u (Up s) [] = tt
@@ -350,7 +351,7 @@ module _ (rules : Rules) (net : Net) (past : Chronicle) where
   notice_change u v = notices_change rules net (carried_by u past) past u v (held (reads (log_of u past)) v)
 
   -- an opening, in a run
-  opening_change : (u v : ℕ) (session : Option ℕ) (l : LinkState) → linked net u v ≡ true → ChangedBy net past (way v u ∷ []) (opened_by_link rules net past u v session l)
+  opening_change : (u v : ℕ) (session : Option ℕ) (l : LinkState) → linked net u v ≡ true → ChangedBy net past (way v u ∷ []) (opened_by_link (given rules net past u) v session l)
   unfolding give
   opening_change u v (Some s) l near = tt
   opening_change u v None (Down s) near = tt

@@ -17,7 +17,8 @@ use Rattle.chronicle.specs.Channels.{channel}
 use Rattle.chronicle.specs.Deliveries.{arrives, may_arrive}
 use Rattle.chronicle.specs.Facts.{Chronicle}
 use Rattle.chronicle.specs.Facts as fact
-use Rattle.chronicle.specs.Giving.{comes, give, out_of_turn, unless}
+use Rattle.chronicle.specs.Giving.{give, out_of_turn, unless}
+use Rattle.chronicle.specs.Inputs.{arrival}
 use Rattle.chronicle.specs.Inputs as input
 use Rattle.chronicle.specs.Links.{link}
 use Rattle.chronicle.specs.Logs.{log_of}
@@ -72,9 +73,9 @@ module _ (rules : Rules) (net : Net) (past : Chronicle) (u v : ℕ) where
   notice_over over = ap (λ t. if t then Idle StillUp else given rules net past u (input.Notice v)) over
 
   -- an opening, by what it reads
-  pub open_step : (session : Option ℕ) (l : LinkState) → held_with u v past ≡ session → link u v past ≡ l → step rules net past (OpenSession u v) ≡ opened_by_link rules net past u v session l
+  pub open_step : (session : Option ℕ) (l : LinkState) → held_with u v past ≡ session → link u v past ≡ l → step rules net past (OpenSession u v) ≡ opened_by_link (given rules net past u) v session l
   unfolding step
-  open_step session l holds is = ap₂ (λ h l. opened_by_link rules net past u v h l) holds is
+  open_step session l holds is = ap₂ (λ h l. opened_by_link (given rules net past u) v h l) holds is
 
   -- an opening where a session is held
   pub open_held : (session : Option ℕ) → held_with u v past ≡ session → is_some session ≡ true → step rules net past (OpenSession u v) ≡ Idle AlreadyOpen
@@ -114,9 +115,9 @@ module _ (rules : Rules) (net : Net) (past : Chronicle) (u v : ℕ) where
 -- what a delivery does, by what it reads
 module _ (rules : Rules) (net : Net) (past : Chronicle) (v u : ℕ) where
   -- a delivery, by what it reads
-  deliver_step : (l : LinkState) (items : List Item) → link v u past ≡ l → channel v u past ≡ items → step rules net past (Deliver v u) ≡ delivered rules net past v u l items
+  deliver_step : (l : LinkState) (items : List Item) → link v u past ≡ l → channel v u past ≡ items → step rules net past (Deliver v u) ≡ delivered (given rules net past u) v l items
   unfolding step
-  deliver_step l items is front = ap₂ (delivered rules net past v u) is front
+  deliver_step l items is front = ap₂ (delivered (given rules net past u) v) is front
 
   -- the item in front arrives
   pub deliver_front : (s : ℕ) (x : Item) (rest : List Item) → link v u past ≡ Up s → channel v u past ≡ x ∷ rest → step rules net past (Deliver v u) ≡ given rules net past u (input.Arrive v s x)
@@ -126,7 +127,7 @@ module _ (rules : Rules) (net : Net) (past : Chronicle) (v u : ℕ) where
   wrong_session : (s : ℕ) (x : Item) → is_session (held_with u v past) s ≡ false → given rules net past u (input.Arrive v s x) ≡ Idle WrongSession
   unfolding give
   wrong_session s x wrong =
-      ap (λ t. if not t then Idle WrongSession else unless (out_of_turn (suc (length (inbox (log_of u past) v s))) x) (take_item rules net (carried_by u past) v u s x past)) wrong
+      ap (λ t. if not t then Idle WrongSession else unless (out_of_turn (suc (length (inbox (log_of u past) v s))) x) (take_item rules net (carried_by u past) u (arrival v s x) past)) wrong
 
   -- an item in its turn is not
   right_session : (s : ℕ) (x : Item) → is_session (held_with u v past) s ≡ true → out_of_turn (suc (length (inbox (log_of u past) v s))) x ≡ None → Did (given rules net past u (input.Arrive v s x))

@@ -18,11 +18,11 @@ use Rattle.trigger_log.specs.Sending.{sent_of}
 use Rattle.trigger_log.specs.Going.{Item, News, Marker, Hello}
 use Rattle.chronicle.specs.Epochs.{epoch}
 use Rattle.chronicle.specs.Facts.{Chronicle, Took}
-use Rattle.chronicle.specs.Giving.{unless, out_of_turn, comes, notices, opens, give}
-use Rattle.chronicle.specs.Inputs.{Input}
+use Rattle.chronicle.specs.Giving.{unless, out_of_turn, closes, opens, give}
+use Rattle.chronicle.specs.Inputs.{Input, arrival}
 use Rattle.chronicle.specs.Inputs as input
 use Rattle.chronicle.specs.Logs.{log_of}
-use Rattle.chronicle.specs.Steps.{Step, Idle, Goes, Carried, write, open_session, take_cut, meet_mark, greeted, heard, take_item}
+use Rattle.chronicle.specs.Steps.{Step, Idle, Goes, Carried, write, open_session, take_cut, meet_mark, unless_ready, heard, take_item}
 use Rattle.chronicle.proofs.Blocks.{log_own, log_open, log_take_cut, opening, same_number}
 use Rattle.cut_laws.specs.Own.{SameNode}
 use Rattle.node_core.specs.declared.limits.TheConstants.{MOST_EPOCHS, MOST_ENTRIES, MOST_UPDATES}
@@ -106,7 +106,7 @@ module _ (rules : Rules) (net : Net) (carried : Carried) (u : ℕ) (own : Bool) 
   ]
 
   -- a greeting makes one at most
-  greet_logs : (v s : ℕ) (known : Option ℕ) (past mid : Chronicle) → log_of u mid ≡ log_of u past → own ≡ true → Logs u own past (greeted rules net carried v u s known mid)
+  greet_logs : (v s : ℕ) (known : Option ℕ) (past mid : Chronicle) → log_of u mid ≡ log_of u past → own ≡ true → Logs u own past (unless_ready known mid (write rules net carried u (local u (log_of u mid) All (cause.Ready v s)) mid))
   greet_logs v s (Some t) past mid same is = inl same
   greet_logs v s None past mid same is = write_logs (local u (log_of u mid) All (cause.Ready v s)) past mid same (sym is)
 
@@ -116,10 +116,10 @@ module _ (rules : Rules) (net : Net) (carried : Carried) (u : ℕ) (own : Bool) 
   unless_logs past now (Some why) logs = tt
 
   -- an item that comes
-  comes_logs : (v s : ℕ) (x : Item) (session : Option ℕ) (past : Chronicle) → Logs u own past (take_item rules net carried v u s x past) → LogsBy u own past (comes rules net carried u past v s x session)
+  comes_logs : (v s : ℕ) (x : Item) (session : Option ℕ) (past : Chronicle) → Logs u own past (take_item rules net carried u (arrival v s x) past) → LogsBy u own past (if not (is_session session s) then Idle reason.WrongSession else unless (out_of_turn (suc (length (inbox (log_of u past) v s))) x) (take_item rules net carried u (arrival v s x) past))
   comes_logs v s x session past logs =
       let turn = out_of_turn (suc (length (inbox (log_of u past) v s))) x in
-      let now = take_item rules net carried v u s x past in
+      let now = take_item rules net carried u (arrival v s x) past in
       elim (is_session session s) as (λ t. LogsBy u own past (if not t then Idle reason.WrongSession else unless turn now)) [
         | true ↦ unless_logs past now turn logs
         | false ↦ tt
@@ -127,7 +127,7 @@ module _ (rules : Rules) (net : Net) (carried : Carried) (u : ℕ) (own : Bool) 
 
 module _ (rules : Rules) (net : Net) (carried : Carried) (u : ℕ) (past : Chronicle) where
   -- an item that is taken
-  take_logs : (v s : ℕ) (x : Item) → Logs u (makes_local (input.Arrive v s x)) past (take_item rules net carried v u s x past)
+  take_logs : (v s : ℕ) (x : Item) → Logs u (makes_local (input.Arrive v s x)) past (take_item rules net carried u (arrival v s x) past)
   unfolding take_item
   take_logs v s (News n x) = write_logs rules net carried u false (heard v s n x) past (Took v u s (News n x) ∷ past) refl refl
   take_logs v s (Marker e) = inl (log_meet rules net carried u true e (Took v u s (Marker e) ∷ past))
@@ -136,7 +136,7 @@ module _ (rules : Rules) (net : Net) (carried : Carried) (u : ℕ) (past : Chron
       greet_logs rules net carried u true v s (ready (reads (log_of u past)) v) past (meet_mark net carried u e taken) (log_meet rules net carried u true e taken) refl
 
   -- a notice
-  notices_logs : (v : ℕ) (session : Option ℕ) → LogsBy u true past (notices rules net carried u past v session)
+  notices_logs : (v : ℕ) (session : Option ℕ) → LogsBy u true past (closes session (λ s. write rules net carried u (local u (log_of u past) All (cause.Down v s)) past))
   notices_logs v None = tt
   notices_logs v (Some s) = write_logs rules net carried u true (local u (log_of u past) All (cause.Down v s)) past past refl refl
 

@@ -1,8 +1,8 @@
 pub mod Places
 pub mod Near
 pub mod Carried
-mod WayOrder
-mod FirstWay
+mod Bits
+mod Numbered
 pub mod Telling
 pub mod Nodes
 pub mod Turned

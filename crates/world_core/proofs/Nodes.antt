@@ -57,6 +57,7 @@ same_stands policy rules net u node past now same was = record {
     acts = was.keeps.acts;
     snapshots = was.keeps.snapshots;
     alike = alike_same was.keeps.acts u past now same was.keeps.alike;
+    reports = was.keeps.reports;
   };
   within = same_above rules net u past now same ∙ was.within;
 }

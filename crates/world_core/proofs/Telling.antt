@@ -17,12 +17,12 @@ use Rattle.trigger_log.specs.Entries.{Entry, inbox, local, reads, is_session}
 use Rattle.trigger_log.specs.Going.{Going, Item, News, Marker, Hello, going_by, going_in, going_to, spread, told}
 use Rattle.chronicle.specs.Epochs.{epoch}
 use Rattle.chronicle.specs.Facts.{Fact, Chronicle, Log, Sent, Took, Raise, happen}
-use Rattle.chronicle.specs.Giving.{unless, out_of_turn, comes, notices, opens, give}
-use Rattle.chronicle.specs.Inputs.{Input}
+use Rattle.chronicle.specs.Giving.{unless, out_of_turn, closes, opens, give}
+use Rattle.chronicle.specs.Inputs.{Input, arrival}
 use Rattle.chronicle.specs.Inputs as input
 use Rattle.chronicle.specs.Links.{link}
 use Rattle.chronicle.specs.Logs.{log_of}
-use Rattle.chronicle.specs.Steps.{Step, Idle, Goes, Carried, sends, markers, write, open_session, take_cut, meet_mark, greeted, heard, take_item}
+use Rattle.chronicle.specs.Steps.{Step, Idle, Goes, Carried, sends, markers, write, open_session, take_cut, meet_mark, unless_ready, heard, take_item}
 use Rattle.chronicle.proofs.Blocks.{AreCarried, opening, greeting, link_take_cut}
 use Rattle.node_core.specs.Coming.{MayCome}
 use Rattle.world_core.specs.Happening.{handed}
@@ -175,12 +175,12 @@ module _ (net : Net) (u : ℕ) where
         ]
 
     -- a greeting
-    greet_adds : (rules : Rules) (v s : ℕ) (known : Option ℕ) (now : Chronicle) → AreCarried carried u now → Adds net u now (greeted rules net carried v u s known now)
+    greet_adds : (rules : Rules) (v s : ℕ) (known : Option ℕ) (now : Chronicle) → AreCarried carried u now → Adds net u now (unless_ready known now (write rules net carried u (local u (log_of u now) All (cause.Ready v s)) now))
     greet_adds rules v s (Some t) now are = adds_nothing now
     greet_adds rules v s None now are = write_adds rules (local u (log_of u now) All (cause.Ready v s)) now are
 
     -- an item that is taken
-    take_adds : (rules : Rules) (v s : ℕ) (x : Item) (past : Chronicle) → AreCarried carried u past → Adds net u (Took v u s x ∷ past) (take_item rules net carried v u s x past)
+    take_adds : (rules : Rules) (v s : ℕ) (x : Item) (past : Chronicle) → AreCarried carried u past → Adds net u (Took v u s x ∷ past) (take_item rules net carried u (arrival v s x) past)
     unfolding take_item
     take_adds rules v s (News n x) past are = write_adds rules (heard v s n x) (Took v u s (News n x) ∷ past) are
     take_adds rules v s (Marker e) past are = meet_adds e (Took v u s (Marker e) ∷ past) are
@@ -188,7 +188,7 @@ module _ (net : Net) (u : ℕ) where
         let taken : Chronicle = Took v u s (Hello e) ∷ past in
         let known = ready (reads (log_of u past)) v in
         let met = meet_mark net carried u e taken in
-        adds_both taken met (greeted rules net carried v u s known met) (meet_adds e taken are)
+        adds_both taken met (unless_ready known met (write rules net carried u (local u (log_of u met) All (cause.Ready v s)) met)) (meet_adds e taken are)
         (greet_adds rules v s known met (λ w t. are w t ∙ ap (λ l. carries l t) (sym (link_meet e taken u w))))
 
 -- ---- what an input adds
@@ -205,17 +205,17 @@ unless_adds net u first now (Some why) adds = tt
 
 module _ (rules : Rules) (net : Net) (carried : Carried) (u : ℕ) (past : Chronicle) (are : AreCarried carried u past) where
   -- an item that comes
-  comes_adds : (v s : ℕ) (x : Item) (session : Option ℕ) → AddsBy net u (Took v u s x ∷ past) (comes rules net carried u past v s x session)
+  comes_adds : (v s : ℕ) (x : Item) (session : Option ℕ) → AddsBy net u (Took v u s x ∷ past) (if not (is_session session s) then Idle reason.WrongSession else unless (out_of_turn (suc (length (inbox (log_of u past) v s))) x) (take_item rules net carried u (arrival v s x) past))
   comes_adds v s x session =
       let turn = out_of_turn (suc (length (inbox (log_of u past) v s))) x in
-      let now = take_item rules net carried v u s x past in
+      let now = take_item rules net carried u (arrival v s x) past in
       elim (is_session session s) as (λ t. AddsBy net u (Took v u s x ∷ past) (if not t then Idle reason.WrongSession else unless turn now)) [
         | true ↦ unless_adds net u (Took v u s x ∷ past) now turn (take_adds net u carried rules v s x past are)
         | false ↦ tt
       ]
 
   -- a notice
-  notices_adds : (v : ℕ) (session : Option ℕ) → AddsBy net u past (notices rules net carried u past v session)
+  notices_adds : (v : ℕ) (session : Option ℕ) → AddsBy net u past (closes session (λ s. write rules net carried u (local u (log_of u past) All (cause.Down v s)) past))
   notices_adds v None = tt
   notices_adds v (Some s) = write_adds net u carried rules (local u (log_of u past) All (cause.Down v s)) past are
 

@@ -1,5 +1,5 @@
 -- What holds in every network, whatever happened.
-use Rattle.std.specs.Prelude.{ℕ, ◌≡◌, ◌≢◌, true, drop}
+use Rattle.std.specs.Prelude.{ℕ, ◌≡◌, ◌≢◌, true, List, drop}
 use Rattle.topology.specs.declared.links.LinkState.TheVariants.{Up}
 use Rattle.topology.specs.declared.status.Reason.TheVariants.{WrongSeq, OldSession}
 use Rattle.topology.specs.Lists.{has}
@@ -15,6 +15,7 @@ use Rattle.cut_laws.specs.Counted.{failures, queued, restorings, state_after, ta
 use Rattle.cut_laws.specs.Cuts.{Consistent, RecordsWhatIsMissing}
 use Rattle.cut_laws.specs.Joined.{Joined}
 use Rattle.cut_laws.specs.Received.{BringsFrom}
+use Rattle.rest_laws.specs.Rest.{AtRest, TablesContinue}
 use Rattle.world_core.specs.declared.outcomes.Outcome.{Outcome}
 use Rattle.world_core.specs.declared.outcomes.Outcome.TheVariants as outcome
 
@@ -39,6 +40,12 @@ pub record IsSound (rules : Rules) (net : Net) (past : Chronicle) : Type 0 where
   pub cuts : (e u v : ℕ) → has (neighbours net v) u ≡ true → Consistent rules net past e u v
   -- a recording that is done lists what is missing to the one cut of what the other has sent
   pub recordings : (e u v : ℕ) → has (neighbours net v) u ≡ true → RecordsWhatIsMissing rules net past e u v
+  -- the cuts of an epoch, of any nodes that have one, are at rest without their incomplete entries: what a node
+  -- has of a neighbour is what the neighbour offers
+  pub rest : (e : ℕ) (nodes : List ℕ) → AtRest rules net past e nodes
+  -- the tables by the value of their reports continue: a path in one is its node alone, or goes on as the path of
+  -- its next node
+  pub tables : (e : ℕ) (nodes : List ℕ) → TablesContinue rules net past e nodes
 
 -- no update was out of turn, and no session an old one: these reasons only a node alone meets
 abbrev pub IsNoStray : Outcome → Type 0

@@ -1,5 +1,5 @@
 //! A node of the network is given an input.
-ghost use Rattle.std.specs.Prelude.{◌≡◌, [], true, length, IfOk, IfErr};
+ghost use Rattle.std.specs.Prelude.{◌≡◌, [], true, length, OnOk, IfOk, IfErr};
 ghost use Rattle.topology.specs.Lists.{has};
 ghost use Rattle.chronicle.specs.Facts.{Chronicle};
 ghost use Rattle.chronicle.specs.Run.{given};
@@ -26,35 +26,35 @@ fn room_for(alloc: Global, outputs: &OutputList) -> Result<Vec<Effect>, NoMemory
 }
 
 impl<P: Policy + Copy> Network<P> {
-    /// The node handles the input: what it hands out goes over the links, or is lost there.
-    pub fn give(self, node: NodeId, input: Input) -> Result<(Network<P>, Outcome), Stop>
-        requires node { has self.topology.value.nodes node ≡ true }
-        requires places { HasPlaces self.topology.value (length self.nodes.items) }
-        ensures others { IfOk result (λ r. IsAsWas self r.0) }
-        ensures comes { IfOk result (λ r. (past : Chronicle) →
-            MayHand (P.rules self.policy) past node (input_of input) self →
-            Comes (P.rules self.policy) past (given (P.rules self.policy) self.topology.value past node (input_of input)) r.0 r.1) }
+    /// The node handles the input: what it hands out goes over the links, or is lost there. After an
+    /// `Err` the network is of no use.
+    pub fn give(&mut self, node: NodeId, input: Input) -> Result<Outcome, Stop>
+        requires node { has self.old.topology.value.nodes node ≡ true }
+        requires places { HasPlaces self.old.topology.value (length self.old.nodes.items) }
+        ensures others { OnOk result (IsAsWas self.old self.new) }
+        ensures comes { IfOk result (λ outcome. (past : Chronicle) →
+            MayHand (P.rules self.old.policy) past node (input_of input) self.old →
+            Comes (P.rules self.old.policy) past (given (P.rules self.old.policy) self.old.topology.value past node (input_of input)) self.new outcome) }
         ensures stopped { IfErr result (λ stop. (past : Chronicle) →
-            MayHand (P.rules self.policy) past node (input_of input) self →
-            StopsAt (above_by (P.rules self.policy) self.topology.value
-            (given (P.rules self.policy) self.topology.value past node (input_of input))) stop) }
+            MayHand (P.rules self.old.policy) past node (input_of input) self.old →
+            StopsAt (above_by (P.rules self.old.policy) self.old.topology.value
+            (given (P.rules self.old.policy) self.old.topology.value past node (input_of input))) stop) }
     {
         let rank = self.topology.rank_of(node).unwrap();
-        let mut network = self;
         let is_local = is_local(&input);
-        let before = network.nodes[rank].log().next_trigger().count;
-        let outputs = match turn(&mut network.nodes, rank, input) {
+        let before = self.nodes[rank].log().next_trigger().count;
+        let outputs = match turn(&mut self.nodes, rank, input) {
             Ok(outputs) => outputs,
-            Err(stop) => return Err(stop_of(network.triggers, is_local, stop)),
+            Err(stop) => return Err(stop_of(self.triggers, is_local, stop)),
         };
         let list = match outputs {
             Outputs::Did(list) => list,
-            Outputs::Idle(reason) => return Ok((network, Outcome::Idle(reason))),
+            Outputs::Idle(reason) => return Ok(Outcome::Idle(reason)),
         };
-        let after = network.nodes[rank].log().next_trigger().count;
-        network.triggers = counted(network.triggers, before, after)?;
-        let mut effects = room_for(network.alloc, &list)?;
-        hand_all(node, list.into_vec(), &mut network.links, &mut effects)?;
-        Ok((network, Outcome::Did(Effects::new(effects))))
+        let after = self.nodes[rank].log().next_trigger().count;
+        self.triggers = counted(self.triggers, before, after)?;
+        let mut effects = room_for(self.alloc, &list)?;
+        hand_all(node, list.into_vec(), &mut self.links, &mut effects)?;
+        Ok(Outcome::Did(Effects::new(effects)))
     }
 }

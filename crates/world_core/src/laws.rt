@@ -7,6 +7,7 @@ ghost use Rattle.chronicle.specs.Run.{run};
 ghost use Rattle.world_core.specs.Sound.{IsSound};
 
 use cut_laws::laws;
+use rest_laws::laws as of_rest;
 
 /// Whatever happened, the network is sound.
 pub fn every_run_is_sound()
@@ -21,4 +22,6 @@ pub fn every_run_is_sound()
     laws::received_paths_begin_with_their_senders();
     laws::the_cuts_of_an_epoch_fit_together();
     laws::a_recording_lists_what_is_missing();
+    of_rest::the_cuts_of_an_epoch_are_at_rest();
+    of_rest::the_tables_of_a_value_continue();
 }

@@ -1,5 +1,5 @@
 //! After an event the ways that it may have changed are looked at again.
-ghost use Rattle.std.specs.Prelude.{◌≡◌, true, ◌∷◌, ◌++◌, [], List, OnOk, IfSome, IsTrue, IfNone, if◌then◌else◌};
+ghost use Rattle.std.specs.Prelude.{◌≡◌, true, ◌∷◌, ◌++◌, [], List, IfSome, IsTrue, IfNone, if◌then◌else◌};
 ghost use Rattle.chronicle.specs.declared.ways.Way.{Way as Direction};
 ghost use Rattle.topology.specs.Net.{linked};
 ghost use Rattle.chronicle.specs.Deliveries.{arrives};
@@ -18,7 +18,6 @@ use crate::outcomes::{Effect, Outcome};
 use crate::waiting::Waiting;
 use chronicle::{Event, Way};
 use path_vector::Policy;
-use topology::NoMemory;
 
 // The way over the link of the event, where it is about a link, on which a delivery may come to
 // something else: to the node that takes the item, or that opens or closes its session. One of the two
@@ -57,84 +56,77 @@ impl<P: Policy + Copy> Network<P> {
     }
 
     // Looks at the way again.
-    fn look(&self, way: &Way, waiting: &mut Waiting) -> Result<(), NoMemory>
-        ensures { OnOk result ((past : Chronicle) (rest : List Direction) → Stands (P.rules self.now.policy) past self.now →
-            AreWaitingBut self.now.topology.value past (way.now ∷ rest) (has_way waiting.old) →
-            AreWaitingBut self.now.topology.value past rest (has_way waiting.new)) }
+    fn look(&self, way: &Way, waiting: &mut Waiting)
+        ensures { (past : Chronicle) (rest : List Direction) → Stands (P.rules self.now.policy) past self.now →
+            AreWaitingBut self.now.topology.value past (way.now ∷ rest) (has_way self.now.topology.value waiting.old) →
+            AreWaitingBut self.now.topology.value past rest (has_way self.now.topology.value waiting.new) }
     {
-        waiting.put(way, self.waits(way))?;
-        Ok(())
+        let Some(number) = self.links.way_of(way.from, way.to) else {
+            return;
+        };
+        waiting.put(number, self.waits(way));
     }
 
     // Looks again at the ways over the link of the event that it may have changed.
-    fn look_at_link(&self, event: &Event, waiting: &mut Waiting) -> Result<(), NoMemory>
-        ensures { OnOk result ((past : Chronicle) (rest : List Direction) → Stands (P.rules self.now.policy) past self.now →
-            AreWaitingBut self.now.topology.value past (ways_of event.now ++ rest) (has_way waiting.old) →
-            AreWaitingBut self.now.topology.value past rest (has_way waiting.new)) }
+    fn look_at_link(&self, event: &Event, waiting: &mut Waiting)
+        ensures { (past : Chronicle) (rest : List Direction) → Stands (P.rules self.now.policy) past self.now →
+            AreWaitingBut self.now.topology.value past (ways_of event.now ++ rest) (has_way self.now.topology.value waiting.old) →
+            AreWaitingBut self.now.topology.value past rest (has_way self.now.topology.value waiting.new) }
     {
         let Some(way) = way_of(event) else {
-            return Ok(());
+            return;
         };
-        self.look(&way, waiting)?;
+        self.look(&way, waiting);
         if is_outage(event) {
             let back = Way {
                 from: way.to,
                 to: way.from,
             };
-            self.look(&back, waiting)?;
+            self.look(&back, waiting);
         }
-        Ok(())
     }
 
     // Looks again at the way over which something was queued.
-    fn look_at_effect(&self, effect: &Effect, waiting: &mut Waiting) -> Result<(), NoMemory>
-        ensures { OnOk result ((past : Chronicle) (rest : List Told) → Stands (P.rules self.now.policy) past self.now →
-            AreWaitingBut self.now.topology.value past (queued_ways (effect.now ∷ rest)) (has_way waiting.old) →
-            AreWaitingBut self.now.topology.value past (queued_ways rest) (has_way waiting.new)) }
+    fn look_at_effect(&self, effect: &Effect, waiting: &mut Waiting)
+        ensures { (past : Chronicle) (rest : List Told) → Stands (P.rules self.now.policy) past self.now →
+            AreWaitingBut self.now.topology.value past (queued_ways (effect.now ∷ rest)) (has_way self.now.topology.value waiting.old) →
+            AreWaitingBut self.now.topology.value past (queued_ways rest) (has_way self.now.topology.value waiting.new) }
     {
         let Effect::Queued { from, to } = effect else {
-            return Ok(());
+            return;
         };
         let way = Way {
             from: *from,
             to: *to,
         };
-        self.look(&way, waiting)?;
-        Ok(())
+        self.look(&way, waiting);
     }
 
     // Looks again at each way over which something was queued.
-    fn look_at_effects(&self, effects: &[Effect], waiting: &mut Waiting) -> Result<(), NoMemory>
-        ensures { OnOk result ((past : Chronicle) → Stands (P.rules self.now.policy) past self.now →
-            AreWaitingBut self.now.topology.value past (queued_ways effects.now) (has_way waiting.old) →
-            AreWaitingBut self.now.topology.value past [] (has_way waiting.new)) }
+    fn look_at_effects(&self, effects: &[Effect], waiting: &mut Waiting)
+        ensures { (past : Chronicle) → Stands (P.rules self.now.policy) past self.now →
+            AreWaitingBut self.now.topology.value past (queued_ways effects.now) (has_way self.now.topology.value waiting.old) →
+            AreWaitingBut self.now.topology.value past [] (has_way self.now.topology.value waiting.new) }
     {
         for effect in effects {
-            self.look_at_effect(effect, waiting)?;
+            self.look_at_effect(effect, waiting);
         }
-        Ok(())
     }
 
     /// Looks again at the ways that wait, after the event, which came to this. Only those are looked
     /// at that the event may have changed: one way over its link, or both where the link changes, and
     /// those over which something was queued.
-    pub fn refresh(
-        &self,
-        event: &Event,
-        outcome: &Outcome,
-        waiting: &mut Waiting,
-    ) -> Result<(), NoMemory>
+    pub fn refresh(&self, event: &Event, outcome: &Outcome, waiting: &mut Waiting)
         requires { IsTrue (fits self.now.topology.value event.now) }
-        ensures { OnOk result ((past : Chronicle) →
+        ensures { (past : Chronicle) →
             Comes (P.rules self.now.policy) past (step (P.rules self.now.policy) self.now.topology.value past event.now) self.now outcome.now →
-            AreWaiting self.now.topology.value past (has_way waiting.old) →
-            AreWaiting self.now.topology.value (after (P.rules self.now.policy) self.now.topology.value past event.now) (has_way waiting.new)) }
+            AreWaiting self.now.topology.value past (has_way self.now.topology.value waiting.old) →
+            AreWaiting self.now.topology.value (after (P.rules self.now.policy) self.now.topology.value past event.now) (has_way self.now.topology.value waiting.new) }
     {
         let Outcome::Did(effects) = outcome else {
-            return Ok(());
+            return;
         };
-        self.look_at_link(event, waiting)?;
-        self.look_at_effects(effects.as_slice(), waiting)?;
-        Ok(())
+        self.look_at_link(event, waiting);
+        self.look_at_effects(effects.as_slice(), waiting);
     }
 }

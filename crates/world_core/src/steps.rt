@@ -1,5 +1,5 @@
 //! What each event does to the nodes and links.
-ghost use Rattle.std.specs.Prelude.{◌≡◌, false, true, length, IsTrue, IfOk, IfErr};
+ghost use Rattle.std.specs.Prelude.{◌≡◌, false, true, length, IsTrue, OnOk, IfOk, IfErr};
 ghost use Rattle.topology.specs.Net.{linked};
 ghost use Rattle.chronicle.specs.Facts.{Chronicle};
 ghost use Rattle.trigger_log.specs.Entries.{is_session};
@@ -40,18 +40,19 @@ fn is_session(held: Option<Session>, session: Session) -> bool
 }
 
 impl<P: Policy + Copy> Network<P> {
-    /// Does the event, and answers what came of it. The ways that wait are not looked at again.
-    pub fn happen(self, event: &Event) -> Result<(Network<P>, Outcome), Stop>
-        requires fits { IsTrue (fits self.topology.value event.now) }
-        requires places { HasPlaces self.topology.value (length self.nodes.items) }
-        ensures others { IfOk result (λ r. IsAsWas self r.0) }
-        ensures comes { IfOk result (λ r. (past : Chronicle) →
-            Stands (P.rules self.policy) past self → IsRegular self.topology.value past →
-            Comes (P.rules self.policy) past (step (P.rules self.policy) self.topology.value past event.now) r.0 r.1) }
+    /// Does the event, and answers what came of it. The ways that wait are not looked at again. After
+    /// an `Err` the network is of no use.
+    pub fn happen(&mut self, event: &Event) -> Result<Outcome, Stop>
+        requires fits { IsTrue (fits self.old.topology.value event.now) }
+        requires places { HasPlaces self.old.topology.value (length self.old.nodes.items) }
+        ensures others { OnOk result (IsAsWas self.old self.new) }
+        ensures comes { IfOk result (λ outcome. (past : Chronicle) →
+            Stands (P.rules self.old.policy) past self.old → IsRegular self.old.topology.value past →
+            Comes (P.rules self.old.policy) past (step (P.rules self.old.policy) self.old.topology.value past event.now) self.new outcome) }
         ensures stopped { IfErr result (λ stop. (past : Chronicle) →
-            Stands (P.rules self.policy) past self → IsRegular self.topology.value past →
-            StopsAt (above_by (P.rules self.policy) self.topology.value
-            (step (P.rules self.policy) self.topology.value past event.now)) stop) }
+            Stands (P.rules self.old.policy) past self.old → IsRegular self.old.topology.value past →
+            StopsAt (above_by (P.rules self.old.policy) self.old.topology.value
+            (step (P.rules self.old.policy) self.old.topology.value past event.now)) stop) }
     {
         match event {
             Event::Originate { node, prefix } => self.give(*node, Input::Originate(*prefix)),
@@ -84,10 +85,13 @@ impl<P: Policy + Copy> Network<P> {
             (step (P.rules self.now.policy) self.now.topology.value past (Event.Deliver from to) ≡ Idle reason)
             × (arrives past from to ≡ false)) }
     {
-        let LinkState::Up(session) = self.links.state(from, to) else {
+        let Some(channel) = self.links.channel(from, to) else {
             return Err(Reason::LinkDown);
         };
-        let Some(_) = self.links.front(from, to) else {
+        let LinkState::Up(session) = channel.state() else {
+            return Err(Reason::LinkDown);
+        };
+        let Some(_) = channel.front() else {
             return Err(Reason::EmptyChannel);
         };
         if !is_session(self.held(to, from), session) {
@@ -97,27 +101,26 @@ impl<P: Policy + Copy> Network<P> {
     }
 
     // The oldest item on its way from the one node to the other arrives.
-    fn deliver(self, from: NodeId, to: NodeId) -> Result<(Network<P>, Outcome), Stop>
-        requires near { linked self.topology.value from to ≡ true }
-        requires places { HasPlaces self.topology.value (length self.nodes.items) }
-        ensures others { IfOk result (λ r. IsAsWas self r.0) }
-        ensures comes { IfOk result (λ r. (past : Chronicle) →
-            Stands (P.rules self.policy) past self → IsRegular self.topology.value past →
-            Comes (P.rules self.policy) past (step (P.rules self.policy) self.topology.value past (Event.Deliver from to)) r.0 r.1) }
+    fn deliver(&mut self, from: NodeId, to: NodeId) -> Result<Outcome, Stop>
+        requires near { linked self.old.topology.value from to ≡ true }
+        requires places { HasPlaces self.old.topology.value (length self.old.nodes.items) }
+        ensures others { OnOk result (IsAsWas self.old self.new) }
+        ensures comes { IfOk result (λ outcome. (past : Chronicle) →
+            Stands (P.rules self.old.policy) past self.old → IsRegular self.old.topology.value past →
+            Comes (P.rules self.old.policy) past (step (P.rules self.old.policy) self.old.topology.value past (Event.Deliver from to)) self.new outcome) }
         ensures stopped { IfErr result (λ stop. (past : Chronicle) →
-            Stands (P.rules self.policy) past self → IsRegular self.topology.value past →
-            StopsAt (above_by (P.rules self.policy) self.topology.value
-            (step (P.rules self.policy) self.topology.value past (Event.Deliver from to))) stop) }
+            Stands (P.rules self.old.policy) past self.old → IsRegular self.old.topology.value past →
+            StopsAt (above_by (P.rules self.old.policy) self.old.topology.value
+            (step (P.rules self.old.policy) self.old.topology.value past (Event.Deliver from to))) stop) }
     {
         let session = match self.arrival(from, to) {
             Ok(session) => session,
-            Err(reason) => return Ok((self, Outcome::Idle(reason))),
+            Err(reason) => return Ok(Outcome::Idle(reason)),
         };
-        let mut network = self;
-        let Some(item) = network.links.pop_front(from, to) else {
-            return Ok((network, Outcome::Idle(Reason::EmptyChannel)));
+        let Some(item) = self.links.pop_front(from, to) else {
+            return Ok(Outcome::Idle(Reason::EmptyChannel));
         };
-        network.give(
+        self.give(
             to,
             Input::Arrive {
                 from,
@@ -128,89 +131,87 @@ impl<P: Policy + Copy> Network<P> {
     }
 
     // The node gives the candidates of its neighbour this preference.
-    fn prefer(self, node: NodeId, nbr: NodeId, value: u32) -> Result<(Network<P>, Outcome), Stop>
-        requires near { linked self.topology.value node nbr ≡ true }
-        requires places { HasPlaces self.topology.value (length self.nodes.items) }
-        ensures others { IfOk result (λ r. IsAsWas self r.0) }
-        ensures comes { IfOk result (λ r. (past : Chronicle) →
-            Stands (P.rules self.policy) past self → IsRegular self.topology.value past →
-            Comes (P.rules self.policy) past (step (P.rules self.policy) self.topology.value past (Event.Prefer node nbr value)) r.0 r.1) }
+    fn prefer(&mut self, node: NodeId, nbr: NodeId, value: u32) -> Result<Outcome, Stop>
+        requires near { linked self.old.topology.value node nbr ≡ true }
+        requires places { HasPlaces self.old.topology.value (length self.old.nodes.items) }
+        ensures others { OnOk result (IsAsWas self.old self.new) }
+        ensures comes { IfOk result (λ outcome. (past : Chronicle) →
+            Stands (P.rules self.old.policy) past self.old → IsRegular self.old.topology.value past →
+            Comes (P.rules self.old.policy) past (step (P.rules self.old.policy) self.old.topology.value past (Event.Prefer node nbr value)) self.new outcome) }
         ensures stopped { IfErr result (λ stop. (past : Chronicle) →
-            Stands (P.rules self.policy) past self → IsRegular self.topology.value past →
-            StopsAt (above_by (P.rules self.policy) self.topology.value
-            (step (P.rules self.policy) self.topology.value past (Event.Prefer node nbr value))) stop) }
+            Stands (P.rules self.old.policy) past self.old → IsRegular self.old.topology.value past →
+            StopsAt (above_by (P.rules self.old.policy) self.old.topology.value
+            (step (P.rules self.old.policy) self.old.topology.value past (Event.Prefer node nbr value))) stop) }
     {
         self.give(node, Input::Prefer { nbr, value })
     }
 
     // The node notices that the link does not carry the session that it holds, and closes it.
-    fn notice(self, node: NodeId, nbr: NodeId) -> Result<(Network<P>, Outcome), Stop>
-        requires near { linked self.topology.value node nbr ≡ true }
-        requires places { HasPlaces self.topology.value (length self.nodes.items) }
-        ensures others { IfOk result (λ r. IsAsWas self r.0) }
-        ensures comes { IfOk result (λ r. (past : Chronicle) →
-            Stands (P.rules self.policy) past self → IsRegular self.topology.value past →
-            Comes (P.rules self.policy) past (step (P.rules self.policy) self.topology.value past (Event.Notice node nbr)) r.0 r.1) }
+    fn notice(&mut self, node: NodeId, nbr: NodeId) -> Result<Outcome, Stop>
+        requires near { linked self.old.topology.value node nbr ≡ true }
+        requires places { HasPlaces self.old.topology.value (length self.old.nodes.items) }
+        ensures others { OnOk result (IsAsWas self.old self.new) }
+        ensures comes { IfOk result (λ outcome. (past : Chronicle) →
+            Stands (P.rules self.old.policy) past self.old → IsRegular self.old.topology.value past →
+            Comes (P.rules self.old.policy) past (step (P.rules self.old.policy) self.old.topology.value past (Event.Notice node nbr)) self.new outcome) }
         ensures stopped { IfErr result (λ stop. (past : Chronicle) →
-            Stands (P.rules self.policy) past self → IsRegular self.topology.value past →
-            StopsAt (above_by (P.rules self.policy) self.topology.value
-            (step (P.rules self.policy) self.topology.value past (Event.Notice node nbr))) stop) }
+            Stands (P.rules self.old.policy) past self.old → IsRegular self.old.topology.value past →
+            StopsAt (above_by (P.rules self.old.policy) self.old.topology.value
+            (step (P.rules self.old.policy) self.old.topology.value past (Event.Notice node nbr))) stop) }
     {
         if is_carried(&self.links.state(node, nbr), self.held(node, nbr)) {
-            return Ok((self, Outcome::Idle(Reason::StillUp)));
+            return Ok(Outcome::Idle(Reason::StillUp));
         }
         self.give(node, Input::Notice(nbr))
     }
 
     // The node opens the session that the link carries, and greets its neighbour in it.
-    fn open_session(self, node: NodeId, nbr: NodeId) -> Result<(Network<P>, Outcome), Stop>
-        requires near { linked self.topology.value node nbr ≡ true }
-        requires places { HasPlaces self.topology.value (length self.nodes.items) }
-        ensures others { IfOk result (λ r. IsAsWas self r.0) }
-        ensures comes { IfOk result (λ r. (past : Chronicle) →
-            Stands (P.rules self.policy) past self → IsRegular self.topology.value past →
-            Comes (P.rules self.policy) past (step (P.rules self.policy) self.topology.value past (Event.OpenSession node nbr)) r.0 r.1) }
+    fn open_session(&mut self, node: NodeId, nbr: NodeId) -> Result<Outcome, Stop>
+        requires near { linked self.old.topology.value node nbr ≡ true }
+        requires places { HasPlaces self.old.topology.value (length self.old.nodes.items) }
+        ensures others { OnOk result (IsAsWas self.old self.new) }
+        ensures comes { IfOk result (λ outcome. (past : Chronicle) →
+            Stands (P.rules self.old.policy) past self.old → IsRegular self.old.topology.value past →
+            Comes (P.rules self.old.policy) past (step (P.rules self.old.policy) self.old.topology.value past (Event.OpenSession node nbr)) self.new outcome) }
         ensures stopped { IfErr result (λ stop. (past : Chronicle) →
-            Stands (P.rules self.policy) past self → IsRegular self.topology.value past →
-            StopsAt (above_by (P.rules self.policy) self.topology.value
-            (step (P.rules self.policy) self.topology.value past (Event.OpenSession node nbr))) stop) }
+            Stands (P.rules self.old.policy) past self.old → IsRegular self.old.topology.value past →
+            StopsAt (above_by (P.rules self.old.policy) self.old.topology.value
+            (step (P.rules self.old.policy) self.old.topology.value past (Event.OpenSession node nbr))) stop) }
     {
         if self.held(node, nbr).is_some() {
-            return Ok((self, Outcome::Idle(Reason::AlreadyOpen)));
+            return Ok(Outcome::Idle(Reason::AlreadyOpen));
         }
         let LinkState::Up(session) = self.links.state(node, nbr) else {
-            return Ok((self, Outcome::Idle(Reason::LinkDown)));
+            return Ok(Outcome::Idle(Reason::LinkDown));
         };
         self.give(node, Input::OpenSession { nbr, session })
     }
 
     // The link fails: what is on its way over it is lost.
-    fn fail(self, a: NodeId, b: NodeId) -> (Network<P>, Outcome)
-        requires { linked self.topology.value a b ≡ true }
-        ensures others { IsAsWas self result.0 }
-        ensures comes { (past : Chronicle) → Stands (P.rules self.policy) past self →
-            Comes (P.rules self.policy) past (step (P.rules self.policy) self.topology.value past (Event.Fail a b)) result.0 result.1 }
+    fn fail(&mut self, a: NodeId, b: NodeId) -> Outcome
+        requires { linked self.old.topology.value a b ≡ true }
+        ensures others { IsAsWas self.old self.new }
+        ensures comes { (past : Chronicle) → Stands (P.rules self.old.policy) past self.old →
+            Comes (P.rules self.old.policy) past (step (P.rules self.old.policy) self.old.topology.value past (Event.Fail a b)) self.new result }
     {
-        let mut network = self;
-        if !network.links.fail(a, b) {
-            return (network, Outcome::Idle(Reason::AlreadyDown));
+        if !self.links.fail(a, b) {
+            return Outcome::Idle(Reason::AlreadyDown);
         }
-        let unseen = Effects::new(Vec::new(network.alloc));
-        (network, Outcome::Did(unseen))
+        let unseen = Effects::new(Vec::new(self.alloc));
+        Outcome::Did(unseen)
     }
 
     // The link comes up again, with the next session.
-    fn restore(self, a: NodeId, b: NodeId) -> (Network<P>, Outcome)
-        requires { linked self.topology.value a b ≡ true }
-        ensures others { IsAsWas self result.0 }
-        ensures comes { (past : Chronicle) → Stands (P.rules self.policy) past self → IsRegular self.topology.value past →
-            Comes (P.rules self.policy) past (step (P.rules self.policy) self.topology.value past (Event.Restore a b)) result.0 result.1 }
+    fn restore(&mut self, a: NodeId, b: NodeId) -> Outcome
+        requires { linked self.old.topology.value a b ≡ true }
+        ensures others { IsAsWas self.old self.new }
+        ensures comes { (past : Chronicle) → Stands (P.rules self.old.policy) past self.old → IsRegular self.old.topology.value past →
+            Comes (P.rules self.old.policy) past (step (P.rules self.old.policy) self.old.topology.value past (Event.Restore a b)) self.new result }
     {
-        let mut network = self;
-        if !network.links.restore(a, b) {
-            return (network, Outcome::Idle(Reason::AlreadyUp));
+        if !self.links.restore(a, b) {
+            return Outcome::Idle(Reason::AlreadyUp);
         }
-        let unseen = Effects::new(Vec::new(network.alloc));
-        (network, Outcome::Did(unseen))
+        let unseen = Effects::new(Vec::new(self.alloc));
+        Outcome::Did(unseen)
     }
 }

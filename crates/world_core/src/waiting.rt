@@ -1,50 +1,56 @@
 //! The ways over which a delivery would not be idle.
-ghost use Rattle.std.specs.Prelude.{◌≡◌, false, true, find, OnOk, OnErr, if◌then◌else◌};
-ghost use Rattle.topology.specs.Net.{Net, IsValid, linked};
-ghost use Rattle.chronicle.specs.declared.ways.Way.{Way as AnyWay};
-ghost use Rattle.chronicle.specs.Deliveries.{ways};
-ghost use Rattle.world_core.specs.WaySets.{has_way, same_way};
+ghost use Rattle.std.specs.Prelude.{ℕ, ◌≡◌, ◌<◌, ◌==◌, false, length, IfOk, IfSome, IfNone, if◌then◌else◌};
+ghost use Rattle.link_model.specs.declared.ends.TheConstants.{MOST_WAYS};
 
-use chronicle::Way;
 use std::alloc::Global;
-use std::collections::BTreeSet;
 use topology::NoMemory;
 
-/// The ways over which a delivery would not be idle, by sender, then receiver.
+// As many words as have a bit for each way.
+const WORDS: usize = 64;
+
+/// The ways over which a delivery would not be idle: a bit for the number of each.
 #[derive(Drop)]
 pub struct Waiting {
-    set: BTreeSet<Way>,
+    words: Vec<u64>,
+    ghost full: { length words.items ≡ 64 },
 }
 
 impl Waiting {
-    /// No way. Takes no memory.
-    pub fn new(alloc: Global) -> Waiting
-        ensures { (way : AnyWay) → has_way result way ≡ false }
+    ghost use Rattle.world_core.specs.WaySets.{has_number, IsLowest};
+
+    /// No way.
+    pub fn new(alloc: Global) -> Result<Waiting, NoMemory>
+        ensures { IfOk result (λ waiting. (number : ℕ) → has_number waiting number ≡ false) }
     {
-        Waiting {
-            set: BTreeSet::new(alloc),
-        }
+        Ok(Waiting {
+            words: vec![in alloc; 0; WORDS]?,
+        })
     }
 
-    /// Puts the way in, or takes it out. Only the first takes memory.
-    pub fn put(&mut self, way: &Way, waits: bool) -> Result<(), NoMemory>
-        ensures { OnOk result ((other : AnyWay) →
-            has_way self.new other ≡ (if same_way other way.now then waits else has_way self.old other)) }
+    /// Puts the way with this number in, or takes it out. Takes no memory.
+    pub fn put(&mut self, number: usize, waits: bool)
+        requires { number < MOST_WAYS }
+        ensures { (other : ℕ) → has_number self.new other ≡ (if other == number then waits else has_number self.old other) }
     {
+        let place = number / 64;
+        let bit = 1u64 << (number % 64);
         if waits {
-            self.set.insert(*way)?;
+            self.words[place] |= bit;
         } else {
-            self.set.remove(way);
+            self.words[place] &= !bit;
         }
-        Ok(())
     }
 
-    /// The first way, by sender, then receiver. Takes no memory.
-    pub fn first(&self) -> Option<Way>
-        ensures { (net : Net) → IsValid net →
-            ((way : AnyWay) → has_way self.now way ≡ true → linked net way.from way.to ≡ true) →
-            result ≡ find (has_way self.now) (ways net) }
+    /// The lowest number of a way. Takes no memory.
+    pub fn first(&self) -> Option<usize>
+        ensures some { IfSome result (IsLowest self.now) }
+        ensures none { IfNone result ((number : ℕ) → has_number self.now number ≡ false) }
     {
-        self.set.first().copied()
+        for (place, word) in self.words.iter().enumerate() {
+            if *word != 0 {
+                return Some(place * 64 + word.trailing_zeros() as usize);
+            }
+        }
+        None
     }
 }

@@ -48,7 +48,7 @@ impl<P: Policy + Copy> Model for World<P> {
     ghost view = { λ w. record { policy = w.network.policy; net = w.network.topology.value; events = w.events.items } };
 
     ghost invariant = { λ w. let past = run (P.rules w.network.policy) w.network.topology.value w.events.items in
-        Stands (P.rules w.network.policy) past w.network × AreWaiting w.network.topology.value past (has_way w.waiting) };
+        Stands (P.rules w.network.policy) past w.network × AreWaiting w.network.topology.value past (has_way w.network.topology.value w.waiting) };
 }
 
 // Whether there is such a node and such a prefix.
@@ -72,7 +72,7 @@ impl<P: Policy + Copy> World<P> {
     {
         Ok(World {
             network: Network::new(alloc, topology, policy)?,
-            waiting: Waiting::new(alloc),
+            waiting: Waiting::new(alloc)?,
             events: Vec::new(alloc),
         })
     }
@@ -134,8 +134,9 @@ impl<P: Policy + Copy> World<P> {
         ensures { result ≡ option_map (λ (way : Way). (way.from, way.to))
             (next_delivery self.now.net (run (P.rules self.now.policy) self.now.net self.now.events)) }
     {
-        let way = self.waiting.first()?;
-        Some((way.from, way.to))
+        let number = self.waiting.first()?;
+        let ends = self.network.links.ends(number)?;
+        Some((ends.from, ends.to))
     }
 
     /// The world after one more event, and what came of it. Stops at a limit exactly where the
@@ -154,7 +155,7 @@ impl<P: Policy + Copy> World<P> {
         ensures stopped { IfErr result (StopsAt (limit_of (P.rules self.policy) self.net self.events event)) }
     {
         let World {
-            network,
+            mut network,
             mut waiting,
             mut events,
         } = self;
@@ -166,8 +167,8 @@ impl<P: Policy + Copy> World<P> {
         cut_laws::laws::what_arrives_may_be_heard();
         cut_laws::laws::sessions_are_few();
         cut_laws::laws::no_world_is_out_of_turn();
-        let (network, outcome) = network.happen(&event)?;
-        network.refresh(&event, &outcome, &mut waiting)?;
+        let outcome = network.happen(&event)?;
+        network.refresh(&event, &outcome, &mut waiting);
         let Ok(()) = events.push(event) else {
             return Err(Stop::NoMemory);
         };

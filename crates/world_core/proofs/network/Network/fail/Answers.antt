@@ -12,8 +12,8 @@ use Rattle.world_core.proofs.network.Network.fail.Goals as goal
 
 pub returns-then-not-fail-clause-comes : goal.returns-then-not-fail-clause-comes
 returns-then-not-fail-clause-comes g c past was =
-    let rules = g.P.Policy.rules c.args.self.policy in
-    let net = c.args.self.topology.value in
+    let rules = g.P.Policy.rules c.args.self.now.policy in
+    let net = c.args.self.now.topology.value in
     let a = c.args.a in
     let b = c.args.b in
     let links = was.are_links in
@@ -25,9 +25,9 @@ returns-then-not-fail-clause-comes g c past was =
 
 pub returns-clause-comes : goal.returns-clause-comes
 returns-clause-comes g c past was =
-    let policy = c.args.self.policy in
+    let policy = c.args.self.now.policy in
     let rules = g.P.Policy.rules policy in
-    let net = c.args.self.topology.value in
+    let net = c.args.self.now.topology.value in
     let a = c.args.a in
     let b = c.args.b in
     let links = was.are_links in
@@ -35,8 +35,8 @@ returns-clause-comes g c past was =
     did rules past _ (fact.Fail a b ∷ past) _ _
     (fails_up rules net past a b (link a b past) refl (subst (λ l. is_up l ≡ true) (links.states a b) (sym told.0 ∙ c.if-not-fail.false)))
     (record {
-      are_nodes = same_nodes policy rules net past c.args.self.nodes.items was.are_nodes (fact.Fail a b ∷ past) (λ v. same_by_fact v (fact.Fail a b) past tt);
-      are_links = failed_link net past c.args.self.links c.fail.new.self links a b told.1;
-      counted = fail_counted net past a b c.args.self.triggers was.counted;
+      are_nodes = same_nodes policy rules net past c.args.self.now.nodes.items was.are_nodes (fact.Fail a b ∷ past) (λ v. same_by_fact v (fact.Fail a b) past tt);
+      are_links = failed_link net past c.args.self.now.links c.fail.new.self links a b told.1;
+      counted = fail_counted net past a b c.args.self.now.triggers was.counted;
     })
     (rw (c.new-unseen.ensures, c.new.ensures.items) refl)

@@ -14,27 +14,27 @@ use Rattle.world_core.proofs.network.Network.give.Goals as goal
 
 pub unwrap-rank-requires : goal.unwrap-rank-requires
 unwrap-rank-requires g c =
-    let net = c.args.self.topology.value in
+    let net = c.args.self.now.topology.value in
     let none = rw c.deref.ensures at c.rank_of.ensures.none in
     is_ranked net.nodes c.args.node c.rank_of.result none.0 c.requires.node
 
 pub index-requires : goal.index-requires
 index-requires g c =
     let at = rw (c.unwrap-rank.ensures, c.deref.ensures) at c.rank_of.ensures.some in
-    let inside = inside_places c.args.self.topology.value (length c.args.self.nodes.items) c.unwrap-rank.result c.args.node c.requires.places at in
-    let count = c.args.self.nodes.ok.0 in
+    let inside = inside_places c.args.self.now.topology.value (length c.args.self.now.nodes.items) c.unwrap-rank.result c.args.node c.requires.places at in
+    let count = c.args.self.now.nodes.ok.0 in
     omega (arith, inside, count)
 
 pub turn-requires : goal.turn-requires
 turn-requires g c =
     let at = rw (c.unwrap-rank.ensures, c.deref.ensures) at c.rank_of.ensures.some in
-    inside_places c.args.self.topology.value (length c.args.self.nodes.items) c.unwrap-rank.result c.args.node c.requires.places at
+    inside_places c.args.self.now.topology.value (length c.args.self.now.nodes.items) c.unwrap-rank.result c.args.node c.requires.places at
 
 pub returns-in-Err-clause-stopped : goal.returns-in-Err-clause-stopped
 returns-in-Err-clause-stopped g c past may =
-    let policy = c.args.self.policy in
+    let policy = c.args.self.now.policy in
     let rules = g.P.Policy.rules policy in
-    let net = c.args.self.topology.value in
+    let net = c.args.self.now.topology.value in
     let u = c.args.node in
     let i = c.args.input in
     let s = what policy g.P.Policy.rules net past u i in
@@ -45,26 +45,26 @@ returns-in-Err-clause-stopped g c past may =
     let stops = stopped.2 policy net u (carried_by u past) past old may.may_come in
     subst (StopsAt (above_by rules net s)) (sym c.stop_of.ensures)
     (rw c.is_local-is_local.ensures
-    (stops_with rules net past u (makes_local (input_of i)) c.args.self.triggers s c.in-Err.stop nodes.valid c.requires.node
-    (all_within policy rules net past c.args.self.nodes.items nodes) (others_same policy g.P.Policy.rules net past u i) may.counted.total may.counted.few
+    (stops_with rules net past u (makes_local (input_of i)) c.args.self.now.triggers s c.in-Err.stop nodes.valid c.requires.node
+    (all_within policy rules net past c.args.self.now.nodes.items nodes) (others_same policy g.P.Policy.rules net past u i) may.counted.total may.counted.few
     (logs policy g.P.Policy.rules net past u i) stops))
 
 pub returns-in-Idle-clause-comes : goal.returns-in-Idle-clause-comes
 returns-in-Idle-clause-comes g c past may =
-    let policy = c.args.self.policy in
-    let net = c.args.self.topology.value in
+    let policy = c.args.self.now.policy in
+    let net = c.args.self.now.topology.value in
     let u = c.args.node in
     let i = c.args.input in
     let s = what policy g.P.Policy.rules net past u i in
     let at = rw (c.unwrap-rank.ensures, c.deref.ensures) at c.rank_of.ensures.some in
     let turned = c.in-Ok.ensures.turned in
     let answers = subst (Answers past s) c.in-Idle.is
-    (new_answers policy g.P.Policy.rules net past u i c.args.self.nodes.items c.turn.new.nodes.items c.unwrap-rank.result turned.0 turned.1 c.in-Ok.outputs may.are_nodes at may.may_come turned.2 turned.4) in
+    (new_answers policy g.P.Policy.rules net past u i c.args.self.now.nodes.items c.turn.new.nodes.items c.unwrap-rank.result turned.0 turned.1 c.in-Ok.outputs may.are_nodes at may.may_come turned.2 turned.4) in
     record {
       stands = record {
-        are_nodes = nodes_given policy g.P.Policy.rules net past u i c.args.self.nodes.items c.turn.new.nodes.items c.unwrap-rank.result turned.0 turned.1 c.in-Ok.outputs may.are_nodes at may.may_come turned.2 turned.4 turned.3;
-        are_links = idle_links net past u (input_of i) s c.in-Idle.reason c.args.self.links answers may.goes may.are_links;
-        counted = idle_counted net past s c.in-Idle.reason c.args.self.triggers answers may.counted;
+        are_nodes = nodes_given policy g.P.Policy.rules net past u i c.args.self.now.nodes.items c.turn.new.nodes.items c.unwrap-rank.result turned.0 turned.1 c.in-Ok.outputs may.are_nodes at may.may_come turned.2 turned.4 turned.3;
+        are_links = idle_links net past u (input_of i) s c.in-Idle.reason c.args.self.now.links answers may.goes may.are_links;
+        counted = idle_counted net past s c.in-Idle.reason c.args.self.now.triggers answers may.counted;
       };
       tells = idle_tells past s c.in-Idle.reason answers;
     }
@@ -72,25 +72,25 @@ returns-in-Idle-clause-comes g c past may =
 pub index-requires-2 : goal.index-requires-2
 index-requires-2 g c =
     let at = rw (c.unwrap-rank.ensures, c.deref.ensures) at c.rank_of.ensures.some in
-    let inside = inside_places c.args.self.topology.value (length c.args.self.nodes.items) c.unwrap-rank.result c.args.node c.requires.places at in
+    let inside = inside_places c.args.self.now.topology.value (length c.args.self.now.nodes.items) c.unwrap-rank.result c.args.node c.requires.places at in
     let turned = c.in-Ok.ensures.turned in
-    let same = ap length turned.3 ∙ length-set c.args.self.nodes.items c.unwrap-rank.result turned.1 in
+    let same = ap length turned.3 ∙ length-set c.args.self.now.nodes.items c.unwrap-rank.result turned.1 in
     let count = c.turn.new.nodes.ok.0 in
     omega (arith, inside, same, count)
 
-pub returns-in_err-network-clause-stopped : goal.returns-in_err-network-clause-stopped
-returns-in_err-network-clause-stopped g c =
+pub returns-in_err-self-clause-stopped : goal.returns-in_err-self-clause-stopped
+returns-in_err-self-clause-stopped g c =
     let out = err_from_is_err_and c.from_residual.result c.from_residual.ensures.1 in
     handed_on c.from_residual.result _ out.0 out.1
     (λ past may.
-    let policy = c.args.self.policy in
+    let policy = c.args.self.now.policy in
     let rules = g.P.Policy.rules policy in
-    let net = c.args.self.topology.value in
+    let net = c.args.self.now.topology.value in
     let u = c.args.node in
     let i = c.args.input in
     let s = what policy g.P.Policy.rules net past u i in
     let rank = c.unwrap-rank.result in
-    let items = c.args.self.nodes.items in
+    let items = c.args.self.now.nodes.items in
     let at = rw (c.unwrap-rank.ensures, c.deref.ensures) at c.rank_of.ensures.some in
     let turned = c.in-Ok.ensures.turned in
     let now = nodes_given policy g.P.Policy.rules net past u i items c.turn.new.nodes.items rank turned.0 turned.1 c.in-Ok.outputs may.are_nodes at may.may_come turned.2 turned.4 turned.3 in
@@ -98,34 +98,34 @@ returns-in_err-network-clause-stopped g c =
     let new = new_stands policy g.P.Policy.rules net past u i items c.turn.new.nodes.items rank turned.0 turned.1 c.in-Ok.outputs may.are_nodes at may.may_come turned.2 turned.4 in
     let before = c.next_trigger-before.ensures policy net u (log_of u past) (c.log.ensures policy net u past (node_at policy rules net past items may.are_nodes rank u c.index.result.now at c.index.ensures)) in
     let after = c.next_trigger-after.ensures policy net u (log_of u (chronicle_of past s)) (c.log-2.ensures policy net u (chronicle_of past s) (node_at policy rules net (chronicle_of past s) c.turn.new.nodes.items now rank u c.index-2.result.now at c.index-2.ensures)) in
-    let sum = total_given net past u (makes_local (input_of i)) s c.args.self.triggers c.next_trigger-before.result.count c.next_trigger-after.result.count may.are_nodes.valid c.requires.node
+    let sum = total_given net past u (makes_local (input_of i)) s c.args.self.now.triggers c.next_trigger-before.result.count c.next_trigger-after.result.count may.are_nodes.valid c.requires.node
     (others_same policy g.P.Policy.rules net past u i) (logs policy g.P.Policy.rules net past u i) may.counted.total (ap (λ t. t.count) before) (ap (λ t. t.count) after) in
-    let stopped = c.in_err-network.ensures.stopped in
+    let stopped = c.in_err-self.ensures.stopped in
     rw (out.2, stopped.0)
-    (stops_at_triggers rules net past u (makes_local (input_of i)) c.args.self.triggers _ s c.in-Did.list may.are_nodes.valid c.requires.node
+    (stops_at_triggers rules net past u (makes_local (input_of i)) c.args.self.now.triggers _ s c.in-Did.list may.are_nodes.valid c.requires.node
     (all_within policy rules net past items may.are_nodes) (others_same policy g.P.Policy.rules net past u i) may.counted.total may.counted.few answers sum stopped.1 new.within))
 
 pub returns-clause-comes : goal.returns-clause-comes
 returns-clause-comes g c past may =
-    let policy = c.args.self.policy in
+    let policy = c.args.self.now.policy in
     let rules = g.P.Policy.rules policy in
-    let net = c.args.self.topology.value in
+    let net = c.args.self.now.topology.value in
     let u = c.args.node in
     let i = c.args.input in
     let s = what policy g.P.Policy.rules net past u i in
     let rank = c.unwrap-rank.result in
-    let items = c.args.self.nodes.items in
+    let items = c.args.self.now.nodes.items in
     let at = rw (c.unwrap-rank.ensures, c.deref.ensures) at c.rank_of.ensures.some in
     let turned = c.in-Ok.ensures.turned in
     let now = nodes_given policy g.P.Policy.rules net past u i items c.turn.new.nodes.items rank turned.0 turned.1 c.in-Ok.outputs may.are_nodes at may.may_come turned.2 turned.4 turned.3 in
     let answers = subst (Answers past s) c.in-Did.is (new_answers policy g.P.Policy.rules net past u i items c.turn.new.nodes.items rank turned.0 turned.1 c.in-Ok.outputs may.are_nodes at may.may_come turned.2 turned.4) in
     let before = c.next_trigger-before.ensures policy net u (log_of u past) (c.log.ensures policy net u past (node_at policy rules net past items may.are_nodes rank u c.index.result.now at c.index.ensures)) in
     let after = c.next_trigger-after.ensures policy net u (log_of u (chronicle_of past s)) (c.log-2.ensures policy net u (chronicle_of past s) (node_at policy rules net (chronicle_of past s) c.turn.new.nodes.items now rank u c.index-2.result.now at c.index-2.ensures)) in
-    let sum = total_given net past u (makes_local (input_of i)) s c.args.self.triggers c.next_trigger-before.result.count c.next_trigger-after.result.count may.are_nodes.valid c.requires.node
+    let sum = total_given net past u (makes_local (input_of i)) s c.args.self.now.triggers c.next_trigger-before.result.count c.next_trigger-after.result.count may.are_nodes.valid c.requires.node
     (others_same policy g.P.Policy.rules net past u i) (logs policy g.P.Policy.rules net past u i) may.counted.total (ap (λ t. t.count) before) (ap (λ t. t.count) after) in
-    let counted = c.in_ok-network.ensures.ok in
+    let counted = c.in_ok-self.ensures.ok in
     let adds = give_adds rules net (carried_by u past) u past (λ w t. refl) (input_of i) may.may_come in
-    let sent = given_sent net past u (input_of i) s c.in-Did.list c.into_vec.result.items c.args.self.links c.hand_all.new.links c.hand_all.new.effects.items (sym c.into_vec.ensures) adds answers may.are_links
+    let sent = given_sent net past u (input_of i) s c.in-Did.list c.into_vec.result.items c.args.self.now.links c.hand_all.new.links c.hand_all.new.effects.items (sym c.into_vec.ensures) adds answers may.are_links
     (λ first mid facts told hands sending. c.in_ok-hand_all.ensures net first mid facts told hands (rw c.in_ok-effects.ensures sending)) in
     record {
       stands = record {

@@ -10,47 +10,47 @@ use Rattle.world_core.proofs.network.Network.happen.Goals as goal
 
 pub give-requires-clause-node : goal.give-requires-clause-node
 give-requires-clause-node g c =
-    let net = c.args.self.topology.value in
+    let net = c.args.self.now.topology.value in
     (both_of (has net.nodes c.in-Originate.node) (nat_lt c.in-Originate.prefix (length net.prefixes)) (rw c.in-Originate.is at c.requires.fits)).0
 
 pub give-requires-in-Withdraw-clause-node : goal.give-requires-in-Withdraw-clause-node
 give-requires-in-Withdraw-clause-node g c =
-    let net = c.args.self.topology.value in
+    let net = c.args.self.now.topology.value in
     (both_of (has net.nodes c.in-Withdraw.node) (nat_lt c.in-Withdraw.prefix (length net.prefixes)) (rw c.in-Withdraw.is at c.requires.fits)).0
 
 pub prefer-requires-clause-near : goal.prefer-requires-clause-near
 prefer-requires-clause-near g c =
-    let net = c.args.self.topology.value in
+    let net = c.args.self.now.topology.value in
     (both_of (linked net c.in-Prefer.node c.in-Prefer.nbr) (nat_le c.in-Prefer.value 1000000) (rw c.in-Prefer.is at c.requires.fits)).0
 
 pub returns-in-Originate-clause-comes : goal.returns-in-Originate-clause-comes
 returns-in-Originate-clause-comes g c = IfOk-weaker c.give.result _ _
-    (λ r h past was regular. rw c.in-Originate.is (comes_by (g.P.Policy.rules c.args.self.policy) past (Originate c.in-Originate.node c.in-Originate.prefix) c.in-Originate.node (input.Originate c.in-Originate.prefix) c.args.self r.0 r.1 (originates (g.P.Policy.rules c.args.self.policy) past c.args.self was c.in-Originate.node c.in-Originate.prefix (rw c.in-Originate.is at c.requires.fits)) (h past)))
+    (λ r h past was regular. rw c.in-Originate.is (comes_by (g.P.Policy.rules c.args.self.now.policy) past (Originate c.in-Originate.node c.in-Originate.prefix) c.in-Originate.node (input.Originate c.in-Originate.prefix) c.args.self.now c.give.new.self r (originates (g.P.Policy.rules c.args.self.now.policy) past c.args.self.now was c.in-Originate.node c.in-Originate.prefix (rw c.in-Originate.is at c.requires.fits)) (h past)))
     c.give.ensures.comes
 
 pub returns-in-Originate-clause-stopped : goal.returns-in-Originate-clause-stopped
 returns-in-Originate-clause-stopped g c = IfErr-weaker c.give.result _ _
-    (λ why h past was regular. rw c.in-Originate.is (stops_by (g.P.Policy.rules c.args.self.policy) past (Originate c.in-Originate.node c.in-Originate.prefix) c.in-Originate.node (input.Originate c.in-Originate.prefix) c.args.self why (originates (g.P.Policy.rules c.args.self.policy) past c.args.self was c.in-Originate.node c.in-Originate.prefix (rw c.in-Originate.is at c.requires.fits)) (h past)))
+    (λ why h past was regular. rw c.in-Originate.is (stops_by (g.P.Policy.rules c.args.self.now.policy) past (Originate c.in-Originate.node c.in-Originate.prefix) c.in-Originate.node (input.Originate c.in-Originate.prefix) c.args.self.now why (originates (g.P.Policy.rules c.args.self.now.policy) past c.args.self.now was c.in-Originate.node c.in-Originate.prefix (rw c.in-Originate.is at c.requires.fits)) (h past)))
     c.give.ensures.stopped
 
 pub returns-in-Withdraw-clause-comes : goal.returns-in-Withdraw-clause-comes
 returns-in-Withdraw-clause-comes g c = IfOk-weaker c.give-in-Withdraw.result _ _
-    (λ r h past was regular. rw c.in-Withdraw.is (comes_by (g.P.Policy.rules c.args.self.policy) past (Withdraw c.in-Withdraw.node c.in-Withdraw.prefix) c.in-Withdraw.node (input.Withdraw c.in-Withdraw.prefix) c.args.self r.0 r.1 (withdraws (g.P.Policy.rules c.args.self.policy) past c.args.self was c.in-Withdraw.node c.in-Withdraw.prefix (rw c.in-Withdraw.is at c.requires.fits)) (h past)))
+    (λ r h past was regular. rw c.in-Withdraw.is (comes_by (g.P.Policy.rules c.args.self.now.policy) past (Withdraw c.in-Withdraw.node c.in-Withdraw.prefix) c.in-Withdraw.node (input.Withdraw c.in-Withdraw.prefix) c.args.self.now c.give-in-Withdraw.new.self r (withdraws (g.P.Policy.rules c.args.self.now.policy) past c.args.self.now was c.in-Withdraw.node c.in-Withdraw.prefix (rw c.in-Withdraw.is at c.requires.fits)) (h past)))
     c.give-in-Withdraw.ensures.comes
 
 pub returns-in-Withdraw-clause-stopped : goal.returns-in-Withdraw-clause-stopped
 returns-in-Withdraw-clause-stopped g c = IfErr-weaker c.give-in-Withdraw.result _ _
-    (λ why h past was regular. rw c.in-Withdraw.is (stops_by (g.P.Policy.rules c.args.self.policy) past (Withdraw c.in-Withdraw.node c.in-Withdraw.prefix) c.in-Withdraw.node (input.Withdraw c.in-Withdraw.prefix) c.args.self why (withdraws (g.P.Policy.rules c.args.self.policy) past c.args.self was c.in-Withdraw.node c.in-Withdraw.prefix (rw c.in-Withdraw.is at c.requires.fits)) (h past)))
+    (λ why h past was regular. rw c.in-Withdraw.is (stops_by (g.P.Policy.rules c.args.self.now.policy) past (Withdraw c.in-Withdraw.node c.in-Withdraw.prefix) c.in-Withdraw.node (input.Withdraw c.in-Withdraw.prefix) c.args.self.now why (withdraws (g.P.Policy.rules c.args.self.now.policy) past c.args.self.now was c.in-Withdraw.node c.in-Withdraw.prefix (rw c.in-Withdraw.is at c.requires.fits)) (h past)))
     c.give-in-Withdraw.ensures.stopped
 
 pub returns-in-Snap-clause-comes : goal.returns-in-Snap-clause-comes
 returns-in-Snap-clause-comes g c = IfOk-weaker c.give-in-Snap.result _ _
-    (λ r h past was regular. rw c.in-Snap.is (comes_by (g.P.Policy.rules c.args.self.policy) past (Snap c.in-Snap.node) c.in-Snap.node input.Snap c.args.self r.0 r.1 (snaps (g.P.Policy.rules c.args.self.policy) past c.args.self was c.in-Snap.node) (h past)))
+    (λ r h past was regular. rw c.in-Snap.is (comes_by (g.P.Policy.rules c.args.self.now.policy) past (Snap c.in-Snap.node) c.in-Snap.node input.Snap c.args.self.now c.give-in-Snap.new.self r (snaps (g.P.Policy.rules c.args.self.now.policy) past c.args.self.now was c.in-Snap.node) (h past)))
     c.give-in-Snap.ensures.comes
 
 pub returns-in-Snap-clause-stopped : goal.returns-in-Snap-clause-stopped
 returns-in-Snap-clause-stopped g c = IfErr-weaker c.give-in-Snap.result _ _
-    (λ why h past was regular. rw c.in-Snap.is (stops_by (g.P.Policy.rules c.args.self.policy) past (Snap c.in-Snap.node) c.in-Snap.node input.Snap c.args.self why (snaps (g.P.Policy.rules c.args.self.policy) past c.args.self was c.in-Snap.node) (h past)))
+    (λ why h past was regular. rw c.in-Snap.is (stops_by (g.P.Policy.rules c.args.self.now.policy) past (Snap c.in-Snap.node) c.in-Snap.node input.Snap c.args.self.now why (snaps (g.P.Policy.rules c.args.self.now.policy) past c.args.self.now was c.in-Snap.node) (h past)))
     c.give-in-Snap.ensures.stopped
 
 pub returns-in-Prefer-clause-comes : goal.returns-in-Prefer-clause-comes

@@ -7,6 +7,6 @@ use Rattle.world_core.proofs.network.Network.look_at_effects.Given as goal
 
 abbrev pub invariant-loop-effect : goal.invariant-loop-effect
 invariant-loop-effect g l = record {
-  known : (past : Chronicle) → Stands (g.P.Policy.rules l.self.policy) past l.self → AreWaitingBut l.self.topology.value past (queued_ways l.effects) (has_way l.fn.waiting)
-      → AreWaitingBut l.self.topology.value past (queued_ways (drop l.effect-index l.effects)) (has_way l.waiting);
+  known : (past : Chronicle) → Stands (g.P.Policy.rules l.self.policy) past l.self → AreWaitingBut l.self.topology.value past (queued_ways l.effects) (has_way l.self.topology.value l.fn.waiting)
+      → AreWaitingBut l.self.topology.value past (queued_ways (drop l.effect-index l.effects)) (has_way l.self.topology.value l.waiting);
 }

@@ -6,20 +6,20 @@ use Rattle.world_core.proofs.network.Network.look_at_link.Goals as goal
 
 pub returns-in_default : goal.returns-in_default
 returns-in_default g c past rest matches was =
-    subst (λ ways. AreWaitingBut c.args.self.now.topology.value past (ways ++ rest) (has_way c.args.waiting.now)) c.in_default.ensures.none was
+    subst (λ ways. AreWaitingBut c.args.self.now.topology.value past (ways ++ rest) (has_way c.args.self.now.topology.value c.args.waiting.now)) c.in_default.ensures.none was
 
-pub returns-in_ok-look-2 : goal.returns-in_ok-look-2
-returns-in_ok-look-2 g c past rest matches was =
+pub returns-then-is_outage : goal.returns-then-is_outage
+returns-then-is_outage g c past rest matches was =
     let here = c.in-Some.way in
     let back = way here.to here.from in
     let turns = ap (λ (b : Bool). here ∷ (if b then back ∷ [] else [])) (sym c.is_outage.ensures ∙ c.if-is_outage.true) in
-    c.in_ok-look-2.ensures past rest matches
-    (c.in_ok-look.ensures past (back ∷ rest) matches
-    (subst (λ ways. AreWaitingBut c.args.self.now.topology.value past (ways ++ rest) (has_way c.args.waiting.now)) (c.in-Some.ensures.some ∙ turns) was))
+    c.look-then-is_outage.ensures past rest matches
+    (c.look.ensures past (back ∷ rest) matches
+    (subst (λ ways. AreWaitingBut c.args.self.now.topology.value past (ways ++ rest) (has_way c.args.self.now.topology.value c.args.waiting.now)) (c.in-Some.ensures.some ∙ turns) was))
 
 pub returns-else-is_outage : goal.returns-else-is_outage
 returns-else-is_outage g c past rest matches was =
     let here = c.in-Some.way in
     let one = ap (λ (b : Bool). here ∷ (if b then way here.to here.from ∷ [] else [])) (sym c.is_outage.ensures ∙ c.if-is_outage.false) in
-    c.in_ok-look.ensures past rest matches
-    (subst (λ ways. AreWaitingBut c.args.self.now.topology.value past (ways ++ rest) (has_way c.args.waiting.now)) (c.in-Some.ensures.some ∙ one) was)
+    c.look.ensures past rest matches
+    (subst (λ ways. AreWaitingBut c.args.self.now.topology.value past (ways ++ rest) (has_way c.args.self.now.topology.value c.args.waiting.now)) (c.in-Some.ensures.some ∙ one) was)

@@ -6,20 +6,20 @@ use Rattle.world_core.proofs.Handed.{comes_by, stops_by, prefers}
 use Rattle.world_core.proofs.network.Network.prefer.Goals as goal
 
 pub give-requires-clause-node : goal.give-requires-clause-node
-give-requires-clause-node g c = (linked_nodes c.args.self.topology.value c.args.node c.args.nbr c.requires.places.valid c.requires.near).0
+give-requires-clause-node g c = (linked_nodes c.args.self.now.topology.value c.args.node c.args.nbr c.requires.places.valid c.requires.near).0
 
 pub returns-clause-comes : goal.returns-clause-comes
 returns-clause-comes g c = IfOk-weaker c.give.result _ _
     (λ r h past was regular.
-    let rules = g.P.Policy.rules c.args.self.policy in
-    comes_by rules past (Prefer c.args.node c.args.nbr c.args.value) c.args.node (input.Prefer c.args.nbr c.args.value) c.args.self r.0 r.1
-    (prefers rules past c.args.self was c.args.node c.args.nbr c.args.value c.requires.near) (h past))
+    let rules = g.P.Policy.rules c.args.self.now.policy in
+    comes_by rules past (Prefer c.args.node c.args.nbr c.args.value) c.args.node (input.Prefer c.args.nbr c.args.value) c.args.self.now c.give.new.self r
+    (prefers rules past c.args.self.now was c.args.node c.args.nbr c.args.value c.requires.near) (h past))
     c.give.ensures.comes
 
 pub returns-clause-stopped : goal.returns-clause-stopped
 returns-clause-stopped g c = IfErr-weaker c.give.result _ _
     (λ why h past was regular.
-    let rules = g.P.Policy.rules c.args.self.policy in
-    stops_by rules past (Prefer c.args.node c.args.nbr c.args.value) c.args.node (input.Prefer c.args.nbr c.args.value) c.args.self why
-    (prefers rules past c.args.self was c.args.node c.args.nbr c.args.value c.requires.near) (h past))
+    let rules = g.P.Policy.rules c.args.self.now.policy in
+    stops_by rules past (Prefer c.args.node c.args.nbr c.args.value) c.args.node (input.Prefer c.args.nbr c.args.value) c.args.self.now why
+    (prefers rules past c.args.self.now was c.args.node c.args.nbr c.args.value c.requires.near) (h past))
     c.give.ensures.stopped

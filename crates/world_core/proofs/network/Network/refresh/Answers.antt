@@ -8,7 +8,7 @@ pub returns-in_default : goal.returns-in_default
 returns-in_default g c past comes was =
     let rules = g.P.Policy.rules c.args.self.now.policy in
     let net = c.args.self.now.topology.value in
-    still net past (has_way c.args.waiting.now) was rules c.args.event.now c.in_default.field-0 (rw c.in_default.is at comes.tells)
+    still net past (has_way c.args.self.now.topology.value c.args.waiting.now) was rules c.args.event.now c.in_default.field-0 (rw c.in_default.is at comes.tells)
 
 pub returns : goal.returns
 unfolding after
@@ -16,7 +16,7 @@ returns g c past comes was =
     let rules = g.P.Policy.rules c.args.self.now.policy in
     let net = c.args.self.now.topology.value in
     let now = after rules net past c.args.event.now in
-    let start = stale net past (has_way c.args.waiting.now) was rules c.args.event.now c.in-Did.effects c.requires (rw c.in-Did.is at comes.tells) in
-    let mid = c.in_ok-look_at_link.ensures now (queued_ways c.in-Did.effects) comes.stands start in
-    all_known net now (has_way c.look_at_effects.new.waiting)
-    (c.in_ok-look_at_effects.ensures now comes.stands (rw c.as_slice.ensures mid))
+    let start = stale net past (has_way c.args.self.now.topology.value c.args.waiting.now) was rules c.args.event.now c.in-Did.effects c.requires (rw c.in-Did.is at comes.tells) in
+    let mid = c.look_at_link.ensures now (queued_ways c.in-Did.effects) comes.stands start in
+    all_known net now (has_way c.args.self.now.topology.value c.look_at_effects.new.waiting)
+    (c.look_at_effects.ensures now comes.stands (rw c.as_slice.ensures mid))

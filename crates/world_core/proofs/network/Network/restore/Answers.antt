@@ -12,8 +12,8 @@ use Rattle.world_core.proofs.network.Network.restore.Goals as goal
 
 pub returns-then-not-restore-clause-comes : goal.returns-then-not-restore-clause-comes
 returns-then-not-restore-clause-comes g c past was regular =
-    let rules = g.P.Policy.rules c.args.self.policy in
-    let net = c.args.self.topology.value in
+    let rules = g.P.Policy.rules c.args.self.now.policy in
+    let net = c.args.self.now.topology.value in
     let a = c.args.a in
     let b = c.args.b in
     let links = was.are_links in
@@ -26,9 +26,9 @@ returns-then-not-restore-clause-comes g c past was regular =
 
 pub returns-clause-comes : goal.returns-clause-comes
 returns-clause-comes g c past was regular =
-    let policy = c.args.self.policy in
+    let policy = c.args.self.now.policy in
     let rules = g.P.Policy.rules policy in
-    let net = c.args.self.topology.value in
+    let net = c.args.self.now.topology.value in
     let a = c.args.a in
     let b = c.args.b in
     let links = was.are_links in
@@ -37,8 +37,8 @@ returns-clause-comes g c past was regular =
     did rules past _ (fact.Restore a b ∷ past) _ _
     (restores_down rules net past a b (link a b past) refl (subst (λ l. is_up l ≡ false) (links.states a b) (told.0 ∙ ap not c.if-not-restore.false)))
     (record {
-      are_nodes = same_nodes policy rules net past c.args.self.nodes.items was.are_nodes (fact.Restore a b ∷ past) (λ v. same_by_fact v (fact.Restore a b) past tt);
-      are_links = restored_link net past c.args.self.links c.restore.new.self links a b told.1;
-      counted = restore_counted net past a b c.args.self.triggers was.counted;
+      are_nodes = same_nodes policy rules net past c.args.self.now.nodes.items was.are_nodes (fact.Restore a b ∷ past) (λ v. same_by_fact v (fact.Restore a b) past tt);
+      are_links = restored_link net past c.args.self.now.links c.restore.new.self links a b told.1;
+      counted = restore_counted net past a b c.args.self.now.triggers was.counted;
     })
     (rw (c.new-unseen.ensures, c.new.ensures.items) refl)

@@ -4,6 +4,7 @@ use Rattle.chronicle.specs.Run.{run, step}
 use Rattle.world_core.specs.Fits.{fits}
 use Rattle.world_core.specs.declared.bounds.TheConstants.{MOST_EVENTS}
 use Rattle.world_core.specs.Limits.{above_by}
+use Rattle.world_core.specs.Waiting.{AreWaiting}
 use Rattle.world_core.specs.WaySets.{has_way}
 use Rattle.world_core.proofs.Nodes.{places_of}
 use Rattle.world_core.proofs.Lawful.{no_stray, regular_of}
@@ -26,8 +27,8 @@ happen-requires-clause-places g c =
     let net = network.topology.value in
     places_of network.policy rules net (run rules net c.self.inside.events.items) network.nodes.items c.self.invariant.0.are_nodes
 
-pub returns-in_err-network-clause-stopped : goal.returns-in_err-network-clause-stopped
-returns-in_err-network-clause-stopped g c =
+pub returns-in_err-outcome-clause-stopped : goal.returns-in_err-outcome-clause-stopped
+returns-in_err-outcome-clause-stopped g c =
     let network = c.self.inside.network in
     let rules = g.P.Policy.rules network.policy in
     let net = network.topology.value in
@@ -38,14 +39,14 @@ returns-in_err-network-clause-stopped g c =
     let regular =
     regular_of net past (length events) short (λ v u. c.the_front_item_is_the_next.ensures rules net events v u valid) (λ v u s x rest. c.what_arrives_may_be_heard.ensures rules net events v u s x rest valid)
     (c.every_run_is_sound.ensures rules net events valid).order (c.sessions_are_few.ensures rules net events) in
-    let stops = c.in_err-network.ensures.stopped past c.self.invariant.0 regular in
+    let stops = c.in_err-outcome.ensures.stopped past c.self.invariant.0 regular in
     let out = err_from_is_err_and c.from_residual.result c.from_residual.ensures.1 in
-    rw (← c.self.view_is) (handed_on c.from_residual.result _ out.0 out.1 (rw out.2 (stops_later rules net events c.args.event c.in_err-network.field-0.0 short stops)))
+    rw (← c.self.view_is) (handed_on c.from_residual.result _ out.0 out.1 (rw out.2 (stops_later rules net events c.args.event c.in_err-outcome.field-0.0 short stops)))
 
 pub refresh-requires : goal.refresh-requires
 refresh-requires g c =
     let fit = subst (λ w. IsTrue (fits w.net c.args.event)) (sym c.self.view_is) c.requires in
-    subst (λ net. IsTrue (fits net c.args.event)) (sym (ap (λ t. t.value) c.in_ok-network.ensures.others.topology)) fit
+    subst (λ net. IsTrue (fits net c.args.event)) (sym (ap (λ t. t.value) c.in_ok-outcome.ensures.others.topology)) fit
 
 pub invariant_of-world : goal.invariant_of-world
 invariant_of-world g c =
@@ -59,13 +60,14 @@ invariant_of-world g c =
     let regular =
     regular_of net past (length events) short (λ v u. c.the_front_item_is_the_next.ensures rules net events v u valid) (λ v u s x rest. c.what_arrives_may_be_heard.ensures rules net events v u s x rest valid)
     (c.every_run_is_sound.ensures rules net events valid).order (c.sessions_are_few.ensures rules net events) in
-    let comes = c.in_ok-network.ensures.comes past c.self.invariant.0 regular in
-    let new = c.in_ok-network.network in
-    let same = c.in_ok-network.ensures.others in
-    let waits = c.in_ok-refresh.ensures (run (g.P.Policy.rules new.policy) new.topology.value events) (comes_new g.P.Policy.rules network new events c.args.event same c.in_ok-network.outcome comes)
-    (waiting_new g.P.Policy.rules network new events c.args.event same (has_way c.self.inside.waiting) c.self.invariant.1) in (
-      stands_new g.P.Policy.rules network new events c.args.event same _ c.in_ok-network.outcome c.in-Ok.ensures.items comes,
-      waits_new g.P.Policy.rules network new events c.args.event same _ (has_way c.refresh.new.waiting) c.in-Ok.ensures.items waits,
+    let comes = c.in_ok-outcome.ensures.comes past c.self.invariant.0 regular in
+    let new = c.happen.new.self in
+    let same = c.in_ok-outcome.ensures.others in
+    let waits = c.refresh.ensures (run (g.P.Policy.rules new.policy) new.topology.value events) (comes_new g.P.Policy.rules network new events c.args.event same c.in_ok-outcome.outcome comes)
+    (waiting_new g.P.Policy.rules network new events c.args.event same (has_way new.topology.value c.self.inside.waiting)
+    (subst (λ n. AreWaiting net past (has_way n c.self.inside.waiting)) (sym (ap (λ t. t.value) same.topology)) c.self.invariant.1)) in (
+      stands_new g.P.Policy.rules network new events c.args.event same _ c.in_ok-outcome.outcome c.in-Ok.ensures.items comes,
+      waits_new g.P.Policy.rules network new events c.args.event same _ (has_way new.topology.value c.refresh.new.waiting) c.in-Ok.ensures.items waits,
     )
 
 pub returns-clause-outcome : goal.returns-clause-outcome
@@ -80,7 +82,7 @@ returns-clause-outcome g c =
     let regular =
     regular_of net past (length events) short (λ v u. c.the_front_item_is_the_next.ensures rules net events v u valid) (λ v u s x rest. c.what_arrives_may_be_heard.ensures rules net events v u s x rest valid)
     (c.every_run_is_sound.ensures rules net events valid).order (c.sessions_are_few.ensures rules net events) in
-    let comes = c.in_ok-network.ensures.comes past c.self.invariant.0 regular in
+    let comes = c.in_ok-outcome.ensures.comes past c.self.invariant.0 regular in
     rw (← c.self.view_is) comes.tells
 
 pub returns-clause-reasons : goal.returns-clause-reasons
@@ -95,8 +97,8 @@ returns-clause-reasons g c =
     let regular =
     regular_of net past (length events) short (λ v u. c.the_front_item_is_the_next.ensures rules net events v u valid) (λ v u s x rest. c.what_arrives_may_be_heard.ensures rules net events v u s x rest valid)
     (c.every_run_is_sound.ensures rules net events valid).order (c.sessions_are_few.ensures rules net events) in
-    let comes = c.in_ok-network.ensures.comes past c.self.invariant.0 regular in
-    no_stray past (step rules net past c.args.event) c.in_ok-network.outcome comes.tells
+    let comes = c.in_ok-outcome.ensures.comes past c.self.invariant.0 regular in
+    no_stray past (step rules net past c.args.event) c.in_ok-outcome.outcome comes.tells
     (c.no_world_is_out_of_turn.ensures.sessions rules net events c.args.event valid) (c.no_world_is_out_of_turn.ensures.updates rules net events c.args.event valid)
 
 pub returns-clause-run : goal.returns-clause-run
@@ -118,12 +120,12 @@ returns-clause-within g c =
     let regular =
     regular_of net past (length events) short (λ v u. c.the_front_item_is_the_next.ensures rules net events v u valid) (λ v u s x rest. c.what_arrives_may_be_heard.ensures rules net events v u s x rest valid)
     (c.every_run_is_sound.ensures rules net events valid).order (c.sessions_are_few.ensures rules net events) in
-    let comes = c.in_ok-network.ensures.comes past c.self.invariant.0 regular in
-    let same = c.in_ok-network.ensures.others in
-    let within = stands_within rules past (step rules net past c.args.event) c.in_ok-network.network comes.stands in
+    let comes = c.in_ok-outcome.ensures.comes past c.self.invariant.0 regular in
+    let same = c.in_ok-outcome.ensures.others in
+    let within = stands_within rules past (step rules net past c.args.event) c.happen.new.self comes.stands in
     rw (← c.self.view_is) (limit_later rules net events c.args.event short ∙ subst (λ n. above_by rules n (step rules net past c.args.event) ≡ None) (ap (λ t. t.value) same.topology) within)
 
 pub returns-clause-world : goal.returns-clause-world
 returns-clause-world g c =
-    let same = c.in_ok-network.ensures.others in
-    rw (← c.self.view_is) (view_new g.P.Policy.rules c.self.inside.network c.in_ok-network.network c.self.inside.events.items c.args.event same _ c.in-Ok.ensures.items)
+    let same = c.in_ok-outcome.ensures.others in
+    rw (← c.self.view_is) (view_new g.P.Policy.rules c.self.inside.network c.happen.new.self c.self.inside.events.items c.args.event same _ c.in-Ok.ensures.items)

@@ -1,0 +1,144 @@
+-- Sets of ways by their numbers.
+use Rattle.std.proofs.Common.{ℕ, zero, suc, ◌<◌, ◌≡◌, Bool, true, false, cond, ◌==◌, Option, Some, None, IfSome, IfNone, List, [], ◌∷◌, ◌++◌, refl, sym, ◌∙◌, ap, subst, arith, true≢false, slice_get, find, map, flat_map, option_map, if◌then◌else◌}
+use Rattle.std.proofs.lemmas.Bool.Decides.{nat_tests}
+use Rattle.std.proofs.lemmas.List.{map-append}
+use Rattle.std.proofs.lemmas.Option.{slice_get-map}
+use Rattle.topology.specs.Lists.{ascending}
+use Rattle.topology.specs.Net.{Net, IsValid, neighbours}
+use Rattle.link_model.specs.declared.ends.Ends.{Ends}
+use Rattle.link_model.specs.Tables.{ends, ways_from, ways_of}
+use Rattle.link_model.proofs.Numbers.{one_number}
+use Rattle.chronicle.specs.declared.ways.Way.{Way}
+use Rattle.chronicle.specs.Deliveries.{ways}
+use Rattle.world_core.specs.Refreshing.{way}
+use Rattle.world_core.specs.WaySets.{same_way, goes, has_in}
+use Rattle.world_core.proofs.Places.{same_some}
+
+-- two ways with the same ends are one
+pub same_ends : (v w : Way) → same_way v w ≡ true → v ≡ w
+same_ends v w e =
+    let from : v.from ≡ w.from = grind (arith, nat_tests) in
+    let to : v.to ≡ w.to = grind (arith, nat_tests) in
+    make v w from to
+  where
+    -- a way is its two ends
+    make : (v w : Way) → v.from ≡ w.from → v.to ≡ w.to → v ≡ w
+    make v w e f = ap (λ n. record { from = n; to = v.to }) e ∙ ap (λ n. record { from = w.from; to = n }) f
+
+ends_are : (e : Ends) (w : Way) → goes e w ≡ true → e ≡ ends w.from w.to
+ends_are e w h =
+    let from : e.from ≡ w.from = grind (arith, nat_tests) in
+    let to : e.to ≡ w.to = grind (arith, nat_tests) in
+    make e w from to
+  where
+    make : (e : Ends) (w : Way) → e.from ≡ w.from → e.to ≡ w.to → e ≡ ends w.from w.to
+    make e w h f = ap (λ n. ends n e.to) h ∙ ap (ends w.from) f
+
+goes_itself : (w : Way) → goes (ends w.from w.to) w ≡ true
+goes_itself w = grind (arith, nat_tests)
+
+-- the two sets agree where the way has a number
+agree_in : (p q : ℕ → Bool) (table : List Ends) (w : Way) → ((i : ℕ) → slice_get table i ≡ Some (ends w.from w.to) → p i ≡ q i) → has_in p table w ≡ has_in q table w
+agree_in p q [] w same = refl
+agree_in p q (e ∷ es) w same =
+    (elim (goes e w) as (λ t. goes e w ≡ t → cond t (p 0) (has_in (λ n. p (suc n)) es w) ≡ cond t (q 0) (has_in (λ n. q (suc n)) es w)) [
+      | true ↦ λ h. same 0 (ap Some (ends_are e w h))
+      | false ↦ λ h. agree_in (λ n. p (suc n)) (λ n. q (suc n)) es w (λ i at. same (suc i) at)
+    ]) refl
+
+none_in : (table : List Ends) (w : Way) → has_in (λ _. false) table w ≡ false
+none_in [] w = refl
+none_in (e ∷ es) w = elim (goes e w) as (λ t. cond t false (has_in (λ _. false) es w) ≡ false) [ true ↦ refl | false ↦ none_in es w ]
+
+-- an empty set has no way
+pub no_number : (p : ℕ → Bool) (table : List Ends) → ((i : ℕ) → p i ≡ false) → (w : Way) → has_in p table w ≡ false
+no_number p table none w = agree_in p (λ _. false) table w (λ i at. none i) ∙ none_in table w
+
+-- the set has a way where it has its number
+pub has_at : (p : ℕ → Bool) (table : List Ends) (k : ℕ) (w : Way) → slice_get table k ≡ Some (ends w.from w.to) → ((i : ℕ) → slice_get table i ≡ Some (ends w.from w.to) → i ≡ k) → has_in p table w ≡ p k
+has_at p [] k w at only = absurd (cc at)
+has_at p (e ∷ es) zero w at only = rw (same_some e (ends w.from w.to) at, goes_itself w) refl
+has_at p (e ∷ es) (suc k) w at only =
+    (elim (goes e w) as (λ t. goes e w ≡ t → cond t (p 0) (has_in (λ n. p (suc n)) es w) ≡ p (suc k)) [
+      | true ↦ λ h. let first : 0 ≡ suc k = only 0 (ap Some (ends_are e w h)) in absurd (omega (arith, first))
+      | false ↦ λ h. has_at (λ n. p (suc n)) es k w at (λ i there. let next : suc i ≡ suc k = only (suc i) there in omega (arith, next))
+    ]) refl
+
+-- what a set has after one number was put in, or taken out
+pub put_way : (table : List Ends) (w : Way) (k : ℕ) (waits : Bool) (old new : ℕ → Bool) → slice_get table k ≡ Some (ends w.from w.to) → ((i : ℕ) → slice_get table i ≡ Some (ends w.from w.to) → i ≡ k)
+    → ((i : ℕ) → new i ≡ (if i == k then waits else old i)) → (other : Way) → has_in new table other ≡ (if same_way other w then waits else has_in old table other)
+put_way table w k waits old new at only put other =
+    (elim (same_way other w) as (λ t. same_way other w ≡ t → has_in new table other ≡ cond t waits (has_in old table other)) [
+      | true ↦ λ h. rw (same_ends other w h) (has_at new table k w at only ∙ (put k ∙ rw (same_number k) refl))
+      | false ↦ λ h. agree_in new old table other (λ i there. put i ∙ rw (apart other h i there) refl)
+    ]) refl
+  where
+    same_number : (a : ℕ) → (a == a) ≡ true
+    same_number a = grind (arith, nat_tests)
+
+    is_same : (other : Way) → ends w.from w.to ≡ ends other.from other.to → same_way other w ≡ true
+    is_same other e =
+        let from : w.from ≡ other.from = ap (λ (x : Ends). x.from) e in
+        let to : w.to ≡ other.to = ap (λ (x : Ends). x.to) e in
+        grind (arith, nat_tests)
+
+    apart : (other : Way) → same_way other w ≡ false → (i : ℕ) → slice_get table i ≡ Some (ends other.from other.to) → (i == k) ≡ false
+    apart other h i there =
+        (elim (i == k) as (λ t. (i == k) ≡ t → t ≡ false) [
+          | true ↦ λ e.
+              let same : i ≡ k = grind (arith, nat_tests) in
+              let one : ends w.from w.to ≡ ends other.from other.to = same_some (ends w.from w.to) (ends other.from other.to) (sym at ∙ (ap (slice_get table) (sym same) ∙ there)) in
+              absurd (true≢false (sym (is_same other one) ∙ h))
+          | false ↦ λ e. refl
+        ]) refl
+
+-- ---- the first
+
+abbrev pub way_by : Ends → Way
+way_by e = way e.from e.to
+
+ways_by : (u : ℕ) (vs : List ℕ) → map (λ v. way u v) vs ≡ map way_by (map (ends u) vs)
+ways_by u [] = refl
+ways_by u (v ∷ vs) = ap (λ l. way u v ∷ l) (ways_by u vs)
+
+ways_all : (net : Net) (us : List ℕ) → flat_map (λ u. map (λ v. way u v) (neighbours net u)) us ≡ map way_by (flat_map (ways_from net) us)
+ways_all net [] = refl
+ways_all net (u ∷ us) =
+    ap (λ l. l ++ flat_map (λ u. map (λ v. way u v) (neighbours net u)) us) (ways_by u (neighbours net u))
+    ∙ (ap (λ l. map way_by (ways_from net u) ++ l) (ways_all net us) ∙ sym (map-append way_by (ways_from net u) (flat_map (ways_from net) us)))
+
+pub ways_numbered : (net : Net) → ways net ≡ map way_by (ways_of net)
+unfolding ways
+ways_numbered net = ways_all net (ascending net.nodes)
+
+module _ {A B : Type 0} (f : A → B) (p : B → Bool) where
+  find_first : (xs : List A) (k : ℕ) (x : A) → slice_get xs k ≡ Some x → p (f x) ≡ true → ((i : ℕ) (y : A) → i < k → slice_get xs i ≡ Some y → p (f y) ≡ false) → find p (map f xs) ≡ Some (f x)
+  find_first [] k x at passes low = absurd (cc at)
+  find_first (y ∷ ys) zero x at passes low = rw (same_some y x at, passes) refl
+  find_first (y ∷ ys) (suc k) x at passes low = rw (low 0 y (omega arith) refl) (find_first ys k x at passes (λ i z l e. low (suc i) z (omega (arith, l)) e))
+
+  find_none : (xs : List A) → ((i : ℕ) (y : A) → slice_get xs i ≡ Some y → p (f y) ≡ false) → find p (map f xs) ≡ None
+  find_none [] none = refl
+  find_none (y ∷ ys) none = rw (none 0 y refl) (find_none ys (λ i z e. none (suc i) z e))
+
+below_end : {A : Type 0} (xs : List A) (k i : ℕ) (x : A) → slice_get xs k ≡ None → slice_get xs i ≡ Some x → i < k
+below_end [] k i x e f = absurd (cc f)
+below_end (y ∷ ys) zero i x e f = absurd (cc e)
+below_end (y ∷ ys) (suc k) zero x e f = omega arith
+below_end (y ∷ ys) (suc k) (suc i) x e f = let l = below_end ys k i x e f in omega (arith, l)
+
+module _ (net : Net) (valid : IsValid net) (p : ℕ → Bool) where
+  at_number : (i : ℕ) (e : Ends) → slice_get (ways_of net) i ≡ Some e → has_in p (ways_of net) (way_by e) ≡ p i
+  at_number i e at = has_at p (ways_of net) i (way_by e) at (λ j there. one_number net e.from e.to j i valid there at)
+
+  -- no way of an empty set is found
+  pub found_none : ((i : ℕ) → p i ≡ false) → find (has_in p (ways_of net)) (ways net) ≡ None
+  found_none none = rw (ways_numbered net) (find_none way_by (has_in p (ways_of net)) (ways_of net) (λ i e at. at_number i e at ∙ none i))
+
+  -- the way with the lowest number is the first
+  pub found_first : (k : ℕ) (r : Option Ends) → r ≡ slice_get (ways_of net) k → p k ≡ true → ((i : ℕ) → i < k → p i ≡ false) → find (has_in p (ways_of net)) (ways net) ≡ option_map way_by r
+  found_first k (Some e) is passes low =
+      rw (ways_numbered net)
+      (find_first way_by (has_in p (ways_of net)) (ways_of net) k e (sym is) (at_number k e (sym is) ∙ passes) (λ i y l at. at_number i y at ∙ low i l))
+  found_first k None is passes low =
+      rw (ways_numbered net) (find_none way_by (has_in p (ways_of net)) (ways_of net) (λ i e at. at_number i e at ∙ low i (below_end (ways_of net) k i e (sym is) at)))
