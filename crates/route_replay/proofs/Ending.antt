@@ -149,6 +149,7 @@ task_not_bytes : (rules : Rules) (net : Net) (events : List Event) (t : Task) �
 task_not_bytes rules net events (task.Event e) = event_not_bytes rules net events e
 task_not_bytes rules net events (task.Deliveries times) = drained_not_bytes rules net times events
 task_not_bytes rules net events (task.Show view) = tt
+task_not_bytes rules net events (task.ShowClosure epoch) = tt
 
 either_not_bytes : (led : Course) (rest : List Event → Option Reached) → StopsNotBytes led → ((events : List Event) → NotBytes (rest events)) → NotBytes (stop_by led rest)
 either_not_bytes (Leads events) rest h k = k events

@@ -15,7 +15,7 @@ use Rattle.schedule_file.specs.declared.table.OriginEvent.TheVariants.{Originate
 use Rattle.schedule_file.specs.declared.table.NodeEvent.TheVariants.{Snap}
 use Rattle.schedule_file.specs.declared.table.PairEvent.TheVariants.{Deliver, Fail, Restore, Notice, Open}
 use Rattle.schedule_file.specs.declared.table.PlainView.TheVariants.{Rib, Log}
-use Rattle.schedule_file.specs.declared.table.EpochView.TheVariants.{Cut}
+use Rattle.schedule_file.specs.declared.table.EpochView.TheVariants.{Cut, Closure}
 use Rattle.schedule_file.specs.declared.lines.Numbered.{Numbered}
 use Rattle.schedule_file.specs.Lines.{DirectsInRange}
 use Rattle.schedule_file.specs.Grammar.{place_in, fault_from, directed_fault, directive_of, Follows, AllFollow}
@@ -88,6 +88,7 @@ module _ (net : Net) where
   instruction_fits (Show Rib) r fine = tt
   instruction_fits (Show Log) r fine = tt
   instruction_fits (ShowEpoch Cut epoch) r fine = tt
+  instruction_fits (ShowEpoch Closure epoch) r fine = tt
 
   directive_fits : (d : Directive) → Follows net d → Fitting net (task_of d)
   directive_fits d f =

@@ -1,4 +1,5 @@
 pub mod Acts
+pub mod Closures
 pub mod Cuts
 pub mod Drains
 pub mod Ending

@@ -5,13 +5,13 @@ use Rattle.path_vector.specs.Rules.{Rules}
 use Rattle.path_vector.specs.History.{change}
 use Rattle.trigger_log.specs.declared.entries.Entry.{Entry as Shown}
 use Rattle.trigger_log.specs.Entries.{Entry}
-use Rattle.trigger_log.specs.Standing.{Step, steps, Shows}
+use Rattle.trigger_log.specs.Standing.{Entered, all_entered, Shows}
 use Rattle.route_replay.specs.LogText.{line_of, entry_line}
 
 -- there is one for each entry
-pub length-steps : (h : List Entry) → length (steps h) ≡ length h
+pub length-steps : (h : List Entry) → length (all_entered h) ≡ length h
 length-steps [] = refl
-length-steps (k ∷ h) = length-append (steps h) (record { before = h; entry = k } ∷ []) ∙ omega (arith, length-steps h)
+length-steps (k ∷ h) = length-append (all_entered h) (record { before = h; entry = k } ∷ []) ∙ omega (arith, length-steps h)
 
 -- what stands in a list that has grown by one: one of those before, or the new one
 pushed_at : {X : Type 0} (xs : List X) (x : X) (i : ℕ) (y : X) → slice_get (xs ++ x ∷ []) i ≡ Some y → (slice_get xs i ≡ Some y) ⊎ ((i ≡ length xs) × (y ≡ x))
@@ -24,16 +24,16 @@ pushed_at (z ∷ xs) x (suc i) y e = ⊎_elim
     (pushed_at xs x i y e)
 
 -- as many entries are before it as its place says
-pub entries_before : (h : List Entry) (i : ℕ) (step : Step) → slice_get (steps h) i ≡ Some step → length step.before ≡ i
+pub entries_before : (h : List Entry) (i : ℕ) (step : Entered) → slice_get (all_entered h) i ≡ Some step → length step.before ≡ i
 entries_before [] i step e = absurd (cc e)
 entries_before (k ∷ h) i step e = ⊎_elim
     (λ before. entries_before h i step before)
-    (λ (last : (i ≡ length (steps h)) × (step ≡ record { before = h; entry = k })).
-    ap (λ (s : Step). length s.before) last.1 ∙ sym (last.0 ∙ length-steps h))
-    (pushed_at (steps h) (record { before = h; entry = k }) i step e)
+    (λ (last : (i ≡ length (all_entered h)) × (step ≡ record { before = h; entry = k })).
+    ap (λ (s : Entered). length s.before) last.1 ∙ sym (last.0 ∙ length-steps h))
+    (pushed_at (all_entered h) (record { before = h; entry = k }) i step e)
 
 -- the line of what is kept of an entry is that of the entry
-pub shows_line : (rules : Rules) (net : Net) (node : ℕ) (step : Step) (shown : Shown) (index : ℕ) → Shows rules net node step shown → index ≡ suc (length step.before)
+pub shows_line : (rules : Rules) (net : Net) (node : ℕ) (step : Entered) (shown : Shown) (index : ℕ) → Shows rules net node step shown → index ≡ suc (length step.before)
     → line_of net node index (shown.trigger ∷ []) (change shown.scope shown.cause) shown.sent ≡ entry_line rules net node step
 unfolding entry_line
 shows_line rules net node step shown index shows counts =

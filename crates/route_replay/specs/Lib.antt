@@ -1,4 +1,5 @@
 pub mod CutText
+pub mod ClosureText
 pub mod Ends
 pub mod Gathering
 pub mod Lines

@@ -13,7 +13,7 @@ use Rattle.path_vector.specs.declared.causes.Cause.TheVariants.{Originate, Withd
 use Rattle.path_vector.specs.History.{Change}
 use Rattle.path_vector.specs.Rules.{Rules}
 use Rattle.trigger_log.specs.Sending.{sent_by}
-use Rattle.trigger_log.specs.Standing.{Step, steps}
+use Rattle.trigger_log.specs.Standing.{Entered, all_entered}
 use Rattle.chronicle.specs.Facts.{Chronicle}
 use Rattle.chronicle.specs.Logs.{log_of}
 use Rattle.schedule_file.specs.Spelling.{prefix_text}
@@ -79,10 +79,10 @@ line_of net node index triggers read items =
     ++ codes " " ++ scope_text net read.scope ++ codes " " ++ cause_text read.cause ++ flat_map item_text items)
 
 -- the line of the last of these entries
-unfoldable pub entry_line : Rules → Net → ℕ → Step → List ℕ
+unfoldable pub entry_line : Rules → Net → ℕ → Entered → List ℕ
 entry_line rules net node step =
     line_of net node (suc (length step.before)) step.entry.triggers step.entry.read (sent_by rules net node step.before step.entry)
 
 -- the log of one node, the oldest entry first
 unfoldable pub log_lines : Rules → Net → Chronicle → ℕ → List (List ℕ)
-log_lines rules net past node = map (entry_line rules net node) (steps (log_of node past))
+log_lines rules net past node = map (entry_line rules net node) (all_entered (log_of node past))

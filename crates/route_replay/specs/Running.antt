@@ -24,6 +24,7 @@ abbrev pub Fitting : Net → Task → Type 0
 Fitting net (task.Event e) = IsTrue (fits net e)
 Fitting net (task.Deliveries times) = Unit {0}
 Fitting net (task.Show view) = Unit {0}
+Fitting net (task.ShowClosure epoch) = Unit {0}
 
 -- so is each that the lines ask for
 abbrev pub AllFitting : Net → List Numbered → Type 0

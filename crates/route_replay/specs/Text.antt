@@ -13,11 +13,12 @@ use Rattle.chronicle.specs.Deliveries.{next_delivery}
 use Rattle.node_core.specs.NodeLimits.{Reached}
 use Rattle.world_core.specs.Limits.{limit_of}
 use Rattle.schedule_file.specs.declared.lines.Directive.{Directive}
-use Rattle.schedule_file.specs.declared.lines.Directive.TheVariants.{Originate, Withdraw, Prefer, Deliver, Fail, Restore, Notice, OpenSession, Snap, Drain, ShowRib, ShowLog, ShowCut}
+use Rattle.schedule_file.specs.declared.lines.Directive.TheVariants.{Originate, Withdraw, Prefer, Deliver, Fail, Restore, Notice, OpenSession, Snap, Drain, ShowRib, ShowLog, ShowCut, ShowClosure}
 use Rattle.schedule_file.specs.declared.lines.Numbered.{Numbered}
 use Rattle.route_replay.specs.declared.tasks.Task.{Task}
 use Rattle.route_replay.specs.declared.tasks.Task.TheVariants as task
 use Rattle.route_replay.specs.declared.views.View.TheVariants.{Rib, Log, Cut}
+use Rattle.route_replay.specs.ClosureText.{closure_text}
 use Rattle.route_replay.specs.Lines.{ended}
 use Rattle.route_replay.specs.ReasonText.{reason_words}
 use Rattle.route_replay.specs.Views.{view_text}
@@ -74,18 +75,21 @@ task_of (Drain times) = task.Deliveries times
 task_of ShowRib = task.Show Rib
 task_of ShowLog = task.Show Log
 task_of (ShowCut epoch) = task.Show (Cut epoch)
+task_of (ShowClosure epoch) = task.ShowClosure epoch
 
 -- where a task leads, after these events
 abbrev pub course : Rules → Net → List Event → Task → Course
 course rules net events (task.Event e) = with_event rules net events e
 course rules net events (task.Deliveries times) = drained rules net times events
 course rules net events (task.Show view) = Leads events
+course rules net events (task.ShowClosure epoch) = Leads events
 
 -- what is written for a task of this line: an event's idle line, or what is shown; deliveries write nothing
 abbrev pub said_for : Rules → Net → Chronicle → ℕ → Task → List ℕ
 said_for rules net past line (task.Event e) = step_text line (step rules net past e)
 said_for rules net past line (task.Deliveries times) = []
 said_for rules net past line (task.Show view) = view_text rules net past view
+said_for rules net past line (task.ShowClosure epoch) = closure_text rules net past epoch
 
 -- the lines of a directive, read on the run at its turn
 abbrev pub said : Rules → Net → List Event → Numbered → List ℕ

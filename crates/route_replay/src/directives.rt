@@ -6,10 +6,12 @@ ghost use Rattle.chronicle.specs.Run.{run, step};
 ghost use Rattle.chronicle.specs.Steps.{Step};
 ghost use Rattle.world_core.specs.Effects.{Tells};
 ghost use Rattle.world_core.specs.Fits.{fits};
+ghost use Rattle.route_replay.specs.ClosureText.{closure_text};
 ghost use Rattle.route_replay.specs.Text.{idle_line, task_of, said, step_text, course, drained, with_event};
 ghost use Rattle.route_replay.specs.Views.{past_of, view_text};
 ghost use Rattle.route_replay.specs.Running.{Fitting, Advances, StopsIn, lines_by, limit_by, Runs};
 
+use crate::closure_text::closure_line;
 use crate::ends::RunEnd;
 use crate::numbers::push_number;
 use crate::page::Page;
@@ -20,7 +22,7 @@ use path_vector::Policy;
 use route_io::Sink;
 use schedule_file::Numbered;
 use std::alloc::{AllocError, Global};
-use topology::Reason;
+use topology::{Epoch, NoMemory, Reason};
 use world_core::{Event, Outcome, Stop, World};
 
 // Adds the line of an event that did nothing.
@@ -48,6 +50,22 @@ fn event_line<O: Sink>(
         Outcome::Did(_) => Ok(()),
         Outcome::Idle(reason) => idle_line(&mut page.text, line, *reason),
     }
+}
+
+// Adds the line of the value of an epoch.
+fn add_closure<P: Policy + Copy, O: Sink>(
+    page: &mut Page<'_, String, O>,
+    alloc: Global,
+    world: &World<P>,
+    epoch: Epoch,
+) -> Result<(), NoMemory>
+    ensures text { let rules = P.rules world.now.policy in
+        OnOk result (string_bytes page.new.text ≡ string_bytes page.old.text
+        ++ closure_text rules world.now.net (past_of rules world.now) epoch) }
+    ensures sink { page.new.sink.now ≡ page.old.sink.now }
+    ensures same_sink { page.new.sink.ghost_name ≡ page.old.sink.ghost_name }
+{
+    closure_line(&mut page.text, alloc, world, epoch)
 }
 
 // Writes what is shown of an event.
@@ -118,6 +136,23 @@ fn show<P: Policy + Copy, O: Sink>(
     Ok(())
 }
 
+// Writes the value of an epoch.
+fn show_closure<P: Policy + Copy, O: Sink>(
+    alloc: Global,
+    world: &World<P>,
+    epoch: Epoch,
+    sink: &mut O,
+) -> Result<(), RunEnd>
+    ensures { let rules = P.rules world.now.policy in
+        Runs (O.seen sink.old) (O.seen sink.new)
+        (closure_text rules world.now.net (past_of rules world.now) epoch) None result }
+{
+    let mut page = Page::new(alloc, sink);
+    add_closure(&mut page, alloc, world, epoch)?;
+    page.flush()?;
+    Ok(())
+}
+
 /// The world after a directive, whose lines are written.
 pub fn advance<P: Policy + Copy, O: Sink>(
     alloc: Global,
@@ -138,6 +173,10 @@ pub fn advance<P: Policy + Copy, O: Sink>(
         Task::Deliveries(times) => Ok(drain(world, times)?),
         Task::Show(view) => {
             show(alloc, &world, view, sink)?;
+            Ok(world)
+        }
+        Task::ShowClosure(epoch) => {
+            show_closure(alloc, &world, epoch, sink)?;
             Ok(world)
         }
     }

@@ -1,6 +1,7 @@
 //! Replays a schedule: the text of its run.
 #![tactic(auto)]
 
+pub mod closure_text;
 pub mod cut_text;
 pub mod directives;
 pub mod ends;

@@ -84,7 +84,7 @@ fn change_words(
     cause_words(out, cause)
 }
 
-fn trigger_words(out: &mut String, trigger: &Trigger) -> Result<(), AllocError>
+pub(crate) fn trigger_words(out: &mut String, trigger: &Trigger) -> Result<(), AllocError>
     ensures { OnOk result (string_bytes out.new ≡ string_bytes out.old ++ trigger_text trigger.now) }
 {
     push_node(out, trigger.node)?;

@@ -4,6 +4,7 @@ ghost use Rattle.route_replay.specs.Text.{task_of};
 
 use crate::views::View;
 use schedule_file::Directive;
+use topology::Epoch;
 use world_core::Event;
 
 /// What a directive asks for.
@@ -13,6 +14,8 @@ pub enum Task {
     /// At most so many deliveries, each the next one when its turn comes.
     Deliveries(u32),
     Show(View),
+    /// The value of the reports of an epoch.
+    ShowClosure(Epoch),
 }
 
 /// The task of a directive.
@@ -52,5 +55,6 @@ pub fn task_of(directive: &Directive) -> Task
         Directive::ShowRib => Task::Show(View::Rib),
         Directive::ShowLog => Task::Show(View::Log),
         Directive::ShowCut(epoch) => Task::Show(View::Cut(*epoch)),
+        Directive::ShowClosure(epoch) => Task::ShowClosure(*epoch),
     }
 }

@@ -75,7 +75,7 @@ fn one_node<P: Policy + Copy, O: Sink>(
 }
 
 // A node of the network.
-fn node_of<P: Policy + Copy>(world: &World<P>, id: NodeId) -> &Node<P>
+pub(crate) fn node_of<P: Policy + Copy>(world: &World<P>, id: NodeId) -> &Node<P>
     requires { has world.now.net.nodes id ≡ true }
     ensures { IsNodeOf (P.rules world.now.policy) world.now id result.now }
 {

@@ -44,3 +44,16 @@ returns-in_ok-show-in-Show-clause-runs g c =
     let world = c.args.world in
     task_runs (g.P.Policy.rules world.policy) world.net world.events c.args.numbered.now.line _ _ _ _ _ (sym c.task_of.ensures ∙ c.in-Show.is)
     (runs_answer _ _ _ _ c.in_ok-show-in-Show.field-0 world c.in_ok-show-in-Show.ensures)
+
+pub returns-in_err-show_closure-in-ShowClosure-clause-runs : goal.returns-in_err-show_closure-in-ShowClosure-clause-runs
+returns-in_err-show_closure-in-ShowClosure-clause-runs g c =
+    let world = c.args.world in
+    task_runs (g.P.Policy.rules world.policy) world.net world.events c.args.numbered.now.line _ _ _ _ _ (sym c.task_of.ensures ∙ c.in-ShowClosure.is)
+    (handed_runs c.from_residual-in_err-show_closure-in-ShowClosure.result _ _ _ _ _ c.from_residual-in_err-show_closure-in-ShowClosure.ensures (λ why same.
+    runs_as _ _ _ _ why c.in_err-show_closure-in-ShowClosure.field-0.0 c.in_err-show_closure-in-ShowClosure.ensures same))
+
+pub returns-in_ok-show_closure-in-ShowClosure-clause-runs : goal.returns-in_ok-show_closure-in-ShowClosure-clause-runs
+returns-in_ok-show_closure-in-ShowClosure-clause-runs g c =
+    let world = c.args.world in
+    task_runs (g.P.Policy.rules world.policy) world.net world.events c.args.numbered.now.line _ _ _ _ _ (sym c.task_of.ensures ∙ c.in-ShowClosure.is)
+    (runs_answer _ _ _ _ c.in_ok-show_closure-in-ShowClosure.field-0 world c.in_ok-show_closure-in-ShowClosure.ensures)

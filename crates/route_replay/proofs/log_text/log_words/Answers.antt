@@ -2,7 +2,7 @@ use Rattle.std.proofs.Common.{◌≡◌, suc, [], ◌∷◌, ◌≤◌, ◌-◌,
 use Rattle.std.specs.Prelude.{OnOk}
 use Rattle.std.specs.String.{string_bytes}
 use Rattle.path_vector.specs.History.{change}
-use Rattle.trigger_log.specs.Standing.{steps}
+use Rattle.trigger_log.specs.Standing.{all_entered}
 use Rattle.chronicle.specs.Logs.{log_of}
 use Rattle.route_replay.specs.LogText.{line_of, entry_line, log_lines}
 use Rattle.route_replay.specs.Views.{past_of}
@@ -37,4 +37,4 @@ returns g c =
     let counts : number ≡ suc (length kept.0.before) = omega (arith, entries_before h (number - 1) kept.0 kept.1, c.requires.from_one) in
     let same = ap (λ net. line_of net node number (shown.trigger ∷ []) (change shown.scope shown.cause) shown.sent) c.topology.ensures ∙ shows_line rules world.net node kept.0 shown number kept.2 counts in
     let made = subst (λ words. OnOk c.entry_line.result (string_bytes c.entry_line.new.out ≡ string_bytes c.args.out.now ++ words)) same c.entry_line.ensures in
-    line_if_made c.entry_line.result (entry_line rules world.net node) (steps h) (number - 1) kept.0 (string_bytes c.args.out.now) (string_bytes c.entry_line.new.out) kept.1 made
+    line_if_made c.entry_line.result (entry_line rules world.net node) (all_entered h) (number - 1) kept.0 (string_bytes c.args.out.now) (string_bytes c.entry_line.new.out) kept.1 made

@@ -1,0 +1,51 @@
+use Rattle.std.proofs.Common.{List, ℕ, [], ◌∷◌, ◌++◌, ◌+◌, take, map, sym, subst, ◌∙◌, ap, ◌≡◌, arith}
+use Rattle.std.specs.Rc.{rc_value}
+use Rattle.std.specs.List.Sorted.{IsStrictlyIncreasing}
+use Rattle.std.proofs.lemmas.List.{get_or_read, take_more, take_all}
+use Rattle.topology.specs.Lists.{has}
+use Rattle.topology.specs.Net.{Net}
+use Rattle.topology.proofs.Ascending.{has-ascending, increasing_ascending}
+use Rattle.topology.proofs.Sets.{has_at}
+use Rattle.rest_laws.specs.Rest.{reports}
+use Rattle.route_replay.specs.Views.{past_of}
+use Rattle.route_replay.proofs.Closures.{reports_more, together}
+use Rattle.route_replay.proofs.closure_text.reports_of.Goals as goal
+
+-- the node at hand is one of the network
+pub node_of-requires : goal.node_of-requires
+node_of-requires g c =
+    let n = c.id-item.result in
+    let nodes = c.nodes-id-items.result.now in
+    let read = get_or_read nodes c.loop-id.id-index n c.loop-id-test.true c.id-item.is 0 in
+    ap (λ (net : Net). has net.nodes n) (sym c.topology.ensures)
+    ∙ sym (has-ascending c.topology.result.now.nodes n)
+    ∙ ap (λ (ns : List ℕ). has ns n) (sym c.nodes-id-items.ensures.nodes)
+    ∙ has_at nodes n c.loop-id.id-index c.loop-id-test.true (sym read)
+
+-- one node more
+pub loop-id-preserved : goal.loop-id-preserved
+loop-id-preserved g c =
+    let world = c.args.world.now in
+    let rules = g.P.Policy.rules world.policy in
+    let past = past_of rules world in
+    let e = c.args.epoch in
+    let nodes = c.nodes-id-items.result.now in
+    let i = c.loop-id.id-index in
+    let n = c.id-item.result in
+    let more : take (i + 1) nodes ≡ take i nodes ++ n ∷ [] =
+    take_more nodes i n c.loop-id-test.true ∙ ap (λ x. take i nodes ++ x ∷ []) (sym (get_or_read nodes i n c.loop-id-test.true c.id-item.is n)) in
+    c.in_ok-add_report.ensures world.policy world.net n past c.node_of.ensures
+    ∙ (ap (λ rs. rs ++ reports rules world.net past e (n ∷ [])) c.loop-id.invariant
+    ∙ (sym (reports_more rules world.net past e (take i nodes) (n ∷ []))
+    ∙ ap (reports rules world.net past e) (sym more)))
+
+-- they may be put together
+pub returns-clause-together : goal.returns-clause-together
+returns-clause-together g c =
+    let world = c.args.world.now in
+    let rules = g.P.Policy.rules world.policy in
+    let nodes = c.nodes-id-items.result.now in
+    let all : take c.loop-id.id-index nodes ≡ nodes = take_all c.loop-id.id-index nodes (omega (arith, c.loop-id-test.false)) in
+    together rules world.net (past_of rules world) c.args.epoch nodes (map rc_value c.loop-id.reports.items)
+    (subst IsStrictlyIncreasing (sym c.nodes-id-items.ensures.nodes) (increasing_ascending c.topology.result.now.nodes c.nodes-id-items.ensures.valid.nodes_differ))
+    (c.loop-id.invariant ∙ ap (reports rules world.net (past_of rules world) c.args.epoch) all)

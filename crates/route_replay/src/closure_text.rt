@@ -1,0 +1,136 @@
+//! The text of the value of an epoch.
+ghost use Rattle.std.specs.Prelude.{ℕ, ◌≡◌, ◌++◌, [], ◌∷◌, codes, decimal, map, IfOk, OnOk};
+ghost use Rattle.std.specs.Rc.{rc_value};
+ghost use Rattle.std.specs.String.{string_bytes};
+ghost use Rattle.topology.specs.Lists.{ascending};
+ghost use Rattle.topology.specs.Net.{Net};
+ghost use Rattle.incomplete_closure.specs.Seen.{reports_seen};
+ghost use Rattle.incomplete_closure.specs.Together.{OfOneEpoch};
+ghost use Rattle.chronicle.specs.Facts.{Chronicle};
+ghost use Rattle.node_core.specs.Standing.{StandsFor};
+ghost use Rattle.rest_laws.specs.Rest.{reports};
+ghost use Rattle.route_replay.specs.ClosureText.{closure_text, further, listed, value_text};
+ghost use Rattle.route_replay.specs.LogText.{trigger_text};
+ghost use Rattle.route_replay.specs.Views.{past_of};
+
+use crate::log_text::trigger_words;
+use crate::numbers::{push_node, push_number};
+use crate::views::node_of;
+use incomplete_closure::{Report, Value, closure};
+use node_core::Node;
+use path_vector::Policy;
+use std::alloc::{AllocError, Global};
+use std::rc::Rc;
+use topology::{Epoch, NoMemory, NodeId, Trigger};
+use world_core::World;
+
+// Adds what a node reported of its cut of the epoch, where it has one.
+fn add_report<P: Policy + Copy>(
+    list: &mut Vec<Rc<Report>>,
+    node: &Node<P>,
+    epoch: Epoch,
+) -> Result<(), NoMemory>
+    ensures { OnOk result ((policy : P) (net : Net) (u : ℕ) (past : Chronicle) →
+        StandsFor policy (P.rules policy) net u node.now past →
+        reports_seen (map rc_value list.new.items)
+        ≡ reports_seen (map rc_value list.old.items) ++ reports (P.rules policy) net past epoch (u ∷ [])) }
+{
+    if let Some(report) = node.report(epoch) {
+        list.push(report.clone()?)?;
+    }
+    Ok(())
+}
+
+// The reports of an epoch: those of the nodes that have a cut of it, ascending. They are shared.
+fn reports_of<P: Policy + Copy>(
+    alloc: Global,
+    world: &World<P>,
+    epoch: Epoch,
+) -> Result<Vec<Rc<Report>>, NoMemory>
+    ensures reports { let rules = P.rules world.now.policy in
+        IfOk result (λ list. reports_seen (map rc_value list.items)
+        ≡ reports rules world.now.net (past_of rules world.now) epoch (ascending world.now.net.nodes)) }
+    ensures together { IfOk result (λ list. OfOneEpoch (map rc_value list.items)) }
+{
+    let mut reports = Vec::new(alloc);
+    for id in world.topology().nodes() {
+        add_report(&mut reports, node_of(world, *id), epoch)?;
+    }
+    Ok(reports)
+}
+
+// Nodes, each after a comma.
+fn further_nodes(out: &mut String, nodes: &[NodeId]) -> Result<(), AllocError>
+    ensures { OnOk result (string_bytes out.new ≡ string_bytes out.old ++ further decimal nodes.now) }
+{
+    for node in nodes {
+        out.push(',')?;
+        push_node(out, *node)?;
+    }
+    Ok(())
+}
+
+// Nodes, with commas between them.
+fn node_words(out: &mut String, nodes: &[NodeId]) -> Result<(), AllocError>
+    ensures { OnOk result (string_bytes out.new ≡ string_bytes out.old ++ listed decimal nodes.now) }
+{
+    let [first, rest @ ..] = nodes else {
+        return out.push('-');
+    };
+    push_node(out, *first)?;
+    further_nodes(out, rest)
+}
+
+// Triggers, each after a comma.
+fn further_triggers(out: &mut String, triggers: &[Trigger]) -> Result<(), AllocError>
+    ensures { OnOk result (string_bytes out.new ≡ string_bytes out.old ++ further trigger_text triggers.now) }
+{
+    for trigger in triggers {
+        out.push(',')?;
+        trigger_words(out, trigger)?;
+    }
+    Ok(())
+}
+
+// Triggers, with commas between them.
+fn triggers_words(out: &mut String, triggers: &[Trigger]) -> Result<(), AllocError>
+    ensures { OnOk result (string_bytes out.new ≡ string_bytes out.old ++ listed trigger_text triggers.now) }
+{
+    let [first, rest @ ..] = triggers else {
+        return out.push('-');
+    };
+    trigger_words(out, first)?;
+    further_triggers(out, rest)
+}
+
+/// Adds the nodes that responded and the incomplete triggers of a value.
+pub(crate) fn value_words(out: &mut String, value: &Value) -> Result<(), AllocError>
+    ensures { OnOk result (string_bytes out.new ≡ string_bytes out.old ++ value_text value.now) }
+{
+    out.push_str("S=")?;
+    node_words(out, value.responding.as_slice())?;
+    out.push_str(" I=")?;
+    triggers_words(out, value.incomplete.as_slice())
+}
+
+/// Adds the line of the value of an epoch, over the reports of all nodes that have a cut of it.
+#[tactic(auto, unfolding(crate::specs::ClosureText::closure_text))]
+pub fn closure_line<P: Policy + Copy>(
+    out: &mut String,
+    alloc: Global,
+    world: &World<P>,
+    epoch: Epoch,
+) -> Result<(), NoMemory>
+    ensures { let rules = P.rules world.now.policy in
+        OnOk result (string_bytes out.new
+        ≡ string_bytes out.old ++ closure_text rules world.now.net (past_of rules world.now) epoch) }
+{
+    let reports = reports_of(alloc, world, epoch)?;
+    let value = closure(alloc, &reports)?;
+    out.push_str("closure ")?;
+    push_number(out, epoch.number())?;
+    out.push_str(": ")?;
+    value_words(out, &value)?;
+    out.push('\n')?;
+    Ok(())
+}
