@@ -1,4 +1,5 @@
 //! Files and runs as tables.
+mod closures;
 mod files;
 mod limits;
 mod lines;

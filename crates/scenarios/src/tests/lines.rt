@@ -102,6 +102,8 @@ good: show rib
 good: show log
 good: show cut 1
 good: show cut 32
+good: show closure 1
+good: show closure 32
 unknown word: prefixes
 unknown word: Drain 1
 unknown word: snaps 1
@@ -113,7 +115,7 @@ not built: hops 1
 not built: transient
 not built: inject 1
 not built: hop
-not built: show closure x y
+not built: show tables x y
 not built: show ctl
 not built: show tables
 not built: show walk 1
@@ -131,8 +133,11 @@ unknown word: show foo
 unknown word: show foo x
 unknown word: show cuts 1
 wrong count: show cut
+wrong count: show closure
+wrong count: show closure 1 2
 wrong count: show cut 1 2
 bad number: show cut 0
+bad number: show closure 0
 bad number: show cut 33
 bad number: show cut 01
 bad number: show cut x
