@@ -258,13 +258,11 @@ fn plays(
     Ok(())
 }
 
-fn fill(topology: &mut Topology, consolidators: &[u16], others: &[u16]) -> Result<(), Fail> {
-    for of in consolidators {
-        topology.add_node(NodeId::new(*of), true)?;
+fn fill(topology: &mut Topology) -> Result<(), Fail> {
+    for of in [1, 2, 3] {
+        topology.add_node(NodeId::new(of), true)?;
     }
-    for of in others {
-        topology.add_node(NodeId::new(*of), false)?;
-    }
+    topology.add_node(NodeId::new(4), false)?;
     Ok(())
 }
 
@@ -272,7 +270,7 @@ fn fill(topology: &mut Topology, consolidators: &[u16], others: &[u16]) -> Resul
 fn the_ballots_of_an_epoch(rt: HostRuntime) -> Result<(), Fail> {
     let alloc = rt.alloc();
     let mut topology = Topology::empty(alloc);
-    fill(&mut topology, &[1, 2, 3], &[4])?;
+    fill(&mut topology)?;
     for (node, steps) in [(1, CONSOLIDATOR), (4, OTHER)] {
         let start = Consolidator::new(alloc, &topology, NodeId::new(node))?;
         plays(&rt, alloc, &topology, start, steps)?;
@@ -284,7 +282,8 @@ fn the_ballots_of_an_epoch(rt: HostRuntime) -> Result<(), Fail> {
 fn an_acceptor_promises_and_accepts(rt: HostRuntime) -> Result<(), Fail> {
     let alloc = rt.alloc();
     let mut topology = Topology::empty(alloc);
-    fill(&mut topology, &[1, 2], &[])?;
+    topology.add_node(NodeId::new(1), true)?;
+    topology.add_node(NodeId::new(2), true)?;
     let start = Consolidator::new(alloc, &topology, NodeId::new(1))?;
     plays(&rt, alloc, &topology, start, ACCEPTOR)?;
     Ok(())
