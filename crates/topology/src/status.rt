@@ -6,6 +6,8 @@ use crate::Ballot;
 /// Why an event did nothing.
 #[derive(Clone, Copy, Debug, PartialEq, Eq)]
 pub enum Reason {
+    /// The node is crashed.
+    Crashed,
     /// The node originates the prefix already.
     AlreadyOrigin,
     /// The node does not originate the prefix.
@@ -44,6 +46,8 @@ pub enum Reason {
     StaleBallot,
     /// No round is above that of this ballot.
     NoRound(Ballot),
+    /// The node is not crashed.
+    NotCrashed,
 }
 
 /// A count that has a limit.
