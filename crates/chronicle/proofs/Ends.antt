@@ -3,7 +3,7 @@ use Rattle.std.proofs.Common.{ℕ, Bool, true, false, ◌==◌, ◌&&◌, ◌||�
 use Rattle.std.specs.Prelude.{if◌then◌else◌}
 use Rattle.topology.specs.declared.links.LinkState.{LinkState}
 use Rattle.topology.specs.LinkStates.{are_ends, failed, restored}
-use Rattle.chronicle.specs.Facts.{Fact, Log, Sent, Took, Fail, Restore, Raise, Chronicle}
+use Rattle.chronicle.specs.Facts.{Fact, Log, Sent, Took, Fail, Restore, Raise, Crash, Restart, Chronicle}
 use Rattle.chronicle.specs.Links.{link, link_by}
 
 -- the two ends may be named in either order
@@ -24,6 +24,8 @@ link_by_swapped a b (Log node entry) before = refl
 link_by_swapped a b (Sent from to session item queued) before = refl
 link_by_swapped a b (Took from to session item) before = refl
 link_by_swapped a b (Raise node e) before = refl
+link_by_swapped a b (Crash node) before = refl
+link_by_swapped a b (Restart node) before = refl
 
 -- the link is the same from both ends
 pub both_ends : (a b : ℕ) (past : Chronicle) → link a b past ≡ link b a past

@@ -18,7 +18,7 @@ use Rattle.trigger_log.specs.Going.{Item, News, Marker, Hello, mark_of}
 use Rattle.trigger_log.specs.Fits.{CauseFits, Inherits}
 use Rattle.chronicle.specs.declared.events.Event.{Event}
 use Rattle.chronicle.specs.declared.events.Event.TheVariants as event
-use Rattle.chronicle.specs.Facts.{Chronicle, Took}
+use Rattle.chronicle.specs.Facts.{Fact, Chronicle, Took}
 use Rattle.chronicle.specs.Facts as fact
 use Rattle.chronicle.specs.Logs.{log_of}
 use Rattle.chronicle.specs.Links.{link}
@@ -28,7 +28,8 @@ use Rattle.chronicle.specs.Inputs.{Input, arrival}
 use Rattle.chronicle.specs.Inputs as input
 use Rattle.chronicle.specs.Steps.{Step, Idle, Goes, Carried, write, open_session, take_cut, meet_mark, heard, unless_ready, take_item}
 use Rattle.chronicle.specs.Giving.{unless, out_of_turn, closes, opens, give}
-use Rattle.chronicle.specs.Run.{held_with, carried_by, given, delivered, is_carried, opened_by_link, fails, restores, step, chronicle_of, after, run}
+use Rattle.chronicle.specs.Crashes.{crashed}
+use Rattle.chronicle.specs.Run.{held_with, carried_by, given, delivered, is_carried, opened_by_link, fails, restores, actor, is_stopped, does, step, chronicle_of, after, run}
 use Rattle.chronicle.proofs.Blocks.{AreCarried, log_take_cut, link_take_cut}
 
 -- a node enters a cause by itself, and opens nothing by it; of a session that it closes this is known
@@ -105,7 +106,12 @@ known_to u = record { Carries = λ carried past. AreCarried carried u past; Come
 abbrev pub ByNodes : Rules → Net → (Chronicle → Type 0) → Type 0
 ByNodes rules net P = (u : ℕ) → NodeMoves rules net u (known_to u) P
 
--- P is kept by each move of a run: those of nodes, and a link that fails or is restored
+-- the fact is that a node crashed, or came back: it changes no link, no log and no session
+pub data IsQuiet : Fact → Type 0 where
+  Crashes : (u : ℕ) → IsQuiet (fact.Crash u)
+  Restarts : (u : ℕ) → IsQuiet (fact.Restart u)
+
+-- P is kept by each move of a run: those of nodes, a link that fails or is restored, and a node that crashes or comes back
 pub record Kept (rules : Rules) (net : Net) (P : Chronicle → Type 0) : Type 0 where
   pub writes : (past : Chronicle) (u : ℕ) (carried : Carried) (k : Entry) → P past → AreCarried carried u past → MayWrite past u k
       → P (write rules net carried u k past)
@@ -122,6 +128,7 @@ pub record Kept (rules : Rules) (net : Net) (P : Chronicle → Type 0) : Type 0 
       → held_with u v past ≡ None → last (reads (log_of u past)) v < s → P (open_session carried u v s past)
   pub breaks : (past : Chronicle) (a b s : ℕ) → P past → link a b past ≡ state.Up s → P (fact.Fail a b ∷ past)
   pub mends : (past : Chronicle) (a b s : ℕ) → P past → link a b past ≡ state.Down s → P (fact.Restore a b ∷ past)
+  pub quiet : (past : Chronicle) (f : Fact) → P past → IsQuiet f → P (f ∷ past)
 
 -- the moves of nodes among them
 pub by_nodes : (rules : Rules) (net : Net) (P : Chronicle → Type 0) → Kept rules net P → ByNodes rules net P
@@ -275,7 +282,7 @@ module _ (rules : Rules) (net : Net) (u : ℕ) (known : Known) (P : Chronicle �
 -- ---- the events of a run
 
 module _ (rules : Rules) (net : Net) (P : Chronicle → Type 0) (moves : ByNodes rules net P) where
-  module _ (past : Chronicle) (before : P past) (breaks : (a b s : ℕ) → link a b past ≡ state.Up s → P (fact.Fail a b ∷ past)) (mends : (a b s : ℕ) → link a b past ≡ state.Down s → P (fact.Restore a b ∷ past)) where
+  module _ (past : Chronicle) (before : P past) (breaks : (a b s : ℕ) → link a b past ≡ state.Up s → P (fact.Fail a b ∷ past)) (mends : (a b s : ℕ) → link a b past ≡ state.Down s → P (fact.Restore a b ∷ past)) (quiet : (f : Fact) → IsQuiet f → P (f ∷ past)) where
     -- an input that comes in a run
     given_kept : (u : ℕ) (i : Input) → KnownOf (known_to u) u past i → Leaves P past (given rules net past u i)
     given_kept u i may =
@@ -309,22 +316,30 @@ module _ (rules : Rules) (net : Net) (P : Chronicle → Type 0) (moves : ByNodes
     restores_kept a b (state.Up s) is = before
     restores_kept a b (state.Down s) is = mends a b s is
 
-    -- what the moves of nodes keep, and a change of a link here, holds after each event
-    pub after_moves : (e : Event) → P (after rules net past e)
-    unfolding after step
-    after_moves (event.Originate u p) = given_kept u (input.Originate p) tt
-    after_moves (event.Withdraw u p) = given_kept u (input.Withdraw p) tt
-    after_moves (event.Prefer u v value) = given_kept u (input.Prefer v value) tt
-    after_moves (event.Deliver v u) = delivered_kept v u (link v u past) (channel v u past) refl refl
-    after_moves (event.Fail a b) = fails_kept a b (link a b past) refl
-    after_moves (event.Restore a b) = restores_kept a b (link a b past) refl
-    after_moves (event.Notice u v) =
+    -- what an event does where its node runs
+    does_moves : (e : Event) → Leaves P past (does rules net past e)
+    unfolding does
+    does_moves (event.Originate u p) = given_kept u (input.Originate p) tt
+    does_moves (event.Withdraw u p) = given_kept u (input.Withdraw p) tt
+    does_moves (event.Prefer u v value) = given_kept u (input.Prefer v value) tt
+    does_moves (event.Deliver v u) = delivered_kept v u (link v u past) (channel v u past) refl refl
+    does_moves (event.Fail a b) = fails_kept a b (link a b past) refl
+    does_moves (event.Restore a b) = restores_kept a b (link a b past) refl
+    does_moves (event.Notice u v) =
         (elim (is_carried (link u v past) (held_with u v past)) as (λ t. is_carried (link u v past) (held_with u v past) ≡ t → Leaves P past (if t then Idle reason.StillUp else given rules net past u (input.Notice v))) [
           | true ↦ λ q. before
           | false ↦ λ q. given_kept u (input.Notice v) (not_carried (link u v past) (held_with u v past) q)
         ]) refl
-    after_moves (event.OpenSession u v) = opened_kept u v (held_with u v past) (link u v past) refl
-    after_moves (event.Snap u) = given_kept u input.Snap tt
+    does_moves (event.OpenSession u v) = opened_kept u v (held_with u v past) (link u v past) refl
+    does_moves (event.Snap u) = given_kept u input.Snap tt
+    does_moves (event.Crash u) = quiet (fact.Crash u) (Crashes u)
+    does_moves (event.Restart u) =
+        elim (crashed u past) as (λ t. Leaves P past (if t then Goes (fact.Restart u ∷ past) else Idle reason.NotCrashed)) [ true ↦ quiet (fact.Restart u) (Restarts u) | false ↦ before ]
+
+    -- what the moves of nodes keep, and a change of a link or a crash here, holds after each event
+    pub after_moves : (e : Event) → P (after rules net past e)
+    unfolding after step
+    after_moves e = elim (is_stopped past (actor e)) as (λ t. Leaves P past (if t then Idle reason.Crashed else does rules net past e)) [ true ↦ before | false ↦ does_moves e ]
 
 -- ---- all moves
 
@@ -332,7 +347,7 @@ module _ (rules : Rules) (net : Net) (P : Chronicle → Type 0) (kept : Kept rul
   -- what each move keeps, each event keeps
   pub after_kept : (past : Chronicle) → P past → (e : Event) → P (after rules net past e)
   after_kept past before e =
-      after_moves rules net P (by_nodes rules net P kept) past before (λ a b s is. kept.breaks past a b s before is) (λ a b s is. kept.mends past a b s before is) e
+      after_moves rules net P (by_nodes rules net P kept) past before (λ a b s is. kept.breaks past a b s before is) (λ a b s is. kept.mends past a b s before is) (λ f is. kept.quiet past f before is) e
 
   -- from one chronicle on
   kept_on : (past : Chronicle) (events : List Event) → P past → P (fold (after rules net) past events)

@@ -9,9 +9,9 @@ use Rattle.trigger_log.specs.Going.{spread, going_by}
 use Rattle.chronicle.specs.Recordings.{recording}
 use Rattle.chronicle.specs.Steps.{write, open_session, take_cut, take_item}
 use Rattle.chronicle.specs.Giving.{give}
-use Rattle.chronicle.specs.Run.{step, after, run}
+use Rattle.chronicle.specs.Run.{does, step, after, run}
 use Rattle.chronicle.specs.Deliveries.{ways, next_delivery}
 
 unfoldable pub all : ℕ
-unfolding ascending neighbours relation file_preference places beyond choices best offered_route offered changed news outbox sent_by sent_of spread going_by recording write open_session take_cut take_item give step after run ways next_delivery
+unfolding ascending neighbours relation file_preference places beyond choices best offered_route offered changed news outbox sent_by sent_of spread going_by recording write open_session take_cut take_item give does step after run ways next_delivery
 all = 0

@@ -1,5 +1,5 @@
 -- Which delivery is the next one.
-use Rattle.std.specs.Prelude.{ℕ, Bool, false, Option, List, [], ◌∷◌, map, flat_map, find}
+use Rattle.std.specs.Prelude.{ℕ, Bool, false, not, ◌&&◌, Option, List, [], ◌∷◌, map, flat_map, find}
 use Rattle.topology.specs.declared.links.LinkState.{LinkState}
 use Rattle.topology.specs.declared.links.LinkState.TheVariants.{Up, Down}
 use Rattle.topology.specs.Lists.{ascending}
@@ -10,6 +10,7 @@ use Rattle.chronicle.specs.declared.ways.Way.{Way}
 use Rattle.chronicle.specs.Facts.{Chronicle}
 use Rattle.chronicle.specs.Links.{link}
 use Rattle.chronicle.specs.Channels.{channel}
+use Rattle.chronicle.specs.Crashes.{crashed}
 use Rattle.chronicle.specs.Run.{held_with}
 
 -- the link is up in the session that the receiver holds, and something is on its way
@@ -20,7 +21,7 @@ may_arrive (Up s) (x ∷ rest) session = is_session session s
 
 -- a delivery from v to u would not be idle
 abbrev pub arrives : Chronicle → ℕ → ℕ → Bool
-arrives past v u = may_arrive (link v u past) (channel v u past) (held_with u v past)
+arrives past v u = not (crashed u past) && may_arrive (link v u past) (channel v u past) (held_with u v past)
 
 -- the ways over the links, by sender, then receiver
 unfoldable pub ways : Net → List Way

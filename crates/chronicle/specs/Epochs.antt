@@ -1,7 +1,7 @@
 -- Epochs and cuts.
 use Rattle.std.specs.Prelude.{ℕ, ◌==◌, ◌&&◌, Option, Some, None, List, [], ◌∷◌, if◌then◌else◌}
 use Rattle.trigger_log.specs.Entries.{Entry}
-use Rattle.chronicle.specs.Facts.{Fact, Chronicle, Log, Sent, Took, Fail, Restore, Raise}
+use Rattle.chronicle.specs.Facts.{Fact, Chronicle, Log, Sent, Took, Fail, Restore, Raise, Crash, Restart}
 use Rattle.chronicle.specs.Logs.{log_of}
 
 abbrev pub epoch_by : ℕ → Fact → ℕ → ℕ
@@ -11,6 +11,8 @@ epoch_by u (Sent from to session item queued) before = before
 epoch_by u (Took from to session item) before = before
 epoch_by u (Fail c d) before = before
 epoch_by u (Restore c d) before = before
+epoch_by u (Crash node) before = before
+epoch_by u (Restart node) before = before
 
 -- the epoch of u: that to which it rose last, 0 where it never rose
 abbrev pub epoch : ℕ → Chronicle → ℕ
@@ -24,6 +26,8 @@ raised_by u (Sent from to session item queued) before = before
 raised_by u (Took from to session item) before = before
 raised_by u (Fail c d) before = before
 raised_by u (Restore c d) before = before
+raised_by u (Crash node) before = before
+raised_by u (Restart node) before = before
 
 -- the epochs to which u rose, the newest first
 abbrev pub raised : ℕ → Chronicle → List ℕ
@@ -37,6 +41,8 @@ cut_by u e (Sent from to session item queued) log before = before
 cut_by u e (Took from to session item) log before = before
 cut_by u e (Fail c d) log before = before
 cut_by u e (Restore c d) log before = before
+cut_by u e (Crash node) log before = before
+cut_by u e (Restart node) log before = before
 
 -- the cut of e: the entries that u had when its epoch rose to e, where it did
 abbrev pub cut : ℕ → ℕ → Chronicle → Option (List Entry)

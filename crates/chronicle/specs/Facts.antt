@@ -5,7 +5,7 @@ use Rattle.trigger_log.specs.Going.{Item}
 
 -- a node entered something into its log; a node sent an item in a session, and it was queued or
 -- lost; a node took an item that another had sent in a session; the link of two nodes failed, or was
--- restored; a node raised its epoch
+-- restored; a node raised its epoch; it crashed, or came back
 pub data Fact : Type 0 where
   Log : (node : ℕ) → (entry : Entry) → Fact
   Sent : (from to session : ℕ) → (item : Item) → (queued : Bool) → Fact
@@ -13,6 +13,8 @@ pub data Fact : Type 0 where
   Fail : (a b : ℕ) → Fact
   Restore : (a b : ℕ) → Fact
   Raise : (node epoch : ℕ) → Fact
+  Crash : (node : ℕ) → Fact
+  Restart : (node : ℕ) → Fact
 
 abbrev pub Chronicle : Type 0
 Chronicle = List Fact

@@ -5,6 +5,7 @@ pub mod Channels
 pub mod Messages
 pub mod Epochs
 pub mod Recordings
+pub mod Crashes
 pub mod Inputs
 pub mod Steps
 pub mod Giving

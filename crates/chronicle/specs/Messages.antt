@@ -1,7 +1,7 @@
 -- What a node sent and took in a session.
 use Rattle.std.specs.Prelude.{ℕ, Bool, false, ◌==◌, ◌&&◌, ◌||◌, nat_le, Option, Some, None, List, [], ◌∷◌, ◌++◌, if◌then◌else◌}
 use Rattle.trigger_log.specs.Going.{Item, News, Marker, Hello, mark_of}
-use Rattle.chronicle.specs.Facts.{Fact, Chronicle, Log, Sent, Took, Fail, Restore, Raise}
+use Rattle.chronicle.specs.Facts.{Fact, Chronicle, Log, Sent, Took, Fail, Restore, Raise, Crash, Restart}
 
 -- it goes from a to b in session s
 abbrev pub goes : ℕ → ℕ → ℕ → ℕ → ℕ → ℕ → Bool
@@ -15,6 +15,8 @@ sent_by a b s (Took from to session item) before = before
 sent_by a b s (Fail c d) before = before
 sent_by a b s (Restore c d) before = before
 sent_by a b s (Raise node e) before = before
+sent_by a b s (Crash node) before = before
+sent_by a b s (Restart node) before = before
 
 -- all items that a sent to b in session s, lost ones too, the oldest first
 abbrev pub sent : ℕ → ℕ → ℕ → Chronicle → List Item
@@ -29,6 +31,8 @@ took_by a b s (Sent from to session item queued) before = before
 took_by a b s (Fail c d) before = before
 took_by a b s (Restore c d) before = before
 took_by a b s (Raise node e) before = before
+took_by a b s (Crash node) before = before
+took_by a b s (Restart node) before = before
 
 -- all items that b took of a in session s, the oldest first
 abbrev pub took : ℕ → ℕ → ℕ → Chronicle → List Item

@@ -1,6 +1,6 @@
 -- The run of a list of events.
 use Rattle.std.specs.Prelude.{ℕ, Bool, false, Option, Some, None, List, [], ◌∷◌, fold, if◌then◌else◌}
-use Rattle.topology.specs.declared.status.Reason.TheVariants.{LinkDown, EmptyChannel, AlreadyDown, AlreadyUp, StillUp, AlreadyOpen}
+use Rattle.topology.specs.declared.status.Reason.TheVariants.{Crashed, NotCrashed, LinkDown, EmptyChannel, AlreadyDown, AlreadyUp, StillUp, AlreadyOpen}
 use Rattle.topology.specs.declared.links.LinkState.{LinkState}
 use Rattle.topology.specs.declared.links.LinkState.TheVariants.{Up, Down}
 use Rattle.topology.specs.Net.{Net}
@@ -10,12 +10,13 @@ use Rattle.path_vector.specs.History.{held}
 use Rattle.trigger_log.specs.Entries.{reads}
 use Rattle.trigger_log.specs.Going.{Item}
 use Rattle.chronicle.specs.declared.events.Event.{Event}
-use Rattle.chronicle.specs.declared.events.Event.TheVariants.{Originate, Withdraw, Prefer, Deliver, Fail, Restore, Notice, OpenSession, Snap}
+use Rattle.chronicle.specs.declared.events.Event.TheVariants.{Originate, Withdraw, Prefer, Deliver, Fail, Restore, Notice, OpenSession, Snap, Crash, Restart}
 use Rattle.chronicle.specs.Facts.{Chronicle}
 use Rattle.chronicle.specs.Facts as fact
 use Rattle.chronicle.specs.Logs.{log_of}
 use Rattle.chronicle.specs.Links.{link}
 use Rattle.chronicle.specs.Channels.{channel}
+use Rattle.chronicle.specs.Crashes.{crashed}
 use Rattle.chronicle.specs.Inputs.{Input}
 use Rattle.chronicle.specs.Inputs as input
 use Rattle.chronicle.specs.Steps.{Step, Idle, Goes, Carried}
@@ -62,18 +63,43 @@ abbrev pub restores : Chronicle → ℕ → ℕ → LinkState → Step
 restores past a b (Up s) = Idle AlreadyUp
 restores past a b (Down s) = Goes (fact.Restore a b ∷ past)
 
--- what an event does; its reasons are tried in their order
-unfoldable pub step : Rules → Net → Chronicle → Event → Step
-step rules net past (Originate u p) = given rules net past u (input.Originate p)
-step rules net past (Withdraw u p) = given rules net past u (input.Withdraw p)
-step rules net past (Prefer u v value) = given rules net past u (input.Prefer v value)
-step rules net past (Deliver v u) = delivered (given rules net past u) v (link v u past) (channel v u past)
-step rules net past (Fail a b) = fails past a b (link a b past)
-step rules net past (Restore a b) = restores past a b (link a b past)
-step rules net past (Notice u v) =
+-- the node that has to run for the event, if there is one
+abbrev pub actor : Event → Option ℕ
+actor (Originate u p) = Some u
+actor (Withdraw u p) = Some u
+actor (Prefer u v value) = Some u
+actor (Deliver v u) = Some u
+actor (Fail a b) = None
+actor (Restore a b) = None
+actor (Notice u v) = Some u
+actor (OpenSession u v) = Some u
+actor (Snap u) = Some u
+actor (Crash u) = Some u
+actor (Restart u) = None
+
+-- there is one, and it is crashed
+abbrev pub is_stopped : Chronicle → Option ℕ → Bool
+is_stopped past None = false
+is_stopped past (Some u) = crashed u past
+
+-- what an event does where its node runs; the reasons are tried in their order
+unfoldable pub does : Rules → Net → Chronicle → Event → Step
+does rules net past (Originate u p) = given rules net past u (input.Originate p)
+does rules net past (Withdraw u p) = given rules net past u (input.Withdraw p)
+does rules net past (Prefer u v value) = given rules net past u (input.Prefer v value)
+does rules net past (Deliver v u) = delivered (given rules net past u) v (link v u past) (channel v u past)
+does rules net past (Fail a b) = fails past a b (link a b past)
+does rules net past (Restore a b) = restores past a b (link a b past)
+does rules net past (Notice u v) =
     if is_carried (link u v past) (held_with u v past) then Idle StillUp else given rules net past u (input.Notice v)
-step rules net past (OpenSession u v) = opened_by_link (given rules net past u) v (held_with u v past) (link u v past)
-step rules net past (Snap u) = given rules net past u input.Snap
+does rules net past (OpenSession u v) = opened_by_link (given rules net past u) v (held_with u v past) (link u v past)
+does rules net past (Snap u) = given rules net past u input.Snap
+does rules net past (Crash u) = Goes (fact.Crash u ∷ past)
+does rules net past (Restart u) = if crashed u past then Goes (fact.Restart u ∷ past) else Idle NotCrashed
+
+-- what an event does: nothing where its node is crashed
+unfoldable pub step : Rules → Net → Chronicle → Event → Step
+step rules net past event = if is_stopped past (actor event) then Idle Crashed else does rules net past event
 
 -- the chronicle that a step leaves: an idle event adds nothing
 abbrev pub chronicle_of : Chronicle → Step → Chronicle

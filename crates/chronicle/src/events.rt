@@ -49,4 +49,12 @@ pub enum Event {
     Snap {
         node: NodeId,
     },
+    /// The node stops. Its log, sessions, cuts and reports outlive it.
+    Crash {
+        node: NodeId,
+    },
+    /// The node runs again.
+    Restart {
+        node: NodeId,
+    },
 }

@@ -10,14 +10,14 @@ use Rattle.path_vector.specs.Rules.{Rules}
 use Rattle.trigger_log.specs.Entries.{Entry}
 use Rattle.trigger_log.specs.Going.{Going, News, going_by}
 use Rattle.chronicle.specs.declared.events.Event.{Event}
-use Rattle.chronicle.specs.Facts.{Chronicle, Log, Sent, Took, Fail, Restore, Raise, happen}
+use Rattle.chronicle.specs.Facts.{Fact, Chronicle, Log, Sent, Took, Fail, Restore, Raise, happen}
 use Rattle.chronicle.specs.Logs.{log_of}
 use Rattle.chronicle.specs.Links.{link}
 use Rattle.chronicle.specs.Epochs.{epoch}
 use Rattle.chronicle.specs.Steps.{Carried, sends, write, open_session, markers, take_cut, heard}
 use Rattle.chronicle.specs.Run.{run}
 use Rattle.chronicle.proofs.Blocks.{opening, greeting}
-use Rattle.chronicle.proofs.Moves.{Kept, run_kept}
+use Rattle.chronicle.proofs.Moves.{IsQuiet, Crashes, Restarts, Kept, run_kept}
 use Rattle.cut_laws.specs.Counted.{failures, restorings, state_after}
 use Rattle.cut_laws.proofs.Failing.{one_state}
 
@@ -88,6 +88,11 @@ module _ (rules : Rules) (net : Net) (a b : ℕ) where
         | false ↦ λ ends. before
       ]) refl
 
+  -- a node that crashes, or comes back
+  quiet_balance : (past : Chronicle) {f : Fact} → IsQuiet f → Balance past → Balance (f ∷ past)
+  quiet_balance past (Crashes u) before = before
+  quiet_balance past (Restarts u) before = before
+
   -- each move keeps it
   balance_kept : Kept rules net Balance
   balance_kept = record {
@@ -99,6 +104,7 @@ module _ (rules : Rules) (net : Net) (a b : ℕ) where
     opens = λ past u v s carried before are up none higher. open_balance u v s carried past before;
     breaks = λ past c d s before up. fail_balance past c d s before up;
     mends = λ past c d s before down. restore_balance past c d s before down;
+    quiet = λ past f before is. quiet_balance past is before;
   }
 
 -- the two counts tell the state of a link, in every run

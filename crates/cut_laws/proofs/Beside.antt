@@ -5,7 +5,7 @@ use Rattle.topology.specs.Net.{Net}
 use Rattle.path_vector.specs.Rules.{Rules}
 use Rattle.trigger_log.specs.Entries.{Entry}
 use Rattle.trigger_log.specs.Going.{Item, Going, News, going_by}
-use Rattle.chronicle.specs.Facts.{Fact, Chronicle, Log, Sent, Took, Fail, Restore, Raise, happen}
+use Rattle.chronicle.specs.Facts.{Fact, Chronicle, Log, Sent, Took, Fail, Restore, Raise, Crash, Restart, happen}
 use Rattle.chronicle.specs.Logs.{log_of}
 use Rattle.chronicle.specs.Epochs.{epoch, raised, cut}
 use Rattle.chronicle.specs.Messages.{sent}
@@ -62,6 +62,22 @@ same_by_fact u (Fail a b) past q = record {
   same_took = λ w s. refl;
 }
 same_by_fact u (Restore a b) past q = record {
+  same_log = refl;
+  same_epoch = refl;
+  same_raised = refl;
+  same_cut = λ e. refl;
+  same_sent = λ w s. refl;
+  same_took = λ w s. refl;
+}
+same_by_fact u (Crash node) past q = record {
+  same_log = refl;
+  same_epoch = refl;
+  same_raised = refl;
+  same_cut = λ e. refl;
+  same_sent = λ w s. refl;
+  same_took = λ w s. refl;
+}
+same_by_fact u (Restart node) past q = record {
   same_log = refl;
   same_epoch = refl;
   same_raised = refl;

@@ -6,7 +6,7 @@ use Rattle.topology.specs.declared.links.LinkState.TheVariants.{Up}
 use Rattle.topology.specs.LinkStates.{are_ends, carries}
 use Rattle.trigger_log.specs.Entries.{Entry}
 use Rattle.trigger_log.specs.Going.{Item, Going, items_in}
-use Rattle.chronicle.specs.Facts.{Chronicle, Log, Sent, Took, Fail, Restore, Raise, happen}
+use Rattle.chronicle.specs.Facts.{Chronicle, Log, Sent, Took, Fail, Restore, Raise, Crash, Restart, happen}
 use Rattle.chronicle.specs.Links.{link}
 use Rattle.chronicle.specs.Messages.{goes, sent, took}
 use Rattle.chronicle.specs.Steps.{Carried, sends}
@@ -138,3 +138,5 @@ not_queued v w s (Took from to session item ∷ past) e = not_queued v w s past 
 not_queued v w s (Fail a b ∷ past) e = not_queued v w s past e
 not_queued v w s (Restore a b ∷ past) e = not_queued v w s past e
 not_queued v w s (Raise node d ∷ past) e = not_queued v w s past e
+not_queued v w s (Crash node ∷ past) e = not_queued v w s past e
+not_queued v w s (Restart node ∷ past) e = not_queued v w s past e

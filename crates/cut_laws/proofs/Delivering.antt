@@ -1,12 +1,13 @@
 -- The next delivery: the first way over a link whose delivery is not idle.
-use Rattle.std.proofs.Common.{ℕ, suc, Bool, true, false, not, ◌==◌, ◌<◌, nat_lt, Option, Some, None, List, [], ◌∷◌, ◌≡◌, refl, sym, ◌∙◌, arith, length}
+use Rattle.std.proofs.Common.{ℕ, suc, Bool, true, false, not, ◌==◌, ◌&&◌, ◌<◌, nat_lt, Option, Some, None, List, [], ◌∷◌, ◌≡◌, refl, sym, ◌∙◌, arith, length}
 use Rattle.std.specs.Prelude.{if◌then◌else◌}
 use Rattle.std.proofs.lemmas.Bool.Decides.{nat_tests}
-use Rattle.topology.specs.declared.status.Reason.TheVariants.{WrongSession}
+use Rattle.topology.specs.declared.status.Reason.TheVariants.{Crashed, WrongSession}
 use Rattle.topology.specs.declared.links.LinkState.{LinkState}
 use Rattle.topology.specs.declared.links.LinkState.TheVariants.{Up, Down}
 use Rattle.topology.specs.Lists.{has, ascending}
 use Rattle.topology.specs.Net.{Net, IsValid, linked, neighbours}
+use Rattle.topology.proofs.Tests.{and_left, and_right, not_true}
 use Rattle.topology.proofs.Ascending.{rises-ascending, has-ascending}
 use Rattle.topology.proofs.Neighbours.{linked_nodes, neighbours_linked, rises-neighbours}
 use Rattle.path_vector.specs.Rules.{Rules}
@@ -18,11 +19,12 @@ use Rattle.chronicle.specs.declared.ways.Way.{Way}
 use Rattle.chronicle.specs.Facts.{Chronicle}
 use Rattle.chronicle.specs.Links.{link}
 use Rattle.chronicle.specs.Channels.{channel}
+use Rattle.chronicle.specs.Crashes.{crashed}
 use Rattle.chronicle.specs.Logs.{log_of}
 use Rattle.chronicle.specs.Inputs.{arrival}
 use Rattle.chronicle.specs.Steps.{Idle, take_item}
 use Rattle.chronicle.specs.Giving.{unless, out_of_turn, opens, give}
-use Rattle.chronicle.specs.Run.{held_with, carried_by, given, delivered, step}
+use Rattle.chronicle.specs.Run.{held_with, carried_by, given, delivered, does, step}
 use Rattle.chronicle.specs.Deliveries.{may_arrive, arrives, ways, next_delivery}
 use Rattle.cut_laws.specs.Joined.{Joined, FrontFits}
 use Rattle.cut_laws.proofs.Marked.{session_is}
@@ -69,13 +71,20 @@ module _ (rules : Rules) (net : Net) (past : Chronicle) (v u : ℕ) where
 
   -- what arrives does something
   pub delivery_goes : FrontFits net past v u → arrives past v u ≡ true → Did (step rules net past (Deliver v u))
-  unfolding step
-  delivery_goes fits e = arrival_goes fits (link v u past) (channel v u past) refl refl e
+  unfolding step does
+  delivery_goes fits e =
+      let may = may_arrive (link v u past) (channel v u past) (held_with u v past) in
+      rw (not_true (crashed u past) (and_left (not (crashed u past)) may e)) (arrival_goes fits (link v u past) (channel v u past) refl refl (and_right (not (crashed u past)) may e))
 
   -- and nothing else does
   pub delivery_rests : arrives past v u ≡ false → Rests (step rules net past (Deliver v u))
-  unfolding step
-  delivery_rests e = no_arrival_rests (link v u past) (channel v u past) e
+  unfolding step does
+  delivery_rests e =
+      elim (crashed u past) as (λ t. (not t && may_arrive (link v u past) (channel v u past) (held_with u v past)) ≡ false
+      → Rests (if t then Idle Crashed else delivered (given rules net past u) v (link v u past) (channel v u past))) [
+        | true ↦ λ _. tt
+        | false ↦ λ off. no_arrival_rests (link v u past) (channel v u past) off
+      ] e
 
 module _ (net : Net) (past : Chronicle) (valid : IsValid net) where
   -- a delivery over this way would not be idle
@@ -131,8 +140,8 @@ opens_goes : (rules : Rules) (net : Net) (past : Chronicle) (u v s : ℕ) (sessi
 opens_goes rules net past u v s None none higher = let test : nat_lt (last (reads (log_of u past)) v) s ≡ true = grind (arith, nat_tests, higher) in rw test tt
 opens_goes rules net past u v s (Some t) none higher = absurd (cc none)
 
--- so is the one that the link carries, in a run, where none is held
-pub opening_goes : (rules : Rules) (net : Net) (past : Chronicle) (u v s : ℕ) → Joined past u v → held_with u v past ≡ None → link u v past ≡ Up s → Did (step rules net past (OpenSession u v))
-unfolding step give
-opening_goes rules net past u v s joined none up =
-    rw (none, up) (opens_goes rules net past u v s (held_with u v past) none (joined.below s up none))
+-- so is the one that the link carries, in a run, where none is held and the node is not crashed
+pub opening_goes : (rules : Rules) (net : Net) (past : Chronicle) (u v s : ℕ) → Joined past u v → crashed u past ≡ false → held_with u v past ≡ None → link u v past ≡ Up s → Did (step rules net past (OpenSession u v))
+unfolding step does give
+opening_goes rules net past u v s joined runs none up =
+    rw (runs, none, up) (opens_goes rules net past u v s (held_with u v past) none (joined.below s up none))

@@ -10,12 +10,13 @@ use Rattle.path_vector.specs.Rules.{Rules}
 use Rattle.path_vector.specs.History.{last}
 use Rattle.trigger_log.specs.Entries.{reads}
 use Rattle.trigger_log.specs.Going.{Item}
-use Rattle.chronicle.specs.Facts.{Chronicle, Fail, Restore}
+use Rattle.chronicle.specs.Facts.{Fact, Chronicle, Fail, Restore}
 use Rattle.chronicle.specs.Logs.{log_of}
 use Rattle.chronicle.specs.Links.{link}
 use Rattle.chronicle.specs.Channels.{channel}
 use Rattle.chronicle.specs.Messages.{sent, took}
 use Rattle.chronicle.proofs.Ends.{both_ends}
+use Rattle.chronicle.proofs.Moves.{IsQuiet, Crashes, Restarts}
 use Rattle.cut_laws.proofs.Updates.{begins_nothing}
 use Rattle.cut_laws.proofs.Sound.{Linked, Logged, Sound}
 
@@ -158,3 +159,22 @@ module _ (rules : Rules) (net : Net) (c d : ℕ) (past : Chronicle) (sound : Sou
   -- a link that is restored keeps what holds
   pub restore_sound : Sound rules net (Restore c d ∷ past)
   restore_sound = record { links = restore_links; logs = restore_logs }
+
+-- ---- a node that crashes, or comes back
+
+-- it keeps what holds
+pub quiet_sound : (rules : Rules) (net : Net) (past : Chronicle) {f : Fact} → IsQuiet f → Sound rules net past → Sound rules net (f ∷ past)
+quiet_sound rules net past (Crashes u) sound =
+    let links = sound.links in
+    let logs = sound.logs in
+    record {
+      links = record { said = links.said; strangers = links.strangers; fresh = links.fresh; fifo = links.fifo; queue = links.queue; down = links.down };
+      logs = record { fits = logs.fits; inherits = logs.inherits; heard = logs.heard; bounded = logs.bounded; below = logs.below };
+    }
+quiet_sound rules net past (Restarts u) sound =
+    let links = sound.links in
+    let logs = sound.logs in
+    record {
+      links = record { said = links.said; strangers = links.strangers; fresh = links.fresh; fifo = links.fifo; queue = links.queue; down = links.down };
+      logs = record { fits = logs.fits; inherits = logs.inherits; heard = logs.heard; bounded = logs.bounded; below = logs.below };
+    }

@@ -7,13 +7,13 @@ use Rattle.topology.specs.LinkStates.{are_ends, failed, restored, number_of}
 use Rattle.topology.specs.Net.{Net}
 use Rattle.path_vector.specs.Rules.{Rules}
 use Rattle.chronicle.specs.declared.events.Event.{Event}
-use Rattle.chronicle.specs.Facts.{Chronicle, Took}
+use Rattle.chronicle.specs.Facts.{Fact, Chronicle, Took, Crash, Restart}
 use Rattle.chronicle.specs.Links.{link}
 use Rattle.chronicle.specs.Run.{after, run}
 use Rattle.trigger_log.specs.Going.{News}
 use Rattle.chronicle.specs.Steps.{write, open_session, take_cut, heard}
 use Rattle.chronicle.proofs.Blocks.{link_write, link_open, link_take_cut}
-use Rattle.chronicle.proofs.Moves.{ByNodes, after_moves}
+use Rattle.chronicle.proofs.Moves.{ByNodes, IsQuiet, Crashes, Restarts, after_moves}
 
 -- a failure adds no session
 failed_few : (t : Bool) (l : LinkState) → number_of (if t then failed l else l) ≤ suc (number_of l)
@@ -51,11 +51,16 @@ module _ (rules : Rules) (net : Net) (a b : ℕ) where
       more : (now next : Chronicle) → link a b next ≡ link a b now → Few past now → Few past next
       more now next e few = let number = ap number_of e in omega (arith, number, few)
 
+  -- a node that crashes, or comes back, changes no link
+  quiet_few : (past : Chronicle) {f : Fact} → IsQuiet f → Few past (f ∷ past)
+  quiet_few past (Crashes u) = same past (Crash u ∷ past) refl
+  quiet_few past (Restarts u) = same past (Restart u ∷ past) refl
+
   -- an event adds one session at most
   after_few : (past : Chronicle) (event : Event) → Few past (after rules net past event)
   after_few past event =
       after_moves rules net (Few past) (nodes_few past) past (same past past refl)
-      (λ c d s up. failed_few (are_ends a b c d) (link a b past)) (λ c d s down. restored_few (are_ends a b c d) (link a b past)) event
+      (λ c d s up. failed_few (are_ends a b c d) (link a b past)) (λ c d s down. restored_few (are_ends a b c d) (link a b past)) (λ f is. quiet_few past is) event
 
   -- so a list of events adds no more than it is long
   fold_few : (past : Chronicle) (events : List Event) → number_of (link a b (fold (after rules net) past events)) ≤ number_of (link a b past) + length events

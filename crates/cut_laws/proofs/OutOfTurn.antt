@@ -6,7 +6,7 @@ use Rattle.trigger_log.specs.Going.{News}
 use Rattle.chronicle.specs.declared.events.Event.TheVariants.{Deliver}
 use Rattle.chronicle.specs.Facts.{Chronicle, Sent}
 use Rattle.chronicle.specs.Giving.{give}
-use Rattle.chronicle.specs.Run.{step}
+use Rattle.chronicle.specs.Run.{does, step}
 use Rattle.chronicle.specs.Deliveries.{arrives}
 use Rattle.cut_laws.specs.Delivered.{Rests}
 
@@ -20,5 +20,5 @@ would_arrive = refl
 
 -- and its delivery does nothing
 does_nothing : (rules : Rules) (net : Net) → Rests (step rules net strange (Deliver 1 2))
-unfolding step give
+unfolding step does give
 does_nothing rules net = tt

@@ -18,12 +18,12 @@ use Rattle.cut_laws.proofs.Sound.{Sound}
 use Rattle.cut_laws.proofs.Failing.{one_state, next_is_higher}
 use Rattle.trigger_log.specs.Entries.{Entry}
 use Rattle.trigger_log.specs.Going.{Item, News, going_by}
-use Rattle.chronicle.specs.Facts.{Chronicle, Log, Took, Restore, Raise}
+use Rattle.chronicle.specs.Facts.{Fact, Chronicle, Log, Took, Restore, Raise}
 use Rattle.chronicle.specs.Epochs.{epoch}
 use Rattle.chronicle.specs.Steps.{Carried, write, open_session, markers, take_cut, heard}
 use Rattle.chronicle.specs.Run.{run}
 use Rattle.chronicle.proofs.Blocks.{AreCarried, opening, greeting}
-use Rattle.chronicle.proofs.Moves.{Kept, run_kept}
+use Rattle.chronicle.proofs.Moves.{IsQuiet, Crashes, Restarts, Kept, run_kept}
 use Rattle.cut_laws.proofs.Entering.{one_entry, no_entry}
 use Rattle.cut_laws.proofs.Counting.{Counted, entered_counted, taken_counted, fail_counted, not_queued}
 use Rattle.cut_laws.proofs.Running.{start_sound, sound_kept}
@@ -77,6 +77,11 @@ module _ (rules : Rules) (net : Net) (c d m : ℕ) (past : Chronicle) (sound : S
   restore_counted : Counted (Restore c d ∷ past)
   restore_counted = record { all = restore_all; counts = restore_counts }
 
+-- a node that crashes, or comes back, keeps the counts
+quiet_counted : (past : Chronicle) {f : Fact} → IsQuiet f → Counted past → Counted (f ∷ past)
+quiet_counted past (Crashes u) counted = record { all = counted.all; counts = counted.counts }
+quiet_counted past (Restarts u) counted = record { all = counted.all; counts = counted.counts }
+
 -- ---- each move
 
 module _ (rules : Rules) (net : Net) where
@@ -126,6 +131,7 @@ module _ (rules : Rules) (net : Net) where
         opens = λ past u v s carried before are up none higher. record { sound = kept.opens past u v s carried before.sound are up none higher; counted = open_counted u v s carried past are before.counted };
         breaks = λ past a b s before up. record { sound = kept.breaks past a b s before.sound up; counted = fail_counted a b past before.counted };
         mends = λ past a b s before down. record { sound = kept.mends past a b s before.sound down; counted = restore_counted rules net a b s past before.sound down before.counted };
+        quiet = λ past f before is. record { sound = kept.quiet past f before.sound is; counted = quiet_counted past is before.counted };
       }
 
   -- so they hold of every run

@@ -29,7 +29,7 @@ use Rattle.cut_laws.proofs.Writing.{local_sound}
 use Rattle.cut_laws.proofs.Opening.{open_sound}
 use Rattle.cut_laws.proofs.Taking.{take_news, take_mark}
 use Rattle.cut_laws.proofs.Cutting.{cut_sound}
-use Rattle.cut_laws.proofs.Failing.{fail_sound, restore_sound}
+use Rattle.cut_laws.proofs.Failing.{fail_sound, restore_sound, quiet_sound}
 
 -- at the start all holds
 pub start_sound : (rules : Rules) (net : Net) → Sound rules net []
@@ -126,6 +126,7 @@ sound_kept rules net valid = record {
   opens = λ past u v s carried sound are up none higher. open_sound rules net carried u v s past are sound up none higher;
   breaks = λ past a b s sound up. fail_sound rules net a b past sound;
   mends = λ past a b s sound down. restore_sound rules net a b past sound;
+  quiet = λ past f sound is. quiet_sound rules net past is sound;
 }
 
 -- so it holds of every run

@@ -7,13 +7,13 @@ use Rattle.path_vector.specs.Rules.{Rules}
 use Rattle.trigger_log.specs.Entries.{Entry}
 use Rattle.trigger_log.specs.Going.{News}
 use Rattle.chronicle.specs.declared.events.Event.{Event}
-use Rattle.chronicle.specs.Facts.{Chronicle, Took}
+use Rattle.chronicle.specs.Facts.{Fact, Chronicle, Took}
 use Rattle.chronicle.specs.Logs.{log_of}
 use Rattle.chronicle.specs.Epochs.{epoch, cut}
 use Rattle.chronicle.specs.Steps.{Carried, heard, take_cut}
 use Rattle.chronicle.specs.Run.{after, run}
 use Rattle.chronicle.proofs.Blocks.{cut_write, cut_open, cut_take_cut}
-use Rattle.chronicle.proofs.Moves.{Kept, after_kept}
+use Rattle.chronicle.proofs.Moves.{IsQuiet, Crashes, Restarts, Kept, after_kept}
 use Rattle.cut_laws.proofs.Keeping.{Whole, whole_kept, run_whole}
 
 -- all that holds, and this cut of epoch d at w
@@ -35,6 +35,11 @@ module _ (rules : Rules) (net : Net) (valid : IsValid net) (w d : ℕ) (c : List
         | false ↦ λ q. refl
       ]) refl ∙ (same ∙ before.is))
 
+  -- a node that crashes, or comes back, takes no cut
+  quiet_cut : (past : Chronicle) {f : Fact} → IsQuiet f → cut w d (f ∷ past) ≡ cut w d past
+  quiet_cut past (Crashes u) = refl
+  quiet_cut past (Restarts u) = refl
+
   -- a cut stays by each move
   stays : Kept rules net (WithCut rules net w d c)
   stays =
@@ -54,6 +59,7 @@ module _ (rules : Rules) (net : Net) (valid : IsValid net) (w d : ℕ) (c : List
         opens = λ past u v s carried before are up none higher. record { all = kept.opens past u v s carried before.all are up none higher; is = cut_open carried u v s past w d ∙ before.is };
         breaks = λ past a b s before up. record { all = kept.breaks past a b s before.all up; is = before.is };
         mends = λ past a b s before down. record { all = kept.mends past a b s before.all down; is = before.is };
+        quiet = λ past f before quiet. record { all = kept.quiet past f before.all quiet; is = quiet_cut past quiet ∙ before.is };
       }
 
   -- so by each event of a run

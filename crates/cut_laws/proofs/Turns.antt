@@ -14,15 +14,17 @@ use Rattle.path_vector.specs.History.{last, owns}
 use Rattle.trigger_log.specs.Entries.{reads, local, inbox, is_session}
 use Rattle.trigger_log.specs.Going.{Item}
 use Rattle.chronicle.specs.declared.events.Event.{Event}
-use Rattle.chronicle.specs.declared.events.Event.TheVariants.{Originate, Withdraw, Prefer, Deliver, Fail, Restore, Notice, OpenSession, Snap}
+use Rattle.chronicle.specs.declared.events.Event.TheVariants.{Originate, Withdraw, Prefer, Deliver, Fail, Restore, Notice, OpenSession, Snap, Crash, Restart}
 use Rattle.chronicle.specs.Facts.{Chronicle}
+use Rattle.chronicle.specs.Facts as fact
 use Rattle.chronicle.specs.Logs.{log_of}
 use Rattle.chronicle.specs.Links.{link}
 use Rattle.chronicle.specs.Channels.{channel}
 use Rattle.chronicle.specs.Inputs.{arrival}
 use Rattle.chronicle.specs.Steps.{Step, Idle, Goes, write, take_item}
 use Rattle.chronicle.specs.Giving.{unless, out_of_turn, closes, notices, opens, give}
-use Rattle.chronicle.specs.Run.{held_with, carried_by, given, delivered, is_carried, opened_by_link, fails, restores, step, run}
+use Rattle.chronicle.specs.Crashes.{crashed}
+use Rattle.chronicle.specs.Run.{held_with, carried_by, given, delivered, is_carried, opened_by_link, fails, restores, actor, is_stopped, does, step, run}
 use Rattle.cut_laws.specs.Joined.{Joined, FrontFits}
 use Rattle.cut_laws.proofs.Marked.{session_is}
 use Rattle.cut_laws.proofs.Concluding.{joined, front_fits}
@@ -87,30 +89,37 @@ module _ (rules : Rules) (net : Net) (past : Chronicle) where
   restores_runs a b (Down s) = tt
 
   module _ (fits : (v u : ℕ) → FrontFits net past v u) (joins : (u v : ℕ) → Joined past u v) where
-    -- each event
-    step_runs : (event : Event) → Runs (step rules net past event)
-    unfolding step give
-    step_runs (Originate u p) =
+    -- each event whose node runs
+    does_runs : (event : Event) → Runs (does rules net past event)
+    unfolding does give
+    does_runs (Originate u p) =
         elim (owns (reads (log_of u past)) p) as (λ t. Runs (if t then Idle reason.AlreadyOrigin else Goes (write rules net (carried_by u past) u (local u (log_of u past) (One p) cause.Originate) past))) [
           | true ↦ refl
           | false ↦ tt
         ]
-    step_runs (Withdraw u p) =
+    does_runs (Withdraw u p) =
         elim (owns (reads (log_of u past)) p) as (λ t. Runs (if t then Goes (write rules net (carried_by u past) u (local u (log_of u past) (One p) cause.Withdraw) past) else Idle reason.NotOrigin)) [
           | true ↦ tt
           | false ↦ refl
         ]
-    step_runs (Prefer u v value) = tt
-    step_runs (Deliver v u) = delivered_runs v u (link v u past) (channel v u past) (fits v u) refl refl
-    step_runs (Fail a b) = fails_runs a b (link a b past)
-    step_runs (Restore a b) = restores_runs a b (link a b past)
-    step_runs (Notice u v) =
+    does_runs (Prefer u v value) = tt
+    does_runs (Deliver v u) = delivered_runs v u (link v u past) (channel v u past) (fits v u) refl refl
+    does_runs (Fail a b) = fails_runs a b (link a b past)
+    does_runs (Restore a b) = restores_runs a b (link a b past)
+    does_runs (Notice u v) =
         elim (is_carried (link u v past) (held_with u v past)) as (λ t. Runs (if t then Idle reason.StillUp else notices rules net (carried_by u past) u past v)) [
           | true ↦ refl
           | false ↦ notices_runs u v (held_with u v past)
         ]
-    step_runs (OpenSession u v) = opened_runs u v (held_with u v past) (link u v past) (joins u v) refl
-    step_runs (Snap u) = tt
+    does_runs (OpenSession u v) = opened_runs u v (held_with u v past) (link u v past) (joins u v) refl
+    does_runs (Snap u) = tt
+    does_runs (Crash u) = tt
+    does_runs (Restart u) = elim (crashed u past) as (λ t. Runs (if t then Goes (fact.Restart u ∷ past) else Idle reason.NotCrashed)) [ true ↦ tt | false ↦ refl ]
+
+    -- each event
+    step_runs : (event : Event) → Runs (step rules net past event)
+    unfolding step
+    step_runs event = elim (is_stopped past (actor event)) as (λ t. Runs (if t then Idle reason.Crashed else does rules net past event)) [ true ↦ refl | false ↦ does_runs event ]
 
 -- what is not idle for these reasons is not idle for one of them
 not_idle : (s : Step) (why : Reason) → is_stray why ≡ true → Runs s → s ≢ Idle why

@@ -4,7 +4,7 @@ use Rattle.topology.specs.Net.{Net}
 use Rattle.path_vector.specs.Rules.{Rules}
 use Rattle.trigger_log.specs.Entries.{reads}
 use Rattle.trigger_log.specs.Going.{Item, News, Marker, Hello}
-use Rattle.chronicle.specs.Facts.{Fact, Chronicle, Log, Sent, Took, Fail, Restore, Raise}
+use Rattle.chronicle.specs.Facts.{Fact, Chronicle, Log, Sent, Took, Fail, Restore, Raise, Crash, Restart}
 use Rattle.chronicle.specs.Logs.{log_of}
 use Rattle.chronicle.specs.Epochs.{epoch, raised, cut}
 use Rattle.chronicle.specs.Messages.{sent, took}
@@ -35,6 +35,8 @@ IsBeside u (Took from to session item) = (to == u) ≡ false
 IsBeside u (Raise node epoch) = (node == u) ≡ false
 IsBeside u (Fail a b) = Unit {0}
 IsBeside u (Restore a b) = Unit {0}
+IsBeside u (Crash node) = Unit {0}
+IsBeside u (Restart node) = Unit {0}
 
 -- all that is read of u alone is as it was: its log, its epochs and cuts, what it sent and what it took
 pub record SameNode (u : ℕ) (past now : Chronicle) : Type 0 where

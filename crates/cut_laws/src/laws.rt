@@ -15,6 +15,7 @@ ghost use Rattle.chronicle.specs.Steps.{Carried, Idle};
 ghost use Rattle.chronicle.specs.Giving.{give};
 ghost use Rattle.chronicle.specs.Links.{link};
 ghost use Rattle.chronicle.specs.Channels.{channel};
+ghost use Rattle.chronicle.specs.Crashes.{crashed};
 ghost use Rattle.trigger_log.specs.Entries.{Entry, reads};
 ghost use Rattle.trigger_log.specs.Going.{Item};
 ghost use Rattle.chronicle.specs.Logs.{log_of};
@@ -178,10 +179,10 @@ pub fn others_change_nothing_of_a_node()
     ensures beside { (past : Chronicle) (u : ℕ) (f : Fact) → IsBeside u f → SameNode u past (f ∷ past) }
 {}
 
-/// A session that the link carries is opened where none is held.
+/// A session that the link carries is opened where none is held, by a node that is not crashed.
 #[tactic(auto, using(crate::proofs::Delivering::opening_goes))]
 pub fn a_session_opens()
     ensures { (rules : Rules) (net : Net) (past : Chronicle) (u v s : ℕ) → Joined past u v →
-        held_with u v past ≡ None → link u v past ≡ Up s →
+        crashed u past ≡ false → held_with u v past ≡ None → link u v past ≡ Up s →
         Did (step rules net past (OpenSession u v)) }
 {}

@@ -1,7 +1,7 @@
 -- What a node hands out: what the facts that it adds show.
 use Rattle.std.specs.Prelude.{ℕ, suc, ◌≡◌, List, [], ◌∷◌, ◌++◌, map, length}
 use Rattle.trigger_log.specs.Going.{Going, going_of}
-use Rattle.chronicle.specs.Facts.{Fact, Chronicle, Log, Sent, Took, Fail, Restore, Raise}
+use Rattle.chronicle.specs.Facts.{Fact, Chronicle, Log, Sent, Took, Fail, Restore, Raise, Crash, Restart}
 use Rattle.chronicle.specs.Logs.{log_of}
 use Rattle.chronicle.specs.Steps.{Step, Idle, Goes}
 use Rattle.node_core.specs.declared.outputs.Output.{Output as Given}
@@ -21,7 +21,7 @@ output_of (given.Cut epoch) = Cut epoch
 output_of (given.Send out) = Send (going_of out)
 
 -- an entry shows its place, counted from 1; whether an item was queued or lost is not shown, nor that one
--- was taken, or what links do
+-- was taken, what links do, or whether the node is crashed
 abbrev pub output_by : Fact → Chronicle → List Output
 output_by (Log u entry) past = Logged (suc (length (log_of u past))) ∷ []
 output_by (Sent from to session item queued) past = Send (record { to = to; session = session; item = item }) ∷ []
@@ -29,6 +29,8 @@ output_by (Took from to session item) past = []
 output_by (Fail a b) past = []
 output_by (Restore a b) past = []
 output_by (Raise u e) past = Cut e ∷ []
+output_by (Crash u) past = []
+output_by (Restart u) past = []
 
 -- all that was handed out, the oldest first
 abbrev pub outputs : Chronicle → List Output

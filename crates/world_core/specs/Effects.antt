@@ -1,6 +1,6 @@
 -- What the facts of a run show to a user.
 use Rattle.std.specs.Prelude.{suc, ◌≡◌, List, [], ◌∷◌, ◌++◌, length, if◌then◌else◌}
-use Rattle.chronicle.specs.Facts.{Fact, Chronicle, Log, Sent, Took, Fail, Restore, Raise}
+use Rattle.chronicle.specs.Facts.{Fact, Chronicle, Log, Sent, Took, Fail, Restore, Raise, Crash, Restart}
 use Rattle.chronicle.specs.Logs.{log_of}
 use Rattle.chronicle.specs.Steps.{Step, Idle, Goes}
 use Rattle.world_core.specs.declared.outcomes.Effect.{Effect}
@@ -9,8 +9,8 @@ use Rattle.world_core.specs.declared.outcomes.Outcome.{Outcome}
 use Rattle.world_core.specs.declared.outcomes.Outcome.TheVariants as outcome
 
 -- an entry shows its place in the log, counted from 1; an item that is sent shows its way, and whether
--- it was queued or lost; an epoch that rose shows its cut; that an item was taken, or a link changed,
--- is the event itself, and not shown
+-- it was queued or lost; an epoch that rose shows its cut; that an item was taken, that a link changed,
+-- or that a node crashed or came back is the event itself, and not shown
 abbrev pub effect_by : Fact → Chronicle → List Effect
 effect_by (Log u entry) past = Logged u (suc (length (log_of u past))) ∷ []
 effect_by (Sent from to session item queued) past = if queued then Queued from to ∷ [] else Lost from to ∷ []
@@ -18,6 +18,8 @@ effect_by (Took from to session item) past = []
 effect_by (Fail a b) past = []
 effect_by (Restore a b) past = []
 effect_by (Raise u e) past = Cut u e ∷ []
+effect_by (Crash u) past = []
+effect_by (Restart u) past = []
 
 -- all effects of a run, the oldest first
 abbrev pub effects : Chronicle → List Effect

@@ -4,7 +4,7 @@ use Rattle.topology.specs.Lists.{has}
 use Rattle.topology.specs.Net.{Net, linked}
 use Rattle.node_core.specs.declared.limits.TheConstants.{MOST_PREFERENCE}
 use Rattle.chronicle.specs.declared.events.Event.{Event}
-use Rattle.chronicle.specs.declared.events.Event.TheVariants.{Originate, Withdraw, Prefer, Deliver, Fail, Restore, Notice, OpenSession, Snap}
+use Rattle.chronicle.specs.declared.events.Event.TheVariants.{Originate, Withdraw, Prefer, Deliver, Fail, Restore, Notice, OpenSession, Snap, Crash, Restart}
 
 -- the names of the event are in the network: its node and prefix, or the link of its two ends; and a
 -- preference is a million at most
@@ -18,3 +18,5 @@ fits net (Restore a b) = linked net a b
 fits net (Notice node nbr) = linked net node nbr
 fits net (OpenSession node nbr) = linked net node nbr
 fits net (Snap node) = has net.nodes node
+fits net (Crash node) = has net.nodes node
+fits net (Restart node) = has net.nodes node

@@ -1,5 +1,5 @@
 -- What an event leaves of a network, and what came of it.
-use Rattle.std.specs.Prelude.{ℕ, ◌≡◌, ◌<◌, ◌-◌, ◌^◌, Some, List, ◌∷◌, ◌++◌}
+use Rattle.std.specs.Prelude.{ℕ, ◌≡◌, ◌<◌, ◌-◌, ◌^◌, ◌==◌, Bool, Some, List, ◌∷◌, ◌++◌, if◌then◌else◌}
 use Rattle.topology.specs.declared.links.LinkState.TheVariants.{Up}
 use Rattle.topology.specs.LinkStates.{number_of}
 use Rattle.topology.specs.Net.{Net}
@@ -9,6 +9,7 @@ use Rattle.link_model.specs.declared.links.Links.{Links}
 use Rattle.chronicle.specs.Facts.{Chronicle, Took}
 use Rattle.chronicle.specs.Links.{link}
 use Rattle.chronicle.specs.Channels.{channel}
+use Rattle.chronicle.specs.Crashes.{crashed}
 use Rattle.chronicle.specs.Inputs.{Input}
 use Rattle.chronicle.specs.Inputs as input
 use Rattle.chronicle.specs.Run.{given, chronicle_of, held_with}
@@ -21,7 +22,7 @@ use Rattle.world_core.specs.declared.outcomes.Effect.{Effect}
 use Rattle.world_core.specs.declared.network.Network.{Network}
 use Rattle.world_core.specs.declared.outcomes.Outcome.{Outcome}
 use Rattle.world_core.specs.Effects.{effects, Tells}
-use Rattle.world_core.specs.Matching.{AreLinks, AreNodes, IsCounted, Stands}
+use Rattle.world_core.specs.Matching.{AreCrashed, AreLinks, AreNodes, IsCounted, Stands}
 
 -- what holds after every list of events: each node may enter what is in front of each way to it, and may
 -- hear it; each way is joined; and no link has used up the numbers of its sessions
@@ -61,10 +62,11 @@ abbrev pub GoesWhere : Input → Step → Type 0
 GoesWhere (input.Arrive v s item) step = Did step
 GoesWhere other step = Unit {0}
 
--- node u may be handed the input: nodes, links and count are as the run has them, but that the item of an
+-- node u may be handed the input: nodes, links and counts are as the run has them, but that the item of an
 -- arrival is taken; its names are those of the network; and such an item is not declined
 pub record MayHand {P : Type 0} (rules : Rules) (past : Chronicle) (u : ℕ) (input : Input) (network : Network P) : Type 0 where
   pub are_nodes : AreNodes network.policy rules network.topology.value past network.nodes.items
+  pub are_crashed : AreCrashed network.topology.value past network.crashed.items
   pub are_links : AreLinks network.topology.value (handed u input past) network.links
   pub counted : IsCounted network.topology.value past network.triggers
   pub may_come : MayCome network.topology.value u input
@@ -74,6 +76,16 @@ pub record MayHand {P : Type 0} (rules : Rules) (past : Chronicle) (u : ℕ) (in
 pub record Comes {P : Type 0} (rules : Rules) (past : Chronicle) (step : Step) (network : Network P) (outcome : Outcome) : Type 0 where
   pub stands : Stands rules (chronicle_of past step) network
   pub tells : Tells past step outcome
+
+-- nodes, links and the count of triggers are as they were
+pub record KeepsParts {P : Type 0} (old new : Network P) : Type 0 where
+  pub nodes : new.nodes ≡ old.nodes
+  pub links : new.links ≡ old.links
+  pub triggers : new.triggers ≡ old.triggers
+
+-- from the one chronicle to the other u comes to be crashed, or not; the other nodes stay as they were
+abbrev pub Turns : ℕ → Bool → Chronicle → Chronicle → Type 0
+Turns u is past now = (v : ℕ) → crashed v now ≡ (if u == v then is else crashed v past)
 
 -- the policy and the topology are as they were
 pub record IsAsWas {P : Type 0} (old new : Network P) : Type 0 where

@@ -1,9 +1,9 @@
 -- Which ways an event may have changed, and what a set keeps of the others.
-use Rattle.std.specs.Prelude.{ℕ, ◌≡◌, Bool, true, false, List, [], ◌∷◌}
+use Rattle.std.specs.Prelude.{ℕ, ◌≡◌, Bool, true, false, List, [], ◌∷◌, ◌++◌, map}
 use Rattle.std.specs.List.{list_any, AllByRecursion}
-use Rattle.topology.specs.Net.{Net, linked}
+use Rattle.topology.specs.Net.{Net, linked, neighbours}
 use Rattle.chronicle.specs.declared.events.Event.{Event}
-use Rattle.chronicle.specs.declared.events.Event.TheVariants.{Originate, Withdraw, Prefer, Deliver, Fail, Restore, Notice, OpenSession, Snap}
+use Rattle.chronicle.specs.declared.events.Event.TheVariants.{Originate, Withdraw, Prefer, Deliver, Fail, Restore, Notice, OpenSession, Snap, Crash, Restart}
 use Rattle.chronicle.specs.declared.ways.Way.{Way}
 use Rattle.chronicle.specs.Facts.{Chronicle}
 use Rattle.world_core.specs.declared.outcomes.Effect.{Effect}
@@ -25,19 +25,45 @@ is_outage (Restore a b) = true
 is_outage (Notice node nbr) = false
 is_outage (OpenSession node nbr) = false
 is_outage (Snap node) = false
+is_outage (Crash node) = false
+is_outage (Restart node) = false
 
 -- the ways over the link of the event on which a delivery may come to something else: both where the
 -- link changes, else the way to the node that takes the item, or that opens or closes its session
-abbrev pub ways_of : Event → List Way
-ways_of (Originate node prefix) = []
-ways_of (Withdraw node prefix) = []
-ways_of (Prefer node nbr value) = []
-ways_of (Deliver from to) = way from to ∷ []
-ways_of (Fail a b) = way a b ∷ way b a ∷ []
-ways_of (Restore a b) = way a b ∷ way b a ∷ []
-ways_of (Notice node nbr) = way nbr node ∷ []
-ways_of (OpenSession node nbr) = way nbr node ∷ []
-ways_of (Snap node) = []
+abbrev pub link_ways : Event → List Way
+link_ways (Originate node prefix) = []
+link_ways (Withdraw node prefix) = []
+link_ways (Prefer node nbr value) = []
+link_ways (Deliver from to) = way from to ∷ []
+link_ways (Fail a b) = way a b ∷ way b a ∷ []
+link_ways (Restore a b) = way a b ∷ way b a ∷ []
+link_ways (Notice node nbr) = way nbr node ∷ []
+link_ways (OpenSession node nbr) = way nbr node ∷ []
+link_ways (Snap node) = []
+link_ways (Crash node) = []
+link_ways (Restart node) = []
+
+-- the ways to u
+abbrev pub ways_to : Net → ℕ → List Way
+ways_to net u = map (λ v. way v u) (neighbours net u)
+
+-- those to a node that crashes or comes back: a delivery to it does nothing, or may do something again
+abbrev pub node_ways : Net → Event → List Way
+node_ways net (Originate node prefix) = []
+node_ways net (Withdraw node prefix) = []
+node_ways net (Prefer node nbr value) = []
+node_ways net (Deliver from to) = []
+node_ways net (Fail a b) = []
+node_ways net (Restore a b) = []
+node_ways net (Notice node nbr) = []
+node_ways net (OpenSession node nbr) = []
+node_ways net (Snap node) = []
+node_ways net (Crash node) = ways_to net node
+node_ways net (Restart node) = ways_to net node
+
+-- all ways on which a delivery may come to something else by the event itself
+abbrev pub ways_of : Net → Event → List Way
+ways_of net event = node_ways net event ++ link_ways event
 
 -- the ways over which something was queued
 abbrev pub queued_ways : List Effect → List Way

@@ -2,7 +2,7 @@
 use Rattle.std.specs.Prelude.{ℕ, ◌≡◌, true, List, [], ◌∷◌}
 use Rattle.topology.specs.LinkStates.{carries}
 use Rattle.topology.specs.Net.{Net, linked}
-use Rattle.chronicle.specs.Facts.{Fact, Chronicle, Log, Sent, Took, Fail, Restore, Raise}
+use Rattle.chronicle.specs.Facts.{Fact, Chronicle, Log, Sent, Took, Fail, Restore, Raise, Crash, Restart}
 use Rattle.chronicle.specs.Links.{link}
 
 -- after these facts u enters something, raises its epoch, or sends an item over one of its links: queued
@@ -15,6 +15,8 @@ IsTold net u past (Took from to session item) = ⊥
 IsTold net u past (Fail a b) = ⊥
 IsTold net u past (Restore a b) = ⊥
 IsTold net u past (Raise node epoch) = node ≡ u
+IsTold net u past (Crash node) = ⊥
+IsTold net u past (Restart node) = ⊥
 
 -- so it is with each of the facts, the oldest first
 abbrev pub AreTold : Net → ℕ → Chronicle → List Fact → Type 0

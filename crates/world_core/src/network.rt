@@ -14,6 +14,8 @@ pub struct Network<P: Policy + Copy> {
     pub policy: P,
     /// Each node at its rank.
     pub nodes: Vec<Node<P>>,
+    /// At the rank of each node, whether it is crashed.
+    pub crashed: Vec<bool>,
     pub links: Links,
     /// The triggers that all nodes gave.
     pub triggers: u32,

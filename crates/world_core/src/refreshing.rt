@@ -1,14 +1,14 @@
 //! After an event the ways that it may have changed are looked at again.
 ghost use Rattle.std.specs.Prelude.{◌≡◌, true, ◌∷◌, ◌++◌, [], List, IfSome, IsTrue, IfNone, if◌then◌else◌};
 ghost use Rattle.chronicle.specs.declared.ways.Way.{Way as Direction};
-ghost use Rattle.topology.specs.Net.{linked};
+ghost use Rattle.topology.specs.Net.{Net, linked};
 ghost use Rattle.chronicle.specs.Deliveries.{arrives};
 ghost use Rattle.chronicle.specs.Facts.{Chronicle};
 ghost use Rattle.world_core.specs.declared.outcomes.Effect.{Effect as Told};
 ghost use Rattle.world_core.specs.Fits.{fits};
 ghost use Rattle.world_core.specs.Happening.{Comes};
 ghost use Rattle.world_core.specs.Matching.{Stands};
-ghost use Rattle.world_core.specs.Refreshing.{AreWaitingBut, is_outage, queued_ways, ways_of, way};
+ghost use Rattle.world_core.specs.Refreshing.{AreWaitingBut, is_outage, link_ways, node_ways, queued_ways, ways_to, way};
 ghost use Rattle.chronicle.specs.Run.{after, step};
 ghost use Rattle.world_core.specs.Waiting.{AreWaiting};
 ghost use Rattle.world_core.specs.WaySets.{has_way};
@@ -18,17 +18,19 @@ use crate::outcomes::{Effect, Outcome};
 use crate::waiting::Waiting;
 use chronicle::{Event, Way};
 use path_vector::Policy;
+use topology::NodeId;
 
 // The way over the link of the event, where it is about a link, on which a delivery may come to
 // something else: to the node that takes the item, or that opens or closes its session. One of the two
 // where the link changes.
 fn way_of(event: &Event) -> Option<Way>
-    ensures some { IfSome result (λ one. ways_of event.now ≡ one ∷ (if is_outage event.now then way one.to one.from ∷ [] else [])) }
-    ensures none { IfNone result (ways_of event.now ≡ []) }
+    ensures some { IfSome result (λ one. link_ways event.now ≡ one ∷ (if is_outage event.now then way one.to one.from ∷ [] else [])) }
+    ensures none { IfNone result (link_ways event.now ≡ []) }
 {
     let (from, to) = match event {
         Event::Originate { .. } | Event::Withdraw { .. } => return None,
         Event::Prefer { .. } | Event::Snap { .. } => return None,
+        Event::Crash { .. } | Event::Restart { .. } => return None,
         Event::Deliver { from, to } => (*from, *to),
         Event::Fail { a, b } => (*a, *b),
         Event::Restore { a, b } => (*a, *b),
@@ -45,6 +47,21 @@ fn is_outage(event: &Event) -> bool
     matches!(event, Event::Fail { .. } | Event::Restore { .. })
 }
 
+// The node that the event stops, or starts again.
+fn node_of(event: &Event) -> Option<NodeId>
+    ensures some { IfSome result (λ node. (net : Net) → node_ways net event.now ≡ ways_to net node) }
+    ensures none { IfNone result ((net : Net) → node_ways net event.now ≡ []) }
+{
+    match event {
+        Event::Originate { .. } | Event::Withdraw { .. } => None,
+        Event::Prefer { .. } | Event::Snap { .. } => None,
+        Event::Deliver { .. } | Event::Fail { .. } | Event::Restore { .. } => None,
+        Event::Notice { .. } | Event::OpenSession { .. } => None,
+        Event::Crash { node } => Some(*node),
+        Event::Restart { node } => Some(*node),
+    }
+}
+
 impl<P: Policy + Copy> Network<P> {
     // Whether a delivery over the way would not be idle.
     fn waits(&self, way: &Way) -> bool
@@ -52,7 +69,7 @@ impl<P: Policy + Copy> Network<P> {
             linked self.now.topology.value way.now.from way.now.to ≡ true →
             result ≡ arrives past way.now.from way.now.to }
     {
-        self.arrival(way.from, way.to).is_ok()
+        !self.is_crashed(way.to) && self.arrival(way.from, way.to).is_ok()
     }
 
     // Looks at the way again.
@@ -67,10 +84,37 @@ impl<P: Policy + Copy> Network<P> {
         waiting.put(number, self.waits(way));
     }
 
+    // Looks again at each way to the node.
+    fn look_at_node(&self, node: NodeId, waiting: &mut Waiting)
+        ensures { (past : Chronicle) (rest : List Direction) → Stands (P.rules self.now.policy) past self.now →
+            AreWaitingBut self.now.topology.value past (ways_to self.now.topology.value node ++ rest) (has_way self.now.topology.value waiting.old) →
+            AreWaitingBut self.now.topology.value past rest (has_way self.now.topology.value waiting.new) }
+    {
+        for nbr in self.topology.neighbours(node) {
+            let way = Way {
+                from: *nbr,
+                to: node,
+            };
+            self.look(&way, waiting);
+        }
+    }
+
+    // Looks again at the ways to the node of the event, where the event stops it or starts it again.
+    fn look_at_turned(&self, event: &Event, waiting: &mut Waiting)
+        ensures { (past : Chronicle) (rest : List Direction) → Stands (P.rules self.now.policy) past self.now →
+            AreWaitingBut self.now.topology.value past (node_ways self.now.topology.value event.now ++ rest) (has_way self.now.topology.value waiting.old) →
+            AreWaitingBut self.now.topology.value past rest (has_way self.now.topology.value waiting.new) }
+    {
+        let Some(node) = node_of(event) else {
+            return;
+        };
+        self.look_at_node(node, waiting);
+    }
+
     // Looks again at the ways over the link of the event that it may have changed.
     fn look_at_link(&self, event: &Event, waiting: &mut Waiting)
         ensures { (past : Chronicle) (rest : List Direction) → Stands (P.rules self.now.policy) past self.now →
-            AreWaitingBut self.now.topology.value past (ways_of event.now ++ rest) (has_way self.now.topology.value waiting.old) →
+            AreWaitingBut self.now.topology.value past (link_ways event.now ++ rest) (has_way self.now.topology.value waiting.old) →
             AreWaitingBut self.now.topology.value past rest (has_way self.now.topology.value waiting.new) }
     {
         let Some(way) = way_of(event) else {
@@ -114,8 +158,8 @@ impl<P: Policy + Copy> Network<P> {
     }
 
     /// Looks again at the ways that wait, after the event, which came to this. Only those are looked
-    /// at that the event may have changed: one way over its link, or both where the link changes, and
-    /// those over which something was queued.
+    /// at that the event may have changed: one way over its link, or both where the link changes, those to
+    /// its node where that stops or starts again, and those over which something was queued.
     pub fn refresh(&self, event: &Event, outcome: &Outcome, waiting: &mut Waiting)
         requires { IsTrue (fits self.now.topology.value event.now) }
         ensures { (past : Chronicle) →
@@ -126,6 +170,7 @@ impl<P: Policy + Copy> Network<P> {
         let Outcome::Did(effects) = outcome else {
             return;
         };
+        self.look_at_turned(event, waiting);
         self.look_at_link(event, waiting);
         self.look_at_effects(effects.as_slice(), waiting);
     }

@@ -1,6 +1,6 @@
 //! A network in which nothing has happened.
 ghost use Rattle.std.specs.Prelude.{◌≡◌, [], IfOk};
-ghost use Rattle.world_core.specs.Matching.{AreNodes, Stands};
+ghost use Rattle.world_core.specs.Matching.{AreCrashed, AreNodes, Stands};
 
 use crate::network::Network;
 use link_model::Links;
@@ -25,6 +25,13 @@ fn fresh_nodes<P: Policy + Copy>(
     Ok(nodes)
 }
 
+// No node is crashed when nothing has happened.
+fn running(alloc: Global, topology: &Topology) -> Result<Vec<bool>, NoMemory>
+    ensures { IfOk result (λ flags. AreCrashed topology.now [] flags.items) }
+{
+    Ok(vec![in alloc; false; topology.nodes().len()]?)
+}
+
 impl<P: Policy + Copy> Network<P> {
     /// The network in which nothing has happened.
     pub fn new(alloc: Global, topology: Rc<Topology>, policy: P) -> Result<Network<P>, NoMemory>
@@ -33,12 +40,14 @@ impl<P: Policy + Copy> Network<P> {
         ensures topology { IfOk result (λ network. network.topology.value ≡ topology.value) }
     {
         let nodes = fresh_nodes(alloc, &topology, policy)?;
+        let crashed = running(alloc, &topology)?;
         let links = Links::new(alloc, &topology)?;
         Ok(Network {
             alloc,
             topology,
             policy,
             nodes,
+            crashed,
             links,
             triggers: 0,
         })

@@ -3,6 +3,7 @@ ghost use Rattle.std.specs.Prelude.{◌≡◌, [], ◌∷◌, ◌++◌, ◌&&◌
 ghost use Rattle.topology.specs.Lists.{has};
 ghost use Rattle.topology.specs.Net.{linked};
 ghost use Rattle.chronicle.specs.declared.ways.Way.{Way};
+ghost use Rattle.chronicle.specs.Crashes.{crashed};
 ghost use Rattle.chronicle.specs.Deliveries.{next_delivery};
 ghost use Rattle.chronicle.specs.Run.{run, step};
 ghost use Rattle.node_core.specs.Standing.{StandsFor};
@@ -108,6 +109,8 @@ impl<P: Policy + Copy> World<P> {
             Event::Notice { node, nbr } => joined(topology, *node, *nbr),
             Event::OpenSession { node, nbr } => joined(topology, *node, *nbr),
             Event::Snap { node } => topology.rank_of(*node).is_some(),
+            Event::Crash { node } => topology.rank_of(*node).is_some(),
+            Event::Restart { node } => topology.rank_of(*node).is_some(),
         }
     }
 
@@ -119,6 +122,13 @@ impl<P: Policy + Copy> World<P> {
     {
         let rank = self.network.topology.rank_of(id)?;
         Some(&self.network.nodes[rank])
+    }
+
+    /// Whether the node is crashed. Not so where there is no such node. Takes no memory.
+    pub fn crashed(&self, id: NodeId) -> bool
+        ensures { result ≡ (has self.now.net.nodes id && crashed id (run (P.rules self.now.policy) self.now.net self.now.events)) }
+    {
+        self.network.topology.rank_of(id).is_some() && self.network.is_crashed(id)
     }
 
     /// The links, and what is on its way over them.
