@@ -102,11 +102,11 @@ abbrev pub Nothing : Chronicle → ℕ → ℕ → Type 0
 Nothing past v s = Unit {0}
 
 -- nor of anything that comes
-abbrev unknown : Known
+abbrev pub unknown : Known
 unknown = record { Carries = λ carried past. Unit {0}; Comes = λ past v s x. Unit {0}; Over = Nothing; Opens = Nothing }
 
 -- so each input may come
-any_input : (u : ℕ) (past : Chronicle) (i : Input) → KnownOf unknown u past i
+pub any_input : (u : ℕ) (past : Chronicle) (i : Input) → KnownOf unknown u past i
 any_input u past (input.Originate p) = tt
 any_input u past (input.Withdraw p) = tt
 any_input u past (input.Prefer v value) = tt

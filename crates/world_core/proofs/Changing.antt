@@ -1,46 +1,48 @@
 -- Which ways an event changes.
-use Rattle.std.proofs.Common.{IsTrue, ℕ, suc, Bool, true, false, not, ◌==◌, ◌&&◌, nat_lt, Option, Some, None, List, [], ◌∷◌, ◌++◌, ◌≡◌, refl, sym, ◌∙◌, ap, subst, arith, map, length, append_assoc}
+use Rattle.std.proofs.Common.{IsTrue, ℕ, suc, Bool, true, false, not, ◌==◌, ◌&&◌, nat_lt, Option, Some, None, List, [], ◌∷◌, ◌++◌, ◌≡◌, refl, sym, ◌∙◌, ap, subst, arith, map, length, filter, append_assoc, true≢false}
 use Rattle.std.specs.Prelude.{if◌then◌else◌}
-use Rattle.std.specs.List.{list_any}
+use Rattle.std.specs.List.{list_any, AllByRecursion}
 use Rattle.std.proofs.lemmas.Bool.Decides.{nat_tests}
 use Rattle.std.proofs.lemmas.List.{append-nil, append_cancel_left}
 use Rattle.topology.specs.declared.links.LinkState.{LinkState}
 use Rattle.topology.specs.declared.links.LinkState.TheVariants.{Up, Down}
 use Rattle.topology.specs.declared.names.Scope.TheVariants.{One, All}
 use Rattle.topology.specs.LinkStates.{are_ends}
-use Rattle.topology.specs.Net.{Net, linked}
-use Rattle.topology.proofs.Neighbours.{linked_sym}
+use Rattle.topology.specs.Lists.{has, ascending}
+use Rattle.topology.specs.Net.{Net, IsValid, linked, neighbours}
+use Rattle.topology.proofs.Neighbours.{linked_sym, neighbours_linked}
 use Rattle.path_vector.specs.declared.causes.Cause.TheVariants as cause
 use Rattle.path_vector.specs.Rules.{Rules}
 use Rattle.path_vector.specs.History.{held, held_by, last, owns, ready}
 use Rattle.trigger_log.specs.Entries.{Entry, inbox, local, reads, is_session}
 use Rattle.trigger_log.specs.Going.{Going, Item, News, Marker, Hello, going_by}
 use Rattle.chronicle.specs.declared.events.Event.{Event}
-use Rattle.chronicle.specs.declared.events.Event.TheVariants.{Originate, Withdraw, Prefer, Deliver, Fail, Restore, Notice, OpenSession, Snap}
+use Rattle.chronicle.specs.declared.events.Event.TheVariants.{Originate, Withdraw, Prefer, Deliver, Fail, Restore, Notice, OpenSession, Snap, Crash, Restart}
 use Rattle.chronicle.specs.declared.ways.Way.{Way}
 use Rattle.chronicle.specs.Facts.{Chronicle, Log, Raise, Sent, Took, happen}
 use Rattle.chronicle.specs.Facts as fact
 use Rattle.chronicle.specs.Channels.{channel}
+use Rattle.chronicle.specs.Crashes.{crashed}
 use Rattle.chronicle.specs.Deliveries.{arrives, may_arrive}
 use Rattle.chronicle.specs.Epochs.{epoch}
 use Rattle.chronicle.specs.Giving.{unless, out_of_turn, closes, opens, give}
 use Rattle.chronicle.specs.Links.{link}
 use Rattle.chronicle.specs.Logs.{log_of}
 use Rattle.chronicle.specs.Steps.{Step, Idle, Goes, Carried, unless_ready, heard, markers, meet_mark, open_session, sends, take_cut, take_item, write}
-use Rattle.chronicle.specs.Run.{held_with, carried_by, given, delivered, is_carried, opened_by_link, fails, restores, step, after, chronicle_of}
+use Rattle.chronicle.specs.Run.{held_with, carried_by, given, delivered, is_carried, opened_by_link, fails, restores, actor, is_stopped, does, step, after, chronicle_of}
 use Rattle.chronicle.specs.Inputs.{arrival}
 use Rattle.chronicle.specs.Inputs as input
 use Rattle.topology.specs.declared.status.Reason.{Reason}
-use Rattle.topology.specs.declared.status.Reason.TheVariants.{AlreadyOrigin, NotOrigin, StillUp, WrongSession, OldSession}
+use Rattle.topology.specs.declared.status.Reason.TheVariants.{AlreadyOrigin, NotOrigin, StillUp, WrongSession, OldSession, Crashed, NotCrashed}
 use Rattle.world_core.specs.declared.outcomes.Outcome.TheVariants as outcome
 use Rattle.world_core.specs.Fits.{fits}
 use Rattle.world_core.specs.Waiting.{AreWaiting, waits}
 use Rattle.world_core.specs.declared.outcomes.Effect.{Effect}
 use Rattle.world_core.specs.declared.outcomes.Effect.TheVariants.{Logged, Queued, Lost, Cut}
 use Rattle.world_core.specs.Effects.{effects, Tells}
-use Rattle.world_core.specs.Refreshing.{AreLinked, AreWaitingBut, queued_ways, way, ways_of}
+use Rattle.world_core.specs.Refreshing.{AreLinked, AreWaitingBut, link_ways, node_ways, queued_ways, way, ways_of, ways_to}
 use Rattle.world_core.specs.WaySets.{same_way}
-use Rattle.world_core.proofs.Telling.{AllNear, going_near, markers_near}
+use Rattle.world_core.proofs.Telling.{AllNear, filter_passes, going_near, markers_near}
 
 -- the way is none of these
 abbrev pub Misses : Way → List Way → Type 0
@@ -72,13 +74,13 @@ pub linked_append : (net : Net) (ws vs : List Way) → AreLinked net ws → AreL
 linked_append net [] vs first second = second
 linked_append net (w ∷ ws) vs first second = (first.0, linked_append net ws vs first.1 second)
 
--- what was shown since, over which ways something was queued, and that a delivery over any other way,
--- but for these, comes to the same
+-- what was shown since, over which ways something was queued, and that a delivery over any other way of a
+-- link, but for these, comes to the same
 pub record Changed (net : Net) (past now : Chronicle) (ways : List Way) : Type 0 where
   pub tail : List Effect
   pub shown : effects now ≡ effects past ++ tail
   pub near : AreLinked net (queued_ways tail)
-  pub kept : (one : Way) → Misses one ways → Misses one (queued_ways tail) → Same past now one
+  pub kept : (one : Way) → linked net one.from one.to ≡ true → Misses one ways → Misses one (queued_ways tail) → Same past now one
 
 module _ (net : Net) (a b c : Chronicle) (ways : List Way) where
   -- one change after the other
@@ -87,14 +89,14 @@ module _ (net : Net) (a b c : Chronicle) (ways : List Way) where
     tail = first.tail ++ second.tail;
     shown = second.shown ∙ (ap (λ l. l ++ second.tail) first.shown ∙ append_assoc (effects a) first.tail second.tail);
     near = rw (ways_append first.tail second.tail) (linked_append net (queued_ways first.tail) (queued_ways second.tail) first.near second.near);
-    kept = λ one misses queued.
+    kept = λ one joined misses queued.
         let parts = misses_append one (queued_ways first.tail) (queued_ways second.tail) (subst (Misses one) (ways_append first.tail second.tail) queued) in
-        second.kept one misses parts.1 ∙ first.kept one misses parts.0;
+        second.kept one joined misses parts.1 ∙ first.kept one joined misses parts.0;
   }
 
 -- nothing has changed
 unchanged : (net : Net) (past : Chronicle) (ways : List Way) → Changed net past past ways
-unchanged net past ways = record { tail = []; shown = sym (append-nil (effects past)); near = tt; kept = λ one misses queued. refl }
+unchanged net past ways = record { tail = []; shown = sym (append-nil (effects past)); near = tt; kept = λ one joined misses queued. refl }
 
 -- ---- messages
 
@@ -162,7 +164,7 @@ module _ (net : Net) (carried : Carried) (u : ℕ) where
     tail = shown_of carried u gs;
     shown = sends_shown past gs;
     near = sends_near gs near;
-    kept = λ one misses queued. sends_kept past gs one queued;
+    kept = λ one joined misses queued. sends_kept past gs one queued;
   }
 
 -- ---- entries
@@ -186,12 +188,12 @@ log_change net past u k ways keeps = record {
   tail = Logged u (suc (length (log_of u past))) ∷ [];
   shown = refl;
   near = tt;
-  kept = λ one misses queued. ap (may_arrive (link one.from one.to past) (channel one.from one.to past)) (held_logged past u k ways keeps one misses);
+  kept = λ one joined misses queued. ap (λ session. not (crashed one.to past) && may_arrive (link one.from one.to past) (channel one.from one.to past) session) (held_logged past u k ways keeps one misses);
 }
 
 -- a rise of the epoch changes no delivery
 raise_change : (net : Net) (past : Chronicle) (u e : ℕ) (ways : List Way) → Changed net past (Raise u e ∷ past) ways
-raise_change net past u e ways = record { tail = Cut u e ∷ []; shown = refl; near = tt; kept = λ one misses queued. refl }
+raise_change net past u e ways = record { tail = Cut u e ∷ []; shown = refl; near = tt; kept = λ one joined misses queued. refl }
 
 module _ (rules : Rules) (net : Net) (carried : Carried) (u : ℕ) (ways : List Way) where
   -- what an entry changes with the items that it sends
@@ -241,7 +243,7 @@ took_change net past v u s x = record {
   tail = [];
   shown = refl;
   near = tt;
-  kept = λ one misses queued. rw (off_way_to one v u misses) refl;
+  kept = λ one joined misses queued. rw (off_way_to one v u misses) refl;
 }
 
 -- a failure changes both ways
@@ -250,7 +252,7 @@ fail_change net past a b = record {
   tail = [];
   shown = refl;
   near = tt;
-  kept = λ one misses queued. rw (off_link one a b misses) refl;
+  kept = λ one joined misses queued. rw (off_link one a b misses) refl;
 }
 
 -- so does a restoring
@@ -259,8 +261,51 @@ restore_change net past a b = record {
   tail = [];
   shown = refl;
   near = tt;
-  kept = λ one misses queued. rw (off_link one a b misses) refl;
+  kept = λ one joined misses queued. rw (off_link one a b misses) refl;
 }
+
+-- each way to u from one of these is among the ways to it
+among_ways : (u v : ℕ) (vs : List ℕ) → has vs v ≡ true → list_any (same_way (way v u)) (map (λ w. way w u) vs) ≡ true
+among_ways u v [] e = absurd (cc e)
+among_ways u v (w ∷ vs) e =
+    (elim (w == v) as (λ t. (w == v) ≡ t → list_any (same_way (way v u)) (map (λ w. way w u) (w ∷ vs)) ≡ true) [
+      | true ↦ λ here. let own : (u == u) ≡ true = grind (arith, nat_tests) in let turned : (v == w) ≡ true = grind (arith, nat_tests) in rw (turned, own) refl
+      | false ↦ λ off. let rest = among_ways u v vs (grind (arith, nat_tests)) in grind (arith, nat_tests)
+    ]) refl
+
+-- a way over a link that is none of those to u goes to another node
+off_node : (net : Net) (u : ℕ) (one : Way) → IsValid net → linked net one.from one.to ≡ true → Misses one (ways_to net u) → (u == one.to) ≡ false
+off_node net u one valid joined misses =
+    (elim (u == one.to) as (λ t. (u == one.to) ≡ t → t ≡ false) [
+      | true ↦ λ e.
+          let same : u ≡ one.to = grind (arith, nat_tests) in
+          let there : has (neighbours net u) one.from ≡ true = neighbours_linked net u one.from valid ∙ (linked_sym net u one.from ∙ subst (λ y. linked net one.from y ≡ true) (sym same) joined) in
+          let found = among_ways u one.from (neighbours net u) there in
+          absurd (true≢false (sym (subst (λ y. list_any (same_way (way one.from y)) (ways_to net u) ≡ true) same found) ∙ misses))
+      | false ↦ λ e. refl
+    ]) refl
+
+-- a node that crashes changes the ways to it
+crash_change : (net : Net) (past : Chronicle) (u : ℕ) → IsValid net → Changed net past (fact.Crash u ∷ past) (ways_to net u)
+crash_change net past u valid = record {
+  tail = [];
+  shown = refl;
+  near = tt;
+  kept = λ one joined misses queued. rw (off_node net u one valid joined misses) refl;
+}
+
+-- so does one that comes back
+restart_change : (net : Net) (past : Chronicle) (u : ℕ) → IsValid net → Changed net past (fact.Restart u ∷ past) (ways_to net u)
+restart_change net past u valid = record {
+  tail = [];
+  shown = refl;
+  near = tt;
+  kept = λ one joined misses queued. rw (off_node net u one valid joined misses) refl;
+}
+
+-- so for a longer list of ways
+more_ways : (net : Net) (past now : Chronicle) (ways : List Way) → Changed net past now ways → Changed net past now (ways ++ [])
+more_ways net past now ways change = subst (Changed net past now) (sym (append-nil ways)) change
 
 -- ---- events
 
@@ -367,39 +412,63 @@ module _ (rules : Rules) (net : Net) (past : Chronicle) where
   restoring_change a b (Up s) = tt
   restoring_change a b (Down s) = restore_change net past a b
 
-  -- each event
-  event_change : (event : Event) → IsTrue (fits net event) → ChangedBy net past (ways_of event) (step rules net past event)
-  unfolding step give
-  event_change (Originate u p) fit =
+  -- each event whose node runs
+  does_change : (event : Event) → IsValid net → IsTrue (fits net event) → ChangedBy net past (ways_of net event) (does rules net past event)
+  unfolding does give
+  does_change (Originate u p) valid fit =
       let k = local u (log_of u past) (One p) cause.Originate in
       elim (owns (reads (log_of u past)) p) as (λ t. ChangedBy net past [] (if t then Idle AlreadyOrigin else Goes (write rules net (carried_by u past) u k past))) [
         | true ↦ tt
         | false ↦ write_change rules net (carried_by u past) u [] past k (λ one session misses at. refl)
       ]
-  event_change (Withdraw u p) fit =
+  does_change (Withdraw u p) valid fit =
       let k = local u (log_of u past) (One p) cause.Withdraw in
       elim (owns (reads (log_of u past)) p) as (λ t. ChangedBy net past [] (if t then Goes (write rules net (carried_by u past) u k past) else Idle NotOrigin)) [
         | true ↦ write_change rules net (carried_by u past) u [] past k (λ one session misses at. refl)
         | false ↦ tt
       ]
-  event_change (Prefer u v value) fit = write_change rules net (carried_by u past) u [] past (local u (log_of u past) All (cause.Prefer v value)) (λ one session misses at. refl)
-  event_change (Deliver v u) fit = delivery_change v u (link v u past) (channel v u past)
-  event_change (Fail a b) fit = failing_change a b (link a b past)
-  event_change (Restore a b) fit = restoring_change a b (link a b past)
-  event_change (Notice u v) fit =
+  does_change (Prefer u v value) valid fit = write_change rules net (carried_by u past) u [] past (local u (log_of u past) All (cause.Prefer v value)) (λ one session misses at. refl)
+  does_change (Deliver v u) valid fit = delivery_change v u (link v u past) (channel v u past)
+  does_change (Fail a b) valid fit = failing_change a b (link a b past)
+  does_change (Restore a b) valid fit = restoring_change a b (link a b past)
+  does_change (Notice u v) valid fit =
       elim (is_carried (link u v past) (held_with u v past)) as (λ t. ChangedBy net past (way v u ∷ []) (if t then Idle StillUp else given rules net past u (input.Notice v))) [
         | true ↦ tt
         | false ↦ notice_change u v
       ]
-  event_change (OpenSession u v) fit = opening_change u v (held_with u v past) (link u v past) fit
-  event_change (Snap u) fit = cut_change rules net (carried_by u past) u [] past (suc (epoch u past))
+  does_change (OpenSession u v) valid fit = opening_change u v (held_with u v past) (link u v past) fit
+  does_change (Snap u) valid fit = cut_change rules net (carried_by u past) u [] past (suc (epoch u past))
+  does_change (Crash u) valid fit = more_ways net past (fact.Crash u ∷ past) (ways_to net u) (crash_change net past u valid)
+  does_change (Restart u) valid fit =
+      elim (crashed u past) as (λ t. ChangedBy net past (ways_to net u ++ []) (if t then Goes (fact.Restart u ∷ past) else Idle NotCrashed)) [
+        | true ↦ more_ways net past (fact.Restart u ∷ past) (ways_to net u) (restart_change net past u valid)
+        | false ↦ tt
+      ]
+
+  -- each event
+  event_change : (event : Event) → IsValid net → IsTrue (fits net event) → ChangedBy net past (ways_of net event) (step rules net past event)
+  unfolding step
+  event_change event valid fit = elim (is_stopped past (actor event)) as (λ t. ChangedBy net past (ways_of net event) (if t then Idle Crashed else does rules net past event)) [
+    | true ↦ tt
+    | false ↦ does_change event valid fit
+  ]
 
 -- both ways go over the link
 two_linked : (net : Net) (a b : ℕ) → linked net a b ≡ true → AreLinked net (way a b ∷ way b a ∷ [])
 two_linked net a b near = (near, (linked_sym net b a ∙ near, tt))
 
--- the ways of an event go over its link
-ways_linked : (net : Net) (event : Event) → IsTrue (fits net event) → AreLinked net (ways_of event)
+-- the ways to u from its neighbours
+ways_to_linked : (net : Net) (u : ℕ) (vs : List ℕ) → AllByRecursion (λ v. linked net u v ≡ true) vs → AreLinked net (map (λ v. way v u) vs)
+ways_to_linked net u [] all = tt
+ways_to_linked net u (v ∷ vs) all = (linked_sym net v u ∙ all.0, ways_to_linked net u vs all.1)
+
+-- all of them, and no other
+node_linked : (net : Net) (u : ℕ) → AreLinked net (ways_to net u ++ [])
+unfolding neighbours
+node_linked net u = linked_append net (ways_to net u) [] (ways_to_linked net u (filter (linked net u) (ascending net.nodes)) (filter_passes (linked net u) (ascending net.nodes))) tt
+
+-- the ways of an event go over links
+ways_linked : (net : Net) (event : Event) → IsTrue (fits net event) → AreLinked net (ways_of net event)
 ways_linked net (Originate u p) fit = tt
 ways_linked net (Withdraw u p) fit = tt
 ways_linked net (Prefer u v value) fit = tt
@@ -409,6 +478,13 @@ ways_linked net (Restore a b) fit = two_linked net a b fit
 ways_linked net (Notice u v) fit = (linked_sym net v u ∙ fit, tt)
 ways_linked net (OpenSession u v) fit = (linked_sym net v u ∙ fit, tt)
 ways_linked net (Snap u) fit = tt
+ways_linked net (Crash u) fit = node_linked net u
+ways_linked net (Restart u) fit = node_linked net u
+
+-- two tests behind one that decides
+and_same : (b c d : Bool) → (b ≡ true → c ≡ d) → (b && c) ≡ (b && d)
+and_same true c d same = same refl
+and_same false c d same = refl
 
 module _ (net : Net) (past : Chronicle) (has : Way → Bool) (was : AreWaiting net past has) where
   -- what is not known of the ways, by the step
@@ -422,7 +498,7 @@ module _ (net : Net) (past : Chronicle) (has : Way → Bool) (was : AreWaiting n
         near = linked_append net ways (queued_ways change.tail) near change.near;
         right = λ one misses.
             let parts = misses_append one ways (queued_ways change.tail) misses in
-            was one ∙ ap (λ b. linked net one.from one.to && b) (sym (change.kept one parts.0 parts.1));
+            was one ∙ and_same (linked net one.from one.to) (arrives past one.from one.to) (arrives now one.from one.to) (λ joined. sym (change.kept one joined parts.0 parts.1));
       })
 
   -- an idle step leaves the set right
@@ -431,10 +507,12 @@ module _ (net : Net) (past : Chronicle) (has : Way → Bool) (was : AreWaiting n
   idle_by (Goes now) told tells = absurd tells
 
   -- after an event nothing is known of the ways that it may have changed
-  pub stale : (rules : Rules) (event : Event) (list : List Effect) → IsTrue (fits net event) → Tells past (step rules net past event) (outcome.Did list)
-      → AreWaitingBut net (after rules net past event) (ways_of event ++ queued_ways list) has
+  pub stale : (rules : Rules) (event : Event) (list : List Effect) → IsValid net → IsTrue (fits net event) → Tells past (step rules net past event) (outcome.Did list)
+      → AreWaitingBut net (after rules net past event) (node_ways net event ++ (link_ways event ++ queued_ways list)) has
   unfolding after
-  stale rules event list fit tells = stale_by (step rules net past event) list (ways_of event) tells (event_change rules net past event fit) (ways_linked net event fit)
+  stale rules event list valid fit tells =
+      subst (λ ways. AreWaitingBut net (after rules net past event) ways has) (append_assoc (node_ways net event) (link_ways event) (queued_ways list))
+      (stale_by (step rules net past event) list (ways_of net event) tells (event_change rules net past event valid fit) (ways_linked net event fit))
 
   -- an idle one changed none
   pub still : (rules : Rules) (event : Event) (told : Reason) → Tells past (step rules net past event) (outcome.Idle told) → AreWaiting net (after rules net past event) has

@@ -1,9 +1,9 @@
 -- What an event comes to, by what it reads.
-use Rattle.std.proofs.Common.{ℕ, suc, true, false, not, Option, Some, None, List, [], ◌∷◌, ◌++◌, ◌≡◌, refl, sym, ◌∙◌, ap, ap₂, subst, is_ok, is_some, length, Result, Ok, Err, IfOk, IfErr}
+use Rattle.std.proofs.Common.{ℕ, suc, Bool, true, false, not, Option, Some, None, List, [], ◌∷◌, ◌++◌, ◌≡◌, refl, sym, ◌∙◌, ap, ap₂, subst, is_ok, is_some, length, Result, Ok, Err, IfOk, IfErr}
 use Rattle.std.specs.Prelude.{if◌then◌else◌}
 use Rattle.std.proofs.lemmas.List.Sums.{fold-append}
 use Rattle.topology.specs.declared.status.Reason.{Reason}
-use Rattle.topology.specs.declared.status.Reason.TheVariants.{StillUp, WrongSession, AlreadyOpen, LinkDown, EmptyChannel, AlreadyDown, AlreadyUp}
+use Rattle.topology.specs.declared.status.Reason.TheVariants.{StillUp, WrongSession, AlreadyOpen, LinkDown, EmptyChannel, AlreadyDown, AlreadyUp, NotCrashed}
 use Rattle.topology.specs.declared.links.LinkState.{LinkState}
 use Rattle.topology.specs.declared.links.LinkState.TheVariants.{Up, Down}
 use Rattle.topology.specs.LinkStates.{is_up}
@@ -12,9 +12,10 @@ use Rattle.path_vector.specs.Rules.{Rules}
 use Rattle.trigger_log.specs.Entries.{inbox, is_session}
 use Rattle.trigger_log.specs.Going.{Item, News, Marker, Hello}
 use Rattle.chronicle.specs.declared.events.Event.{Event}
-use Rattle.chronicle.specs.declared.events.Event.TheVariants.{Deliver, Fail, Restore, Notice, OpenSession}
+use Rattle.chronicle.specs.declared.events.Event.TheVariants.{Deliver, Fail, Restore, Notice, OpenSession, Crash, Restart}
 use Rattle.chronicle.specs.Channels.{channel}
-use Rattle.chronicle.specs.Deliveries.{arrives, may_arrive}
+use Rattle.chronicle.specs.Crashes.{crashed}
+use Rattle.chronicle.specs.Deliveries.{may_arrive}
 use Rattle.chronicle.specs.Facts.{Chronicle}
 use Rattle.chronicle.specs.Facts as fact
 use Rattle.chronicle.specs.Giving.{give, out_of_turn, unless}
@@ -22,7 +23,7 @@ use Rattle.chronicle.specs.Inputs.{arrival}
 use Rattle.chronicle.specs.Inputs as input
 use Rattle.chronicle.specs.Links.{link}
 use Rattle.chronicle.specs.Logs.{log_of}
-use Rattle.chronicle.specs.Run.{held_with, carried_by, given, delivered, is_carried, opened_by_link, fails, restores, step, after, run}
+use Rattle.chronicle.specs.Run.{held_with, carried_by, given, delivered, is_carried, opened_by_link, fails, restores, does, after, run}
 use Rattle.chronicle.specs.Steps.{Step, Idle, Goes, take_item}
 use Rattle.cut_laws.specs.Delivered.{Did}
 use Rattle.cut_laws.specs.Joined.{FrontFits}
@@ -36,7 +37,8 @@ use Rattle.world_core.specs.declared.outcomes.Outcome.TheVariants as outcome
 use Rattle.world_core.specs.declared.outcomes.Effect.{Effect}
 use Rattle.world_core.specs.Effects.{effects}
 use Rattle.world_core.specs.Limits.{triggers_of}
-use Rattle.world_core.specs.Matching.{IsCounted, Stands}
+use Rattle.link_model.specs.declared.links.Links.{Links}
+use Rattle.world_core.specs.Matching.{AreLinks, IsCounted, Stands}
 
 -- the same step
 pub comes_so : {P : Type 0} (rules : Rules) (past : Chronicle) (s t : Step) (network : Network P) (outcome : Outcome) → s ≡ t → Comes rules past t network outcome → Comes rules past s network outcome
@@ -61,66 +63,98 @@ pub restore_counted : (net : Net) (past : Chronicle) (a b triggers : ℕ) → Is
 unfolding triggers_of
 restore_counted net past a b triggers was = record { total = was.total; few = was.few }
 
+-- nor a node that crashes, or comes back
+pub crash_counted : (net : Net) (past : Chronicle) (u triggers : ℕ) → IsCounted net past triggers → IsCounted net (fact.Crash u ∷ past) triggers
+unfolding triggers_of
+crash_counted net past u triggers was = record { total = was.total; few = was.few }
+
+pub restart_counted : (net : Net) (past : Chronicle) (u triggers : ℕ) → IsCounted net past triggers → IsCounted net (fact.Restart u ∷ past) triggers
+unfolding triggers_of
+restart_counted net past u triggers was = record { total = was.total; few = was.few }
+
+-- no link and no channel changes by it
+pub crash_links : (net : Net) (past : Chronicle) (u : ℕ) (links : Links) → AreLinks net past links → AreLinks net (fact.Crash u ∷ past) links
+crash_links net past u links was = record { acts = was.acts; stands = was.stands; states = was.states; items = was.items }
+
+pub restart_links : (net : Net) (past : Chronicle) (u : ℕ) (links : Links) → AreLinks net past links → AreLinks net (fact.Restart u ∷ past) links
+restart_links net past u links was = record { acts = was.acts; stands = was.stands; states = was.states; items = was.items }
+
+module _ (rules : Rules) (net : Net) (past : Chronicle) (u : ℕ) where
+  -- a node that runs stops
+  pub crash_step : does rules net past (Crash u) ≡ Goes (fact.Crash u ∷ past)
+  unfolding does
+  crash_step = refl
+
+  -- one that is crashed runs again
+  pub restart_crashed : crashed u past ≡ true → does rules net past (Restart u) ≡ Goes (fact.Restart u ∷ past)
+  unfolding does
+  restart_crashed is = ap (λ t. if t then Goes (fact.Restart u ∷ past) else Idle NotCrashed) is
+
+  -- one that runs does nothing
+  pub restart_running : crashed u past ≡ false → does rules net past (Restart u) ≡ Idle NotCrashed
+  unfolding does
+  restart_running is = ap (λ t. if t then Goes (fact.Restart u ∷ past) else Idle NotCrashed) is
+
 module _ (rules : Rules) (net : Net) (past : Chronicle) (u v : ℕ) where
   -- a notice while the link carries the session
-  pub notice_up : is_carried (link u v past) (held_with u v past) ≡ true → step rules net past (Notice u v) ≡ Idle StillUp
-  unfolding step
+  pub notice_up : is_carried (link u v past) (held_with u v past) ≡ true → does rules net past (Notice u v) ≡ Idle StillUp
+  unfolding does
   notice_up up = ap (λ t. if t then Idle StillUp else given rules net past u (input.Notice v)) up
 
   -- a notice while it does not
-  pub notice_over : is_carried (link u v past) (held_with u v past) ≡ false → step rules net past (Notice u v) ≡ given rules net past u (input.Notice v)
-  unfolding step
+  pub notice_over : is_carried (link u v past) (held_with u v past) ≡ false → does rules net past (Notice u v) ≡ given rules net past u (input.Notice v)
+  unfolding does
   notice_over over = ap (λ t. if t then Idle StillUp else given rules net past u (input.Notice v)) over
 
   -- an opening, by what it reads
-  pub open_step : (session : Option ℕ) (l : LinkState) → held_with u v past ≡ session → link u v past ≡ l → step rules net past (OpenSession u v) ≡ opened_by_link (given rules net past u) v session l
-  unfolding step
+  pub open_step : (session : Option ℕ) (l : LinkState) → held_with u v past ≡ session → link u v past ≡ l → does rules net past (OpenSession u v) ≡ opened_by_link (given rules net past u) v session l
+  unfolding does
   open_step session l holds is = ap₂ (λ h l. opened_by_link (given rules net past u) v h l) holds is
 
   -- an opening where a session is held
-  pub open_held : (session : Option ℕ) → held_with u v past ≡ session → is_some session ≡ true → step rules net past (OpenSession u v) ≡ Idle AlreadyOpen
+  pub open_held : (session : Option ℕ) → held_with u v past ≡ session → is_some session ≡ true → does rules net past (OpenSession u v) ≡ Idle AlreadyOpen
   open_held None holds some = absurd (cc some)
   open_held (Some s) holds some = open_step (Some s) (link u v past) holds refl
 
   -- a failure, by what it reads
-  fail_step : (l : LinkState) → link u v past ≡ l → step rules net past (Fail u v) ≡ fails past u v l
-  unfolding step
+  fail_step : (l : LinkState) → link u v past ≡ l → does rules net past (Fail u v) ≡ fails past u v l
+  unfolding does
   fail_step l is = ap (fails past u v) is
 
   -- a restoring, by what it reads
-  restore_step : (l : LinkState) → link u v past ≡ l → step rules net past (Restore u v) ≡ restores past u v l
-  unfolding step
+  restore_step : (l : LinkState) → link u v past ≡ l → does rules net past (Restore u v) ≡ restores past u v l
+  unfolding does
   restore_step l is = ap (restores past u v) is
 
   -- a link that is up fails
-  pub fails_up : (l : LinkState) → link u v past ≡ l → is_up l ≡ true → step rules net past (Fail u v) ≡ Goes (fact.Fail u v ∷ past)
+  pub fails_up : (l : LinkState) → link u v past ≡ l → is_up l ≡ true → does rules net past (Fail u v) ≡ Goes (fact.Fail u v ∷ past)
   fails_up (Up s) is up = fail_step (Up s) is
   fails_up (Down s) is up = absurd (cc up)
 
   -- one that is down does not
-  pub fails_down : (l : LinkState) → link u v past ≡ l → is_up l ≡ false → step rules net past (Fail u v) ≡ Idle AlreadyDown
+  pub fails_down : (l : LinkState) → link u v past ≡ l → is_up l ≡ false → does rules net past (Fail u v) ≡ Idle AlreadyDown
   fails_down (Up s) is up = absurd (cc up)
   fails_down (Down s) is up = fail_step (Down s) is
 
   -- a link that is up is not restored
-  pub restores_up : (l : LinkState) → link u v past ≡ l → is_up l ≡ true → step rules net past (Restore u v) ≡ Idle AlreadyUp
+  pub restores_up : (l : LinkState) → link u v past ≡ l → is_up l ≡ true → does rules net past (Restore u v) ≡ Idle AlreadyUp
   restores_up (Up s) is up = restore_step (Up s) is
   restores_up (Down s) is up = absurd (cc up)
 
   -- one that is down is
-  pub restores_down : (l : LinkState) → link u v past ≡ l → is_up l ≡ false → step rules net past (Restore u v) ≡ Goes (fact.Restore u v ∷ past)
+  pub restores_down : (l : LinkState) → link u v past ≡ l → is_up l ≡ false → does rules net past (Restore u v) ≡ Goes (fact.Restore u v ∷ past)
   restores_down (Up s) is up = absurd (cc up)
   restores_down (Down s) is up = restore_step (Down s) is
 
 -- what a delivery does, by what it reads
 module _ (rules : Rules) (net : Net) (past : Chronicle) (v u : ℕ) where
   -- a delivery, by what it reads
-  deliver_step : (l : LinkState) (items : List Item) → link v u past ≡ l → channel v u past ≡ items → step rules net past (Deliver v u) ≡ delivered (given rules net past u) v l items
-  unfolding step
+  deliver_step : (l : LinkState) (items : List Item) → link v u past ≡ l → channel v u past ≡ items → does rules net past (Deliver v u) ≡ delivered (given rules net past u) v l items
+  unfolding does
   deliver_step l items is front = ap₂ (delivered (given rules net past u) v) is front
 
   -- the item in front arrives
-  pub deliver_front : (s : ℕ) (x : Item) (rest : List Item) → link v u past ≡ Up s → channel v u past ≡ x ∷ rest → step rules net past (Deliver v u) ≡ given rules net past u (input.Arrive v s x)
+  pub deliver_front : (s : ℕ) (x : Item) (rest : List Item) → link v u past ≡ Up s → channel v u past ≡ x ∷ rest → does rules net past (Deliver v u) ≡ given rules net past u (input.Arrive v s x)
   deliver_front s x rest is front = deliver_step (Up s) (x ∷ rest) is front
 
   -- an item of another session is declined
@@ -136,7 +170,7 @@ module _ (rules : Rules) (net : Net) (past : Chronicle) (v u : ℕ) where
 
   -- why a delivery does nothing, and that the way does not wait
   abbrev pub Rests : Reason → Type 0
-  Rests why = (step rules net past (Deliver v u) ≡ Idle why) × (arrives past v u ≡ false)
+  Rests why = (does rules net past (Deliver v u) ≡ Idle why) × (may_arrive (link v u past) (channel v u past) (held_with u v past) ≡ false)
 
   -- the link is down
   pub rests_down : (s : ℕ) → link v u past ≡ Down s → Rests LinkDown
@@ -178,12 +212,16 @@ pub run-none : (rules : Rules) (net : Net) → run rules net [] ≡ []
 unfolding run
 run-none rules net = refl
 
+-- something may arrive over the way, where its receiver runs
+abbrev pub may : Chronicle → ℕ → ℕ → Bool
+may past v u = may_arrive (link v u past) (channel v u past) (held_with u v past)
+
 -- a way over which something may arrive
-arrives_so : (past : Chronicle) (v u s : ℕ) (x : Item) (rest : List Item) → link v u past ≡ Up s → channel v u past ≡ x ∷ rest → held_with u v past ≡ Some s → arrives past v u ≡ true
+arrives_so : (past : Chronicle) (v u s : ℕ) (x : Item) (rest : List Item) → link v u past ≡ Up s → channel v u past ≡ x ∷ rest → held_with u v past ≡ Some s → may past v u ≡ true
 arrives_so past v u s x rest is front holds =
     ap₂ (λ l items. may_arrive l items (held_with u v past)) is front ∙ (ap (λ o. is_session o s) holds ∙ same_number s)
 
--- a delivery would not be idle exactly where something may arrive
-pub waits_where : (past : Chronicle) (v u : ℕ) (r : Result ℕ Reason) (P : Reason → Type 0) → IfOk r (λ s. MayArrive past v u s) → IfErr r (λ why. P why × (arrives past v u ≡ false)) → is_ok r ≡ arrives past v u
+-- there is a session for it exactly where something may arrive
+pub waits_where : (past : Chronicle) (v u : ℕ) (r : Result ℕ Reason) (P : Reason → Type 0) → IfOk r (λ s. MayArrive past v u s) → IfErr r (λ why. P why × (may past v u ≡ false)) → is_ok r ≡ may past v u
 waits_where past v u (Ok s) P may rests = sym (arrives_so past v u s may.front.0 may.front.1 may.up may.front.2 may.held)
 waits_where past v u (Err why) P may rests = sym rests.1

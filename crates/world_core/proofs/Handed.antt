@@ -13,31 +13,31 @@ use Rattle.chronicle.specs.Channels.{channel}
 use Rattle.chronicle.specs.Facts.{Chronicle, Took}
 use Rattle.chronicle.specs.Inputs.{Input, Originate, Withdraw, Prefer, Arrive, Notice, OpenSession, Snap}
 use Rattle.chronicle.specs.Links.{link}
-use Rattle.chronicle.specs.Run.{given, held_with, is_carried, step}
+use Rattle.chronicle.specs.Run.{does, given, held_with, is_carried}
 use Rattle.world_core.specs.declared.network.Network.{Network}
 use Rattle.world_core.specs.declared.outcomes.Outcome.{Outcome}
 use Rattle.world_core.specs.declared.outcomes.Stop.{Stop}
 use Rattle.world_core.specs.Fits.{fits}
 use Rattle.world_core.specs.Happening.{Comes, IsRegular, MayArrive, MayHand}
 use Rattle.world_core.specs.Limits.{above_by, StopsAt}
-use Rattle.world_core.specs.Matching.{AreLinks, AreNodes, IsCounted, Stands}
+use Rattle.world_core.specs.Matching.{AreCrashed, AreLinks, AreNodes, IsCounted, Stands}
 use Rattle.world_core.proofs.Comes.{arrival_goes, comes_so, deliver_front, front_placed, notice_over, open_step}
 
 -- u may be handed the input, and what it then does is what the event does
 pub record Hands {P : Type 0} (rules : Rules) (past : Chronicle) (event : Event) (u : ℕ) (i : Input) (network : Network P) : Type 0 where
   pub may : MayHand rules past u i network
-  pub same : step rules network.topology.value past event ≡ given rules network.topology.value past u i
+  pub same : does rules network.topology.value past event ≡ given rules network.topology.value past u i
 
 -- so what comes of the one comes of the other
 pub comes_by : {P : Type 0} (rules : Rules) (past : Chronicle) (event : Event) (u : ℕ) (i : Input) (network new : Network P) (outcome : Outcome) → Hands rules past event u i network
-    → (MayHand rules past u i network → Comes rules past (given rules network.topology.value past u i) new outcome) → Comes rules past (step rules network.topology.value past event) new outcome
+    → (MayHand rules past u i network → Comes rules past (given rules network.topology.value past u i) new outcome) → Comes rules past (does rules network.topology.value past event) new outcome
 comes_by rules past event u i network new outcome hands comes =
-    comes_so rules past (step rules network.topology.value past event) (given rules network.topology.value past u i) new outcome hands.same (comes hands.may)
+    comes_so rules past (does rules network.topology.value past event) (given rules network.topology.value past u i) new outcome hands.same (comes hands.may)
 
 -- so of a stop
 pub stops_by : {P : Type 0} (rules : Rules) (past : Chronicle) (event : Event) (u : ℕ) (i : Input) (network : Network P) (why : Stop) → Hands rules past event u i network
     → (MayHand rules past u i network → StopsAt (above_by rules network.topology.value (given rules network.topology.value past u i)) why)
-    → StopsAt (above_by rules network.topology.value (step rules network.topology.value past event)) why
+    → StopsAt (above_by rules network.topology.value (does rules network.topology.value past event)) why
 stops_by rules past event u i network why hands stops =
     subst (λ s. StopsAt (above_by rules network.topology.value s) why) (sym hands.same) (stops hands.may)
 
@@ -56,10 +56,11 @@ near_of net u v valid e = neighbours_linked net u v valid ∙ e
 module _ {P : Type 0} (rules : Rules) (past : Chronicle) (network : Network P) (was : Stands rules past network) where
   -- an origination
   pub originates : (u p : ℕ) → IsTrue (fits network.topology.value (event.Originate u p)) → Hands rules past (event.Originate u p) u (Originate p) network
-  unfolding step
+  unfolding does
   originates u p fit = record {
     may = record {
       are_nodes = was.are_nodes;
+      are_crashed = was.are_crashed;
       are_links = was.are_links;
       counted = was.counted;
       may_come = is_below p (length network.topology.value.prefixes) (both_of (has network.topology.value.nodes u) (nat_lt p (length network.topology.value.prefixes)) fit).1;
@@ -70,10 +71,11 @@ module _ {P : Type 0} (rules : Rules) (past : Chronicle) (network : Network P) (
 
   -- a withdrawal
   pub withdraws : (u p : ℕ) → IsTrue (fits network.topology.value (event.Withdraw u p)) → Hands rules past (event.Withdraw u p) u (Withdraw p) network
-  unfolding step
+  unfolding does
   withdraws u p fit = record {
     may = record {
       are_nodes = was.are_nodes;
+      are_crashed = was.are_crashed;
       are_links = was.are_links;
       counted = was.counted;
       may_come = is_below p (length network.topology.value.prefixes) (both_of (has network.topology.value.nodes u) (nat_lt p (length network.topology.value.prefixes)) fit).1;
@@ -84,10 +86,11 @@ module _ {P : Type 0} (rules : Rules) (past : Chronicle) (network : Network P) (
 
   -- a preference
   pub prefers : (u v value : ℕ) → linked network.topology.value u v ≡ true → Hands rules past (event.Prefer u v value) u (Prefer v value) network
-  unfolding step
+  unfolding does
   prefers u v value near = record {
     may = record {
       are_nodes = was.are_nodes;
+      are_crashed = was.are_crashed;
       are_links = was.are_links;
       counted = was.counted;
       may_come = near_of network.topology.value u v was.are_nodes.valid near;
@@ -98,9 +101,9 @@ module _ {P : Type 0} (rules : Rules) (past : Chronicle) (network : Network P) (
 
   -- a snapshot
   pub snaps : (u : ℕ) → Hands rules past (event.Snap u) u Snap network
-  unfolding step
+  unfolding does
   snaps u = record {
-    may = record { are_nodes = was.are_nodes; are_links = was.are_links; counted = was.counted; may_come = tt; goes = tt };
+    may = record { are_nodes = was.are_nodes; are_crashed = was.are_crashed; are_links = was.are_links; counted = was.counted; may_come = tt; goes = tt };
     same = refl;
   }
 
@@ -109,6 +112,7 @@ module _ {P : Type 0} (rules : Rules) (past : Chronicle) (network : Network P) (
   notices u v near over = record {
     may = record {
       are_nodes = was.are_nodes;
+      are_crashed = was.are_crashed;
       are_links = was.are_links;
       counted = was.counted;
       may_come = near_of network.topology.value u v was.are_nodes.valid near;
@@ -122,6 +126,7 @@ module _ {P : Type 0} (rules : Rules) (past : Chronicle) (network : Network P) (
   opens u v s near none is = record {
     may = record {
       are_nodes = was.are_nodes;
+      are_crashed = was.are_crashed;
       are_links = was.are_links;
       counted = was.counted;
       may_come = near_of network.topology.value u v was.are_nodes.valid near;
@@ -132,13 +137,14 @@ module _ {P : Type 0} (rules : Rules) (past : Chronicle) (network : Network P) (
 
 -- an item that is taken from its way arrives
 pub delivers : {P : Type 0} (rules : Rules) (past : Chronicle) (network : Network P) (v u s : ℕ) (x : Item) (rest : List Item) → AreNodes network.policy rules network.topology.value past network.nodes.items
-    → IsCounted network.topology.value past network.triggers → IsRegular network.topology.value past → linked network.topology.value v u ≡ true → MayArrive past v u s → channel v u past ≡ x ∷ rest
+    → AreCrashed network.topology.value past network.crashed.items → IsCounted network.topology.value past network.triggers → IsRegular network.topology.value past → linked network.topology.value v u ≡ true → MayArrive past v u s → channel v u past ≡ x ∷ rest
     → AreLinks network.topology.value (Took v u s x ∷ past) network.links → Hands rules past (event.Deliver v u) u (Arrive v s x) network
-delivers rules past network v u s x rest nodes counted regular near arrives front links =
+delivers rules past network v u s x rest nodes flags counted regular near arrives front links =
     let net = network.topology.value in
     record {
       may = record {
         are_nodes = nodes;
+        are_crashed = flags;
         are_links = links;
         counted = counted;
         may_come = (near_of net u v nodes.valid (linked_sym net u v ∙ near), front_placed net past v u x rest (regular.fronts v u) front, regular.heard v u s x rest arrives.up front);

@@ -5,7 +5,7 @@ use Rattle.topology.specs.LinkStates.{carries}
 use Rattle.topology.specs.Net.{Net, linked}
 use Rattle.trigger_log.specs.Going.{Going}
 use Rattle.link_model.specs.declared.links.Links.{Links}
-use Rattle.chronicle.specs.Facts.{Fact, Chronicle, Log, Sent, Took, Fail, Restore, Raise, happen}
+use Rattle.chronicle.specs.Facts.{Fact, Chronicle, Log, Sent, Took, Fail, Restore, Raise, Crash, Restart, happen}
 use Rattle.chronicle.specs.Links.{link}
 use Rattle.chronicle.specs.Logs.{log_of}
 use Rattle.node_core.specs.declared.outputs.Output.{Output as Given}
@@ -35,6 +35,8 @@ shows_one net u past (Sent from to session item queued) told = (Send (record { t
 shows_one net u past (Took from to session item) told = absurd told
 shows_one net u past (Fail a b) told = absurd told
 shows_one net u past (Restore a b) told = absurd told
+shows_one net u past (Crash node) told = absurd told
+shows_one net u past (Restart node) told = absurd told
 shows_one net u past (Raise node e) told = (Cut e, refl)
 
 -- where nothing is shown there is no fact
@@ -119,6 +121,8 @@ sent_is net u past (Log node entry) g told e = absurd (cc e)
 sent_is net u past (Took from to session item) g told e = absurd told
 sent_is net u past (Fail a b) g told e = absurd told
 sent_is net u past (Restore a b) g told e = absurd told
+sent_is net u past (Crash node) g told e = absurd told
+sent_is net u past (Restart node) g told e = absurd told
 sent_is net u past (Raise node epoch) g told e = absurd (cc e)
 sent_is net u past (Sent from to session item queued) g told e =
     let going : Going = record { to = to; session = session; item = item } in

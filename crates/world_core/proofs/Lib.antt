@@ -17,3 +17,5 @@ pub mod Changing
 pub mod Next
 pub mod Lawful
 pub mod Stepped
+mod Steady
+mod Crashing

@@ -86,7 +86,7 @@ other_number : (x y : ℕ) → x ≢ y → (x == y) ≡ false
 other_number x y ne = grind (arith, nat_tests)
 
 -- at another place stands another number
-other_place : (xs : List ℕ) (i j x y : ℕ) → differ xs ≡ true → slice_get xs i ≡ Some x → slice_get xs j ≡ Some y → j ≢ i → (x == y) ≡ false
+pub other_place : (xs : List ℕ) (i j x y : ℕ) → differ xs ≡ true → slice_get xs i ≡ Some x → slice_get xs j ≡ Some y → j ≢ i → (x == y) ≡ false
 other_place xs i j x y d e f ne = other_number x y (λ same. ne (differ_places xs j i x d (f ∙ ap (λ z. Some z) (sym same)) e))
 
 -- a number of the list stands somewhere

@@ -1,8 +1,7 @@
 -- Sets of ways by their numbers.
-use Rattle.std.proofs.Common.{ℕ, zero, suc, ◌<◌, ◌≡◌, Bool, true, false, cond, ◌==◌, Option, Some, None, IfSome, IfNone, List, [], ◌∷◌, ◌++◌, refl, sym, ◌∙◌, ap, subst, arith, true≢false, slice_get, find, map, flat_map, option_map, if◌then◌else◌}
+use Rattle.std.proofs.Common.{ℕ, zero, suc, ◌<◌, ◌≡◌, Bool, true, false, cond, ◌==◌, Option, Some, None, List, [], ◌∷◌, ◌++◌, refl, sym, ◌∙◌, ap, arith, true≢false, slice_get, find, map, flat_map, option_map, if◌then◌else◌}
 use Rattle.std.proofs.lemmas.Bool.Decides.{nat_tests}
 use Rattle.std.proofs.lemmas.List.{map-append}
-use Rattle.std.proofs.lemmas.Option.{slice_get-map}
 use Rattle.topology.specs.Lists.{ascending}
 use Rattle.topology.specs.Net.{Net, IsValid, neighbours}
 use Rattle.link_model.specs.declared.ends.Ends.{Ends}

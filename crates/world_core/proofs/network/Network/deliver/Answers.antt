@@ -35,7 +35,7 @@ returns-clause-comes g c = IfOk-weaker c.give.result _ _
     let front = front_read net past c.args.self.now.links links c.args.from c.args.to c.in-Some.item popped.0 popped.1 in
     let took = taken net past c.args.self.now.links c.pop_front.new.self links c.args.from c.args.to s (item_of c.in-Some.item) popped.2 in
     comes_by rules past (Deliver c.args.from c.args.to) c.args.to (input.Arrive c.args.from s (item_of c.in-Some.item)) _ c.give.new.self r
-    (delivers rules past _ c.args.from c.args.to s (item_of c.in-Some.item) (map item_of popped.0) was.are_nodes was.counted regular c.requires.near (c.in-Ok.ensures.session past was c.requires.near) front took) (h past))
+    (delivers rules past _ c.args.from c.args.to s (item_of c.in-Some.item) (map item_of popped.0) was.are_nodes was.are_crashed was.counted regular c.requires.near (c.in-Ok.ensures.session past was c.requires.near) front took) (h past))
     c.give.ensures.comes
 
 pub returns-clause-stopped : goal.returns-clause-stopped
@@ -49,5 +49,5 @@ returns-clause-stopped g c = IfErr-weaker c.give.result _ _
     let front = front_read net past c.args.self.now.links links c.args.from c.args.to c.in-Some.item popped.0 popped.1 in
     let took = taken net past c.args.self.now.links c.pop_front.new.self links c.args.from c.args.to s (item_of c.in-Some.item) popped.2 in
     stops_by rules past (Deliver c.args.from c.args.to) c.args.to (input.Arrive c.args.from s (item_of c.in-Some.item)) _ why
-    (delivers rules past _ c.args.from c.args.to s (item_of c.in-Some.item) (map item_of popped.0) was.are_nodes was.counted regular c.requires.near (c.in-Ok.ensures.session past was c.requires.near) front took) (h past))
+    (delivers rules past _ c.args.from c.args.to s (item_of c.in-Some.item) (map item_of popped.0) was.are_nodes was.are_crashed was.counted regular c.requires.near (c.in-Ok.ensures.session past was c.requires.near) front took) (h past))
     c.give.ensures.stopped

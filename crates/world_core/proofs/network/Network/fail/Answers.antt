@@ -8,6 +8,7 @@ use Rattle.world_core.specs.Matching.{AreLinks}
 use Rattle.world_core.proofs.Carried.{failed_link}
 use Rattle.world_core.proofs.Comes.{did, idle, fail_counted, fails_up, fails_down}
 use Rattle.world_core.proofs.Nodes.{same_nodes}
+use Rattle.world_core.proofs.Steady.{steady_flags}
 use Rattle.world_core.proofs.network.Network.fail.Goals as goal
 
 pub returns-then-not-fail-clause-comes : goal.returns-then-not-fail-clause-comes
@@ -21,7 +22,7 @@ returns-then-not-fail-clause-comes g c past was =
     let same = c.fail.ensures.unchanged c.if-not-fail.true in
     idle rules past _ _ AlreadyDown
     (fails_down rules net past a b (link a b past) refl (subst (λ l. is_up l ≡ false) (links.states a b) (sym told.0 ∙ c.if-not-fail.true)))
-    (record { are_nodes = was.are_nodes; are_links = subst (AreLinks net past) (sym same) links; counted = was.counted })
+    (record { are_nodes = was.are_nodes; are_crashed = was.are_crashed; are_links = subst (AreLinks net past) (sym same) links; counted = was.counted })
 
 pub returns-clause-comes : goal.returns-clause-comes
 returns-clause-comes g c past was =
@@ -36,6 +37,7 @@ returns-clause-comes g c past was =
     (fails_up rules net past a b (link a b past) refl (subst (λ l. is_up l ≡ true) (links.states a b) (sym told.0 ∙ c.if-not-fail.false)))
     (record {
       are_nodes = same_nodes policy rules net past c.args.self.now.nodes.items was.are_nodes (fact.Fail a b ∷ past) (λ v. same_by_fact v (fact.Fail a b) past tt);
+      are_crashed = steady_flags net past (fact.Fail a b ∷ past) c.args.self.now.crashed.items (λ v. refl) was.are_crashed;
       are_links = failed_link net past c.args.self.now.links c.fail.new.self links a b told.1;
       counted = fail_counted net past a b c.args.self.now.triggers was.counted;
     })

@@ -9,6 +9,7 @@ use Rattle.world_core.proofs.Near.{is_ranked}
 use Rattle.world_core.proofs.Nodes.{inside_places, all_within, node_at}
 use Rattle.world_core.proofs.Stopping.{handed_on, stops_with, stops_at_triggers}
 use Rattle.world_core.proofs.Answered.{given_sent, given_tells, idle_links, idle_counted, idle_tells, logs, others_same, what, new_stands, new_answers, nodes_given, total_given}
+use Rattle.world_core.proofs.Steady.{given_flags}
 use Rattle.world_core.proofs.Telling.{give_adds}
 use Rattle.world_core.proofs.network.Network.give.Goals as goal
 
@@ -63,6 +64,7 @@ returns-in-Idle-clause-comes g c past may =
     record {
       stands = record {
         are_nodes = nodes_given policy g.P.Policy.rules net past u i c.args.self.now.nodes.items c.turn.new.nodes.items c.unwrap-rank.result turned.0 turned.1 c.in-Ok.outputs may.are_nodes at may.may_come turned.2 turned.4 turned.3;
+        are_crashed = given_flags (g.P.Policy.rules policy) net past u (input_of i) c.args.self.now.crashed.items may.are_crashed;
         are_links = idle_links net past u (input_of i) s c.in-Idle.reason c.args.self.now.links answers may.goes may.are_links;
         counted = idle_counted net past s c.in-Idle.reason c.args.self.now.triggers answers may.counted;
       };
@@ -130,6 +132,7 @@ returns-clause-comes g c past may =
     record {
       stands = record {
         are_nodes = now;
+        are_crashed = given_flags (g.P.Policy.rules policy) net past u (input_of i) c.args.self.now.crashed.items may.are_crashed;
         are_links = sent.are_links;
         counted = record { total = counted.0 ∙ sum; few = counted.1 };
       };

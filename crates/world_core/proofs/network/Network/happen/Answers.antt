@@ -1,100 +1,29 @@
-use Rattle.std.proofs.Common.{nat_lt, length}
-use Rattle.std.specs.Prelude.{nat_le}
+use Rattle.std.proofs.Common.{◌∙◌, sym, subst}
 use Rattle.std.proofs.lemmas.Result.{IfOk-weaker, IfErr-weaker}
-use Rattle.topology.specs.Lists.{has}
-use Rattle.topology.specs.Net.{linked}
-use Rattle.chronicle.specs.Inputs as input
-use Rattle.chronicle.specs.declared.events.Event.TheVariants.{Originate, Withdraw, Snap}
-use Rattle.world_core.proofs.Handed.{both_of, comes_by, stops_by, originates, withdraws, snaps}
+use Rattle.topology.specs.declared.status.Reason.TheVariants.{Crashed}
+use Rattle.world_core.specs.Limits.{above_by, StopsAt}
+use Rattle.world_core.proofs.Comes.{comes_so, idle}
+use Rattle.world_core.proofs.Crashing.{step_runs, step_stopped}
 use Rattle.world_core.proofs.network.Network.happen.Goals as goal
 
-pub give-requires-clause-node : goal.give-requires-clause-node
-give-requires-clause-node g c =
+pub returns-then-is_stopped-clause-comes : goal.returns-then-is_stopped-clause-comes
+returns-then-is_stopped-clause-comes g c past was regular =
+    let rules = g.P.Policy.rules c.args.self.now.policy in
     let net = c.args.self.now.topology.value in
-    (both_of (has net.nodes c.in-Originate.node) (nat_lt c.in-Originate.prefix (length net.prefixes)) (rw c.in-Originate.is at c.requires.fits)).0
+    idle rules past _ _ Crashed (step_stopped rules net past c.args.event.now (sym (c.is_stopped.ensures past was c.requires.fits) ∙ c.if-is_stopped.true)) was
 
-pub give-requires-in-Withdraw-clause-node : goal.give-requires-in-Withdraw-clause-node
-give-requires-in-Withdraw-clause-node g c =
+pub returns-clause-comes : goal.returns-clause-comes
+returns-clause-comes g c = IfOk-weaker c.act.result _ _
+    (λ r h past was regular.
+    let rules = g.P.Policy.rules c.args.self.now.policy in
     let net = c.args.self.now.topology.value in
-    (both_of (has net.nodes c.in-Withdraw.node) (nat_lt c.in-Withdraw.prefix (length net.prefixes)) (rw c.in-Withdraw.is at c.requires.fits)).0
+    comes_so rules past _ _ c.act.new.self r (step_runs rules net past c.args.event.now (sym (c.is_stopped.ensures past was c.requires.fits) ∙ c.if-is_stopped.false)) (h past was regular))
+    c.act.ensures.comes
 
-pub prefer-requires-clause-near : goal.prefer-requires-clause-near
-prefer-requires-clause-near g c =
+pub returns-clause-stopped : goal.returns-clause-stopped
+returns-clause-stopped g c = IfErr-weaker c.act.result _ _
+    (λ why h past was regular.
+    let rules = g.P.Policy.rules c.args.self.now.policy in
     let net = c.args.self.now.topology.value in
-    (both_of (linked net c.in-Prefer.node c.in-Prefer.nbr) (nat_le c.in-Prefer.value 1000000) (rw c.in-Prefer.is at c.requires.fits)).0
-
-pub returns-in-Originate-clause-comes : goal.returns-in-Originate-clause-comes
-returns-in-Originate-clause-comes g c = IfOk-weaker c.give.result _ _
-    (λ r h past was regular. rw c.in-Originate.is (comes_by (g.P.Policy.rules c.args.self.now.policy) past (Originate c.in-Originate.node c.in-Originate.prefix) c.in-Originate.node (input.Originate c.in-Originate.prefix) c.args.self.now c.give.new.self r (originates (g.P.Policy.rules c.args.self.now.policy) past c.args.self.now was c.in-Originate.node c.in-Originate.prefix (rw c.in-Originate.is at c.requires.fits)) (h past)))
-    c.give.ensures.comes
-
-pub returns-in-Originate-clause-stopped : goal.returns-in-Originate-clause-stopped
-returns-in-Originate-clause-stopped g c = IfErr-weaker c.give.result _ _
-    (λ why h past was regular. rw c.in-Originate.is (stops_by (g.P.Policy.rules c.args.self.now.policy) past (Originate c.in-Originate.node c.in-Originate.prefix) c.in-Originate.node (input.Originate c.in-Originate.prefix) c.args.self.now why (originates (g.P.Policy.rules c.args.self.now.policy) past c.args.self.now was c.in-Originate.node c.in-Originate.prefix (rw c.in-Originate.is at c.requires.fits)) (h past)))
-    c.give.ensures.stopped
-
-pub returns-in-Withdraw-clause-comes : goal.returns-in-Withdraw-clause-comes
-returns-in-Withdraw-clause-comes g c = IfOk-weaker c.give-in-Withdraw.result _ _
-    (λ r h past was regular. rw c.in-Withdraw.is (comes_by (g.P.Policy.rules c.args.self.now.policy) past (Withdraw c.in-Withdraw.node c.in-Withdraw.prefix) c.in-Withdraw.node (input.Withdraw c.in-Withdraw.prefix) c.args.self.now c.give-in-Withdraw.new.self r (withdraws (g.P.Policy.rules c.args.self.now.policy) past c.args.self.now was c.in-Withdraw.node c.in-Withdraw.prefix (rw c.in-Withdraw.is at c.requires.fits)) (h past)))
-    c.give-in-Withdraw.ensures.comes
-
-pub returns-in-Withdraw-clause-stopped : goal.returns-in-Withdraw-clause-stopped
-returns-in-Withdraw-clause-stopped g c = IfErr-weaker c.give-in-Withdraw.result _ _
-    (λ why h past was regular. rw c.in-Withdraw.is (stops_by (g.P.Policy.rules c.args.self.now.policy) past (Withdraw c.in-Withdraw.node c.in-Withdraw.prefix) c.in-Withdraw.node (input.Withdraw c.in-Withdraw.prefix) c.args.self.now why (withdraws (g.P.Policy.rules c.args.self.now.policy) past c.args.self.now was c.in-Withdraw.node c.in-Withdraw.prefix (rw c.in-Withdraw.is at c.requires.fits)) (h past)))
-    c.give-in-Withdraw.ensures.stopped
-
-pub returns-in-Snap-clause-comes : goal.returns-in-Snap-clause-comes
-returns-in-Snap-clause-comes g c = IfOk-weaker c.give-in-Snap.result _ _
-    (λ r h past was regular. rw c.in-Snap.is (comes_by (g.P.Policy.rules c.args.self.now.policy) past (Snap c.in-Snap.node) c.in-Snap.node input.Snap c.args.self.now c.give-in-Snap.new.self r (snaps (g.P.Policy.rules c.args.self.now.policy) past c.args.self.now was c.in-Snap.node) (h past)))
-    c.give-in-Snap.ensures.comes
-
-pub returns-in-Snap-clause-stopped : goal.returns-in-Snap-clause-stopped
-returns-in-Snap-clause-stopped g c = IfErr-weaker c.give-in-Snap.result _ _
-    (λ why h past was regular. rw c.in-Snap.is (stops_by (g.P.Policy.rules c.args.self.now.policy) past (Snap c.in-Snap.node) c.in-Snap.node input.Snap c.args.self.now why (snaps (g.P.Policy.rules c.args.self.now.policy) past c.args.self.now was c.in-Snap.node) (h past)))
-    c.give-in-Snap.ensures.stopped
-
-pub returns-in-Prefer-clause-comes : goal.returns-in-Prefer-clause-comes
-returns-in-Prefer-clause-comes g c = IfOk-weaker c.prefer.result _ _
-    (λ r h past was regular. rw c.in-Prefer.is (h past was regular))
-    c.prefer.ensures.comes
-
-pub returns-in-Prefer-clause-stopped : goal.returns-in-Prefer-clause-stopped
-returns-in-Prefer-clause-stopped g c = IfErr-weaker c.prefer.result _ _
-    (λ why h past was regular. rw c.in-Prefer.is (h past was regular))
-    c.prefer.ensures.stopped
-
-pub returns-in-Deliver-clause-comes : goal.returns-in-Deliver-clause-comes
-returns-in-Deliver-clause-comes g c = IfOk-weaker c.deliver.result _ _
-    (λ r h past was regular. rw c.in-Deliver.is (h past was regular))
-    c.deliver.ensures.comes
-
-pub returns-in-Deliver-clause-stopped : goal.returns-in-Deliver-clause-stopped
-returns-in-Deliver-clause-stopped g c = IfErr-weaker c.deliver.result _ _
-    (λ why h past was regular. rw c.in-Deliver.is (h past was regular))
-    c.deliver.ensures.stopped
-
-pub returns-in-Notice-clause-comes : goal.returns-in-Notice-clause-comes
-returns-in-Notice-clause-comes g c = IfOk-weaker c.notice.result _ _
-    (λ r h past was regular. rw c.in-Notice.is (h past was regular))
-    c.notice.ensures.comes
-
-pub returns-in-Notice-clause-stopped : goal.returns-in-Notice-clause-stopped
-returns-in-Notice-clause-stopped g c = IfErr-weaker c.notice.result _ _
-    (λ why h past was regular. rw c.in-Notice.is (h past was regular))
-    c.notice.ensures.stopped
-
-pub returns-in-OpenSession-clause-comes : goal.returns-in-OpenSession-clause-comes
-returns-in-OpenSession-clause-comes g c = IfOk-weaker c.open_session.result _ _
-    (λ r h past was regular. rw c.in-OpenSession.is (h past was regular))
-    c.open_session.ensures.comes
-
-pub returns-in-OpenSession-clause-stopped : goal.returns-in-OpenSession-clause-stopped
-returns-in-OpenSession-clause-stopped g c = IfErr-weaker c.open_session.result _ _
-    (λ why h past was regular. rw c.in-OpenSession.is (h past was regular))
-    c.open_session.ensures.stopped
-
-pub returns-in-Fail-clause-comes : goal.returns-in-Fail-clause-comes
-returns-in-Fail-clause-comes g c past was regular = rw c.in-Fail.is (c.fail.ensures.comes past was)
-
-pub returns-in-Restore-clause-comes : goal.returns-in-Restore-clause-comes
-returns-in-Restore-clause-comes g c past was regular = rw c.in-Restore.is (c.restore.ensures.comes past was regular)
+    subst (λ s. StopsAt (above_by rules net s) why) (sym (step_runs rules net past c.args.event.now (sym (c.is_stopped.ensures past was c.requires.fits) ∙ c.if-is_stopped.false))) (h past was regular))
+    c.act.ensures.stopped

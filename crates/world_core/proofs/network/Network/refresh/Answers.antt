@@ -1,5 +1,6 @@
 use Rattle.world_core.specs.WaySets.{has_way}
-use Rattle.world_core.specs.Refreshing.{queued_ways}
+use Rattle.std.proofs.Common.{◌++◌}
+use Rattle.world_core.specs.Refreshing.{link_ways, queued_ways}
 use Rattle.chronicle.specs.Run.{after}
 use Rattle.world_core.proofs.Changing.{stale, still, all_known}
 use Rattle.world_core.proofs.network.Network.refresh.Goals as goal
@@ -16,7 +17,8 @@ returns g c past comes was =
     let rules = g.P.Policy.rules c.args.self.now.policy in
     let net = c.args.self.now.topology.value in
     let now = after rules net past c.args.event.now in
-    let start = stale net past (has_way c.args.self.now.topology.value c.args.waiting.now) was rules c.args.event.now c.in-Did.effects c.requires (rw c.in-Did.is at comes.tells) in
-    let mid = c.look_at_link.ensures now (queued_ways c.in-Did.effects) comes.stands start in
+    let start = stale net past (has_way c.args.self.now.topology.value c.args.waiting.now) was rules c.args.event.now c.in-Did.effects comes.stands.are_nodes.valid c.requires (rw c.in-Did.is at comes.tells) in
+    let turned = c.look_at_turned.ensures now (link_ways c.args.event.now ++ queued_ways c.in-Did.effects) comes.stands start in
+    let mid = c.look_at_link.ensures now (queued_ways c.in-Did.effects) comes.stands turned in
     all_known net now (has_way c.args.self.now.topology.value c.look_at_effects.new.waiting)
     (c.look_at_effects.ensures now comes.stands (rw c.as_slice.ensures mid))

@@ -8,6 +8,7 @@ use Rattle.world_core.specs.Matching.{AreLinks}
 use Rattle.world_core.proofs.Carried.{restored_link}
 use Rattle.world_core.proofs.Comes.{did, idle, restore_counted, restores_up, restores_down}
 use Rattle.world_core.proofs.Nodes.{same_nodes}
+use Rattle.world_core.proofs.Steady.{steady_flags}
 use Rattle.world_core.proofs.network.Network.restore.Goals as goal
 
 pub returns-then-not-restore-clause-comes : goal.returns-then-not-restore-clause-comes
@@ -22,7 +23,7 @@ returns-then-not-restore-clause-comes g c past was regular =
     let same = c.restore.ensures.unchanged c.if-not-restore.true in
     idle rules past _ _ AlreadyUp
     (restores_up rules net past a b (link a b past) refl (subst (λ l. is_up l ≡ true) (links.states a b) (told.0 ∙ ap not c.if-not-restore.true)))
-    (record { are_nodes = was.are_nodes; are_links = subst (AreLinks net past) (sym same) links; counted = was.counted })
+    (record { are_nodes = was.are_nodes; are_crashed = was.are_crashed; are_links = subst (AreLinks net past) (sym same) links; counted = was.counted })
 
 pub returns-clause-comes : goal.returns-clause-comes
 returns-clause-comes g c past was regular =
@@ -38,6 +39,7 @@ returns-clause-comes g c past was regular =
     (restores_down rules net past a b (link a b past) refl (subst (λ l. is_up l ≡ false) (links.states a b) (told.0 ∙ ap not c.if-not-restore.false)))
     (record {
       are_nodes = same_nodes policy rules net past c.args.self.now.nodes.items was.are_nodes (fact.Restore a b ∷ past) (λ v. same_by_fact v (fact.Restore a b) past tt);
+      are_crashed = steady_flags net past (fact.Restore a b ∷ past) c.args.self.now.crashed.items (λ v. refl) was.are_crashed;
       are_links = restored_link net past c.args.self.now.links c.restore.new.self links a b told.1;
       counted = restore_counted net past a b c.args.self.now.triggers was.counted;
     })

@@ -1,5 +1,5 @@
-use Rattle.std.proofs.Common.{◌<◌, ◌^◌, rules, arith, ap, length, get_or, slice_index_or}
-use Rattle.world_core.proofs.Bits.{lowest, clear_more, clear_all}
+use Rattle.std.proofs.Common.{◌<◌, ◌^◌, rules, arith, ap, length, get_or}
+use Rattle.world_core.proofs.Bits.{lowest, clear_all}
 use Rattle.world_core.proofs.waiting.Waiting.first.Goals as goal
 
 pub returns-then-word-ne0-clause-some : goal.returns-then-word-ne0-clause-some

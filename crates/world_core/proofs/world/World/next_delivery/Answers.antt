@@ -1,6 +1,5 @@
 use Rattle.std.proofs.Common.{None, Some, sym, ◌∙◌, ap}
 use Rattle.std.specs.Prelude.{option_map}
-use Rattle.link_model.specs.Tables.{ways_of}
 use Rattle.chronicle.specs.declared.ways.Way.{Way}
 use Rattle.chronicle.specs.Run.{run}
 use Rattle.world_core.specs.Refreshing.{way}

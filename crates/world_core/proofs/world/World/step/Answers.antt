@@ -27,6 +27,9 @@ happen-requires-clause-places g c =
     let net = network.topology.value in
     places_of network.policy rules net (run rules net c.self.inside.events.items) network.nodes.items c.self.invariant.0.are_nodes
 
+pub happen-requires-clause-flags : goal.happen-requires-clause-flags
+happen-requires-clause-flags g c = record { valid = c.self.invariant.0.are_nodes.valid; count_is = c.self.invariant.0.are_crashed.flag_count }
+
 pub returns-in_err-outcome-clause-stopped : goal.returns-in_err-outcome-clause-stopped
 returns-in_err-outcome-clause-stopped g c =
     let network = c.self.inside.network in

@@ -1,0 +1,15 @@
+use Rattle.std.proofs.Common.{◌∷◌, refl}
+use Rattle.chronicle.specs.Facts as fact
+use Rattle.world_core.proofs.Comes.{crash_step, did}
+use Rattle.world_core.proofs.Crashing.{crash_stands}
+use Rattle.world_core.proofs.network.Network.crash.Goals as goal
+
+pub returns-clause-comes : goal.returns-clause-comes
+returns-clause-comes g c past was =
+    let rules = g.P.Policy.rules c.args.self.now.policy in
+    let net = c.args.self.now.topology.value in
+    let u = c.args.node in
+    let set = c.set_crashed.ensures in
+    did rules past _ (fact.Crash u ∷ past) _ _ (crash_step rules net past u)
+    (crash_stands rules past u c.args.self.now c.set_crashed.new.self set.others set.kept was (set.flags past (fact.Crash u ∷ past) was.are_crashed (λ v. refl)))
+    (rw (c.new-unseen.ensures, c.new.ensures.items) refl)
