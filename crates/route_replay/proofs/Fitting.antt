@@ -12,7 +12,7 @@ use Rattle.schedule_file.specs.declared.lines.Directive.{Directive}
 use Rattle.schedule_file.specs.declared.lines.Instruction.{Instruction}
 use Rattle.schedule_file.specs.declared.lines.Instruction.TheVariants.{Origin, Single, Pair, Prefer, Drain, Show, ShowEpoch}
 use Rattle.schedule_file.specs.declared.table.OriginEvent.TheVariants.{Originate, Withdraw}
-use Rattle.schedule_file.specs.declared.table.NodeEvent.TheVariants.{Snap}
+use Rattle.schedule_file.specs.declared.table.NodeEvent.TheVariants.{Snap, Crash, Restart}
 use Rattle.schedule_file.specs.declared.table.PairEvent.TheVariants.{Deliver, Fail, Restore, Notice, Open}
 use Rattle.schedule_file.specs.declared.table.PlainView.TheVariants.{Rib, Log}
 use Rattle.schedule_file.specs.declared.table.EpochView.TheVariants.{Cut, Closure}
@@ -77,6 +77,8 @@ module _ (net : Net) where
   instruction_fits (Origin Originate node p) r fine = origin_fits node p fine
   instruction_fits (Origin Withdraw node p) r fine = origin_fits node p fine
   instruction_fits (Single Snap node) r fine = node_named (has net.nodes node) fine
+  instruction_fits (Single Crash node) r fine = node_named (has net.nodes node) fine
+  instruction_fits (Single Restart node) r fine = node_named (has net.nodes node) fine
   instruction_fits (Pair Deliver a b) r fine = joined a b fine
   instruction_fits (Pair Fail a b) r fine = joined a b fine
   instruction_fits (Pair Restore a b) r fine = joined a b fine

@@ -2,9 +2,10 @@
 use Rattle.std.specs.Prelude.{ℕ, List, ◌++◌, codes}
 use Rattle.std.specs.Fmt.{decimal}
 use Rattle.topology.specs.declared.status.Reason.{Reason}
-use Rattle.topology.specs.declared.status.Reason.TheVariants.{AlreadyOrigin, NotOrigin, LinkDown, EmptyChannel, WrongSession, AlreadyDown, AlreadyUp, NotOpen, StillUp, AlreadyOpen, WrongSeq, OldSession, NotConsolidator, Decided, NoReport, Duplicate, Promised, StaleBallot, NoRound}
+use Rattle.topology.specs.declared.status.Reason.TheVariants.{Crashed, AlreadyOrigin, NotOrigin, LinkDown, EmptyChannel, WrongSession, AlreadyDown, AlreadyUp, NotOpen, StillUp, AlreadyOpen, WrongSeq, OldSession, NotConsolidator, Decided, NoReport, Duplicate, Promised, StaleBallot, NoRound, NotCrashed}
 
 abbrev pub reason_words : Reason → List ℕ
+reason_words Crashed = codes "crashed"
 reason_words AlreadyOrigin = codes "already origin"
 reason_words NotOrigin = codes "not origin"
 reason_words LinkDown = codes "link down"
@@ -24,3 +25,4 @@ reason_words Duplicate = codes "duplicate"
 reason_words (Promised ballot) = codes "promised " ++ decimal ballot.round ++ codes "/" ++ decimal ballot.node
 reason_words StaleBallot = codes "stale ballot"
 reason_words (NoRound ballot) = codes "no round"
+reason_words NotCrashed = codes "not crashed"

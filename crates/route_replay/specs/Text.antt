@@ -13,7 +13,7 @@ use Rattle.chronicle.specs.Deliveries.{next_delivery}
 use Rattle.node_core.specs.NodeLimits.{Reached}
 use Rattle.world_core.specs.Limits.{limit_of}
 use Rattle.schedule_file.specs.declared.lines.Directive.{Directive}
-use Rattle.schedule_file.specs.declared.lines.Directive.TheVariants.{Originate, Withdraw, Prefer, Deliver, Fail, Restore, Notice, OpenSession, Snap, Drain, ShowRib, ShowLog, ShowCut, ShowClosure}
+use Rattle.schedule_file.specs.declared.lines.Directive.TheVariants.{Originate, Withdraw, Prefer, Deliver, Fail, Restore, Notice, OpenSession, Snap, Crash, Restart, Drain, ShowRib, ShowLog, ShowCut, ShowClosure}
 use Rattle.schedule_file.specs.declared.lines.Numbered.{Numbered}
 use Rattle.route_replay.specs.declared.tasks.Task.{Task}
 use Rattle.route_replay.specs.declared.tasks.Task.TheVariants as task
@@ -71,6 +71,8 @@ task_of (Restore a b) = task.Event (event.Restore a b)
 task_of (Notice node nbr) = task.Event (event.Notice node nbr)
 task_of (OpenSession node nbr) = task.Event (event.OpenSession node nbr)
 task_of (Snap node) = task.Event (event.Snap node)
+task_of (Crash node) = task.Event (event.Crash node)
+task_of (Restart node) = task.Event (event.Restart node)
 task_of (Drain times) = task.Deliveries times
 task_of ShowRib = task.Show Rib
 task_of ShowLog = task.Show Log

@@ -12,6 +12,7 @@ pub fn reason_words(out: &mut String, reason: Reason) -> Result<(), AllocError>
     ensures { OnOk result (string_bytes out.new ≡ string_bytes out.old ++ reason_words reason) }
 {
     match reason {
+        Reason::Crashed => out.push_str("crashed"),
         Reason::AlreadyOrigin => out.push_str("already origin"),
         Reason::NotOrigin => out.push_str("not origin"),
         Reason::LinkDown => out.push_str("link down"),
@@ -36,5 +37,6 @@ pub fn reason_words(out: &mut String, reason: Reason) -> Result<(), AllocError>
         }
         Reason::StaleBallot => out.push_str("stale ballot"),
         Reason::NoRound(_) => out.push_str("no round"),
+        Reason::NotCrashed => out.push_str("not crashed"),
     }
 }

@@ -51,6 +51,8 @@ pub fn task_of(directive: &Directive) -> Task
             nbr: *nbr,
         }),
         Directive::Snap { node } => Task::Event(Event::Snap { node: *node }),
+        Directive::Crash { node } => Task::Event(Event::Crash { node: *node }),
+        Directive::Restart { node } => Task::Event(Event::Restart { node: *node }),
         Directive::Drain { times } => Task::Deliveries(*times),
         Directive::ShowRib => Task::Show(View::Rib),
         Directive::ShowLog => Task::Show(View::Log),

@@ -8,7 +8,7 @@ use Rattle.topology.specs.declared.status.BadKind.TheVariants.{UnknownWord, NotB
 use Rattle.schedule_file.specs.declared.table.Keyword.{Keyword}
 use Rattle.schedule_file.specs.declared.table.Keyword.TheVariants.{Node, Link, Pref, Prefix, Begin, Origin, Single, Pair, Prefer, Drain, Show}
 use Rattle.schedule_file.specs.declared.table.OriginEvent.TheVariants.{Originate}
-use Rattle.schedule_file.specs.declared.table.NodeEvent.TheVariants.{Snap}
+use Rattle.schedule_file.specs.declared.table.NodeEvent.TheVariants.{Snap, Crash, Restart}
 use Rattle.schedule_file.specs.declared.table.PairEvent.TheVariants.{Deliver}
 use Rattle.schedule_file.specs.declared.table.PlainView.TheVariants.{Rib}
 use Rattle.schedule_file.specs.declared.table.EpochView.TheVariants.{Cut, Closure}
@@ -29,6 +29,8 @@ keyword_found Begin = refl
 keyword_found (Origin Originate) = refl
 keyword_found (Origin event) = refl
 keyword_found (Single Snap) = refl
+keyword_found (Single Crash) = refl
+keyword_found (Single Restart) = refl
 keyword_found (Pair Deliver) = refl
 keyword_found (Pair event) = refl
 keyword_found Prefer = refl

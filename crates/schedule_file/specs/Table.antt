@@ -10,7 +10,7 @@ use Rattle.schedule_file.specs.declared.table.Keyword.TheVariants.{Node, Link, P
 use Rattle.schedule_file.specs.declared.table.OriginEvent.{OriginEvent}
 use Rattle.schedule_file.specs.declared.table.OriginEvent.TheVariants.{Originate, Withdraw}
 use Rattle.schedule_file.specs.declared.table.NodeEvent.{NodeEvent}
-use Rattle.schedule_file.specs.declared.table.NodeEvent.TheVariants.{Snap}
+use Rattle.schedule_file.specs.declared.table.NodeEvent.TheVariants.{Snap, Crash, Restart}
 use Rattle.schedule_file.specs.declared.table.PairEvent.{PairEvent}
 use Rattle.schedule_file.specs.declared.table.PairEvent.TheVariants.{Deliver, Fail, Restore, Notice, Open}
 use Rattle.schedule_file.specs.declared.table.PlainView.{PlainView}
@@ -36,10 +36,14 @@ origin_directive Withdraw node prefix = directive.Withdraw node prefix
 -- an event of one node: its word
 abbrev pub node_text : NodeEvent → List ℕ
 node_text Snap = codes "snap"
+node_text Crash = codes "crash"
+node_text Restart = codes "restart"
 
 -- and what it directs
 abbrev pub node_directive : NodeEvent → ℕ → Directive
 node_directive Snap node = directive.Snap node
+node_directive Crash node = directive.Crash node
+node_directive Restart node = directive.Restart node
 
 -- an event of two nodes with a link: its word
 abbrev pub pair_text : PairEvent → List ℕ
@@ -107,7 +111,7 @@ abbrev pub keywords : List Keyword
 keywords =
     Node ∷ Link ∷ Pref ∷ Prefix ∷ Begin
     ∷ Origin Originate ∷ Origin Withdraw
-    ∷ Single Snap
+    ∷ Single Snap ∷ Single Crash ∷ Single Restart
     ∷ Pair Deliver ∷ Pair Fail ∷ Pair Restore ∷ Pair Notice ∷ Pair Open
     ∷ Prefer ∷ Drain ∷ Show ∷ []
 
@@ -118,8 +122,7 @@ keyword_in word = find (λ keyword. bytes_eq word (keyword_text keyword)) keywor
 -- words that begin lines of later versions
 abbrev pub later_words : List (List ℕ)
 later_words =
-    codes "propose" ∷ codes "ctl" ∷ codes "crash" ∷ codes "restart" ∷ codes "hops" ∷ codes "transient" ∷ codes "inject"
-    ∷ codes "hop" ∷ []
+    codes "propose" ∷ codes "ctl" ∷ codes "hops" ∷ codes "transient" ∷ codes "inject" ∷ codes "hop" ∷ []
 
 -- what later versions show
 abbrev pub later_views : List (List ℕ)

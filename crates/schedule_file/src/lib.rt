@@ -24,6 +24,7 @@
 //! | `notice A B` | A closes its session with B, which the link does not carry any more |
 //! | `open A B` | A opens the session that the link with B carries |
 //! | `snap N` | N begins a snapshot |
+//! | `crash N`, `restart N` | N stops, or runs again |
 //! | `show rib`, `show log` | writes the routes, or the logs |
 //! | `show cut E` | writes the cuts of epoch E, 1 to 32 |
 //!

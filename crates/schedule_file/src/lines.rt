@@ -117,6 +117,12 @@ pub enum Directive {
     Snap {
         node: NodeId,
     },
+    Crash {
+        node: NodeId,
+    },
+    Restart {
+        node: NodeId,
+    },
     /// At most so many deliveries, each the next one.
     Drain {
         times: u32,

@@ -31,6 +31,8 @@ pub enum OriginEvent {
 #[derive(Clone, Copy, Debug, PartialEq, Eq)]
 pub enum NodeEvent {
     Snap,
+    Crash,
+    Restart,
 }
 
 /// What happens at the link of two nodes.
@@ -104,6 +106,8 @@ pub fn keyword_named(word: &[u8]) -> Option<Keyword>
         b"originate" => Some(Keyword::Origin(OriginEvent::Originate)),
         b"withdraw" => Some(Keyword::Origin(OriginEvent::Withdraw)),
         b"snap" => Some(Keyword::Single(NodeEvent::Snap)),
+        b"crash" => Some(Keyword::Single(NodeEvent::Crash)),
+        b"restart" => Some(Keyword::Single(NodeEvent::Restart)),
         b"deliver" => Some(Keyword::Pair(PairEvent::Deliver)),
         b"fail" => Some(Keyword::Pair(PairEvent::Fail)),
         b"restore" => Some(Keyword::Pair(PairEvent::Restore)),
@@ -205,6 +209,8 @@ impl NodeEvent {
     {
         match self {
             NodeEvent::Snap => Directive::Snap { node },
+            NodeEvent::Crash => Directive::Crash { node },
+            NodeEvent::Restart => Directive::Restart { node },
         }
     }
 }
