@@ -14,6 +14,7 @@ use Rattle.path_vector.specs.Offers.{offer, changed}
 use Rattle.path_vector.specs.Simple.{BringsPaths, BringsPathsIn, Brings, AreIn, IsPathFrom}
 use Rattle.path_vector.proofs.Simple.{offer_path, offer_in}
 use Rattle.trigger_log.specs.Entries.{Entry, Update, reads, inbox, is_session}
+use Rattle.trigger_log.specs.Making.{making}
 use Rattle.trigger_log.specs.Sending.{update_of, news, outbox}
 use Rattle.trigger_log.specs.Going.{Item, News, Marker, Hello, numbered}
 use Rattle.chronicle.specs.declared.events.Event.{Event}
@@ -90,7 +91,7 @@ HasRoute net v x = IfSome x.path (IsRouteFrom net v)
 
 module _ (rules : Rules) (net : Net) (v : ℕ) (inside : has net.nodes v ≡ true) where
   -- each update of an entry has a path of its node, or none
-  updates_have : (h : List Entry) (k : Entry) (w : ℕ) (ps : List ℕ) → BringsFrom net (k.read ∷ reads h) → AllByRecursion (HasRoute net v) (map (update_of rules net v h k w) ps)
+  updates_have : (h : List Entry) (k : Entry) (w : ℕ) (ps : List ℕ) → BringsFrom net (k.read ∷ reads h) → AllByRecursion (HasRoute net v) (map (update_of (making rules net v h k) w) ps)
   updates_have h k w [] b = tt
   updates_have h k w (p ∷ ps) b = (
     both net v (offer rules net v (k.read ∷ reads h) p w)

@@ -11,6 +11,7 @@ use Rattle.path_vector.specs.declared.causes.Cause.TheVariants.{Originate, Withd
 use Rattle.path_vector.specs.Rules.{Rules}
 use Rattle.path_vector.specs.History.{held, held_by, last}
 use Rattle.trigger_log.specs.Entries.{Entry, Update, reads, inbox, closing, is_session}
+use Rattle.trigger_log.specs.Making.{making}
 use Rattle.trigger_log.specs.Sending.{news, outbox, next_number}
 use Rattle.trigger_log.specs.Going.{Item, News, Hello, mark_of, Going, numbered, told, going_by, items_in}
 use Rattle.trigger_log.specs.Fits.{Fits}
@@ -118,7 +119,7 @@ module _ (rules : Rules) (net : Net) (valid : IsValid net) (past : Chronicle) (u
   out_unmarked : (e w s : ℕ) → marked e (items_in w s out) ≡ false
   out_unmarked e w s =
       (elim (has (neighbours net u) w) as (λ t. has (neighbours net u) w ≡ t → marked e (items_in w s out) ≡ false) [
-        | true ↦ λ near. ap (marked e) (out_near rules net u k past valid w s near) ∙ session_unmarked e (told rules net u h k w) (held (k.read ∷ reads h) w) s (λ t. numbered_unmarked e (next_number rules net u h w t) (news rules net u h k w))
+        | true ↦ λ near. ap (marked e) (out_near rules net u k past valid w s near) ∙ session_unmarked e (told (making rules net u h k) w) (held (k.read ∷ reads h) w) s (λ t. numbered_unmarked e (next_number rules net u h w t) (news rules net u h k w))
         | false ↦ λ far. ap (marked e) (out_far rules net u k past w s far)
       ]) refl
 
@@ -126,11 +127,11 @@ module _ (rules : Rules) (net : Net) (valid : IsValid net) (past : Chronicle) (u
   out_late : (e w s : ℕ) → has (neighbours net u) w ≡ true → 1 ≤ e → e ≤ epoch u past → updates (until e (sent u w s past ++ items_in w s out)) ≡ updates (until e (sent u w s past))
   out_late e w s near from to =
       ap (λ r. updates (until e (sent u w s past ++ r))) (out_near rules net u k past valid w s near)
-      ∙ (elim (is_session (held (k.read ∷ reads h) w) s) as (λ t. is_session (held (k.read ∷ reads h) w) s ≡ t → updates (until e (sent u w s past ++ (if t then told rules net u h k w s else []))) ≡ updates (until e (sent u w s past))) [
+      ∙ (elim (is_session (held (k.read ∷ reads h) w) s) as (λ t. is_session (held (k.read ∷ reads h) w) s ≡ t → updates (until e (sent u w s past ++ (if t then told (making rules net u h k) w s else []))) ≡ updates (until e (sent u w s past))) [
         | true ↦ λ q.
             let holds = still w s (session_is (held (k.read ∷ reads h) w) s q) in
             let on = marked_lower e (epoch u past) (sent u w s past) to (m.sent_to_all w s near (omega arith) holds) in
-            ap updates (until_marked e (sent u w s past) (told rules net u h k w s) on)
+            ap updates (until_marked e (sent u w s past) (told (making rules net u h k) w s) on)
         | false ↦ λ q. nothing_out e (sent u w s past)
       ]) refl
 

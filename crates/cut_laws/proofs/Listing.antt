@@ -9,6 +9,7 @@ use Rattle.path_vector.specs.Rules.{Rules}
 use Rattle.path_vector.specs.History.{held}
 use Rattle.path_vector.specs.Offers.{changed}
 use Rattle.trigger_log.specs.Entries.{Entry, Update, reads, is_session}
+use Rattle.trigger_log.specs.Making.{making}
 use Rattle.trigger_log.specs.Sending.{update_of, news, outbox}
 use Rattle.trigger_log.specs.Fits.{Inherits, AllInherit}
 
@@ -48,7 +49,7 @@ all_append P (x ∷ xs) ys left right = (left.0, all_append P xs ys left.1 right
 module _ (rules : Rules) (net : Net) (u : ℕ) where
   -- each update of an entry lists what the entry lists, and is of a prefix of the network
   updates_tell : (h : List Entry) (k : Entry) (w : ℕ) (ps : List ℕ) → k.triggers ≢ [] → AllByRecursion (λ p. p < length net.prefixes) ps
-      → AllByRecursion (IsNews net) (map (update_of rules net u h k w) ps)
+      → AllByRecursion (IsNews net) (map (update_of (making rules net u h k) w) ps)
   updates_tell h k w [] some all = tt
   updates_tell h k w (p ∷ ps) some all = ((some, all.0), updates_tell h k w ps some all.1)
 

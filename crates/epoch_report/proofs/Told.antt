@@ -11,7 +11,8 @@ use Rattle.path_vector.specs.History.{Change}
 use Rattle.trigger_log.specs.declared.entries.Entry.{Entry as Shown}
 use Rattle.trigger_log.specs.declared.sessions.SessionMark.{SessionMark}
 use Rattle.trigger_log.specs.Entries.{Entry, inbox}
-use Rattle.trigger_log.specs.Sessions.{ever, IsMark, AreMarks, AreAllMarks}
+use Rattle.trigger_log.specs.Sending.{sent_count}
+use Rattle.trigger_log.specs.Sessions.{ever, Says, AreMarks, AreAllMarks}
 use Rattle.trigger_log.specs.Standing.{Entered, all_entered, Shows}
 use Rattle.incomplete_closure.specs.Reports.{Listed, Row, SessionRow, Report}
 use Rattle.incomplete_closure.specs.declared.cut_rows.Row.{Row as TheRow}
@@ -71,7 +72,7 @@ module _ (rules : Rules) (net : Net) (u : ℕ) where
   -- ---- sessions
 
   module _ (h : List Entry) where
-    mark_is : (w s : ℕ) (mark : SessionMark) → IsMark rules net u h w s mark → session_seen (session_told mark) ≡ session_row h w s
+    mark_is : (w s : ℕ) (mark : SessionMark) → Says h w s (sent_count rules net u h w s) mark → session_seen (session_told mark) ≡ session_row h w s
     unfolding told
     mark_is w s mark is =
         ap (λ n. told n mark.session mark.received (option_map (λ (t : Trigger). t ∷ []) mark.down)) is.nbr
@@ -89,7 +90,7 @@ module _ (rules : Rules) (net : Net) (u : ℕ) where
         ap (map session_seen) (map_append session_told row (flat_map (λ row. row) rows))
         ∙ (map_append session_seen (map session_told row) (map session_told (flat_map (λ row. row) rows))
         ∙ ap₂ (λ a b. a ++ b)
-        (map_map session_told session_seen row ∙ zip_same (IsMark rules net u h w) (session_row h w) (λ m. session_seen (session_told m)) (mark_is w) (ever h w) row z.0)
+        (map_map session_told session_seen row ∙ zip_same (λ s mark. Says h w s (sent_count rules net u h w s) mark) (session_row h w) (λ m. session_seen (session_told m)) (mark_is w) (ever h w) row z.0)
         (sessions_near near rows z.1))
 
     -- what is told of all marks is the rows of the sessions

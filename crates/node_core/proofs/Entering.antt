@@ -13,6 +13,7 @@ use Rattle.path_vector.specs.History.{History, held, opened, ready}
 use Rattle.trigger_log.specs.declared.log.NodeLog.{NodeLog}
 use Rattle.trigger_log.specs.declared.outgoing.Outgoing.{Outgoing}
 use Rattle.trigger_log.specs.Entries.{Entry, entry, local, next_trigger, reads}
+use Rattle.trigger_log.specs.Making.{making}
 use Rattle.trigger_log.specs.Fits.{CauseFits}
 use Rattle.trigger_log.specs.Going.{Going, Item, Hello, going_by, going_in, going_of, going_to, numbered, spread, told}
 use Rattle.trigger_log.specs.Offered.{IsPlaced}
@@ -119,8 +120,8 @@ none_in w items (Some s) none = ap (going_to w s) (none s)
 going_none : (rules : Rules) (net : Net) (u : ℕ) (h : List Entry) (k : Entry) → ((w : ℕ) → news rules net u h k w ≡ []) → going_by rules net u h k ≡ []
 unfolding going_by spread
 going_none rules net u h k none =
-    none_of_all (λ w. going_in w (told rules net u h k w) (held (k.read ∷ reads h) w))
-    (λ w. none_in w (told rules net u h k w) (held (k.read ∷ reads h) w) (λ s. ap (numbered (next_number rules net u h w s)) (none w)))
+    none_of_all (λ w. going_in w (told (making rules net u h k) w) (held (k.read ∷ reads h) w))
+    (λ w. none_in w (told (making rules net u h k) w) (held (k.read ∷ reads h) w) (λ s. ap (numbered (next_number rules net u h w s)) (none w)))
     (neighbours net u)
 
 -- an entry with which nothing goes out

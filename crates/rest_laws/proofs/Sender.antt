@@ -21,6 +21,7 @@ use Rattle.path_vector.proofs.Local.{ready_local, offer_local}
 use Rattle.path_vector.proofs.Changes.{other_prefix, offer_start}
 use Rattle.path_vector.proofs.Readiness.{ready_is_held, opened_is_ready}
 use Rattle.trigger_log.specs.Entries.{Entry, Update, reads, closes, close, is_session}
+use Rattle.trigger_log.specs.Making.{making}
 use Rattle.trigger_log.specs.Sending.{news, outbox, update_of, last_said, said}
 use Rattle.trigger_log.specs.Fits.{CauseFits, Fits}
 use Rattle.trigger_log.proofs.Holding.{fits_up, fits_down}
@@ -67,15 +68,15 @@ last_ok blocked p (x ∷ xs) all =
 
 -- what holds of the update of each prefix whose offer changed holds of all that an entry sends
 pub news_each : (P : Update → Type 0) (rules : Rules) (net : Net) (u : ℕ) (h : List Entry) (k : Entry) (w : ℕ)
-    → ((q : ℕ) → changed rules net u (reads h) k.read w q ≡ true → P (update_of rules net u h k w q)) → AllByRecursion P (news rules net u h k w)
+    → ((q : ℕ) → changed rules net u (reads h) k.read w q ≡ true → P (update_of (making rules net u h k) w q)) → AllByRecursion P (news rules net u h k w)
 unfolding news
 news_each P rules net u h k w each = over (places net)
   where
-    over : (ps : List ℕ) → AllByRecursion P (map (update_of rules net u h k w) (filter (changed rules net u (reads h) k.read w) ps))
+    over : (ps : List ℕ) → AllByRecursion P (map (update_of (making rules net u h k) w) (filter (changed rules net u (reads h) k.read w) ps))
     over [] = tt
     over (q ∷ ps) =
         (elim (changed rules net u (reads h) k.read w q) as (λ b. changed rules net u (reads h) k.read w q ≡ b
-        → AllByRecursion P (map (update_of rules net u h k w) (cond b (q ∷ filter (changed rules net u (reads h) k.read w) ps) (filter (changed rules net u (reads h) k.read w) ps)))) [
+        → AllByRecursion P (map (update_of (making rules net u h k) w) (cond b (q ∷ filter (changed rules net u (reads h) k.read w) ps) (filter (changed rules net u (reads h) k.read w) ps)))) [
           | true ↦ λ e. (each q e, over ps)
           | false ↦ λ e. over ps
         ]) refl

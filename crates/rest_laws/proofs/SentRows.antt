@@ -11,6 +11,7 @@ use Rattle.topology.proofs.Tests.{same_is}
 use Rattle.path_vector.specs.Rules.{Rules}
 use Rattle.path_vector.specs.History.{held, ready}
 use Rattle.trigger_log.specs.Entries.{Entry, Update, reads, closes, close, closing, is_session}
+use Rattle.trigger_log.specs.Making.{making}
 use Rattle.trigger_log.specs.Sending.{news, outbox, sent_from, updates_sent, close_sent, sent_to, sent_by, next_number}
 use Rattle.trigger_log.specs.Fits.{Fits}
 use Rattle.trigger_log.proofs.Holding.{stays_closed}
@@ -92,8 +93,8 @@ module _ (rules : Rules) (net : Net) (u : ℕ) where
       → Among i (sent_from w s (next_number rules net u h w s) (news rules net u h k w)) → Among (listed k.triggers i) (entry_row rules net u h k).sent
   update_row h k w s i near holds a =
       in_row h k w i near
-      (in_front i (updates_sent rules net u h k w (held (k.read ∷ reads h) w)) (close_sent rules net u h k w (ready (reads h) w))
-      (subst (λ z. Among i (updates_sent rules net u h k w z)) (sym holds) a))
+      (in_front i (updates_sent (making rules net u h k) w (held (k.read ∷ reads h) w)) (close_sent (making rules net u h k) w (ready (reads h) w))
+      (subst (λ z. Among i (updates_sent (making rules net u h k) w z)) (sym holds) a))
 
   -- each update that a log sent stands in a row with its number and its triggers
   pub outbox_rows : (h : List Entry) (w s : ℕ) → has (neighbours net u) w ≡ true → AllSent (entry_rows rules net u h) w s 1 (outbox rules net u h w s)
@@ -128,8 +129,8 @@ module _ (rules : Rules) (net : Net) (u : ℕ) where
       → SendsRow (entry_rows rules net u (k ∷ h)) (item w s (next_number rules net u h w s) k.triggers)
   close_row k h w s near c r =
       let i : Sent = record { to = w; session = s; seq = next_number rules net u h w s } in
-      let here : Among i (close_sent rules net u h k w (ready (reads h) w)) = rw (r, c) (inl refl) in
-      (entry_row rules net u h k, newest_row h k, in_row h k w i near (at_end i (updates_sent rules net u h k w (held (k.read ∷ reads h) w)) (close_sent rules net u h k w (ready (reads h) w)) here))
+      let here : Among i (close_sent (making rules net u h k) w (ready (reads h) w)) = rw (r, c) (inl refl) in
+      (entry_row rules net u h k, newest_row h k, in_row h k w i near (at_end i (updates_sent (making rules net u h k) w (held (k.read ∷ reads h) w)) (close_sent (making rules net u h k) w (ready (reads h) w)) here))
 
   -- the close of a session stands in a row, with the number after its updates
   pub close_rows : (h : List Entry) (w s : ℕ) (triggers : List Trigger) → Fits h → has (neighbours net u) w ≡ true → close h w s ≡ Some triggers

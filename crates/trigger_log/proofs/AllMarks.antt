@@ -10,7 +10,7 @@ use Rattle.trigger_log.specs.declared.sessions.SessionMark.{SessionMark}
 use Rattle.trigger_log.specs.Entries.{Entry}
 use Rattle.trigger_log.specs.Sending.{outbox, sent_count}
 use Rattle.trigger_log.specs.Rows.{joined}
-use Rattle.trigger_log.specs.Sessions.{ever, IsMark, AreMarks, AreRows}
+use Rattle.trigger_log.specs.Sessions.{ever, Says, AreMarks, AreRows}
 use Rattle.trigger_log.proofs.Rows.{first}
 
 -- ---- a log without entries
@@ -47,15 +47,15 @@ apart_test : (t s : ℕ) → (t ≡ s → ⊥) → (t == s) ≡ false
 apart_test t s apart = grind (arith, nat_tests)
 
 module _ (rules : Rules) (net : Net) (u : ℕ) (h : List Entry) where
-  of_row : (w : ℕ) (sessions : List ℕ) (row : List SessionMark) (mark : SessionMark) → AllZip (IsMark rules net u h w) sessions row → Among mark row → (s : ℕ) × IsMark rules net u h w s mark
+  of_row : (w : ℕ) (sessions : List ℕ) (row : List SessionMark) (mark : SessionMark) → AllZip (λ s mark. Says h w s (sent_count rules net u h w s) mark) sessions row → Among mark row → (s : ℕ) × Says h w s (sent_count rules net u h w s) mark
   of_row w [] [] mark z a = absurd a
   of_row w [] (m ∷ row) mark z a = absurd z
   of_row w (s ∷ sessions) [] mark z a = absurd z
-  of_row w (s ∷ sessions) (m ∷ row) mark z (inl e) = (s, subst (IsMark rules net u h w s) e z.0)
+  of_row w (s ∷ sessions) (m ∷ row) mark z (inl e) = (s, subst (Says h w s (sent_count rules net u h w s)) e z.0)
   of_row w (s ∷ sessions) (m ∷ row) mark z (inr a) = of_row w sessions row mark z.1 a
 
   of_rows : (near : List ℕ) (rows : List (List SessionMark)) (mark : SessionMark) → AllZip (AreMarks rules net u h) near rows → Among mark (joined rows)
-      → (w : ℕ) × (s : ℕ) × IsMark rules net u h w s mark
+      → (w : ℕ) × (s : ℕ) × Says h w s (sent_count rules net u h w s) mark
   of_rows [] [] mark z a = absurd a
   of_rows [] (row ∷ rows) mark z a = absurd z
   of_rows (w ∷ near) [] mark z a = absurd z
@@ -66,14 +66,14 @@ module _ (rules : Rules) (net : Net) (u : ℕ) (h : List Entry) where
 
   -- a mark shows what it names
   pub found_mark : (near : List ℕ) (rows : List (List SessionMark)) (mark : SessionMark) (w s : ℕ) → AllZip (AreMarks rules net u h) near rows → Among mark (joined rows) → mark.nbr ≡ w → mark.session ≡ s
-      → IsMark rules net u h w s mark
+      → Says h w s (sent_count rules net u h w s) mark
   found_mark near rows mark w s z a is_w is_s =
       let at = of_rows near rows mark z a in
       let same_w : at.0 ≡ w = sym at.2.nbr ∙ is_w in
       let same_s : at.1 ≡ s = sym at.2.session ∙ is_s in
-      subst (λ v. IsMark rules net u h v s mark) same_w (subst (λ t. IsMark rules net u h at.0 t mark) same_s at.2)
+      subst (λ v. Says h v s (sent_count rules net u h v s) mark) same_w (subst (λ t. Says h at.0 t (sent_count rules net u h at.0 t) mark) same_s at.2)
 
-  unheld_row : (w s : ℕ) (sessions : List ℕ) (row : List SessionMark) → AllZip (IsMark rules net u h w) sessions row
+  unheld_row : (w s : ℕ) (sessions : List ℕ) (row : List SessionMark) → AllZip (λ s mark. Says h w s (sent_count rules net u h w s) mark) sessions row
       → ((mark : SessionMark) → Among mark row → mark.nbr ≡ w → mark.session ≡ s → ⊥) → has sessions s ≡ false
   unheld_row w s [] [] z f = refl
   unheld_row w s [] (m ∷ row) z f = absurd z

@@ -12,6 +12,7 @@ use Rattle.path_vector.specs.Rules.{Rules}
 use Rattle.path_vector.specs.History.{held, ready, opened}
 use Rattle.path_vector.specs.Offers.{changed}
 use Rattle.trigger_log.specs.Entries.{Entry, reads}
+use Rattle.trigger_log.specs.Making.{making}
 use Rattle.trigger_log.specs.Sending.{news, update_of, next_number}
 use Rattle.trigger_log.specs.Fits.{Fits}
 use Rattle.trigger_log.specs.Going.{Going, going_by, told, numbered, items_in, items_to}
@@ -50,25 +51,25 @@ placed_known net (One q) p placed e =
     in_range 0 (length net.prefixes) p (omega arith) (omega arith)
 
 module _ (rules : Rules) (net : Net) (u : ℕ) (h : List Entry) (k : Entry) (fits : Fits (k ∷ h)) (placed : IsPlaced net k.read.scope) where
-  news_due : (w s : ℕ) → ready (k.read ∷ reads h) w ≡ Some s → news rules net u h k w ≡ due rules net u h k w s
+  news_due : (w s : ℕ) → ready (k.read ∷ reads h) w ≡ Some s → news rules net u h k w ≡ due (making rules net u h k) w s
   unfolding news
   news_due w s now =
-      ap (map (update_of rules net u h k w))
+      ap (map (update_of (making rules net u h k) w))
       (sym (passing rules net u h k w s fits now k.read.scope refl placed)
-      ∙ filter_within (changed rules net u (reads h) k.read w) (differs_from_said rules net u h k w s) (places_of net k.read.scope)
+      ∙ filter_within (changed rules net u (reads h) k.read w) (differs_from_said (making rules net u h k) w s) (places_of net k.read.scope)
       (λ p known. changed_where_it_differs rules net u h k w s p fits (placed_known net k.read.scope p placed known) now))
 
   owed_by : (w s : ℕ) → IsValid net → has (neighbours net u) w ≡ true → ready (k.read ∷ reads h) w ≡ Some s
-      → items_in w s (going_by rules net u h k) ≡ numbered (next_number rules net u h w s) (due rules net u h k w s)
+      → items_in w s (going_by rules net u h k) ≡ numbered (next_number rules net u h w s) (due (making rules net u h k) w s)
   unfolding going_by
   owed_by w s valid near now =
       let holds : held (k.read ∷ reads h) w ≡ Some s = ready_held (held (k.read ∷ reads h) w) (opened (k.read ∷ reads h) w) s now in
-      in_spread net u (held (k.read ∷ reads h)) (told rules net u h k) w s (differ-neighbours net u valid) near
-      ∙ (ap (λ a. in_session (told rules net u h k w) a s) holds
-      ∙ (ap (λ t. if t then told rules net u h k w s else []) (self_test s)
+      in_spread net u (held (k.read ∷ reads h)) (told (making rules net u h k)) w s (differ-neighbours net u valid) near
+      ∙ (ap (λ a. in_session (told (making rules net u h k) w) a s) holds
+      ∙ (ap (λ t. if t then told (making rules net u h k) w s else []) (self_test s)
       ∙ ap (numbered (next_number rules net u h w s)) (news_due w s now)))
 
-  none_told : (w : ℕ) (a : Option ℕ) → ready (k.read ∷ reads h) w ≡ None → in_any (told rules net u h k w) a ≡ []
+  none_told : (w : ℕ) (a : Option ℕ) → ready (k.read ∷ reads h) w ≡ None → in_any (told (making rules net u h k) w) a ≡ []
   none_told w None now = refl
   none_told w (Some s) now = ap (numbered (next_number rules net u h w s)) (unready_news rules net u h k w now)
 
@@ -77,9 +78,9 @@ module _ (rules : Rules) (net : Net) (u : ℕ) (h : List Entry) (k : Entry) (fit
   unready_gets_nothing w valid now =
       (elim (has (neighbours net u) w) as (λ t. has (neighbours net u) w ≡ t → items_to w (going_by rules net u h k) ≡ []) [
         | true ↦ λ e.
-            to_spread net u (held (k.read ∷ reads h)) (told rules net u h k) w (differ-neighbours net u valid) e
+            to_spread net u (held (k.read ∷ reads h)) (told (making rules net u h k)) w (differ-neighbours net u valid) e
             ∙ none_told w (held (k.read ∷ reads h) w) now
-        | false ↦ λ e. to_stranger net u (held (k.read ∷ reads h)) (told rules net u h k) w e
+        | false ↦ λ e. to_stranger net u (held (k.read ∷ reads h)) (told (making rules net u h k)) w e
       ]) refl
 
   -- what goes out is what is due

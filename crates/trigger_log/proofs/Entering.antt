@@ -14,14 +14,15 @@ use Rattle.path_vector.specs.declared.state.RouteState.{RouteState}
 use Rattle.path_vector.specs.Standing.{StandsFor as RoutesStandFor}
 use Rattle.trigger_log.specs.declared.offers.Offer.{Offer}
 use Rattle.trigger_log.specs.declared.telling.Turn.{Turn}
-use Rattle.trigger_log.specs.declared.outgoing.Outgoing.{Outgoing}
 use Rattle.trigger_log.specs.declared.sessions.SessionMark.{SessionMark}
 use Rattle.trigger_log.specs.declared.log.NodeLog.{NodeLog}
 use Rattle.trigger_log.specs.Entries.{Entry, entry, reads, is_local, locals}
+use Rattle.trigger_log.specs.Making.{making}
 use Rattle.trigger_log.specs.Sending.{sent_by, sent_to}
 use Rattle.trigger_log.specs.Going.{going_of, going_by, going_in, spread, told}
 use Rattle.trigger_log.specs.Fits.{CauseFits, Fits}
 use Rattle.trigger_log.specs.Standing.{Shows, StandsFor, all_entered}
+use Rattle.trigger_log.specs.Telling.{Speech}
 use Rattle.trigger_log.specs.Marked.{Enters, ToldTo}
 use Rattle.trigger_log.specs.Offered.{AreChosen, IsPlaced, asked, prefixes_of}
 use Rattle.trigger_log.proofs.Holding.{accepted}
@@ -38,21 +39,21 @@ module _ {P : Type 0} (policy : P) (rules : Rules) (net : Net) (u : ℕ) (h : Li
       is ∙ (ap (λ l. l ++ flat_map (sent_to rules net u h made) (take n (neighbours net u))) none ∙ ap (flat_map (sent_to rules net u h made)) (take_all n (neighbours net u) whole))
 
   -- what went out
-  pub went_out : (n : ℕ) (rows : List (List SessionMark)) (sent all : List Sent) (out all_out : List Outgoing) → length (neighbours net u) ≤ n → out ≡ [] → ToldTo rules net u h made n rows sent all out all_out
-      → map going_of all_out ≡ going_by rules net u h made
+  pub went_out : (n : ℕ) (rows : List (List SessionMark)) (before after : Speech) → length (neighbours net u) ≤ n → before.out ≡ [] → ToldTo (making rules net u h made) n rows before after
+      → map going_of after.out ≡ going_by rules net u h made
   unfolding going_by spread
-  went_out n rows sent all out all_out whole none was =
+  went_out n rows before after whole none was =
       was.out
-      ∙ (ap (λ l. map going_of l ++ flat_map (λ w. going_in w (told rules net u h made w) (held (made.read ∷ reads h) w)) (take n (neighbours net u))) none
-      ∙ ap (flat_map (λ w. going_in w (told rules net u h made w) (held (made.read ∷ reads h) w))) (take_all n (neighbours net u) whole))
+      ∙ (ap (λ l. map going_of l ++ flat_map (λ w. going_in w (told (making rules net u h made) w) (held (made.read ∷ reads h) w)) (take n (neighbours net u))) none
+      ∙ ap (flat_map (λ w. going_in w (told (making rules net u h made) w) (held (made.read ∷ reads h) w))) (take_all n (neighbours net u) whole))
 
-  pub entered : (old new : NodeLog P) (n : ℕ) (sent all : List Sent) (out all_out : List Outgoing) (kept : List Sent) → StandsFor policy rules net u old h → CauseFits h scope cause
+  pub entered : (old new : NodeLog P) (n : ℕ) (before after : Speech) (kept : List Sent) → StandsFor policy rules net u old h → CauseFits h scope cause
       → RoutesStandFor policy net u new.routes (made.read ∷ reads h) → new.node ≡ old.node → new.sessions.near ≡ old.sessions.near → new.len ≡ suc old.len
       → new.next_count ≡ (if is_local cause then suc old.next_count else old.next_count)
-      → new.entries.items ≡ old.entries.items ++ record { trigger = trigger; scope = scope; cause = cause; sent = kept } ∷ [] → kept ≡ all
-      → length (neighbours net u) ≤ n → sent ≡ [] → ToldTo rules net u h made n new.sessions.rows sent all out all_out
+      → new.entries.items ≡ old.entries.items ++ record { trigger = trigger; scope = scope; cause = cause; sent = kept } ∷ [] → kept ≡ after.sent
+      → length (neighbours net u) ≤ n → before.sent ≡ [] → ToldTo (making rules net u h made) n new.sessions.rows before after
       → StandsFor policy rules net u new (made ∷ h)
-  entered old new n sent all out all_out kept was fits routes node near len next entries same whole none told = record {
+  entered old new n before after kept was fits routes node near len next entries same whole none told = record {
     routes = routes;
     fitting = (fits, was.fitting);
     node = node ∙ was.node;
@@ -61,8 +62,8 @@ module _ {P : Type 0} (policy : P) (rules : Rules) (net : Net) (u : ℕ) (h : Li
     next = next ∙ (ap (λ m. if is_local cause then suc m else m) was.next ∙ either (is_local cause));
     shown = subst (AllZip (Shows rules net u) (all_entered (made ∷ h))) (sym entries)
         (zip_push (Shows rules net u) (all_entered h) old.entries.items (record { before = h; entry = made }) (record { trigger = trigger; scope = scope; cause = cause; sent = kept }) was.shown
-        (record { trigger = refl; read = refl; sent = same ∙ sent_all n sent all whole none told.sent }));
-    marks = told_all rules net u h made (fits, was.fitting) n new.sessions.rows sent all out all_out whole told;
+        (record { trigger = refl; read = refl; sent = same ∙ sent_all n before.sent after.sent whole none told.sent }));
+    marks = told_all rules net u h made (fits, was.fitting) n new.sessions.rows before after whole told;
   }
     where
       either : (b : Bool) → (if b then suc (suc (locals h)) else suc (locals h)) ≡ suc (if b then suc (locals h) else locals h)
@@ -81,7 +82,7 @@ module _ {P : Type 0} (policy : P) (rules : Rules) (net : Net) (u : ℕ) (h : Li
 
   pub enters : (routes : RouteState P) (turn : Turn) (before after : List Offer) → Fits (made ∷ h) → RoutesStandFor policy net u routes (made.read ∷ reads h) → trigger ≡ turn.trigger.now → cause ≡ turn.cause.now
       → turn.before.now ≡ before → turn.after.now ≡ after → IsPlaced net scope → prefixes_of after ≡ asked net scope cause
-      → AreChosen rules net u (reads h) before → AreChosen rules net u (made.read ∷ reads h) after → Enters policy rules net u h made routes turn
+      → AreChosen rules net u (reads h) before → AreChosen rules net u (made.read ∷ reads h) after → Enters policy (making rules net u h made) routes turn
   enters routes turn before after fits stands by of is_before is_after placed covers chosen_before chosen_after = record {
     stands = stands;
     fitting = fits;

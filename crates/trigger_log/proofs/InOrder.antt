@@ -12,6 +12,7 @@ use Rattle.path_vector.specs.Rules.{Rules}
 use Rattle.path_vector.specs.History.{held, ready}
 use Rattle.path_vector.specs.Offers.{changed}
 use Rattle.trigger_log.specs.Entries.{Entry, Update, reads, closes}
+use Rattle.trigger_log.specs.Making.{making}
 use Rattle.trigger_log.specs.Sending.{news, update_of, sent_from, updates_sent, close_sent, sent_to, sent_by, next_number, Rises}
 
 -- ---- prefixes
@@ -23,7 +24,7 @@ increasing_range n k below =
     let next = get_or-range_with_len 0 n (k + 1) 0 (omega arith) in
     omega arith
 
-prefixes_are : (rules : Rules) (net : Net) (u : ℕ) (h : List Entry) (k : Entry) (w : ℕ) (ps : List ℕ) → map (λ (x : Update). x.prefix) (map (update_of rules net u h k w) ps) ≡ ps
+prefixes_are : (rules : Rules) (net : Net) (u : ℕ) (h : List Entry) (k : Entry) (w : ℕ) (ps : List ℕ) → map (λ (x : Update). x.prefix) (map (update_of (making rules net u h k) w) ps) ≡ ps
 prefixes_are rules net u h k w [] = refl
 prefixes_are rules net u h k w (p ∷ ps) = rw (prefixes_are rules net u h k w ps) refl
 
@@ -53,11 +54,11 @@ from_to : (w s n : ℕ) (xs : List Update) → AllTo w (sent_from w s n xs)
 from_to w s n [] = tt
 from_to w s n (x ∷ xs) = (refl, from_to w s (suc n) xs)
 
-updates_to : (rules : Rules) (net : Net) (u : ℕ) (h : List Entry) (k : Entry) (w : ℕ) (session : Option ℕ) → AllTo w (updates_sent rules net u h k w session)
+updates_to : (rules : Rules) (net : Net) (u : ℕ) (h : List Entry) (k : Entry) (w : ℕ) (session : Option ℕ) → AllTo w (updates_sent (making rules net u h k) w session)
 updates_to rules net u h k w None = tt
 updates_to rules net u h k w (Some s) = from_to w s (next_number rules net u h w s) (news rules net u h k w)
 
-close_to : (rules : Rules) (net : Net) (u : ℕ) (h : List Entry) (k : Entry) (w : ℕ) (session : Option ℕ) → AllTo w (close_sent rules net u h k w session)
+close_to : (rules : Rules) (net : Net) (u : ℕ) (h : List Entry) (k : Entry) (w : ℕ) (session : Option ℕ) → AllTo w (close_sent (making rules net u h k) w session)
 close_to rules net u h k w None = tt
 close_to rules net u h k w (Some s) =
     elim (closes k.read.cause w s) as (λ b. AllTo w (cond b (record { to = w; session = s; seq = next_number rules net u h w s } ∷ []) [])) [ true ↦ (refl, tt) | false ↦ tt ]
@@ -65,7 +66,7 @@ close_to rules net u h k w (Some s) =
 -- what an entry lists for w goes to w
 pub all_to : (rules : Rules) (net : Net) (u : ℕ) (h : List Entry) (k : Entry) (w : ℕ) → AllTo w (sent_to rules net u h k w)
 all_to rules net u h k w =
-    all_append (λ (item : Sent). item.to ≡ w) (updates_sent rules net u h k w (held (k.read ∷ reads h) w)) (close_sent rules net u h k w (ready (reads h) w))
+    all_append (λ (item : Sent). item.to ≡ w) (updates_sent (making rules net u h k) w (held (k.read ∷ reads h) w)) (close_sent (making rules net u h k) w (ready (reads h) w))
     (updates_to rules net u h k w (held (k.read ∷ reads h) w)) (close_to rules net u h k w (ready (reads h) w))
 
 above_append : (b w : ℕ) (xs ys : List Sent) → b ≤ w → AllTo w xs → AllByRecursion (λ n. b ≤ n) (receivers ys) → AllByRecursion (λ n. b ≤ n) (receivers (xs ++ ys))

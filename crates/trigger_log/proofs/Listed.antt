@@ -7,6 +7,7 @@ use Rattle.path_vector.specs.Rules.{Rules}
 use Rattle.path_vector.specs.History.{held, ready}
 use Rattle.path_vector.specs.Offers.{changed}
 use Rattle.trigger_log.specs.Entries.{Entry, Update, reads, closes, close, is_session}
+use Rattle.trigger_log.specs.Making.{making}
 use Rattle.trigger_log.specs.Sending.{Lists, news, outbox, update_of}
 
 among_either : {A : Type 0} (x : A) (xs ys : List A) → Among x (xs ++ ys) → Among x xs ⊎ Among x ys
@@ -16,11 +17,11 @@ among_either x (y ∷ xs) ys a = ⊎_elim
     (λ (b : Among x (xs ++ ys)). ⊎_elim (λ (l : Among x xs). inl (inr l)) (λ (r : Among x ys). inr r) (among_either x xs ys b))
     a
 
-among_updates : (rules : Rules) (net : Net) (u : ℕ) (h : List Entry) (k : Entry) (w : ℕ) (ps : List ℕ) (x : Update) (t : Trigger) → Among x (map (update_of rules net u h k w) ps) → Among t x.triggers → Among t k.triggers
+among_updates : (rules : Rules) (net : Net) (u : ℕ) (h : List Entry) (k : Entry) (w : ℕ) (ps : List ℕ) (x : Update) (t : Trigger) → Among x (map (update_of (making rules net u h k) w) ps) → Among t x.triggers → Among t k.triggers
 among_updates rules net u h k w [] x t a b = absurd a
 among_updates rules net u h k w (p ∷ ps) x t a b = ⊎_elim
-    (λ (e : update_of rules net u h k w p ≡ x). subst (λ (y : Update). Among t y.triggers) (sym e) b)
-    (λ (c : Among x (map (update_of rules net u h k w) ps)). among_updates rules net u h k w ps x t c b)
+    (λ (e : update_of (making rules net u h k) w p ≡ x). subst (λ (y : Update). Among t y.triggers) (sym e) b)
+    (λ (c : Among x (map (update_of (making rules net u h k) w) ps)). among_updates rules net u h k w ps x t c b)
     a
 
 -- an update of an entry lists what the entry lists

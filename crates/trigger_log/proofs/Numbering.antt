@@ -14,6 +14,7 @@ use Rattle.topology.proofs.Neighbours.{differ-neighbours}
 use Rattle.path_vector.specs.Rules.{Rules}
 use Rattle.path_vector.specs.History.{held, opened, ready}
 use Rattle.trigger_log.specs.Entries.{Entry, Update, reads, closes, close, is_session}
+use Rattle.trigger_log.specs.Making.{making}
 use Rattle.trigger_log.specs.Sending.{news, outbox, sent_count, next_number, sent_from, updates_sent, close_sent, sent_to, sent_by, sent_of, is_sent_in}
 use Rattle.trigger_log.specs.Fits.{Fits}
 use Rattle.trigger_log.proofs.Closings.{is_session_of, session_is, not_close, close_other, outbox_other, held_not_closed, held_count, count_held}
@@ -57,7 +58,7 @@ of_updates w s t n (x ∷ xs) =
 
 -- the updates of an entry in session s, where that is the session
 of_session : (rules : Rules) (net : Net) (u : ℕ) (h : List Entry) (k : Entry) (w s : ℕ) (session : Option ℕ)
-    → numbers w s (updates_sent rules net u h k w session) ≡ (if is_session session s then range_with_len (next_number rules net u h w s) (length (news rules net u h k w)) else [])
+    → numbers w s (updates_sent (making rules net u h k) w session) ≡ (if is_session session s then range_with_len (next_number rules net u h w s) (length (news rules net u h k w)) else [])
 of_session rules net u h k w s None = refl
 of_session rules net u h k w s (Some t) =
     of_updates w s t (next_number rules net u h w t) (news rules net u h k w)
@@ -70,7 +71,7 @@ of_session rules net u h k w s (Some t) =
 
 -- the close of session s, where an entry ends it and it was the session
 of_close : (rules : Rules) (net : Net) (u : ℕ) (h : List Entry) (k : Entry) (w s : ℕ) (session : Option ℕ)
-    → numbers w s (close_sent rules net u h k w session) ≡ (if closes k.read.cause w s && is_session session s then next_number rules net u h w s ∷ [] else [])
+    → numbers w s (close_sent (making rules net u h k) w session) ≡ (if closes k.read.cause w s && is_session session s then next_number rules net u h w s ∷ [] else [])
 of_close rules net u h k w s None = elim (closes k.read.cause w s) as (λ b. ◌≡◌ {A = List ℕ} [] (cond (b && false) (next_number rules net u h w s ∷ []) [])) [ true ↦ refl | false ↦ refl ]
 of_close rules net u h k w s (Some t) = by_session (t == s) refl
   where
@@ -134,7 +135,7 @@ added : (rules : Rules) (net : Net) (u : ℕ) (h : List Entry) (k : Entry) (w s 
 unfolding sent_by
 added rules net u h k w s valid near =
     ap (map (λ (item : Sent). item.seq)) (present (sent_to rules net u h k) (all_to rules net u h k) w s (neighbours net u) (differ-neighbours net u valid) near)
-    ∙ (numbers_append w s (updates_sent rules net u h k w (held (k.read ∷ reads h) w)) (close_sent rules net u h k w (ready (reads h) w))
+    ∙ (numbers_append w s (updates_sent (making rules net u h k) w (held (k.read ∷ reads h) w)) (close_sent (making rules net u h k) w (ready (reads h) w))
     ∙ rw (of_session rules net u h k w s (held (k.read ∷ reads h) w), of_close rules net u h k w s (ready (reads h) w)) refl)
 
 -- ---- all items

@@ -3,7 +3,6 @@ use Rattle.std.proofs.Common.{ℕ, ◌+◌, Bool, true, false, not, Option, Some
 use Rattle.std.specs.Prelude.{if◌then◌else◌, is_some}
 use Rattle.std.proofs.lemmas.Bool.{cases_eq}
 use Rattle.std.proofs.lemmas.Option.{same_Some}
-use Rattle.topology.specs.declared.items.Sent.{Sent}
 use Rattle.topology.specs.Lists.{same_path}
 use Rattle.topology.specs.Net.{Net, neighbours, relation}
 use Rattle.path_vector.specs.declared.causes.Cause.{Cause}
@@ -18,16 +17,17 @@ use Rattle.path_vector.specs.Offers.{exported, learned, may_tell, offer, offered
 use Rattle.path_vector.specs.Answers.{Copies}
 use Rattle.path_vector.proofs.Changes.{same_path_is, same_path_self}
 use Rattle.trigger_log.specs.declared.offers.Offer.{Offer}
-use Rattle.trigger_log.specs.declared.outgoing.Outgoing.{Outgoing}
 use Rattle.trigger_log.specs.declared.sessions.SessionMark.{SessionMark}
 use Rattle.trigger_log.specs.declared.telling.Turn.{Turn}
 use Rattle.trigger_log.specs.Entries.{Entry, Update, reads}
+use Rattle.trigger_log.specs.Making.{making}
 use Rattle.trigger_log.specs.Sending.{close_sent, news, sent_count, sent_to, update_of}
 use Rattle.trigger_log.specs.Going.{going_by, going_in, going_of, spread, told}
-use Rattle.trigger_log.specs.Sessions.{AreMarks, IsMark, ever}
+use Rattle.trigger_log.specs.Sessions.{AreMarks, Says, ever}
 use Rattle.trigger_log.specs.Offered.{AreChosen, IsPlaced, differs, prefixes_of, updates_over}
 use Rattle.trigger_log.specs.Fits.{Fits}
-use Rattle.trigger_log.specs.Marked.{AreMarked, Enters, Says, ToldTo, ends_with, readies}
+use Rattle.trigger_log.specs.Telling.{Speech}
+use Rattle.trigger_log.specs.Marked.{AreMarked, Enters, ToldTo, ends_with, readies}
 use Rattle.trigger_log.specs.Quiet.{IsQuiet, Stays, turns_session}
 use Rattle.trigger_log.proofs.Closings.{count_held, count_other}
 use Rattle.trigger_log.proofs.Speaking.{close_none, going_none, knew, not_closed, over_asked, unready_news, updates_none}
@@ -85,20 +85,20 @@ module _ (rules : Rules) (net : Net) (u w : ℕ) where
 
 module _ (rules : Rules) (net : Net) (u : ℕ) (h : List Entry) (k : Entry) (w : ℕ) where
   same_offered : (o : Offer) → Copies net u o.chosen (best rules net u (reads h) o.prefix) → Copies net u o.chosen (best rules net u (k.read ∷ reads h) o.prefix)
-      → differs rules net u h k true w o.prefix ≡ false
+      → differs (making rules net u h k) true w o.prefix ≡ false
   unfolding offered_route
   same_offered o before after =
       ap not (ap (same_path (offer rules net u (k.read ∷ reads h) o.prefix w)) (same_exported rules net u w o.chosen (best rules net u (reads h) o.prefix) (best rules net u (k.read ∷ reads h) o.prefix) before after)
       ∙ same_path_self (offer rules net u (k.read ∷ reads h) o.prefix w))
 
   none_differs : (offers : List Offer) → AreChosen rules net u (reads h) offers → AreChosen rules net u (k.read ∷ reads h) offers
-      → filter (differs rules net u h k true w) (prefixes_of offers) ≡ []
+      → filter (differs (making rules net u h k) true w) (prefixes_of offers) ≡ []
   none_differs [] before after = refl
   none_differs (o ∷ offers) before after = rw (same_offered o before.0 after.0) (none_differs offers before.1 after.1)
 
   none_over : (offers : List Offer) → AreChosen rules net u (reads h) offers → AreChosen rules net u (k.read ∷ reads h) offers
-      → updates_over rules net u h k true w (prefixes_of offers) ≡ []
-  none_over offers before after = ap (map (update_of rules net u h k w)) (none_differs offers before after)
+      → updates_over (making rules net u h k) true w (prefixes_of offers) ≡ []
+  none_over offers before after = ap (map (update_of (making rules net u h k) w)) (none_differs offers before after)
 
 flat_none : {A : Type 0} (f : ℕ → List A) (ns : List ℕ) → ((n : ℕ) → f n ≡ []) → flat_map f ns ≡ []
 flat_none f [] none = refl
@@ -121,16 +121,16 @@ module _ (rules : Rules) (net : Net) (u : ℕ) (h : List Entry) (k : Entry) (fit
 
   nothing_sent : (w : ℕ) → sent_to rules net u h k w ≡ []
   nothing_sent w =
-      ap (λ l. l ++ close_sent rules net u h k w (ready (reads h) w)) (updates_none rules net u h k w fitting (held (k.read ∷ reads h) w) (no_news w))
+      ap (λ l. l ++ close_sent (making rules net u h k) w (ready (reads h) w)) (updates_none rules net u h k w fitting (held (k.read ∷ reads h) w) (no_news w))
       ∙ close_none rules net u h k w fitting (ready (reads h) w) (open_still w)
 
-  nothing_told : (w : ℕ) → going_in w (told rules net u h k w) (held (k.read ∷ reads h) w) ≡ []
+  nothing_told : (w : ℕ) → going_in w (told (making rules net u h k) w) (held (k.read ∷ reads h) w) ≡ []
   nothing_told w = going_none rules net u h k w fitting (held (k.read ∷ reads h) w) (no_news w)
 
   -- nothing goes out
   pub nothing_goes : going_by rules net u h k ≡ []
   unfolding going_by spread
-  nothing_goes = flat_none (λ w. going_in w (told rules net u h k w) (held (k.read ∷ reads h) w)) (neighbours net u) nothing_told
+  nothing_goes = flat_none (λ w. going_in w (told (making rules net u h k) w) (held (k.read ∷ reads h) w)) (neighbours net u) nothing_told
 
   -- no session has more items than before
   count_in : (w s : ℕ) (a : Option ℕ) → held (k.read ∷ reads h) w ≡ a → sent_count rules net u (k ∷ h) w s ≡ sent_count rules net u h w s
@@ -143,21 +143,21 @@ module _ (rules : Rules) (net : Net) (u : ℕ) (h : List Entry) (k : Entry) (fit
   as_before : (w s : ℕ) → sent_count rules net u h w s ≡ sent_count rules net u (k ∷ h) w s
   as_before w s = sym (count_in w s (held (k.read ∷ reads h) w) refl)
 
-  quiet_row : (w : ℕ) (row : List SessionMark) → AreMarked rules net u h k w row → AreMarks rules net u (k ∷ h) w row
+  quiet_row : (w : ℕ) (row : List SessionMark) → AreMarked (making rules net u h k) w row → AreMarks rules net u (k ∷ h) w row
   quiet_row w row was =
-      zip_map (λ s mark. Says (k ∷ h) w s (sent_count rules net u h w s) mark) (IsMark rules net u (k ∷ h) w)
+      zip_map (λ s mark. Says (k ∷ h) w s (sent_count rules net u h w s) mark) (λ s mark. Says (k ∷ h) w s (sent_count rules net u (k ∷ h) w s) mark)
       (λ s mark says. is_mark rules net u h k w fitting s (sent_count rules net u h w s) mark (as_before w s) says) (ever (k ∷ h) w) row was
 
   -- all are told where none is
-  pub told_silent : (n : ℕ) (rows : List (List SessionMark)) (sent all : List Sent) (out all_out : List Outgoing) → ToldTo rules net u h k 0 rows sent all out all_out
-      → ToldTo rules net u h k n rows sent all out all_out
-  told_silent n rows sent all out all_out was = record {
+  pub told_silent : (n : ℕ) (rows : List (List SessionMark)) (before after : Speech) → ToldTo (making rules net u h k) 0 rows before after
+      → ToldTo (making rules net u h k) n rows before after
+  told_silent n rows before after was = record {
     width = was.width;
     done = λ j w row below near found. quiet_row w row (was.rest j w row (omega arith) near found);
     rest = λ j w row above near found. was.rest j w row (omega arith) near found;
-    sent = was.sent ∙ ap (λ l. sent ++ l) (sym (flat_none (sent_to rules net u h k) (take n (neighbours net u)) nothing_sent));
+    sent = was.sent ∙ ap (λ l. before.sent ++ l) (sym (flat_none (sent_to rules net u h k) (take n (neighbours net u)) nothing_sent));
     out = was.out
-        ∙ ap (λ l. map going_of out ++ l) (sym (flat_none (λ w. going_in w (told rules net u h k w) (held (k.read ∷ reads h) w)) (take n (neighbours net u)) nothing_told));
+        ∙ ap (λ l. map going_of before.out ++ l) (sym (flat_none (λ w. going_in w (told (making rules net u h k) w) (held (k.read ∷ reads h) w)) (take n (neighbours net u)) nothing_told));
   }
 
 -- a neighbour that is ready after the entry was so before
@@ -167,7 +167,7 @@ was_known h k w s fitting turns e = (knew k h w s fitting e).1 ∙ ap not (not_r
 -- ---- the best routes are the same
 
 module _ {P : Type 0} (policy : P) (rules : Rules) (net : Net) (u : ℕ) (h : List Entry) (k : Entry) (routes : RouteState P) (turn : Turn)
-    (enters : Enters policy rules net u h k routes turn) (quiet : IsQuiet turn) where
+    (enters : Enters policy (making rules net u h k) routes turn) (quiet : IsQuiet turn) where
   turns_no_session : turns_session k.read.cause ≡ false
   turns_no_session = ap turns_session enters.cause ∙ quiet.0
 
@@ -175,19 +175,19 @@ module _ {P : Type 0} (policy : P) (rules : Rules) (net : Net) (u : ℕ) (h : Li
   same_news w s e =
       let before : AreChosen rules net u (reads h) turn.after.now = subst (AreChosen rules net u (reads h)) quiet.1 enters.before in
       sym (over_asked rules net u h k w s enters.fitting e enters.placed)
-      ∙ (ap (updates_over rules net u h k (is_some (ready (reads h) w)) w) (sym enters.covers)
-      ∙ (ap (λ b. updates_over rules net u h k b w (prefixes_of turn.after.now)) (was_known h k w s enters.fitting turns_no_session e)
+      ∙ (ap (updates_over (making rules net u h k) (is_some (ready (reads h) w)) w) (sym enters.covers)
+      ∙ (ap (λ b. updates_over (making rules net u h k) b w (prefixes_of turn.after.now)) (was_known h k w s enters.fitting turns_no_session e)
       ∙ none_over rules net u h k w turn.after.now before enters.after))
 
   -- all are told where none is
-  pub told_quiet : (n : ℕ) (rows : List (List SessionMark)) (sent all : List Sent) (out all_out : List Outgoing) → ToldTo rules net u h k 0 rows sent all out all_out
-      → ToldTo rules net u h k n rows sent all out all_out
-  told_quiet n rows sent all out all_out was = told_silent rules net u h k enters.fitting turns_no_session same_news n rows sent all out all_out was
+  pub told_quiet : (n : ℕ) (rows : List (List SessionMark)) (before after : Speech) → ToldTo (making rules net u h k) 0 rows before after
+      → ToldTo (making rules net u h k) n rows before after
+  told_quiet n rows before after was = told_silent rules net u h k enters.fitting turns_no_session same_news n rows before after was
 
 -- ---- the one best route stays
 
 module _ (rules : Rules) (net : Net) (u : ℕ) (h : List Entry) (k : Entry) (fitting : Fits (k ∷ h)) (placed : IsPlaced net k.read.scope) (stays : Stays rules net u h k) where
-  still_offered : (w : ℕ) → differs rules net u h k true w stays.prefix ≡ false
+  still_offered : (w : ℕ) → differs (making rules net u h k) true w stays.prefix ≡ false
   unfolding offered_route
   still_offered w =
       ap not (ap (same_path (offer rules net u (k.read ∷ reads h) stays.prefix w)) (sym (ap (λ (r : Route). path_of u (exported rules net u w r)) stays.still))
@@ -196,13 +196,13 @@ module _ (rules : Rules) (net : Net) (u : ℕ) (h : List Entry) (k : Entry) (fit
   still_no_news : (w s : ℕ) → ready (k.read ∷ reads h) w ≡ Some s → news rules net u h k w ≡ []
   still_no_news w s e =
       sym (over_asked rules net u h k w s fitting e placed)
-      ∙ (ap (updates_over rules net u h k (is_some (ready (reads h) w)) w) stays.covers
-      ∙ (ap (λ b. updates_over rules net u h k b w (stays.prefix ∷ [])) (was_known h k w s fitting stays.turns e)
+      ∙ (ap (updates_over (making rules net u h k) (is_some (ready (reads h) w)) w) stays.covers
+      ∙ (ap (λ b. updates_over (making rules net u h k) b w (stays.prefix ∷ [])) (was_known h k w s fitting stays.turns e)
       ∙ rw (still_offered w) refl))
 
-  pub told_still : (n : ℕ) (rows : List (List SessionMark)) (sent all : List Sent) (out all_out : List Outgoing) → ToldTo rules net u h k 0 rows sent all out all_out
-      → ToldTo rules net u h k n rows sent all out all_out
-  told_still n rows sent all out all_out was = told_silent rules net u h k fitting stays.turns still_no_news n rows sent all out all_out was
+  pub told_still : (n : ℕ) (rows : List (List SessionMark)) (before after : Speech) → ToldTo (making rules net u h k) 0 rows before after
+      → ToldTo (making rules net u h k) n rows before after
+  told_still n rows before after was = told_silent rules net u h k fitting stays.turns still_no_news n rows before after was
 
   pub goes_nowhere : going_by rules net u h k ≡ []
   goes_nowhere = nothing_goes rules net u h k fitting stays.turns still_no_news

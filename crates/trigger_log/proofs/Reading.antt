@@ -17,9 +17,8 @@ use Rattle.trigger_log.specs.declared.sessions.SessionMark.{SessionMark}
 use Rattle.trigger_log.specs.Entries.{Entry, reads, inbox}
 use Rattle.trigger_log.specs.Sending.{sent_count}
 use Rattle.trigger_log.specs.Fits.{CauseFits, Fits}
-use Rattle.trigger_log.specs.Sessions.{ever, IsMark, AreMarks, AreRows}
+use Rattle.trigger_log.specs.Sessions.{ever, Says, AreMarks, AreRows}
 use Rattle.trigger_log.specs.Rows.{EndsWith}
-use Rattle.trigger_log.specs.Marked.{Says}
 use Rattle.topology.specs.Lists.{has}
 use Rattle.trigger_log.proofs.Fresh.{fresh_outbox, fresh_close}
 use Rattle.trigger_log.proofs.Newest.{ends_ever}
@@ -42,9 +41,8 @@ module _ (rules : Rules) (net : Net) (u : ℕ) (h : List Entry) (rows : List (Li
       let found = zip_at (AreMarks rules net u h) (neighbours net u) rows i w were at in
       let end = ends found.0 found.1 in
       let all = ends_ever h w fits in
-      let is = (zip_end (IsMark rules net u h w) all.older end.0 (last (reads h) w) mark
-      (subst (λ l. AllZip (IsMark rules net u h w) l (end.0 ++ mark ∷ [])) all.is (subst (AllZip (IsMark rules net u h w) (ever h w)) end.1 found.2))).1 in
-      record { nbr = is.nbr; session = is.session; is_opened = is.is_opened; sent = is.sent; received = is.received; down = is.down }
+      (zip_end (λ s mark. Says h w s (sent_count rules net u h w s) mark) all.older end.0 (last (reads h) w) mark
+      (subst (λ l. AllZip (λ s mark. Says h w s (sent_count rules net u h w s) mark) l (end.0 ++ mark ∷ [])) all.is (subst (AllZip (λ s mark. Says h w s (sent_count rules net u h w s) mark) (ever h w)) end.1 found.2))).1
 
 pub held_shown : (h : List Entry) (w n : ℕ) (mark : SessionMark) → Fits h → Says h w (last (reads h) w) n mark → (if is_none mark.down then Some mark.session else None) ≡ held (reads h) w
 held_shown h w n mark fits says =

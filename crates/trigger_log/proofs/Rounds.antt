@@ -6,21 +6,21 @@ use Rattle.std.proofs.lemmas.Bool.Decides.{nat_tests}
 use Rattle.std.proofs.lemmas.List.{append-nil, take_more}
 use Rattle.std.proofs.lemmas.List.Concat.{flat_map-append}
 use Rattle.std.proofs.lemmas.Option.{same_Some, get_or_from_slice_get, slice_get_within}
-use Rattle.topology.specs.declared.items.Sent.{Sent}
 use Rattle.topology.specs.Net.{Net, neighbours}
 use Rattle.path_vector.specs.declared.causes.Cause.{Cause}
 use Rattle.path_vector.specs.declared.causes.Cause.TheVariants.{Originate, Withdraw, Recv, Down, Up, Ready, Prefer}
 use Rattle.path_vector.specs.Rules.{Rules}
 use Rattle.path_vector.specs.History.{last, last_by, held}
 use Rattle.std.proofs.lemmas.Slice.Zip.{AllZip-long}
-use Rattle.trigger_log.specs.declared.outgoing.Outgoing.{Outgoing}
 use Rattle.trigger_log.specs.declared.sessions.SessionMark.{SessionMark}
 use Rattle.trigger_log.specs.Entries.{Entry, reads, closes}
+use Rattle.trigger_log.specs.Making.{making}
 use Rattle.trigger_log.specs.Sending.{sent_count, sent_to}
 use Rattle.trigger_log.specs.Going.{Going, going_of, going_in, told}
 use Rattle.trigger_log.specs.Fits.{Fits}
-use Rattle.trigger_log.specs.Sessions.{IsMark, AreMarks, AreRows}
-use Rattle.trigger_log.specs.Marked.{Says, AreMarked, AreAllMarked, Spoken, ToldTo}
+use Rattle.trigger_log.specs.Sessions.{Says, AreMarks, AreRows}
+use Rattle.trigger_log.specs.Telling.{Speech}
+use Rattle.trigger_log.specs.Marked.{AreMarked, AreAllMarked, Spoken, ToldTo}
 use Rattle.trigger_log.proofs.Holding.{held_is_last}
 use Rattle.trigger_log.proofs.Closings.{count_other}
 use Rattle.trigger_log.proofs.Newest.{ends_ever}
@@ -64,7 +64,7 @@ module _ (rules : Rules) (net : Net) (u : ℕ) (h : List Entry) (k : Entry) (w :
   abbrev Now : ℕ → SessionMark → Type 0
   Now s mark = Says (k ∷ h) w s (sent_count rules net u h w s) mark
 
-  pub newest_says : (older : List SessionMark) (mark : SessionMark) → AreMarked rules net u h k w (older ++ mark ∷ []) → Now newest mark
+  pub newest_says : (older : List SessionMark) (mark : SessionMark) → AreMarked (making rules net u h k) w (older ++ mark ∷ []) → Now newest mark
   newest_says older mark was =
       let ends = ends_ever (k ∷ h) w fits in
       (zip_end Now ends.older older newest mark (subst (λ l. AllZip Now l (older ++ mark ∷ [])) ends.is was)).1
@@ -80,7 +80,7 @@ module _ (rules : Rules) (net : Net) (u : ℕ) (h : List Entry) (k : Entry) (w :
   older_count s below =
       count_other rules net u k h w s (λ e. let same : s ≡ newest = held_is_last (k.read ∷ reads h) w s e in absurd (omega arith)) (older_open s below)
 
-  pub is_mark : (s n : ℕ) (mark : SessionMark) → n ≡ sent_count rules net u (k ∷ h) w s → Says (k ∷ h) w s n mark → IsMark rules net u (k ∷ h) w s mark
+  pub is_mark : (s n : ℕ) (mark : SessionMark) → n ≡ sent_count rules net u (k ∷ h) w s → Says (k ∷ h) w s n mark → Says (k ∷ h) w s (sent_count rules net u (k ∷ h) w s) mark
   is_mark s n mark e says =
       record { nbr = says.nbr; session = says.session; is_opened = says.is_opened; sent = says.sent ∙ e; received = says.received; down = says.down }
 
@@ -88,35 +88,35 @@ module _ (rules : Rules) (net : Net) (u : ℕ) (h : List Entry) (k : Entry) (w :
   counted s n mark count says =
       record { nbr = says.nbr; session = says.session; is_opened = says.is_opened; sent = refl; received = says.received; down = says.down }
 
-  pub counted_row : (older : List SessionMark) (mark : SessionMark) (count : ℕ) → count ≡ sent_count rules net u (k ∷ h) w newest → AreMarked rules net u h k w (older ++ mark ∷ [])
+  pub counted_row : (older : List SessionMark) (mark : SessionMark) (count : ℕ) → count ≡ sent_count rules net u (k ∷ h) w newest → AreMarked (making rules net u h k) w (older ++ mark ∷ [])
       → AreMarks rules net u (k ∷ h) w (older ++ record mark { sent = count } ∷ [])
   counted_row older mark count e was =
       let ends = ends_ever (k ∷ h) w fits in
       let parts = zip_end Now ends.older older newest mark (subst (λ l. AllZip Now l (older ++ mark ∷ [])) ends.is was) in
-      subst (λ l. AllZip (IsMark rules net u (k ∷ h) w) l (older ++ record mark { sent = count } ∷ [])) (sym ends.is)
-      (zip_push (IsMark rules net u (k ∷ h) w) ends.older older newest (record mark { sent = count })
-      (zip_each (λ s. s < newest) Now (IsMark rules net u (k ∷ h) w) (λ s m below says. is_mark s (sent_count rules net u h w s) m (sym (older_count s below)) says) ends.older older ends.below parts.0)
+      subst (λ l. AllZip (λ s mark. Says (k ∷ h) w s (sent_count rules net u (k ∷ h) w s) mark) l (older ++ record mark { sent = count } ∷ [])) (sym ends.is)
+      (zip_push (λ s mark. Says (k ∷ h) w s (sent_count rules net u (k ∷ h) w s) mark) ends.older older newest (record mark { sent = count })
+      (zip_each (λ s. s < newest) Now (λ s mark. Says (k ∷ h) w s (sent_count rules net u (k ∷ h) w s) mark) (λ s m below says. is_mark s (sent_count rules net u h w s) m (sym (older_count s below)) says) ends.older older ends.below parts.0)
       (is_mark newest count (record mark { sent = count }) e (counted newest (sent_count rules net u h w newest) mark count parts.1)))
 
 module _ (rules : Rules) (net : Net) (u : ℕ) (h : List Entry) (k : Entry) (fits : Fits (k ∷ h)) where
   abbrev gone : ℕ → List Going
-  gone w = going_in w (told rules net u h k w) (held (k.read ∷ reads h) w)
+  gone w = going_in w (told (making rules net u h k) w) (held (k.read ∷ reads h) w)
 
   -- the row at the next place
-  pub next_row : (n w : ℕ) (rows : List (List SessionMark)) (sent all : List Sent) (out all_out : List Outgoing) → slice_get (neighbours net u) n ≡ Some w
-      → ToldTo rules net u h k n rows sent all out all_out → (row : List SessionMark) × (slice_get rows n ≡ Some row) × AreMarked rules net u h k w row
-  next_row n w rows sent all out all_out at was =
+  pub next_row : (n w : ℕ) (rows : List (List SessionMark)) (before after : Speech) → slice_get (neighbours net u) n ≡ Some w
+      → ToldTo (making rules net u h k) n rows before after → (row : List SessionMark) × (slice_get rows n ≡ Some row) × AreMarked (making rules net u h k) w row
+  next_row n w rows before after at was =
       let inside = slice_get_within (neighbours net u) n w at in
       let wide = was.width in
       let found = some_at rows n (omega arith) in
       (found.0, found.1, was.rest n w found.0 (omega arith) at found.1)
 
-  pub told_more : (n w count : ℕ) (old new : List (List SessionMark)) (older : List SessionMark) (mark : SessionMark) (sent some all : List Sent) (out some_out all_out : List Outgoing) → slice_get (neighbours net u) n ≡ Some w
-      → ToldTo rules net u h k n old sent some out some_out → slice_get old n ≡ Some (older ++ mark ∷ []) → AreMarked rules net u h k w (older ++ mark ∷ [])
+  pub told_more : (n w count : ℕ) (old new : List (List SessionMark)) (older : List SessionMark) (mark : SessionMark) (first before after : Speech) → slice_get (neighbours net u) n ≡ Some w
+      → ToldTo (making rules net u h k) n old first before → slice_get old n ≡ Some (older ++ mark ∷ []) → AreMarked (making rules net u h k) w (older ++ mark ∷ [])
       → new ≡ set old n (older ++ record mark { sent = count } ∷ [])
-      → Spoken rules net u h k w (last (reads (k ∷ h)) w) some all some_out all_out count
-      → ToldTo rules net u h k (n + 1) new sent all out all_out
-  told_more n w count old new older mark sent some all out some_out all_out at was here marked is spoken =
+      → Spoken (making rules net u h k) w (last (reads (k ∷ h)) w) before after count
+      → ToldTo (making rules net u h k) (n + 1) new first after
+  told_more n w count old new older mark first before after at was here marked is spoken =
       let row = older ++ record mark { sent = count } ∷ [] in
       let inside = slice_get_within old n (older ++ mark ∷ []) here in
       rw is (record {
@@ -130,25 +130,25 @@ module _ (rules : Rules) (net : Net) (u : ℕ) (h : List Entry) (k : Entry) (fit
             (cases_eq j n);
         rest = λ j v other above near found. was.rest j v other (omega arith) near (sym (get_set_other old n j row (omega arith)) ∙ found);
         sent = spoken.sent ∙ (ap (λ l. l ++ sent_to rules net u h k w) was.sent
-            ∙ (append_assoc sent (flat_map (sent_to rules net u h k) (take n (neighbours net u))) (sent_to rules net u h k w)
-            ∙ ap (λ l. sent ++ l) (sym (flat_more (sent_to rules net u h k) (neighbours net u) n w at))));
+            ∙ (append_assoc first.sent (flat_map (sent_to rules net u h k) (take n (neighbours net u))) (sent_to rules net u h k w)
+            ∙ ap (λ l. first.sent ++ l) (sym (flat_more (sent_to rules net u h k) (neighbours net u) n w at))));
         out = spoken.out ∙ (ap (λ l. l ++ gone w) was.out
-            ∙ (append_assoc (map going_of out) (flat_map gone (take n (neighbours net u))) (gone w)
-            ∙ ap (λ l. map going_of out ++ l) (sym (flat_more gone (neighbours net u) n w at))));
+            ∙ (append_assoc (map going_of first.out) (flat_map gone (take n (neighbours net u))) (gone w)
+            ∙ ap (λ l. map going_of first.out ++ l) (sym (flat_more gone (neighbours net u) n w at))));
       })
 
   -- where none are told, and where all are
-  pub told_none : (rows : List (List SessionMark)) (sent : List Sent) (out : List Outgoing) → AreAllMarked rules net u h k rows → ToldTo rules net u h k 0 rows sent sent out out
-  told_none rows sent out marked = record {
-    width = AllZip-long (AreMarked rules net u h k) (neighbours net u) rows marked;
+  pub told_none : (rows : List (List SessionMark)) (speech : Speech) → AreAllMarked (making rules net u h k) rows → ToldTo (making rules net u h k) 0 rows speech speech
+  told_none rows speech marked = record {
+    width = AllZip-long (AreMarked (making rules net u h k)) (neighbours net u) rows marked;
     done = λ j w row below near found. absurd (omega arith);
-    rest = λ j w row above near found. zip_both (AreMarked rules net u h k) (neighbours net u) rows j w row marked near found;
-    sent = sym (append-nil sent);
-    out = sym (append-nil (map going_of out));
+    rest = λ j w row above near found. zip_both (AreMarked (making rules net u h k)) (neighbours net u) rows j w row marked near found;
+    sent = sym (append-nil speech.sent);
+    out = sym (append-nil (map going_of speech.out));
   }
 
-  pub told_all : (n : ℕ) (rows : List (List SessionMark)) (sent all : List Sent) (out all_out : List Outgoing) → length (neighbours net u) ≤ n → ToldTo rules net u h k n rows sent all out all_out
+  pub told_all : (n : ℕ) (rows : List (List SessionMark)) (before after : Speech) → length (neighbours net u) ≤ n → ToldTo (making rules net u h k) n rows before after
       → AreRows rules net u (k ∷ h) rows
-  told_all n rows sent all out all_out whole was =
+  told_all n rows before after whole was =
       zip_from (AreMarks rules net u (k ∷ h)) (neighbours net u) rows was.width
       (λ j w row near found. let inside = slice_get_within (neighbours net u) j w near in was.done j w row (omega arith) near found)

@@ -13,6 +13,7 @@ use Rattle.path_vector.specs.History.{held, held_by, last, opened, opened_by, re
 use Rattle.path_vector.specs.Offers.{changed}
 use Rattle.path_vector.proofs.Opening.{opening_changes_nothing, unopened}
 use Rattle.trigger_log.specs.Entries.{Entry, Update, reads, entry, is_session}
+use Rattle.trigger_log.specs.Making.{making}
 use Rattle.trigger_log.specs.Sending.{news, outbox, update_of}
 use Rattle.trigger_log.specs.Fits.{CauseFits, Fits}
 use Rattle.trigger_log.proofs.Holding.{fits_up, highest_is_last}
@@ -25,7 +26,7 @@ filter_none test (x ∷ xs) none = rw (none x) (filter_none test xs none)
 -- an entry that changes no offer sends nothing
 no_news : (rules : Rules) (net : Net) (u : ℕ) (h : List Entry) (k : Entry) (w : ℕ) → ((p : ℕ) → changed rules net u (reads h) k.read w p ≡ false) → news rules net u h k w ≡ []
 unfolding news
-no_news rules net u h k w none = ap (map (update_of rules net u h k w)) (filter_none (changed rules net u (reads h) k.read w) (places net) none)
+no_news rules net u h k w none = ap (map (update_of (making rules net u h k) w)) (filter_none (changed rules net u (reads h) k.read w) (places net) none)
 
 -- an opening sends nothing
 pub opening_says_nothing : (rules : Rules) (net : Net) (u : ℕ) (h : List Entry) (triggers : List Trigger) (w s x : ℕ) → Fits h → held (reads h) w ≡ None → last (reads h) w < s

@@ -15,16 +15,17 @@ use Rattle.path_vector.specs.Rules.{Rules}
 use Rattle.path_vector.specs.History.{Scoped, last, held, held_by, opened, opened_by, ready, concerns}
 use Rattle.path_vector.specs.Offers.{changed, offered}
 use Rattle.path_vector.proofs.Changes.{other_prefix}
-use Rattle.trigger_log.specs.declared.outgoing.Outgoing.{Outgoing}
 use Rattle.trigger_log.specs.declared.sessions.SessionMark.{SessionMark}
 use Rattle.trigger_log.specs.declared.telling.Listener.{Listener}
 use Rattle.trigger_log.specs.Entries.{Entry, Update, reads, entry, closes, is_session}
+use Rattle.trigger_log.specs.Making.{making}
 use Rattle.trigger_log.specs.Sending.{news, update_of, sent_count, sent_from, updates_sent, close_sent, next_number}
 use Rattle.trigger_log.specs.Going.{going_of, going_in, going_to, told, numbered}
 use Rattle.trigger_log.specs.Fits.{CauseFits, Fits}
 use Rattle.trigger_log.specs.Offered.{IsPlaced, places_of, asked, differs, updates_over}
-use Rattle.trigger_log.specs.Telling.{Tells}
-use Rattle.trigger_log.specs.Marked.{Says, Spoken, ends_with, readies}
+use Rattle.trigger_log.specs.Sessions.{Says}
+use Rattle.trigger_log.specs.Telling.{Speech, TellsUpdates}
+use Rattle.trigger_log.specs.Marked.{Spoken, ends_with, readies}
 use Rattle.trigger_log.proofs.Holding.{accepted, fits_up, fits_down, fits_ready, held_is_last}
 use Rattle.trigger_log.proofs.Closings.{count_held, count_other, count_down, close_count, held_count}
 use Rattle.trigger_log.proofs.Silence.{ready_in, ready_held, not_opened, opened_above, opening_says_nothing}
@@ -143,7 +144,7 @@ module _ (rules : Rules) (net : Net) (u : ℕ) (h : List Entry) (k : Entry) (w s
   abbrev pub moved : ℕ → Bool
   moved = changed rules net u (reads h) k.read w
 
-  moves : (p : ℕ) → differs rules net u h k (is_some (ready (reads h) w)) w p ≡ moved p
+  moves : (p : ℕ) → differs (making rules net u h k) (is_some (ready (reads h) w)) w p ≡ moved p
   unfolding changed offered
   moves p = rw now refl
 
@@ -155,17 +156,17 @@ module _ (rules : Rules) (net : Net) (u : ℕ) (h : List Entry) (k : Entry) (w s
       sym (one_passes moved p 0 (length net.prefixes) (omega arith) (omega arith)
       (λ q other. other_prefix rules net u (reads h) k.read w q (scoped (k ∷ h) fits) (ap (concerns q) is ∙ other)))
 
-  pub over_scope : IsPlaced net k.read.scope → updates_over rules net u h k (is_some (ready (reads h) w)) w (places_of net k.read.scope) ≡ news rules net u h k w
+  pub over_scope : IsPlaced net k.read.scope → updates_over (making rules net u h k) (is_some (ready (reads h) w)) w (places_of net k.read.scope) ≡ news rules net u h k w
   unfolding news
   over_scope placed =
-      ap (map (update_of rules net u h k w))
-      (filter_same (differs rules net u h k (is_some (ready (reads h) w)) w) moved moves (places_of net k.read.scope) ∙ passing k.read.scope refl placed)
+      ap (map (update_of (making rules net u h k) w))
+      (filter_same (differs (making rules net u h k) (is_some (ready (reads h) w)) w) moved moves (places_of net k.read.scope) ∙ passing k.read.scope refl placed)
 
   -- so are those over the prefixes that are asked for
-  pub over_asked : IsPlaced net k.read.scope → updates_over rules net u h k (is_some (ready (reads h) w)) w (asked net k.read.scope k.read.cause) ≡ news rules net u h k w
+  pub over_asked : IsPlaced net k.read.scope → updates_over (making rules net u h k) (is_some (ready (reads h) w)) w (asked net k.read.scope k.read.cause) ≡ news rules net u h k w
   over_asked placed = by_cause k.read.cause refl
     where
-      by_cause : (cause : Cause) → k.read.cause ≡ cause → updates_over rules net u h k (is_some (ready (reads h) w)) w (asked net k.read.scope cause) ≡ news rules net u h k w
+      by_cause : (cause : Cause) → k.read.cause ≡ cause → updates_over (making rules net u h k) (is_some (ready (reads h) w)) w (asked net k.read.scope cause) ≡ news rules net u h k w
       by_cause Originate e = over_scope placed
       by_cause Withdraw e = over_scope placed
       by_cause (Recv v t seq path) e = over_scope placed
@@ -184,7 +185,7 @@ filter_none f (x ∷ xs) none = rw (none x) (filter_none f xs none)
 pub unready_news : (rules : Rules) (net : Net) (u : ℕ) (h : List Entry) (k : Entry) (w : ℕ) → ready (k.read ∷ reads h) w ≡ None → news rules net u h k w ≡ []
 unfolding news changed
 unready_news rules net u h k w e =
-    ap (map (update_of rules net u h k w)) (filter_none (changed rules net u (reads h) k.read w) (places net) (λ p. rw e refl))
+    ap (map (update_of (making rules net u h k) w)) (filter_none (changed rules net u (reads h) k.read w) (places net) (λ p. rw e refl))
 
 pub not_closed : (cause : Cause) (w t : ℕ) → ends_with cause w ≡ false → closes cause w t ≡ false
 not_closed Originate w t e = refl
@@ -205,7 +206,7 @@ ended_by (Prefer v x) w e = absurd (cc e)
 ended_by (Down v s) w e = (s, ap (λ n. Down n s) (same_number v w e))
 
 module _ (rules : Rules) (net : Net) (u : ℕ) (h : List Entry) (k : Entry) (w : ℕ) (fits : Fits (k ∷ h)) where
-  pub close_none : (a : Option ℕ) → ends_with k.read.cause w ≡ false → close_sent rules net u h k w a ≡ []
+  pub close_none : (a : Option ℕ) → ends_with k.read.cause w ≡ false → close_sent (making rules net u h k) w a ≡ []
   close_none None e = refl
   close_none (Some t) e = rw (not_closed k.read.cause w t e) refl
 
@@ -213,36 +214,36 @@ module _ (rules : Rules) (net : Net) (u : ℕ) (h : List Entry) (k : Entry) (w :
   number_is s e = ap suc (sym (held_count rules net u h w s fits.1 e))
 
   -- its news go out
-  pub spoken_told : (s count : ℕ) (listener : Listener) (sent all : List Sent) (out all_out : List Outgoing) → listener.nbr ≡ w → listener.session ≡ s → listener.sent ≡ sent_count rules net u h w s
-      → ends_with k.read.cause w ≡ false → ready (k.read ∷ reads h) w ≡ Some s → Tells listener (news rules net u h k w) sent all out all_out count
-      → Spoken rules net u h k w s sent all out all_out count
-  spoken_told s count listener sent all out all_out nbr session so_far open_still now tells =
+  pub spoken_told : (s count : ℕ) (listener : Listener) (before after : Speech) → listener.nbr ≡ w → listener.session ≡ s → listener.sent ≡ sent_count rules net u h w s
+      → ends_with k.read.cause w ≡ false → ready (k.read ∷ reads h) w ≡ Some s → TellsUpdates listener (news rules net u h k w) before after count
+      → Spoken (making rules net u h k) w s before after count
+  spoken_told s count listener before after nbr session so_far open_still now tells =
       let list = news rules net u h k w in
       let holds : held (k.read ∷ reads h) w ≡ Some s = ready_held (held (k.read ∷ reads h) w) (opened (k.read ∷ reads h) w) s now in
       let number = number_is s (knew k h w s fits now).0 in
       record {
         counts = tells.counts ∙ (ap (λ n. n + length list) so_far ∙ sym (count_held rules net u k h w s holds));
-        sent = tells.sent ∙ ap (λ l. sent ++ l)
+        sent = tells.sent ∙ ap (λ l. before.sent ++ l)
             (ap (λ x. sent_from x listener.session (suc listener.sent) list) nbr
             ∙ (ap (λ x. sent_from w x (suc listener.sent) list) session
             ∙ (ap (λ n. sent_from w s (suc n) list) so_far
             ∙ (ap (λ n. sent_from w s n list) (sym number)
             ∙ (sym (append-nil (sent_from w s (next_number rules net u h w s) list))
-            ∙ (ap (λ l. updates_sent rules net u h k w (Some s) ++ l) (sym (close_none (ready (reads h) w) open_still))
-            ∙ ap (λ a. updates_sent rules net u h k w a ++ close_sent rules net u h k w (ready (reads h) w)) (sym holds)))))));
-        out = tells.out ∙ ap (λ l. map going_of out ++ l)
+            ∙ (ap (λ l. updates_sent (making rules net u h k) w (Some s) ++ l) (sym (close_none (ready (reads h) w) open_still))
+            ∙ ap (λ a. updates_sent (making rules net u h k) w a ++ close_sent (making rules net u h k) w (ready (reads h) w)) (sym holds)))))));
+        out = tells.out ∙ ap (λ l. map going_of before.out ++ l)
             (ap (λ x. going_to x listener.session (numbered (suc listener.sent) list)) nbr
             ∙ (ap (λ x. going_to w x (numbered (suc listener.sent) list)) session
             ∙ (ap (λ n. going_to w s (numbered (suc n) list)) so_far
             ∙ (ap (λ n. going_to w s (numbered n list)) (sym number)
-            ∙ ap (going_in w (told rules net u h k w)) (sym holds)))));
+            ∙ ap (going_in w (told (making rules net u h k) w)) (sym holds)))));
       }
 
-  pub updates_none : (a : Option ℕ) → news rules net u h k w ≡ [] → updates_sent rules net u h k w a ≡ []
+  pub updates_none : (a : Option ℕ) → news rules net u h k w ≡ [] → updates_sent (making rules net u h k) w a ≡ []
   updates_none None e = refl
   updates_none (Some t) e = ap (sent_from w t (next_number rules net u h w t)) e
 
-  pub going_none : (a : Option ℕ) → news rules net u h k w ≡ [] → going_in w (told rules net u h k w) a ≡ []
+  pub going_none : (a : Option ℕ) → news rules net u h k w ≡ [] → going_in w (told (making rules net u h k) w) a ≡ []
   going_none None e = refl
   going_none (Some t) e = ap (λ l. going_to w t (numbered (next_number rules net u h w t) l)) e
 
@@ -256,14 +257,14 @@ module _ (rules : Rules) (net : Net) (u : ℕ) (h : List Entry) (k : Entry) (w :
       count_held rules net u k h w s (e ∙ ap (λ n. Some n) same) ∙ (ap (λ (l : List Update). sent_count rules net u h w s + length l) none ∙ omega arith)
 
   -- it says nothing
-  pub spoken_none : (count : ℕ) (sent : List Sent) (out : List Outgoing) → count ≡ sent_count rules net u h w (last (k.read ∷ reads h) w) → ends_with k.read.cause w ≡ false → ready (k.read ∷ reads h) w ≡ None
-      → Spoken rules net u h k w (last (k.read ∷ reads h) w) sent sent out out count
-  spoken_none count sent out so_far open_still now =
+  pub spoken_none : (count : ℕ) (speech : Speech) → count ≡ sent_count rules net u h w (last (k.read ∷ reads h) w) → ends_with k.read.cause w ≡ false → ready (k.read ∷ reads h) w ≡ None
+      → Spoken (making rules net u h k) w (last (k.read ∷ reads h) w) speech speech count
+  spoken_none count speech so_far open_still now =
       let none = unready_news rules net u h k w now in
       record {
         counts = so_far ∙ sym (count_same (held (k.read ∷ reads h) w) refl open_still none);
-        sent = sym (ap (λ l. sent ++ l) (ap (λ l. l ++ close_sent rules net u h k w (ready (reads h) w)) (updates_none (held (k.read ∷ reads h) w) none) ∙ close_none (ready (reads h) w) open_still) ∙ append-nil sent);
-        out = sym (ap (λ l. map going_of out ++ l) (going_none (held (k.read ∷ reads h) w) none) ∙ append-nil (map going_of out));
+        sent = sym (ap (λ l. speech.sent ++ l) (ap (λ l. l ++ close_sent (making rules net u h k) w (ready (reads h) w)) (updates_none (held (k.read ∷ reads h) w) none) ∙ close_none (ready (reads h) w) open_still) ∙ append-nil speech.sent);
+        out = sym (ap (λ l. map going_of speech.out ++ l) (going_none (held (k.read ∷ reads h) w) none) ∙ append-nil (map going_of speech.out));
       }
 
 -- it closes the session
@@ -287,20 +288,20 @@ module _ (rules : Rules) (net : Net) (u : ℕ) (h : List Entry) (triggers : List
   in_session true = same_self t
   in_session false = refl
 
-  close_is : (b : Bool) → close_sent rules net u h ending w (if b then Some t else None) ≡ listed b
+  close_is : (b : Bool) → close_sent (making rules net u h ending) w (if b then Some t else None) ≡ listed b
   close_is true =
       rw (same_self w, same_self t) (ap (λ n. record { to = w; session = t; seq = suc n } ∷ []) (sym (held_count rules net u h w t fits.1 was_held)))
   close_is false = refl
 
   -- it closes the session
-  pub spoken_close : (count : ℕ) (sent all : List Sent) (out : List Outgoing) → count ≡ sent_count rules net u h w t + close_count (opened (reads h) w t) → all ≡ sent ++ listed (opened (reads h) w t)
-      → Spoken rules net u h ending w t sent all out out count
-  spoken_close count sent all out counted lists = record {
+  pub spoken_close : (count : ℕ) (before : Speech) (all : List Sent) → count ≡ sent_count rules net u h w t + close_count (opened (reads h) w t) → all ≡ before.sent ++ listed (opened (reads h) w t)
+      → Spoken (making rules net u h ending) w t before (record before { sent = all }) count
+  spoken_close count before all counted lists = record {
     counts = counted ∙ (ap (λ b. sent_count rules net u h w t + close_count b) (sym (in_session (opened (reads h) w t)) ∙ ap (λ a. is_session a t) (sym ready_is))
         ∙ sym (count_down rules net u triggers scope h w t fits));
-    sent = lists ∙ ap (λ l. sent ++ l) (sym (ap (λ a. updates_sent rules net u h ending w a ++ close_sent rules net u h ending w (ready (reads h) w)) held_none
-        ∙ (ap (close_sent rules net u h ending w) ready_is ∙ close_is (opened (reads h) w t))));
-    out = sym (ap (λ a. map going_of out ++ going_in w (told rules net u h ending w) a) held_none ∙ append-nil (map going_of out));
+    sent = lists ∙ ap (λ l. before.sent ++ l) (sym (ap (λ a. updates_sent (making rules net u h ending) w a ++ close_sent (making rules net u h ending) w (ready (reads h) w)) held_none
+        ∙ (ap (close_sent (making rules net u h ending) w) ready_is ∙ close_is (opened (reads h) w t))));
+    out = sym (ap (λ a. map going_of before.out ++ going_in w (told (making rules net u h ending) w) a) held_none ∙ append-nil (map going_of before.out));
   }
 
   last_is : last (ending.read ∷ reads h) w ≡ t
@@ -309,24 +310,24 @@ module _ (rules : Rules) (net : Net) (u : ℕ) (h : List Entry) (triggers : List
   closed_listed : (nbr session : ℕ) (b : Bool) (n : ℕ) → nbr ≡ w → session ≡ t → n ≡ sent_count rules net u h w t → (if b then record { to = nbr; session = session; seq = suc n } ∷ [] else []) ≡ listed b
   closed_listed nbr session b n e f g = rw (e, f, g) refl
 
-  spoken_ending : (count : ℕ) (mark : SessionMark) (sent all : List Sent) (out : List Outgoing)
+  spoken_ending : (count : ℕ) (mark : SessionMark) (before : Speech) (all : List Sent)
       → Says (ending ∷ h) w (last (ending.read ∷ reads h) w) (sent_count rules net u h w (last (ending.read ∷ reads h) w)) mark
-      → count ≡ mark.sent + close_count mark.opened → all ≡ sent ++ (if mark.opened then record { to = mark.nbr; session = mark.session; seq = suc mark.sent } ∷ [] else [])
-      → Spoken rules net u h ending w (last (ending.read ∷ reads h) w) sent all out out count
-  spoken_ending count mark sent all out says counted lists =
+      → count ≡ mark.sent + close_count mark.opened → all ≡ before.sent ++ (if mark.opened then record { to = mark.nbr; session = mark.session; seq = suc mark.sent } ∷ [] else [])
+      → Spoken (making rules net u h ending) w (last (ending.read ∷ reads h) w) before (record before { sent = all }) count
+  spoken_ending count mark before all says counted lists =
       let at : Says (ending ∷ h) w t (sent_count rules net u h w t) mark = subst (λ s. Says (ending ∷ h) w s (sent_count rules net u h w s) mark) last_is says in
-      subst (λ s. Spoken rules net u h ending w s sent all out out count) (sym last_is)
-      (spoken_close count sent all out
+      subst (λ s. Spoken (making rules net u h ending) w s before (record before { sent = all }) count) (sym last_is)
+      (spoken_close count before all
       (counted ∙ (ap (λ n. n + close_count mark.opened) at.sent ∙ ap (λ b. sent_count rules net u h w t + close_count b) at.is_opened))
-      (lists ∙ ap (λ l. sent ++ l) (closed_listed mark.nbr mark.session mark.opened mark.sent at.nbr at.session at.sent ∙ ap listed at.is_opened)))
+      (lists ∙ ap (λ l. before.sent ++ l) (closed_listed mark.nbr mark.session mark.opened mark.sent at.nbr at.session at.sent ∙ ap listed at.is_opened)))
 
-pub spoken_closed : (rules : Rules) (net : Net) (u : ℕ) (h : List Entry) (k : Entry) (w count : ℕ) (mark : SessionMark) (sent all : List Sent) (out : List Outgoing) → Fits (k ∷ h) → ends_with k.read.cause w ≡ true
+pub spoken_closed : (rules : Rules) (net : Net) (u : ℕ) (h : List Entry) (k : Entry) (w count : ℕ) (mark : SessionMark) (before : Speech) (all : List Sent) → Fits (k ∷ h) → ends_with k.read.cause w ≡ true
     → Says (k ∷ h) w (last (k.read ∷ reads h) w) (sent_count rules net u h w (last (k.read ∷ reads h) w)) mark
-    → count ≡ mark.sent + close_count mark.opened → all ≡ sent ++ (if mark.opened then record { to = mark.nbr; session = mark.session; seq = suc mark.sent } ∷ [] else [])
-    → Spoken rules net u h k w (last (k.read ∷ reads h) w) sent all out out count
-spoken_closed rules net u h k w count mark sent all out fits ends says counted lists =
+    → count ≡ mark.sent + close_count mark.opened → all ≡ before.sent ++ (if mark.opened then record { to = mark.nbr; session = mark.session; seq = suc mark.sent } ∷ [] else [])
+    → Spoken (making rules net u h k) w (last (k.read ∷ reads h) w) before (record before { sent = all }) count
+spoken_closed rules net u h k w count mark before all fits ends says counted lists =
     let by = ended_by k.read.cause w ends in
     let is : entry k.triggers k.read.scope (Down w by.0) ≡ k = ap (entry k.triggers k.read.scope) (sym by.1) in
     (subst (λ (k : Entry). Fits (k ∷ h) → Says (k ∷ h) w (last (k.read ∷ reads h) w) (sent_count rules net u h w (last (k.read ∷ reads h) w)) mark
-    → Spoken rules net u h k w (last (k.read ∷ reads h) w) sent all out out count) is
-    (λ fits says. spoken_ending rules net u h k.triggers k.read.scope w by.0 fits count mark sent all out says counted lists)) fits says
+    → Spoken (making rules net u h k) w (last (k.read ∷ reads h) w) before (record before { sent = all }) count) is
+    (λ fits says. spoken_ending rules net u h k.triggers k.read.scope w by.0 fits count mark before all says counted lists)) fits says

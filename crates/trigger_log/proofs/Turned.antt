@@ -16,11 +16,12 @@ use Rattle.path_vector.specs.History.{last, opened, opened_by}
 use Rattle.path_vector.specs.Kept.{names}
 use Rattle.trigger_log.specs.declared.sessions.SessionMark.{SessionMark}
 use Rattle.trigger_log.specs.Entries.{Entry, reads, entry, inbox, received_by, closes}
+use Rattle.trigger_log.specs.Making.{making}
 use Rattle.trigger_log.specs.Sending.{sent_count}
 use Rattle.trigger_log.specs.Fits.{CauseFits, Fits}
-use Rattle.trigger_log.specs.Sessions.{ever, opens_by, IsMark, AreMarks, AreRows}
+use Rattle.trigger_log.specs.Sessions.{ever, opens_by, Says, AreMarks, AreRows}
 use Rattle.trigger_log.specs.Rows.{EndsWith}
-use Rattle.trigger_log.specs.Marked.{Says, AreMarked, AreAllMarked}
+use Rattle.trigger_log.specs.Marked.{AreMarked, AreAllMarked}
 use Rattle.trigger_log.proofs.Holding.{fits_recv, fits_down, fits_ready, held_is_last}
 use Rattle.trigger_log.proofs.Closings.{closing_above, closing_other, count_above}
 use Rattle.trigger_log.proofs.Fresh.{ever_above, fresh_inbox}
@@ -188,18 +189,15 @@ module _ (trigger : Trigger) (scope : Scope) (h : List Entry) (w n : ℕ) (mark 
 module _ (rules : Rules) (net : Net) (u : ℕ) (h : List Entry) (k : Entry) (fits : Fits (k ∷ h)) where
   -- a mark of the entries before, after k
   abbrev Before : ℕ → ℕ → SessionMark → Type 0
-  Before w s mark = IsMark rules net u h w s mark
+  Before w s mark = Says h w s (sent_count rules net u h w s) mark
 
   abbrev After : ℕ → ℕ → SessionMark → Type 0
   After w s mark = Says (k ∷ h) w s (sent_count rules net u h w s) mark
 
-  says : (w s : ℕ) (mark : SessionMark) → Before w s mark → Says h w s (sent_count rules net u h w s) mark
-  says w s mark was = record { nbr = was.nbr; session = was.session; is_opened = was.is_opened; sent = was.sent; received = was.received; down = was.down }
-
-  spared_row : (w : ℕ) (row : List SessionMark) → opens_by k.read.cause w ≡ [] → (names k.read.cause ≡ Some w → ⊥) → AreMarks rules net u h w row → AreMarked rules net u h k w row
+  spared_row : (w : ℕ) (row : List SessionMark) → opens_by k.read.cause w ≡ [] → (names k.read.cause ≡ Some w → ⊥) → AreMarks rules net u h w row → AreMarked (making rules net u h k) w row
   spared_row w row none other was =
       subst (λ l. AllZip (After w) l row) (sym (ap (λ l. ever h w ++ l) none ∙ append-nil (ever h w)))
-      (zip_map (Before w) (After w) (λ s mark is. says_spared k h w s (sent_count rules net u h w s) mark fits (λ e f. other e) (says w s mark is)) (ever h w) row was)
+      (zip_map (Before w) (After w) (λ s mark is. says_spared k h w s (sent_count rules net u h w s) mark fits (λ e f. other e) is) (ever h w) row was)
 
   opens_none : (cause : Cause) (w : ℕ) → (names cause ≡ Some w → ⊥) → opens_by cause w ≡ []
   opens_none Originate w other = refl
@@ -211,22 +209,22 @@ module _ (rules : Rules) (net : Net) (u : ℕ) (h : List Entry) (k : Entry) (fit
   opens_none (Up v t) w other =
       (elim (v == w) as (λ b. (v == w) ≡ b → cond b (t ∷ []) [] ≡ []) [ true ↦ λ e. absurd (other (some v w (grind (arith, nat_tests)))) | false ↦ λ e. refl ]) refl
 
-  pub other_row : (w : ℕ) (row : List SessionMark) → (names k.read.cause ≡ Some w → ⊥) → AreMarks rules net u h w row → AreMarked rules net u h k w row
+  pub other_row : (w : ℕ) (row : List SessionMark) → (names k.read.cause ≡ Some w → ⊥) → AreMarks rules net u h w row → AreMarked (making rules net u h k) w row
   other_row w row other was = spared_row w row (opens_none k.read.cause w other) other was
 
   -- the last mark of a row as it was, and the row with another
   pub turned_row : (w : ℕ) (older : List SessionMark) (mark new : SessionMark) → opens_by k.read.cause w ≡ [] → AreMarks rules net u h w (older ++ mark ∷ [])
       → (Says h w (last (reads h) w) (sent_count rules net u h w (last (reads h) w)) mark → Says (k ∷ h) w (last (reads h) w) (sent_count rules net u h w (last (reads h) w)) new)
-      → AreMarked rules net u h k w (older ++ new ∷ [])
+      → AreMarked (making rules net u h k) w (older ++ new ∷ [])
   turned_row w older mark new none was turn =
       let ends = ends_ever h w fits.1 in
       let parts = zip_end (Before w) ends.older older (last (reads h) w) mark (subst (λ l. AllZip (Before w) l (older ++ mark ∷ [])) ends.is was) in
       subst (λ l. AllZip (After w) l (older ++ new ∷ [])) (sym (ap (λ l. ever h w ++ l) none ∙ (append-nil (ever h w) ∙ ends.is)))
       (zip_push (After w) ends.older older (last (reads h) w) new
       (zip_each (λ s. s < last (reads h) w) (Before w) (After w)
-      (λ s m below is. says_spared k h w s (sent_count rules net u h w s) m fits (λ e (f : s ≡ last (reads h) w). omega arith) (says w s m is))
+      (λ s m below is. says_spared k h w s (sent_count rules net u h w s) m fits (λ e (f : s ≡ last (reads h) w). omega arith) is)
       ends.older older ends.below parts.0)
-      (turn (says w (last (reads h) w) mark parts.1)))
+      (turn parts.1))
 
 -- a session more, in which nothing was said
 module _ (rules : Rules) (net : Net) (u : ℕ) (h : List Entry) (triggers : List Trigger) (w s : ℕ) (fits : Fits (entry triggers All (Up w s) ∷ h)) where
@@ -248,28 +246,28 @@ module _ (rules : Rules) (net : Net) (u : ℕ) (h : List Entry) (triggers : List
         down = sym (closing_above h w s fits.1 above);
       }
 
-  opened_row : (row : List SessionMark) → AreMarks rules net u h w row → AreMarked rules net u h opening w (row ++ fresh ∷ [])
+  opened_row : (row : List SessionMark) → AreMarks rules net u h w row → AreMarked (making rules net u h opening) w (row ++ fresh ∷ [])
   opened_row row was =
       let test : (w == w) ≡ true = grind (arith, nat_tests) in
       subst (λ l. AllZip (λ t mark. Says (opening ∷ h) w t (sent_count rules net u h w t) mark) l (row ++ fresh ∷ [])) (sym (ap (λ b. ever h w ++ cond b (s ∷ []) []) test))
       (zip_push (λ t mark. Says (opening ∷ h) w t (sent_count rules net u h w t) mark) (ever h w) row s fresh
-      (zip_map (IsMark rules net u h w) (λ t mark. Says (opening ∷ h) w t (sent_count rules net u h w t) mark)
-      (λ t mark is. says_same opening h w t (sent_count rules net u h w t) mark refl refl refl (says rules net u h opening fits w t mark is)) (ever h w) row was)
+      (zip_map (λ s mark. Says h w s (sent_count rules net u h w s) mark) (λ t mark. Says (opening ∷ h) w t (sent_count rules net u h w t) mark)
+      (λ t mark is. says_same opening h w t (sent_count rules net u h w t) mark refl refl refl is) (ever h w) row was)
       fresh_says)
 
 -- ---- all rows
 
 module _ (rules : Rules) (net : Net) (u : ℕ) (h : List Entry) (rows : List (List SessionMark)) (valid : IsValid net) (were : AreRows rules net u h rows) where
   -- an entry that names no neighbour
-  pub marked_none : (trigger : Trigger) (scope : Scope) (cause : Cause) → Fits (entry (trigger ∷ []) scope cause ∷ h) → names cause ≡ None → AreAllMarked rules net u h (entry (trigger ∷ []) scope cause) rows
+  pub marked_none : (trigger : Trigger) (scope : Scope) (cause : Cause) → Fits (entry (trigger ∷ []) scope cause ∷ h) → names cause ≡ None → AreAllMarked (making rules net u h (entry (trigger ∷ []) scope cause)) rows
   marked_none trigger scope cause fits by =
-      zip_map (AreMarks rules net u h) (AreMarked rules net u h (entry (trigger ∷ []) scope cause))
+      zip_map (AreMarks rules net u h) (AreMarked (making rules net u h (entry (trigger ∷ []) scope cause)))
       (λ w row was. other_row rules net u h (entry (trigger ∷ []) scope cause) fits w row (λ e. absurd (cc (by, e))) was) (neighbours net u) rows were
 
-  set_row : (k : Entry) (fits : Fits (k ∷ h)) (v i : ℕ) (row : List SessionMark) → names k.read.cause ≡ Some v → slice_get (neighbours net u) i ≡ Some v → AreMarked rules net u h k v row
-      → AllZip (AreMarked rules net u h k) (neighbours net u) (set rows i row)
+  set_row : (k : Entry) (fits : Fits (k ∷ h)) (v i : ℕ) (row : List SessionMark) → names k.read.cause ≡ Some v → slice_get (neighbours net u) i ≡ Some v → AreMarked (making rules net u h k) v row
+      → AllZip (AreMarked (making rules net u h k)) (neighbours net u) (set rows i row)
   set_row k fits v i row by at here =
-      zip_set (AreMarks rules net u h) (AreMarked rules net u h k) v
+      zip_set (AreMarks rules net u h) (AreMarked (making rules net u h k)) v
       (λ w old other was. other_row rules net u h k fits w old (λ e. let same : v ≡ w = same_Some v w (sym by ∙ e) in absurd (grind (arith, nat_tests))) was)
       (neighbours net u) rows i row (differ-neighbours net u valid) at here were
 
@@ -283,17 +281,17 @@ module _ (rules : Rules) (net : Net) (u : ℕ) (h : List Entry) (rows : List (Li
 
   pub marked_up : (trigger : Trigger) (scope : Scope) (cause : Cause) (v s i : ℕ) (new : List (List SessionMark)) → Fits (entry (trigger ∷ []) scope cause ∷ h) → cause ≡ Up v s → slice_get (neighbours net u) i ≡ Some v
       → ((row : List SessionMark) → slice_get rows i ≡ Some row → new ≡ set rows i (row ++ record { nbr = v; session = s; opened = false; sent = 0; received = 0; down = None } ∷ []))
-      → AreAllMarked rules net u h (entry (trigger ∷ []) scope cause) new
+      → AreAllMarked (making rules net u h (entry (trigger ∷ []) scope cause)) new
   marked_up trigger scope cause v s i new fits is at opened =
       let is_all : scope ≡ All = up_fits (trigger ∷ []) scope v s (subst (λ c. Fits (entry (trigger ∷ []) scope c ∷ h)) is fits) in
       let k = entry (trigger ∷ []) All (Up v s) in
       let up : Fits (k ∷ h) = subst (λ x. Fits (entry (trigger ∷ []) x (Up v s) ∷ h)) is_all (subst (λ c. Fits (entry (trigger ∷ []) scope c ∷ h)) is fits) in
       let found = row_of v i at in
       let row = found.0 ++ fresh rules net u h (trigger ∷ []) v s up ∷ [] in
-      let marked : AreAllMarked rules net u h k new =
-      subst (AllZip (AreMarked rules net u h k) (neighbours net u)) (sym (opened found.0 found.1))
+      let marked : AreAllMarked (making rules net u h k) new =
+      subst (AllZip (AreMarked (making rules net u h k)) (neighbours net u)) (sym (opened found.0 found.1))
       (set_row k up v i row refl at (opened_row rules net u h (trigger ∷ []) v s up found.0 found.2)) in
-      subst (λ x. AreAllMarked rules net u h (entry (trigger ∷ []) x cause) new) (sym is_all) (subst (λ c. AreAllMarked rules net u h (entry (trigger ∷ []) All c) new) (sym is) marked)
+      subst (λ x. AreAllMarked (making rules net u h (entry (trigger ∷ []) x cause)) new) (sym is_all) (subst (λ c. AreAllMarked (making rules net u h (entry (trigger ∷ []) All c)) new) (sym is) marked)
 
   not_up : (cause : Cause) (w : ℕ) → ((v s : ℕ) → cause ≡ Up v s → ⊥) → opens_by cause w ≡ []
   not_up Originate w other = refl
@@ -308,10 +306,10 @@ module _ (rules : Rules) (net : Net) (u : ℕ) (h : List Entry) (rows : List (Li
       → slice_get (neighbours net u) i ≡ Some v → ((row : List SessionMark) → slice_get rows i ≡ Some row → EndsWith row mark)
       → ((n : ℕ) → Says h v (last (reads h) v) n mark → Says (k ∷ h) v (last (reads h) v) n turned)
       → ((older : List SessionMark) (last : SessionMark) → slice_get rows i ≡ Some (older ++ last ∷ []) → new ≡ set rows i (older ++ turned ∷ []))
-      → AreAllMarked rules net u h k new
+      → AreAllMarked (making rules net u h k) new
   marked_turned k v i mark turned new fits other by at ends turn put =
       let found = row_of v i at in
       let end = ends found.0 found.1 in
-      subst (AllZip (AreMarked rules net u h k) (neighbours net u)) (sym (put end.0 mark (found.1 ∙ ap (λ r. Some r) end.1)))
+      subst (AllZip (AreMarked (making rules net u h k)) (neighbours net u)) (sym (put end.0 mark (found.1 ∙ ap (λ r. Some r) end.1)))
       (set_row k fits v i (end.0 ++ turned ∷ []) by at
       (turned_row rules net u h k fits v end.0 mark turned (not_up k.read.cause v other) (subst (AreMarks rules net u h v) end.1 found.2) (turn (sent_count rules net u h v (last (reads h) v)))))

@@ -5,7 +5,6 @@ use Rattle.std.specs.List.{AllByRecursion}
 use Rattle.std.proofs.lemmas.List.{map-append, append-nil, take_more, length-map}
 use Rattle.std.proofs.lemmas.Option.{get_or_from_slice_get, same_Some, slice_get-map, slice_get_read}
 use Rattle.topology.specs.declared.names.Trigger.{Trigger}
-use Rattle.topology.specs.declared.items.Sent.{Sent}
 use Rattle.topology.specs.Net.{Net}
 use Rattle.path_vector.specs.Rules.{Rules}
 use Rattle.topology.specs.Lists.{same_path}
@@ -14,13 +13,13 @@ use Rattle.path_vector.specs.Selection.{best}
 use Rattle.path_vector.specs.Offers.{offer}
 use Rattle.path_vector.specs.Answers.{Copies}
 use Rattle.trigger_log.specs.declared.offers.Offer.{Offer}
-use Rattle.trigger_log.specs.declared.outgoing.Outgoing.{Outgoing}
 use Rattle.trigger_log.specs.declared.telling.Listener.{Listener}
 use Rattle.trigger_log.specs.Entries.{Entry, Update, reads}
+use Rattle.trigger_log.specs.Making.{making}
 use Rattle.trigger_log.specs.Sending.{sent_from, update_of}
 use Rattle.trigger_log.specs.Going.{Item, News, going_of, going_to, numbered}
 use Rattle.trigger_log.specs.Offered.{differs, updates_over, AreChosen, prefixes_of}
-use Rattle.trigger_log.specs.Telling.{Tells, update_going}
+use Rattle.trigger_log.specs.Telling.{Speech, TellsUpdates, update_going}
 
 sent_from-more : (w s n : ℕ) (xs : List Update) (x : Update) → sent_from w s n (xs ++ x ∷ []) ≡ sent_from w s n xs ++ record { to = w; session = s; seq = n + length xs } ∷ []
 sent_from-more w s n [] x = ap (λ m. record { to = w; session = s; seq = m } ∷ []) (omega arith)
@@ -33,11 +32,11 @@ numbered-more n [] x = ap (λ m. News m x ∷ []) (omega arith)
 numbered-more n (y ∷ xs) x =
     ap (λ l. News n y ∷ l) (numbered-more (suc n) xs x ∙ ap (λ m. numbered (suc n) xs ++ News m x ∷ []) (omega arith))
 
-pub tells_more : (listener : Listener) (xs : List Update) (x : Update) (sent some all : List Sent) (out some_out all_out : List Outgoing) (n m : ℕ)
-    → m ≡ suc n → all ≡ some ++ record { to = listener.nbr; session = listener.session; seq = m } ∷ []
-    → map going_of all_out ≡ map going_of some_out ++ update_going listener m x ∷ []
-    → Tells listener xs sent some out some_out n → Tells listener (xs ++ x ∷ []) sent all out all_out m
-tells_more listener xs x sent some all out some_out all_out n m next one going was =
+pub tells_more : (listener : Listener) (xs : List Update) (x : Update) (first before after : Speech) (n m : ℕ)
+    → m ≡ suc n → after.sent ≡ before.sent ++ record { to = listener.nbr; session = listener.session; seq = m } ∷ []
+    → map going_of after.out ≡ map going_of before.out ++ update_going listener m x ∷ []
+    → TellsUpdates listener xs first before n → TellsUpdates listener (xs ++ x ∷ []) first after m
+tells_more listener xs x first before after n m next one going was =
     let w = listener.nbr in
     let s = listener.session in
     let from = suc listener.sent in
@@ -47,12 +46,12 @@ tells_more listener xs x sent some all out some_out all_out n m next one going w
       counts = omega (arith, length-append xs (x ∷ []));
       sent =
           one ∙ (ap (λ l. l ++ record { to = w; session = s; seq = m } ∷ []) was.sent
-          ∙ (append_assoc sent (sent_from w s from xs) (record { to = w; session = s; seq = m } ∷ [])
-          ∙ ap (λ l. sent ++ l) (ap (λ n. sent_from w s from xs ++ record { to = w; session = s; seq = n } ∷ []) is ∙ sym (sent_from-more w s from xs x))));
+          ∙ (append_assoc first.sent (sent_from w s from xs) (record { to = w; session = s; seq = m } ∷ [])
+          ∙ ap (λ l. first.sent ++ l) (ap (λ n. sent_from w s from xs ++ record { to = w; session = s; seq = n } ∷ []) is ∙ sym (sent_from-more w s from xs x))));
       out =
           going ∙ (ap (λ l. l ++ update_going listener m x ∷ []) was.out
-          ∙ (append_assoc (map going_of out) (going_to w s (numbered from xs)) (update_going listener m x ∷ [])
-          ∙ ap (λ l. map going_of out ++ l)
+          ∙ (append_assoc (map going_of first.out) (going_to w s (numbered from xs)) (update_going listener m x ∷ [])
+          ∙ ap (λ l. map going_of first.out ++ l)
           (ap (λ n. going_to w s (numbered from xs) ++ update_going listener n x ∷ []) is
           ∙ (sym (map-append (λ (item : Item). record { to = w; session = s; item = item }) (numbered from xs) (News (from + length xs) x ∷ []))
           ∙ ap (going_to w s) (sym (numbered-more from xs x))))));
@@ -69,30 +68,30 @@ filter-one p (y ∷ xs) x =
 module _ (rules : Rules) (net : Net) (u : ℕ) (h : List Entry) (k : Entry) (knows : Bool) (w : ℕ) where
   -- the updates over one prefix more
   over_more : (ps : List ℕ) (i p : ℕ) → slice_get ps i ≡ Some p → i < length ps
-      → updates_over rules net u h k knows w (take (i + 1) ps)
-      ≡ updates_over rules net u h k knows w (take i ps) ++ (if differs rules net u h k knows w p then update_of rules net u h k w p ∷ [] else [])
+      → updates_over (making rules net u h k) knows w (take (i + 1) ps)
+      ≡ updates_over (making rules net u h k) knows w (take i ps) ++ (if differs (making rules net u h k) knows w p then update_of (making rules net u h k) w p ∷ [] else [])
   over_more ps i p at inside =
-      ap (updates_over rules net u h k knows w) (take_more ps i 0 inside ∙ ap (λ n. take i ps ++ n ∷ []) (get_or_from_slice_get ps i p 0 at))
-      ∙ (ap (map (update_of rules net u h k w)) (filter-one (differs rules net u h k knows w) (take i ps) p)
-      ∙ (map-append (update_of rules net u h k w) (filter (differs rules net u h k knows w) (take i ps)) (if differs rules net u h k knows w p then p ∷ [] else [])
-      ∙ ap (λ l. updates_over rules net u h k knows w (take i ps) ++ l)
-      (elim (differs rules net u h k knows w p) as (λ t. map (update_of rules net u h k w) (if t then p ∷ [] else []) ≡ (if t then update_of rules net u h k w p ∷ [] else [])) [ true ↦ refl | false ↦ refl ])))
+      ap (updates_over (making rules net u h k) knows w) (take_more ps i 0 inside ∙ ap (λ n. take i ps ++ n ∷ []) (get_or_from_slice_get ps i p 0 at))
+      ∙ (ap (map (update_of (making rules net u h k) w)) (filter-one (differs (making rules net u h k) knows w) (take i ps) p)
+      ∙ (map-append (update_of (making rules net u h k) w) (filter (differs (making rules net u h k) knows w) (take i ps)) (if differs (making rules net u h k) knows w p then p ∷ [] else [])
+      ∙ ap (λ l. updates_over (making rules net u h k) knows w (take i ps) ++ l)
+      (elim (differs (making rules net u h k) knows w p) as (λ t. map (update_of (making rules net u h k) w) (if t then p ∷ [] else []) ≡ (if t then update_of (making rules net u h k) w p ∷ [] else [])) [ true ↦ refl | false ↦ refl ])))
 
-  pub over_same : (ps : List ℕ) (i p : ℕ) → slice_get ps i ≡ Some p → i < length ps → differs rules net u h k knows w p ≡ false
-      → updates_over rules net u h k knows w (take (i + 1) ps) ≡ updates_over rules net u h k knows w (take i ps)
+  pub over_same : (ps : List ℕ) (i p : ℕ) → slice_get ps i ≡ Some p → i < length ps → differs (making rules net u h k) knows w p ≡ false
+      → updates_over (making rules net u h k) knows w (take (i + 1) ps) ≡ updates_over (making rules net u h k) knows w (take i ps)
   over_same ps i p at inside same =
       over_more ps i p at inside
-      ∙ (ap (λ t. updates_over rules net u h k knows w (take i ps) ++ (if t then update_of rules net u h k w p ∷ [] else [])) same
-      ∙ append-nil (updates_over rules net u h k knows w (take i ps)))
+      ∙ (ap (λ t. updates_over (making rules net u h k) knows w (take i ps) ++ (if t then update_of (making rules net u h k) w p ∷ [] else [])) same
+      ∙ append-nil (updates_over (making rules net u h k) knows w (take i ps)))
 
-  pub over_other : (ps : List ℕ) (i p : ℕ) → slice_get ps i ≡ Some p → i < length ps → differs rules net u h k knows w p ≡ true
-      → updates_over rules net u h k knows w (take (i + 1) ps) ≡ updates_over rules net u h k knows w (take i ps) ++ update_of rules net u h k w p ∷ []
+  pub over_other : (ps : List ℕ) (i p : ℕ) → slice_get ps i ≡ Some p → i < length ps → differs (making rules net u h k) knows w p ≡ true
+      → updates_over (making rules net u h k) knows w (take (i + 1) ps) ≡ updates_over (making rules net u h k) knows w (take i ps) ++ update_of (making rules net u h k) w p ∷ []
   over_other ps i p at inside other =
       over_more ps i p at inside
-      ∙ ap (λ t. updates_over rules net u h k knows w (take i ps) ++ (if t then update_of rules net u h k w p ∷ [] else [])) other
+      ∙ ap (λ t. updates_over (making rules net u h k) knows w (take i ps) ++ (if t then update_of (making rules net u h k) w p ∷ [] else [])) other
 
   pub differs_is : (p q : ℕ) (a b : Option (List ℕ)) (t : Bool) → t ≡ same_path a b → a ≡ offer rules net u (k.read ∷ reads h) p w
-      → b ≡ (if knows then offer rules net u (reads h) q w else None) → q ≡ p → differs rules net u h k knows w p ≡ not t
+      → b ≡ (if knows then offer rules net u (reads h) q w else None) → q ≡ p → differs (making rules net u h k) knows w p ≡ not t
   differs_is p q a b t is a_is b_is same =
       sym (ap not (is ∙ (ap (λ x. same_path x b) a_is
       ∙ ap (same_path (offer rules net u (k.read ∷ reads h) p w)) (b_is ∙ ap (λ q. if knows then offer rules net u (reads h) q w else None) same))))

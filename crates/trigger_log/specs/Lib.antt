@@ -1,4 +1,5 @@
 pub mod Entries
+pub mod Making
 pub mod Sending
 pub mod Fits
 pub mod Going

@@ -13,7 +13,8 @@ use Rattle.path_vector.specs.Selection.{best}
 use Rattle.path_vector.specs.Offers.{offer}
 use Rattle.path_vector.specs.Answers.{Copies}
 use Rattle.trigger_log.specs.declared.offers.Offer.{Offer}
-use Rattle.trigger_log.specs.Entries.{Entry, Update, reads}
+use Rattle.trigger_log.specs.Entries.{Update, reads}
+use Rattle.trigger_log.specs.Making.{Making}
 use Rattle.trigger_log.specs.Sending.{update_of}
 
 -- the prefix of the scope, if it is one, is in the network
@@ -45,16 +46,15 @@ abbrev pub AreChosen : Rules → Net → ℕ → History → List Offer → Type
 AreChosen rules net u h offers =
     AllByRecursion (λ (o : Offer). Copies net u o.chosen (best rules net u h o.prefix)) offers
 
--- the path that w knows of before k: nothing, where it knows nothing
-abbrev pub known_path : Rules → Net → ℕ → List Entry → Bool → ℕ → ℕ → Option (List ℕ)
-known_path rules net u h knows w p = if knows then offer rules net u (reads h) p w else None
+-- the path that w knows of before the entry: nothing, where it knows nothing
+abbrev pub known_path : Making → Bool → ℕ → ℕ → Option (List ℕ)
+known_path m knows w p = if knows then offer m.rules m.net m.node (reads m.before) p w else None
 
--- w is offered another path of p after k than it knows of
-abbrev pub differs : Rules → Net → ℕ → List Entry → Entry → Bool → ℕ → ℕ → Bool
-differs rules net u h k knows w p =
-    not (same_path (offer rules net u (k.read ∷ reads h) p w) (known_path rules net u h knows w p))
+-- w is offered another path of p after the entry than it knows of
+abbrev pub differs : Making → Bool → ℕ → ℕ → Bool
+differs m knows w p =
+    not (same_path (offer m.rules m.net m.node (m.entry.read ∷ reads m.before) p w) (known_path m knows w p))
 
--- the updates of k to w for these prefixes
-abbrev pub updates_over : Rules → Net → ℕ → List Entry → Entry → Bool → ℕ → List ℕ → List Update
-updates_over rules net u h k knows w prefixes =
-    map (update_of rules net u h k w) (filter (differs rules net u h k knows w) prefixes)
+-- the updates of the entry to w for these prefixes
+abbrev pub updates_over : Making → Bool → ℕ → List ℕ → List Update
+updates_over m knows w prefixes = map (update_of m w) (filter (differs m knows w) prefixes)

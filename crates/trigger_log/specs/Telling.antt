@@ -3,17 +3,27 @@ use Rattle.std.specs.Prelude.{ℕ, suc, ◌+◌, ◌≡◌, List, ◌++◌, leng
 use Rattle.topology.specs.declared.items.Sent.{Sent}
 use Rattle.trigger_log.specs.declared.outgoing.Outgoing.{Outgoing}
 use Rattle.trigger_log.specs.declared.telling.Listener.{Listener}
+use Rattle.trigger_log.specs.declared.telling.Said.{Said}
 use Rattle.trigger_log.specs.Entries.{Update}
 use Rattle.trigger_log.specs.Sending.{sent_from}
 use Rattle.trigger_log.specs.Going.{Going, News, going_of, going_to, numbered}
+
+-- what an entry says: the items that it lists, and what goes out with it
+pub record Speech : Type 0 where
+  pub sent : List Sent
+  pub out : List Outgoing
+
+-- what was said, as definitions see it
+abbrev pub speech_of : Said → Speech
+speech_of said = record { sent = said.sent.items; out = said.outgoing.items }
 
 -- an update as it goes to the listener
 abbrev pub update_going : Listener → ℕ → Update → Going
 update_going listener seq update = record { to = listener.nbr; session = listener.session; item = News seq update }
 
--- these updates are listed and go out, numbered on from those that the listener was sent
-pub record Tells (listener : Listener) (list : List Update) (sent_before sent_after : List Sent)
-    (out_before out_after : List Outgoing) (count : ℕ) : Type 0 where
+-- the listener is told these updates: they are listed and go out, numbered on from those that it was sent
+pub record TellsUpdates (listener : Listener) (list : List Update) (before after : Speech) (count : ℕ) : Type 0 where
   pub counts : count ≡ listener.sent + length list
-  pub sent : sent_after ≡ sent_before ++ sent_from listener.nbr listener.session (suc listener.sent) list
-  pub out : map going_of out_after ≡ map going_of out_before ++ going_to listener.nbr listener.session (numbered (suc listener.sent) list)
+  pub sent : after.sent ≡ before.sent ++ sent_from listener.nbr listener.session (suc listener.sent) list
+  pub out : map going_of after.out
+      ≡ map going_of before.out ++ going_to listener.nbr listener.session (numbered (suc listener.sent) list)

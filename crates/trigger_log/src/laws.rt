@@ -14,6 +14,7 @@ ghost use Rattle.path_vector.specs.Rules.{Rules};
 ghost use Rattle.path_vector.specs.History.{Accepts, held, last, opened, ready};
 ghost use Rattle.path_vector.specs.Offers.{offer, changed};
 ghost use Rattle.trigger_log.specs.Entries.{Entry, Update, entry, reads, inbox, closing, close};
+ghost use Rattle.trigger_log.specs.Making.{Making};
 ghost use Rattle.trigger_log.specs.Sending.{news, outbox, said, Lists, sent_by, sent_of, sent_count, is_sent_in, Rises};
 ghost use Rattle.trigger_log.specs.Fits.{Fits, CauseFits};
 ghost use Rattle.trigger_log.specs.Due.{differs_from_said};
@@ -78,9 +79,9 @@ pub fn what_was_said_is_offered()
 /// session. What `NodeLog::append` hands out is so by its own clause.
 #[tactic(auto, using(crate::proofs::Saying::changed_where_it_differs))]
 pub fn an_update_goes_out_where_the_offer_differs()
-    ensures { (rules : Rules) (net : Net) (u : ℕ) (h : List Entry) (k : Entry) (w s p : ℕ) → Fits (k ∷ h) →
-        has (places net) p ≡ true → ready (k.read ∷ reads h) w ≡ Some s →
-        changed rules net u (reads h) k.read w p ≡ differs_from_said rules net u h k w s p }
+    ensures { (m : Making) (w s p : ℕ) → Fits (m.entry ∷ m.before) →
+        has (places m.net) p ≡ true → ready (m.entry.read ∷ reads m.before) w ≡ Some s →
+        changed m.rules m.net m.node (reads m.before) m.entry.read w p ≡ differs_from_said m w s p }
 {}
 
 /// Each trigger of an item is listed by an entry.

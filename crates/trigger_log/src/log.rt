@@ -12,9 +12,8 @@ ghost use Rattle.trigger_log.specs.Sending.{sent_count};
 ghost use Rattle.trigger_log.specs.Going.{going_of, going_by};
 ghost use Rattle.trigger_log.specs.Fits.{CauseFits};
 ghost use Rattle.trigger_log.specs.Due.{SendsWhatIsDue};
-ghost use Rattle.trigger_log.specs.Sessions.{ever, IsMark, AreAllMarks};
+ghost use Rattle.trigger_log.specs.Sessions.{ever, Says, AreAllMarks};
 ghost use Rattle.trigger_log.specs.Offered.{IsPlaced};
-ghost use Rattle.trigger_log.specs.Marked.{Says};
 ghost use Rattle.trigger_log.specs.Quiet.{Stays};
 ghost use Rattle.trigger_log.specs.Standing.{Entered, all_entered, Shows, StandsFor};
 
@@ -391,7 +390,7 @@ impl<P: Policy + Copy> NodeLog<P> {
     fn mark_of(&self, nbr: NodeId, session: Session) -> Option<&SessionMark>
         ensures some { IfSome result (λ mark. (policy : P) (net : Net) (u : ℕ) (h : List Logged) →
             StandsFor policy (P.rules policy) net u self.now h → has (neighbours net u) nbr ≡ true →
-            IsMark (P.rules policy) net u h nbr session mark.now) }
+            Says h nbr session (sent_count (P.rules policy) net u h nbr session) mark.now) }
         ensures none { IfNone result ((policy : P) (net : Net) (u : ℕ) (h : List Logged) →
             StandsFor policy (P.rules policy) net u self.now h → has (neighbours net u) nbr ≡ true →
             has (ever h nbr) session ≡ false) }

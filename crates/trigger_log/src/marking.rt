@@ -7,9 +7,10 @@ ghost use Rattle.path_vector.specs.Rules.{Rules};
 ghost use Rattle.path_vector.specs.History.{last};
 ghost use Rattle.path_vector.specs.Kept.{IsOfNeighbour, names};
 ghost use Rattle.trigger_log.specs.Entries.{Entry, entry, reads};
+ghost use Rattle.trigger_log.specs.Making.{making};
 ghost use Rattle.trigger_log.specs.Fits.{Fits};
-ghost use Rattle.trigger_log.specs.Sessions.{AreRows};
-ghost use Rattle.trigger_log.specs.Marked.{Says, AreAllMarked};
+ghost use Rattle.trigger_log.specs.Sessions.{Says, AreRows};
+ghost use Rattle.trigger_log.specs.Marked.{AreAllMarked};
 
 use crate::counting::next_number;
 use crate::sessions::{SessionMark, Sessions};
@@ -61,7 +62,7 @@ pub fn mark(sessions: &mut Sessions, trigger: &Trigger, cause: &Cause) -> Result
         IsValid net → sessions.old.near ≡ neighbours net u →
         Fits (entry (trigger.now ∷ []) scope cause.now ∷ h) → IsOfNeighbour net u cause.now →
         AreRows rules net u h sessions.old.rows →
-        AreAllMarked rules net u h (entry (trigger.now ∷ []) scope cause.now) sessions.new.rows) }
+        AreAllMarked (making rules net u h (entry (trigger.now ∷ []) scope cause.now)) sessions.new.rows) }
     ensures strangers { (net : Net) (u : ℕ) → IsValid net → sessions.old.near ≡ neighbours net u →
         ((w : ℕ) → names cause.now ≡ Some w → has (neighbours net u) w ≡ false) → sessions.new ≡ sessions.old }
     ensures near { sessions.new.near ≡ sessions.old.near }

@@ -10,8 +10,9 @@ ghost use Rattle.path_vector.specs.Answers.{Copies};
 ghost use Rattle.path_vector.specs.Offers.{offer};
 ghost use Rattle.trigger_log.specs.Going.{going_of};
 ghost use Rattle.trigger_log.specs.Entries.{Entry, reads};
+ghost use Rattle.trigger_log.specs.Making.{making};
 ghost use Rattle.trigger_log.specs.Offered.{AreChosen, prefixes_of, updates_over};
-ghost use Rattle.trigger_log.specs.Telling.{Tells, update_going};
+ghost use Rattle.trigger_log.specs.Telling.{TellsUpdates, speech_of, update_going};
 
 use crate::counting::next_number;
 use crate::offers::Offer;
@@ -159,8 +160,8 @@ pub fn tell<P: Policy + Copy>(
         AreChosen (P.rules policy) net u (reads h) turn.now.before.now →
         AreChosen (P.rules policy) net u (k.read ∷ reads h) turn.now.after.now →
         has (neighbours net u) listener.now.nbr ≡ true →
-        Tells listener.now (updates_over (P.rules policy) net u h k listener.now.knows listener.now.nbr (prefixes_of turn.now.after.now))
-        said.old.sent.items said.new.sent.items said.old.outgoing.items said.new.outgoing.items count) }
+        TellsUpdates listener.now (updates_over (making (P.rules policy) net u h k) listener.now.knows listener.now.nbr (prefixes_of turn.now.after.now))
+        (speech_of said.old) (speech_of said.new) count) }
 {
     let mut count = listener.sent;
     for i in 0..turn.after.len() {

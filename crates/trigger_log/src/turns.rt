@@ -5,11 +5,13 @@ ghost use Rattle.topology.specs.Net.{Net, neighbours};
 ghost use Rattle.topology.specs.declared.items.Sent.{Sent};
 ghost use Rattle.path_vector.specs.Rules.{Rules};
 ghost use Rattle.path_vector.specs.History.{last};
-ghost use Rattle.trigger_log.specs.declared.outgoing.Outgoing.{Outgoing};
 ghost use Rattle.trigger_log.specs.Entries.{Entry, reads};
+ghost use Rattle.trigger_log.specs.Making.{making};
 ghost use Rattle.trigger_log.specs.Sending.{sent_count};
 ghost use Rattle.trigger_log.specs.Offered.{prefixes_of};
-ghost use Rattle.trigger_log.specs.Marked.{Says, Enters, Spoken, ToldTo, ends_with, readies};
+ghost use Rattle.trigger_log.specs.Sessions.{Says};
+ghost use Rattle.trigger_log.specs.Telling.{Speech, speech_of};
+ghost use Rattle.trigger_log.specs.Marked.{Enters, Spoken, ToldTo, ends_with, readies};
 
 use crate::counting::next_number;
 use crate::quiet::is_quiet;
@@ -67,9 +69,9 @@ fn speak<P: Policy + Copy>(
 ) -> Result<u32, NoMemory>
     requires same_prefixes { prefixes_of turn.now.before.now ≡ prefixes_of turn.now.after.now }
     ensures { IfOk result (λ count. (policy : P) (net : Net) (u : ℕ) (h : List Entry) (k : Entry) (w : ℕ) →
-        Enters policy (P.rules policy) net u h k routes.now turn.now → has (neighbours net u) w ≡ true →
+        Enters policy (making (P.rules policy) net u h k) routes.now turn.now → has (neighbours net u) w ≡ true →
         Says (k ∷ h) w (last (reads (k ∷ h)) w) (sent_count (P.rules policy) net u h w (last (reads (k ∷ h)) w)) mark.now →
-        Spoken (P.rules policy) net u h k w (last (reads (k ∷ h)) w) said.old.sent.items said.new.sent.items said.old.outgoing.items said.new.outgoing.items count) }
+        Spoken (making (P.rules policy) net u h k) w (last (reads (k ∷ h)) w) (speech_of said.old) (speech_of said.new) count) }
 {
     if ends_with(turn.cause, mark.nbr) {
         return Ok(close(mark, &mut said.sent)?);
@@ -96,11 +98,11 @@ fn tell_at<P: Policy + Copy>(
 ) -> Result<(), NoMemory>
     requires same_prefixes { prefixes_of turn.now.before.now ≡ prefixes_of turn.now.after.now }
     requires within { place < length sessions.old.rows }
-    ensures told { OnOk result ((policy : P) (net : Net) (u : ℕ) (h : List Entry) (k : Entry) (w : ℕ) (sent_first : List Sent)
-        (out_first : List Outgoing) → Enters policy (P.rules policy) net u h k routes.now turn.now →
+    ensures told { OnOk result ((policy : P) (net : Net) (u : ℕ) (h : List Entry) (k : Entry) (w : ℕ) (first : Speech) →
+        Enters policy (making (P.rules policy) net u h k) routes.now turn.now →
         slice_get (neighbours net u) place ≡ Some w →
-        ToldTo (P.rules policy) net u h k place sessions.old.rows sent_first said.old.sent.items out_first said.old.outgoing.items →
-        ToldTo (P.rules policy) net u h k (place + 1) sessions.new.rows sent_first said.new.sent.items out_first said.new.outgoing.items) }
+        ToldTo (making (P.rules policy) net u h k) place sessions.old.rows first (speech_of said.old) →
+        ToldTo (making (P.rules policy) net u h k) (place + 1) sessions.new.rows first (speech_of said.new)) }
     ensures width { length sessions.new.rows ≡ length sessions.old.rows }
     ensures near { sessions.new.near ≡ sessions.old.near }
 {
@@ -122,10 +124,10 @@ fn tell_each<P: Policy + Copy>(
     said: &mut Said,
 ) -> Result<(), NoMemory>
     requires same_prefixes { prefixes_of turn.now.before.now ≡ prefixes_of turn.now.after.now }
-    ensures told { OnOk result ((policy : P) (net : Net) (u : ℕ) (h : List Entry) (k : Entry) (sent_first : List Sent)
-        (out_first : List Outgoing) → Enters policy (P.rules policy) net u h k routes.now turn.now →
-        ToldTo (P.rules policy) net u h k 0 sessions.old.rows sent_first said.old.sent.items out_first said.old.outgoing.items →
-        ToldTo (P.rules policy) net u h k (length sessions.old.rows) sessions.new.rows sent_first said.new.sent.items out_first said.new.outgoing.items) }
+    ensures told { OnOk result ((policy : P) (net : Net) (u : ℕ) (h : List Entry) (k : Entry) (first : Speech) →
+        Enters policy (making (P.rules policy) net u h k) routes.now turn.now →
+        ToldTo (making (P.rules policy) net u h k) 0 sessions.old.rows first (speech_of said.old) →
+        ToldTo (making (P.rules policy) net u h k) (length sessions.old.rows) sessions.new.rows first (speech_of said.new)) }
     ensures near { sessions.new.near ≡ sessions.old.near }
 {
     for place in 0..sessions.len() {
@@ -143,10 +145,10 @@ pub fn tell_all<P: Policy + Copy>(
     said: &mut Said,
 ) -> Result<(), NoMemory>
     requires same_prefixes { prefixes_of turn.now.before.now ≡ prefixes_of turn.now.after.now }
-    ensures told { OnOk result ((policy : P) (net : Net) (u : ℕ) (h : List Entry) (k : Entry) (sent_first : List Sent)
-        (out_first : List Outgoing) → Enters policy (P.rules policy) net u h k routes.now turn.now →
-        ToldTo (P.rules policy) net u h k 0 sessions.old.rows sent_first said.old.sent.items out_first said.old.outgoing.items →
-        ToldTo (P.rules policy) net u h k (length sessions.old.rows) sessions.new.rows sent_first said.new.sent.items out_first said.new.outgoing.items) }
+    ensures told { OnOk result ((policy : P) (net : Net) (u : ℕ) (h : List Entry) (k : Entry) (first : Speech) →
+        Enters policy (making (P.rules policy) net u h k) routes.now turn.now →
+        ToldTo (making (P.rules policy) net u h k) 0 sessions.old.rows first (speech_of said.old) →
+        ToldTo (making (P.rules policy) net u h k) (length sessions.old.rows) sessions.new.rows first (speech_of said.new)) }
     ensures near { sessions.new.near ≡ sessions.old.near }
 {
     if is_quiet(turn) {

@@ -14,6 +14,7 @@ use Rattle.path_vector.specs.declared.causes.Cause.TheVariants as cause
 use Rattle.path_vector.specs.Rules.{Rules}
 use Rattle.path_vector.specs.History.{held, last, owns, ready}
 use Rattle.trigger_log.specs.Entries.{Entry, inbox, local, reads, is_session}
+use Rattle.trigger_log.specs.Making.{making}
 use Rattle.trigger_log.specs.Going.{Going, Item, News, Marker, Hello, going_by, going_in, going_to, spread, told}
 use Rattle.chronicle.specs.Epochs.{epoch}
 use Rattle.chronicle.specs.Facts.{Fact, Chronicle, Log, Sent, Took, Raise, happen}
@@ -74,7 +75,7 @@ spread_near net u session items = near_all net u items session (filter (linked n
 -- what goes out with an entry
 pub going_near : (rules : Rules) (net : Net) (u : ℕ) (h : List Entry) (k : Entry) → AllNear net u (going_by rules net u h k)
 unfolding going_by
-going_near rules net u h k = spread_near net u (held (k.read ∷ reads h)) (told rules net u h k)
+going_near rules net u h k = spread_near net u (held (k.read ∷ reads h)) (told (making rules net u h k))
 
 -- what goes out with a cut
 pub markers_near : (net : Net) (u e : ℕ) (h : List Entry) → AllNear net u (markers net u e h)

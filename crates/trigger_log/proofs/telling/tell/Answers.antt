@@ -5,10 +5,11 @@ use Rattle.path_vector.specs.Selection.{best}
 use Rattle.path_vector.specs.Offers.{offer, offered_route}
 use Rattle.trigger_log.specs.declared.offers.Offer.{Offer}
 use Rattle.trigger_log.specs.Entries.{Update, reads}
+use Rattle.trigger_log.specs.Making.{making}
 use Rattle.trigger_log.specs.Going.{going_of}
 use Rattle.trigger_log.specs.Sending.{update_of}
 use Rattle.trigger_log.specs.Offered.{prefixes_of, updates_over}
-use Rattle.trigger_log.specs.Telling.{Tells, update_going}
+use Rattle.trigger_log.specs.Telling.{TellsUpdates, speech_of, update_going}
 use Rattle.trigger_log.proofs.Updating.{tells_more, over_same, over_other, differs_is, prefix_at, chosen_at, chosen_in, same_length, same_prefix_at, same_update}
 use Rattle.trigger_log.proofs.telling.tell.Goals as goal
 
@@ -28,7 +29,7 @@ loop-i-preserved-then-same g c = λ policy net u h k stands lists before after n
     let knew = c.known.ensures policy net u (reads h) (k.read ∷ reads h) stands (chosen_at rules net u (reads h) turn.before.now i b before (omega arith) is_b) near in
     let same = differs_is rules net u h k l.knows l.nbr o.prefix b.prefix (option_copied c.offered_path-offered.result) (option_copied c.known.result) true c.if-same.ensures offered knew
     (same_prefix_at turn.before.now turn.after.now i b o c.requires.same_prefixes inside is_b c.index-turn-i.is) in
-    subst (λ list. Tells l list c.args.said.now.sent.items c.loop-i.said.sent.items c.args.said.now.outgoing.items c.loop-i.said.outgoing.items c.loop-i.count)
+    subst (λ list. TellsUpdates l list (speech_of c.args.said.now) (speech_of c.loop-i.said) c.loop-i.count)
     (sym (over_same rules net u h k l.knows l.nbr (prefixes_of turn.after.now) i o.prefix (prefix_at turn.after.now i o inside c.index-turn-i.is) (omega (arith, length-map turn.after.now (λ (o : Offer). o.prefix))) same))
     (c.loop-i.invariant policy net u h k stands lists before after near)
 
@@ -48,15 +49,15 @@ loop-i-preserved g c = λ policy net u h k stands lists before after near.
     let knew = c.known.ensures policy net u (reads h) (k.read ∷ reads h) stands (chosen_at rules net u (reads h) turn.before.now i b before (omega arith) is_b) near in
     let other = differs_is rules net u h k l.knows l.nbr o.prefix b.prefix (option_copied c.offered_path-offered.result) (option_copied c.known.result) false c.if-same.ensures offered knew
     (same_prefix_at turn.before.now turn.after.now i b o c.requires.same_prefixes inside is_b c.index-turn-i.is) in
-    let list = updates_over rules net u h k l.knows l.nbr (take i (prefixes_of turn.after.now)) in
-    let more = tells_more l list (update_of rules net u h k l.nbr o.prefix)
-    c.args.said.now.sent.items c.loop-i.said.sent.items c.say.new.said.sent.items c.args.said.now.outgoing.items c.loop-i.said.outgoing.items c.say.new.said.outgoing.items c.loop-i.count c.in_ok-count.count
+    let list = updates_over (making rules net u h k) l.knows l.nbr (take i (prefixes_of turn.after.now)) in
+    let more = tells_more l list (update_of (making rules net u h k) l.nbr o.prefix)
+    (speech_of c.args.said.now) (speech_of c.loop-i.said) (speech_of c.say.new.said) c.loop-i.count c.in_ok-count.count
     c.in_ok-count.ensures.count c.in_ok-count.ensures.sent
     (c.in_ok-count.ensures.outgoing ∙ ap (λ (x : Update). map going_of c.loop-i.said.outgoing.items ++ update_going l c.in_ok-count.count x ∷ [])
     (same_update (slice_index_or turn.after.now i o).prefix o.prefix (turn.trigger.now ∷ []) k.triggers (option_copied c.offered_path-offered.result) (offer rules net u (k.read ∷ reads h) o.prefix l.nbr)
     (ap (λ (x : Offer). x.prefix) (sym c.index-turn-i.is)) (sym lists) offered))
     (c.loop-i.invariant policy net u h k stands lists before after near) in
-    subst (λ list. Tells l list c.args.said.now.sent.items c.say.new.said.sent.items c.args.said.now.outgoing.items c.say.new.said.outgoing.items c.in_ok-count.count)
+    subst (λ list. TellsUpdates l list (speech_of c.args.said.now) (speech_of c.say.new.said) c.in_ok-count.count)
     (sym (over_other rules net u h k l.knows l.nbr (prefixes_of turn.after.now) i o.prefix (prefix_at turn.after.now i o inside c.index-turn-i.is) (omega (arith, length-map turn.after.now (λ (o : Offer). o.prefix))) other))
     more
 
@@ -65,5 +66,5 @@ returns g c = λ policy net u h k stands lists before after near.
     let l = c.args.listener.now in
     let ps = prefixes_of c.args.turn.now.after.now in
     let all : take c.loop-i.i ps ≡ ps = take_all c.loop-i.i ps (omega (arith, length-map c.args.turn.now.after.now (λ (o : Offer). o.prefix))) in
-    subst (λ list. Tells l (updates_over (g.P.Policy.rules policy) net u h k l.knows l.nbr list) c.args.said.now.sent.items c.loop-i.said.sent.items c.args.said.now.outgoing.items c.loop-i.said.outgoing.items c.loop-i.count) all
+    subst (λ list. TellsUpdates l (updates_over (making (g.P.Policy.rules policy) net u h k) l.knows l.nbr list) (speech_of c.args.said.now) (speech_of c.loop-i.said) c.loop-i.count) all
     (c.loop-i.invariant policy net u h k stands lists before after near)

@@ -5,9 +5,10 @@ use Rattle.topology.specs.Net.{neighbours}
 use Rattle.path_vector.specs.History.{last, ready}
 use Rattle.trigger_log.specs.declared.telling.Listener.{Listener}
 use Rattle.trigger_log.specs.Entries.{Update, reads}
+use Rattle.trigger_log.specs.Making.{making}
 use Rattle.trigger_log.specs.Sending.{news, sent_count}
 use Rattle.trigger_log.specs.Offered.{prefixes_of, updates_over}
-use Rattle.trigger_log.specs.Telling.{Tells}
+use Rattle.trigger_log.specs.Telling.{TellsUpdates, speech_of}
 use Rattle.trigger_log.specs.Marked.{ends_with, readies}
 use Rattle.trigger_log.proofs.Speaking.{ready_mark, knew, over_asked, spoken_told, spoken_none, spoken_closed}
 use Rattle.trigger_log.proofs.turns.speak.Goals as goal
@@ -17,7 +18,7 @@ returns-then-ends_with g c = λ policy net u h k w enters near says.
     let mark = c.args.mark.now in
     let ends : ends_with k.read.cause w ≡ true =
     ap (λ x. ends_with x w) enters.cause ∙ (ap (ends_with c.args.turn.now.cause.now) (sym says.nbr) ∙ (sym c.ends_with.ensures ∙ c.if-ends_with.true)) in
-    spoken_closed (g.P.Policy.rules policy) net u h k w c.in_ok-close.field-0 mark c.args.said.now.sent.items c.close.new.sent.items c.args.said.now.outgoing.items
+    spoken_closed (g.P.Policy.rules policy) net u h k w c.in_ok-close.field-0 mark (speech_of c.args.said.now) c.close.new.sent.items
     enters.fitting ends says c.in_ok-close.ensures.count c.in_ok-close.ensures.sent
 
 pub returns-then-not-is_ready : goal.returns-then-not-is_ready
@@ -29,7 +30,7 @@ returns-then-not-is_ready g c = λ policy net u h k w enters near says.
     ap (λ x. ends_with x w) enters.cause ∙ (ap (ends_with c.args.turn.now.cause.now) (sym says.nbr) ∙ (sym c.ends_with.ensures ∙ c.if-ends_with.false)) in
     let unready : ready (k.read ∷ reads h) w ≡ None =
     ready_mark (k ∷ h) w (sent_count rules net u h w s) mark enters.fitting says ∙ ap (λ b. if b then Some s else None) (sym c.is_ready.ensures ∙ c.if-not-is_ready.true) in
-    spoken_none rules net u h k w enters.fitting mark.sent c.args.said.now.sent.items c.args.said.now.outgoing.items says.sent open_still unready
+    spoken_none rules net u h k w enters.fitting mark.sent (speech_of c.args.said.now) says.sent open_still unready
 
 pub returns : goal.returns
 returns g c = λ policy net u h k w enters near says.
@@ -45,11 +46,11 @@ returns g c = λ policy net u h k w enters near says.
     let told = c.in_ok-tell.ensures policy net u h k enters.stands enters.lists enters.before enters.after (subst (λ n. has (neighbours net u) n ≡ true) (sym says.nbr) near) in
     let knows : listener.knows ≡ is_some (ready (reads h) w) =
     ap not (c.readies.ensures ∙ (ap (readies turn.cause.now) says.nbr ∙ ap (λ x. readies x w) (sym enters.cause))) ∙ sym (knew k h w s enters.fitting now).1 in
-    let list : updates_over rules net u h k listener.knows mark.nbr (prefixes_of turn.after.now) ≡ news rules net u h k w =
-    ap (λ b. updates_over rules net u h k b mark.nbr (prefixes_of turn.after.now)) knows
-    ∙ (ap (λ n. updates_over rules net u h k (is_some (ready (reads h) w)) n (prefixes_of turn.after.now)) says.nbr
-    ∙ (ap (updates_over rules net u h k (is_some (ready (reads h) w)) w) enters.covers
+    let list : updates_over (making rules net u h k) listener.knows mark.nbr (prefixes_of turn.after.now) ≡ news rules net u h k w =
+    ap (λ b. updates_over (making rules net u h k) b mark.nbr (prefixes_of turn.after.now)) knows
+    ∙ (ap (λ n. updates_over (making rules net u h k) (is_some (ready (reads h) w)) n (prefixes_of turn.after.now)) says.nbr
+    ∙ (ap (updates_over (making rules net u h k) (is_some (ready (reads h) w)) w) enters.covers
     ∙ over_asked rules net u h k w s enters.fitting now enters.placed)) in
-    spoken_told rules net u h k w enters.fitting s c.in_ok-tell.field-0 listener c.args.said.now.sent.items c.tell.new.said.sent.items c.args.said.now.outgoing.items c.tell.new.said.outgoing.items
+    spoken_told rules net u h k w enters.fitting s c.in_ok-tell.field-0 listener (speech_of c.args.said.now) (speech_of c.tell.new.said)
     says.nbr says.session says.sent open_still now
-    (subst (λ (l : List Update). Tells listener l c.args.said.now.sent.items c.tell.new.said.sent.items c.args.said.now.outgoing.items c.tell.new.said.outgoing.items c.in_ok-tell.field-0) list told)
+    (subst (λ (l : List Update). TellsUpdates listener l (speech_of c.args.said.now) (speech_of c.tell.new.said) c.in_ok-tell.field-0) list told)

@@ -2,6 +2,8 @@ use Rattle.std.proofs.Common.{◌≡◌, ◌∙◌, ◌∷◌, ◌≤◌, [], re
 use Rattle.topology.specs.Net.{neighbours}
 use Rattle.path_vector.specs.Standing.{StandsFor as RoutesStandFor}
 use Rattle.trigger_log.specs.Entries.{entry, reads}
+use Rattle.trigger_log.specs.Making.{making}
+use Rattle.trigger_log.specs.Telling.{speech_of}
 use Rattle.trigger_log.specs.Marked.{ToldTo}
 use Rattle.trigger_log.specs.Rows.{MarkRows}
 use Rattle.trigger_log.proofs.Rounds.{told_none}
@@ -20,17 +22,17 @@ returns-clause-log g c = λ policy u h was near placed fits.
     let stands = took policy rules net u h trigger scope cause c.args.self.now.routes c.apply.new.self c.copied.result c.copied.ensures fitting
     (c.in_ok-apply.ensures.ok policy net u (reads h) was.routes) in
     let marked = c.in_ok-mark.ensures.marked rules net u h scope was.routes.valid was.near fitting near was.marks in
-    let none_yet = told_none rules net u h k fitting c.mark.new.sessions.rows c.in_ok-said.said.sent.items c.in_ok-said.said.outgoing.items marked in
-    let told = c.in_ok-tell_all.ensures.told policy net u h k c.in_ok-said.said.sent.items c.in_ok-said.said.outgoing.items
+    let none_yet = told_none rules net u h k fitting c.mark.new.sessions.rows (speech_of c.in_ok-said.said) marked in
+    let told = c.in_ok-tell_all.ensures.told policy net u h k (speech_of c.in_ok-said.said)
     (enters policy rules net u h trigger scope cause c.apply.new.self _ c.in_ok-before.before.items c.in_ok-after.after.items fitting stands refl refl c.deref.ensures.value c.deref-2.ensures.value
     placed c.in_ok-after.ensures.covers (c.in_ok-before.ensures.chosen policy u (reads h) was.routes placed) (c.in_ok-after.ensures.chosen policy u (k.read ∷ reads h) stands placed))
     none_yet in
     let whole : length (neighbours net u) ≤ length c.mark.new.sessions.rows = let same : length c.mark.new.sessions.rows ≡ length (neighbours net u) = none_yet.width in omega arith in
     entered policy rules net u h trigger scope cause c.args.self.now c.keep.new.self
-    (length c.mark.new.sessions.rows) c.in_ok-said.said.sent.items c.tell_all.new.said.sent.items c.in_ok-said.said.outgoing.items c.tell_all.new.said.outgoing.items c.new-sent.result
+    (length c.mark.new.sessions.rows) (speech_of c.in_ok-said.said) (speech_of c.tell_all.new.said) c.new-sent.result
     was fits (subst (λ r. RoutesStandFor policy net u r (k.read ∷ reads h)) (sym c.in_ok-keep.ensures.routes) stands) c.in_ok-keep.ensures.node
     (ap (λ (s : MarkRows). s.near) c.in_ok-keep.ensures.sessions ∙ (c.tell_all.ensures.near ∙ c.mark.ensures.near)) c.in_ok-keep.ensures.count c.in_ok-keep.ensures.next c.in_ok-keep.ensures.entries c.new-sent.ensures whole c.in_ok-said.ensures.sent
-    (subst (λ (s : MarkRows). ToldTo rules net u h k (length c.mark.new.sessions.rows) s.rows c.in_ok-said.said.sent.items c.tell_all.new.said.sent.items c.in_ok-said.said.outgoing.items c.tell_all.new.said.outgoing.items) (sym c.in_ok-keep.ensures.sessions) told)
+    (subst (λ (s : MarkRows). ToldTo (making rules net u h k) (length c.mark.new.sessions.rows) s.rows (speech_of c.in_ok-said.said) (speech_of c.tell_all.new.said)) (sym c.in_ok-keep.ensures.sessions) told)
 
 pub returns-clause-outgoing : goal.returns-clause-outgoing
 returns-clause-outgoing g c = λ policy u h was near placed fits.
@@ -44,11 +46,11 @@ returns-clause-outgoing g c = λ policy u h was near placed fits.
     let stands = took policy rules net u h trigger scope cause c.args.self.now.routes c.apply.new.self c.copied.result c.copied.ensures fitting
     (c.in_ok-apply.ensures.ok policy net u (reads h) was.routes) in
     let marked = c.in_ok-mark.ensures.marked rules net u h scope was.routes.valid was.near fitting near was.marks in
-    let none_yet = told_none rules net u h k fitting c.mark.new.sessions.rows c.in_ok-said.said.sent.items c.in_ok-said.said.outgoing.items marked in
-    let told = c.in_ok-tell_all.ensures.told policy net u h k c.in_ok-said.said.sent.items c.in_ok-said.said.outgoing.items
+    let none_yet = told_none rules net u h k fitting c.mark.new.sessions.rows (speech_of c.in_ok-said.said) marked in
+    let told = c.in_ok-tell_all.ensures.told policy net u h k (speech_of c.in_ok-said.said)
     (enters policy rules net u h trigger scope cause c.apply.new.self _ c.in_ok-before.before.items c.in_ok-after.after.items fitting stands refl refl c.deref.ensures.value c.deref-2.ensures.value
     placed c.in_ok-after.ensures.covers (c.in_ok-before.ensures.chosen policy u (reads h) was.routes placed) (c.in_ok-after.ensures.chosen policy u (k.read ∷ reads h) stands placed))
     none_yet in
     let whole : length (neighbours net u) ≤ length c.mark.new.sessions.rows = let same : length c.mark.new.sessions.rows ≡ length (neighbours net u) = none_yet.width in omega arith in
-    went_out policy rules net u h trigger scope cause (length c.mark.new.sessions.rows) c.tell_all.new.sessions.rows c.in_ok-said.said.sent.items c.tell_all.new.said.sent.items c.in_ok-said.said.outgoing.items c.tell_all.new.said.outgoing.items
+    went_out policy rules net u h trigger scope cause (length c.mark.new.sessions.rows) c.tell_all.new.sessions.rows (speech_of c.in_ok-said.said) (speech_of c.tell_all.new.said)
     whole c.in_ok-said.ensures.outgoing told
