@@ -1,5 +1,6 @@
 //! Files and runs as tables.
 mod closures;
+mod crashes;
 mod files;
 mod limits;
 mod lines;

@@ -18,16 +18,7 @@ use crate::table::{
 use text_lines::{Line as Span, Tokens, read_number};
 use topology::{BadKind, Epoch, NodeId, Prefix, Relation};
 
-const LATER_WORDS: [&[u8]; 8] = [
-    b"propose",
-    b"ctl",
-    b"crash",
-    b"restart",
-    b"hops",
-    b"transient",
-    b"inject",
-    b"hop",
-];
+const LATER_WORDS: [&[u8]; 6] = [b"propose", b"ctl", b"hops", b"transient", b"inject", b"hop"];
 
 const LATER_VIEWS: [&[u8]; 3] = [b"ctl", b"tables", b"walk"];
 

@@ -98,6 +98,8 @@ good: drain 1
 good: drain 1000000
 good: snap 1
 good: snap 3 # x
+good: crash 1
+good: restart 3
 good: show rib
 good: show log
 good: show cut 1
@@ -109,8 +111,8 @@ unknown word: Drain 1
 unknown word: snaps 1
 not built: propose
 not built: ctl 1 2
-not built: crash 1
-not built: restart 1
+wrong count: crash
+unknown node: restart 9
 not built: hops 1
 not built: transient
 not built: inject 1

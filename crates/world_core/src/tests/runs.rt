@@ -39,6 +39,8 @@ pub fn event(word: &str, a: u16, b: u16) -> Event {
         "notice" => Event::Notice { node: a, nbr: b },
         "open" => Event::OpenSession { node: a, nbr: b },
         "snap" => Event::Snap { node: a },
+        "crash" => Event::Crash { node: a },
+        "restart" => Event::Restart { node: a },
         _ => Event::Deliver { from: a, to: b },
     }
 }

@@ -4,7 +4,7 @@ use crate::World;
 use path_vector::{GaoRexford, Policy, ShortestAll};
 use std::process::Abort;
 use std::test::Fail;
-use topology::Reason;
+use topology::{NodeId, Reason};
 
 // The link fails while an update is on its way, and both ends notice that.
 fn break_up<P: Policy + Copy>(rt: &impl Abort, world: World<P>) -> Result<World<P>, Fail> {
@@ -101,5 +101,30 @@ fn idle_down(rt: &impl Abort, world: World<ShortestAll>) -> Result<World<Shortes
 fn each_reason(rt: HostRuntime) -> Result<(), Fail> {
     let world = line_of(rt.alloc(), 2, ShortestAll)?;
     idle_down(&rt, idle_up(&rt, world)?)?;
+    Ok(())
+}
+
+// Node 2 stops with an update on its way to it, and comes back.
+fn stop<P: Policy + Copy>(rt: &impl Abort, world: World<P>) -> Result<World<P>, Fail> {
+    let begun = [logged(1, 1), queued(1, 2)];
+    let world = does(rt, world, event("originate", 1, 0), &begun, (1, 2))?;
+    let world = does(rt, world, event("crash", 2, 0), &[], (0, 0))?;
+    assert!(rt; world.crashed(NodeId::new(2)));
+    assert!(rt; !world.crashed(NodeId::new(1)));
+    let world = idles(rt, world, event("deliver", 1, 2), Reason::Crashed, (0, 0))?;
+    does(rt, world, event("restart", 2, 0), &[], (1, 2))
+}
+
+#[test]
+fn a_node_stops(rt: HostRuntime) -> Result<(), Fail> {
+    let world = stop(&rt, line_of(rt.alloc(), 2, ShortestAll)?)?;
+    assert!(rt; !world.crashed(NodeId::new(2)));
+    idles(
+        &rt,
+        world,
+        event("restart", 2, 0),
+        Reason::NotCrashed,
+        (1, 2),
+    )?;
     Ok(())
 }
