@@ -1,0 +1,63 @@
+//! Backups: along a second path, which leads over no node that was visited.
+ghost use Rattle.std.specs.Prelude.{◌≡◌, IfOk, OnErr};
+ghost use Rattle.topology.specs.declared.names.Scheme.TheVariants as scheme;
+ghost use Rattle.transient_mode.specs.TransientHops.{answered, GoesOn, new_backup, by_backup};
+ghost use Rattle.transient_mode.specs.TransientHops.{hop_under};
+
+use crate::moves::end_at;
+use crate::routes::{after_first, along, next_up, start};
+use crate::{Move, View};
+use backup_routes::backup_for;
+use epoch_packet::{End, Packet};
+use topology::{NoMemory, Topology};
+
+// Along the first backup that qualifies, which becomes the route of the packet.
+fn new_backup(
+    topology: &Topology,
+    packet: Packet,
+    view: &View<'_>,
+) -> Result<(Packet, Move), NoMemory>
+    ensures hop { IfOk result (λ pair.
+        pair ≡ answered packet (new_backup topology.now packet view.now)) }
+    ensures memory { OnErr result (GoesOn (new_backup topology.now packet view.now)) }
+{
+    match backup_for(topology, view.backups, packet.visited, view.up) {
+        Some(path) => start(topology, packet, view, after_first(path.nodes())),
+        None => Ok((packet, Move::Ended(End::Stuck))),
+    }
+}
+
+// A hop under backups of a packet that has moves left. A move along the route that it has takes no
+// memory.
+fn by_backup(
+    topology: &Topology,
+    packet: Packet,
+    view: &View<'_>,
+) -> Result<(Packet, Move), NoMemory>
+    ensures hop { IfOk result (λ pair.
+        pair ≡ answered packet (by_backup topology.now packet view.now)) }
+    ensures memory { OnErr result (GoesOn (by_backup topology.now packet view.now)) }
+{
+    match next_up(view, packet.route.as_slice()) {
+        Some(next) => Ok(along(topology, packet, next)),
+        None => new_backup(topology, packet, view),
+    }
+}
+
+// A hop under backups.
+#[tactic(auto, unfolding(crate::specs::TransientHops::hop_under))]
+pub(crate) fn backup(
+    topology: &Topology,
+    packet: Packet,
+    view: View<'_>,
+) -> Result<(Packet, Move), NoMemory>
+    ensures hop { IfOk result (λ pair.
+        pair ≡ answered packet (hop_under scheme.Backup topology.now packet view.entry)) }
+    ensures memory { OnErr result
+        (GoesOn (hop_under scheme.Backup topology.now packet view.entry)) }
+{
+    match end_at(&packet, &view) {
+        Some(end) => Ok((packet, Move::Ended(end))),
+        None => by_backup(topology, packet, &view),
+    }
+}

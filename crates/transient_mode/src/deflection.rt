@@ -1,0 +1,104 @@
+//! Deflection: to the first neighbour in the order that is new to the packet, else back.
+ghost use Rattle.std.specs.Prelude.{◌≡◌, find, option_copied, IfOk, OnErr};
+ghost use Rattle.topology.specs.declared.names.Scheme.TheVariants as scheme;
+ghost use Rattle.epoch_packet.specs.NodeLists.{last_of};
+ghost use Rattle.transient_mode.specs.TransientHops.{answered, GoesOn, is_new, forward, if_up};
+ghost use Rattle.transient_mode.specs.TransientHops.{back, deflected, hop_under};
+
+use crate::moves::{end_at, if_up, spent};
+use crate::{Move, View};
+use epoch_packet::{End, Packet, has_visited};
+use topology::{NoMemory, NodeId, Topology};
+
+// How many nodes a trail may have.
+const TRAIL_LENGTH: usize = 64;
+
+// Whether the link to the node is up, and the packet was not there.
+fn is_new(topology: &Topology, visited: u64, up: &[NodeId], node: NodeId) -> bool
+    ensures { result ≡ is_new topology.now visited up.now node }
+{
+    up.contains(&node) && !has_visited(topology, visited, node)
+}
+
+// The first of the nodes for which that is so.
+fn first_new<'a>(
+    topology: &Topology,
+    visited: u64,
+    up: &[NodeId],
+    nodes: &'a [NodeId],
+) -> Option<&'a NodeId>
+    ensures { option_copied result ≡ find (is_new topology.now visited up.now) nodes.now }
+{
+    nodes
+        .iter()
+        .find(|node| is_new(topology, visited, up, **node))
+}
+
+// The neighbour to which the packet goes forward; none where the trail is full.
+fn forward(topology: &Topology, packet: &Packet, view: &View<'_>) -> Option<NodeId>
+    ensures { result ≡ forward topology.now packet.now view.now }
+{
+    if packet.trail.as_slice().len() < TRAIL_LENGTH {
+        first_new(topology, packet.visited, view.up, view.order).copied()
+    } else {
+        None
+    }
+}
+
+// Back to the last node of the trail. Takes no memory.
+fn back(topology: &Topology, packet: Packet, view: &View<'_>) -> (Packet, Move)
+    ensures { result
+        ≡ answered packet (back topology.now packet (if_up view.now (last_of packet.trail))) }
+{
+    match if_up(view, packet.trail.last()) {
+        Some(node) => {
+            let mut moved = spent(topology, packet, node);
+            moved.trail.drop_last();
+            (moved, Move::Next(node))
+        }
+        None => (packet, Move::Ended(End::Stuck)),
+    }
+}
+
+// A deflection of a packet that has moves left. A move back, and the end, take no memory.
+#[tactic(auto, unfolding(crate::specs::TransientHops::deflected))]
+pub(crate) fn deflected(
+    topology: &Topology,
+    mut packet: Packet,
+    view: &View<'_>,
+) -> Result<(Packet, Move), NoMemory>
+    ensures hop { IfOk result (λ pair.
+        pair ≡ answered packet (deflected topology.now packet view.now)) }
+    ensures memory { OnErr result (GoesOn (deflected topology.now packet view.now)) }
+{
+    match forward(topology, &packet, view) {
+        Some(node) => {
+            packet.trail.push(view.at)?;
+            let moved = spent(topology, packet, node);
+            Ok((moved, Move::Next(node)))
+        }
+        None => Ok(back(topology, packet, view)),
+    }
+}
+
+/// A hop by deflection, whatever the scheme of the network. The packet moves to the first neighbour in
+/// the order whose link is up and that does not count as visited, and the node that it leaves goes to
+/// the end of its trail; with a trail of 64 nodes it makes no such move. Else it moves back to the last
+/// node of its trail, which leaves the trail, where that link is up. Else it is stuck. A packet that
+/// ends is answered as it was. Errs only for want of memory, and only where the packet moves.
+#[tactic(auto, unfolding(crate::specs::TransientHops::hop_under))]
+pub fn deflect(
+    topology: &Topology,
+    packet: Packet,
+    view: View<'_>,
+) -> Result<(Packet, Move), NoMemory>
+    ensures hop { IfOk result (λ pair.
+        pair ≡ answered packet (hop_under scheme.Deflect topology.now packet view.entry)) }
+    ensures memory { OnErr result
+        (GoesOn (hop_under scheme.Deflect topology.now packet view.entry)) }
+{
+    match end_at(&packet, &view) {
+        Some(end) => Ok((packet, Move::Ended(end))),
+        None => deflected(topology, packet, &view),
+    }
+}

@@ -1,0 +1,102 @@
+//! Detours: as a deflection up to a node, then along the path that this node published.
+ghost use Rattle.std.specs.Prelude.{◌≡◌, true, IfOk, OnErr, option_copied};
+ghost use Rattle.topology.specs.declared.names.Scheme.TheVariants as scheme;
+ghost use Rattle.transient_mode.specs.TransientHops.{answered, GoesOn, route_of, set_out, detoured};
+ghost use Rattle.transient_mode.specs.TransientHops.{hop_under, transient_hop, IsDetour};
+
+use crate::deflection::deflected;
+use crate::moves::end_at;
+use crate::routes::{after_first, follow, start};
+use crate::{Move, View};
+use epoch_packet::Packet;
+use topology::{NoMemory, NodeId, Scheme, Topology};
+
+// The nodes after the first of a path, none where there is no path.
+fn route_of<'a>(path: Option<&'a [NodeId]>) -> &'a [NodeId]
+    ensures { result.now ≡ route_of (option_copied path.entry) }
+{
+    match path {
+        Some(nodes) => after_first(nodes),
+        None => &[],
+    }
+}
+
+// The first hop at the node of the detour: where the packet moves, it has been there.
+fn set_out(topology: &Topology, packet: Packet, view: &View<'_>) -> Result<(Packet, Move), NoMemory>
+    ensures hop { IfOk result (λ pair.
+        pair ≡ answered packet (set_out topology.now packet view.now)) }
+    ensures memory { OnErr result (GoesOn (set_out topology.now packet view.now)) }
+{
+    let (moved, to) = start(topology, packet, view, route_of(view.stable))?;
+    match to {
+        Move::Next(_) => Ok((
+            Packet {
+                reached: true,
+                ..moved
+            },
+            to,
+        )),
+        Move::Ended(_) => Ok((moved, to)),
+    }
+}
+
+// A detour by a node, of a packet that has moves left.
+fn detoured(
+    topology: &Topology,
+    node: NodeId,
+    packet: Packet,
+    view: &View<'_>,
+) -> Result<(Packet, Move), NoMemory>
+    ensures hop { IfOk result (λ pair.
+        pair ≡ answered packet (detoured topology.now node packet view.now)) }
+    ensures memory { OnErr result (GoesOn (detoured topology.now node packet view.now)) }
+{
+    if packet.reached {
+        return Ok(follow(topology, packet, view));
+    }
+    if view.at == node {
+        return set_out(topology, packet, view);
+    }
+    deflected(topology, packet, view)
+}
+
+// A hop under a detour by a node.
+#[tactic(auto, unfolding(crate::specs::TransientHops::hop_under))]
+fn detour_by(
+    topology: &Topology,
+    node: NodeId,
+    packet: Packet,
+    view: View<'_>,
+) -> Result<(Packet, Move), NoMemory>
+    ensures hop { IfOk result (λ pair.
+        pair ≡ answered packet (hop_under (scheme.Detour node) topology.now packet view.entry)) }
+    ensures memory { OnErr result
+        (GoesOn (hop_under (scheme.Detour node) topology.now packet view.entry)) }
+{
+    match end_at(&packet, &view) {
+        Some(end) => Ok((packet, Move::Ended(end))),
+        None => detoured(topology, node, packet, &view),
+    }
+}
+
+/// A hop where the scheme of the network is a detour by a node. Until the packet has been at this node
+/// it moves as in a deflection. In its first hop there it takes as its route what comes after the node
+/// on the node's newest published path, nothing where there is none. From then on, and already in this
+/// hop, it moves to the next node of its route, where that link is up, and takes it off. Else it is
+/// stuck. A packet that ends is answered as it was. Errs only for want of memory, and only where the
+/// packet moves.
+pub fn detour(
+    topology: &Topology,
+    packet: Packet,
+    view: View<'_>,
+) -> Result<(Packet, Move), NoMemory>
+    requires { IsDetour topology.now.scheme }
+    ensures hop { IfOk result (λ pair.
+        pair ≡ answered packet (transient_hop topology.now packet view.entry)) }
+    ensures memory { OnErr result (GoesOn (transient_hop topology.now packet view.entry)) }
+{
+    match topology.scheme() {
+        Scheme::Detour(node) => detour_by(topology, node, packet, view),
+        Scheme::Deflect | Scheme::Backup => unreachable!(),
+    }
+}

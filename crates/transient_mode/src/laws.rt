@@ -1,0 +1,36 @@
+//! Laws of moves off the stable tables. A call of a law brings what it says into the caller's
+//! proof.
+ghost use Rattle.std.specs.Prelude.{ℕ, true, ◌≡◌, ◌⊎◌, List};
+ghost use Rattle.topology.specs.Lists.{Among};
+ghost use Rattle.topology.specs.Paths.{differ};
+ghost use Rattle.topology.specs.Net.{Net};
+ghost use Rattle.topology.specs.declared.names.Scheme.{Scheme};
+ghost use Rattle.topology.specs.declared.names.Scheme.TheVariants as scheme;
+ghost use Rattle.epoch_packet.specs.declared.packets.Packet.{Packet};
+ghost use Rattle.transient_mode.specs.Sights.{Sight};
+ghost use Rattle.transient_mode.specs.TransientHops.{Next, hop_under};
+ghost use Rattle.transient_mode.specs.EachMove.{IsMove, IsForward, IsBack, RouteIsNew, LeadsOn};
+
+/// Under each scheme a move spends one of those that were left, and goes over a link that is up to a
+/// node that counts as visited from then on; the packet keeps its number, prefix, stamp and mode.
+#[tactic(auto, using(crate::proofs::EachHop::is_move))]
+pub fn a_move_spends_one_and_keeps_the_packet()
+    ensures { (rule : Scheme) (net : Net) (packet moved : Packet) (view : Sight) (w : ℕ) →
+        hop_under rule net packet view ≡ Next w moved → IsMove net packet view w moved }
+{}
+
+/// A deflected packet goes to a node that it did not visit, or back to the last node of its trail.
+#[tactic(auto, using(crate::proofs::EachHop::forward_or_back))]
+pub fn a_deflection_goes_to_a_new_node_or_back()
+    ensures { (net : Net) (packet moved : Packet) (view : Sight) (w : ℕ) →
+        hop_under scheme.Deflect net packet view ≡ Next w moved →
+        IsForward net packet view w moved ⊎ IsBack packet w moved }
+{}
+
+/// Under backups, where the nodes of the packet's route differ and were not visited, and no backup
+/// repeats a node, each move goes to a node that was not visited, and the route that is left is so too.
+pub fn a_backup_leads_to_new_nodes()
+    ensures { (net : Net) (packet moved : Packet) (view : Sight) (w : ℕ) →
+        ((path : List ℕ) → Among path view.backups → differ path ≡ true) → RouteIsNew net packet →
+        hop_under scheme.Backup net packet view ≡ Next w moved → LeadsOn net packet w moved }
+{}
