@@ -171,6 +171,7 @@ of_run count.Epochs ne = refl
 of_run count.Triggers ne = refl
 of_run count.Entries ne = refl
 of_run count.Updates ne = refl
+of_run count.Control ne = refl
 
 is_limit : (bytes : List ℕ) (kind : LimitKind) (number : ℕ) (held held' : Option (List ℕ)) → kind ≢ count.Bytes
     → StopsRun bytes (record { kind = kind; number = number }) held held' → IsLimit bytes kind number held held'

@@ -2,7 +2,7 @@
 use Rattle.std.specs.Prelude.{ℕ, List, ◌++◌, codes}
 use Rattle.std.specs.Fmt.{decimal}
 use Rattle.topology.specs.declared.status.Reason.{Reason}
-use Rattle.topology.specs.declared.status.Reason.TheVariants.{Crashed, AlreadyOrigin, NotOrigin, LinkDown, EmptyChannel, WrongSession, AlreadyDown, AlreadyUp, NotOpen, StillUp, AlreadyOpen, WrongSeq, OldSession, NotConsolidator, Decided, NoReport, Duplicate, Promised, StaleBallot, NoRound, NotCrashed}
+use Rattle.topology.specs.declared.status.Reason.TheVariants.{Crashed, AlreadyOrigin, NotOrigin, LinkDown, EmptyChannel, WrongSession, AlreadyDown, AlreadyUp, NotOpen, StillUp, AlreadyOpen, WrongSeq, OldSession, NotConsolidator, Decided, NoReport, NoSuchMessage, Duplicate, Promised, StaleBallot, NoRound, NotCrashed}
 
 abbrev pub reason_words : Reason → List ℕ
 reason_words Crashed = codes "crashed"
@@ -21,6 +21,7 @@ reason_words OldSession = codes "old session"
 reason_words NotConsolidator = codes "not consolidator"
 reason_words Decided = codes "decided"
 reason_words NoReport = codes "no report"
+reason_words NoSuchMessage = codes "no such message"
 reason_words Duplicate = codes "duplicate"
 reason_words (Promised ballot) = codes "promised " ++ decimal ballot.round ++ codes "/" ++ decimal ballot.node
 reason_words StaleBallot = codes "stale ballot"

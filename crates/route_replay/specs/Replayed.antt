@@ -6,7 +6,7 @@ use Rattle.topology.specs.declared.status.Status.{Status}
 use Rattle.topology.specs.declared.status.Status.TheVariants.{Done, Usage, NoMemory, BadSchedule, Limit, ReadFault, WriteFault}
 use Rattle.topology.specs.declared.status.BadKind.{BadKind}
 use Rattle.topology.specs.declared.status.LimitKind.{LimitKind}
-use Rattle.topology.specs.declared.status.LimitKind.TheVariants.{Bytes, Events, Epochs, Triggers, Entries, Updates}
+use Rattle.topology.specs.declared.status.LimitKind.TheVariants.{Bytes, Events, Epochs, Triggers, Entries, Updates, Control}
 use Rattle.route_io.specs.Causes.{RoseIf, AppendsFront}
 use Rattle.route_io.specs.Views.{SourceView, SinkView}
 use Rattle.path_vector.specs.GaoRexford.{gao_rexford}
@@ -45,6 +45,7 @@ is_of_run Epochs = true
 is_of_run Triggers = true
 is_of_run Entries = true
 is_of_run Updates = true
+is_of_run Control = true
 
 -- the statuses before which nothing is run
 abbrev pub ends_early : Status → Bool

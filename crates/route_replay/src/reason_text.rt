@@ -28,6 +28,7 @@ pub fn reason_words(out: &mut String, reason: Reason) -> Result<(), AllocError>
         Reason::NotConsolidator => out.push_str("not consolidator"),
         Reason::Decided => out.push_str("decided"),
         Reason::NoReport => out.push_str("no report"),
+        Reason::NoSuchMessage => out.push_str("no such message"),
         Reason::Duplicate => out.push_str("duplicate"),
         Reason::Promised(ballot) => {
             out.push_str("promised ")?;

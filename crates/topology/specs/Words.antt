@@ -3,7 +3,7 @@ use Rattle.std.specs.Prelude.{ℕ, List, codes}
 use Rattle.topology.specs.declared.status.BadKind.{BadKind}
 use Rattle.topology.specs.declared.status.BadKind.TheVariants.{UnknownWord, NotBuilt, NotHere, WrongCount, BadNumber, BadPrefix, UnknownNode, UnknownPrefix, SelfLink, NoLink, DuplicateNode, DuplicateLink, DuplicatePrefix, TooMany}
 use Rattle.topology.specs.declared.status.LimitKind.{LimitKind}
-use Rattle.topology.specs.declared.status.LimitKind.TheVariants.{Bytes, Events, Epochs, Triggers, Entries, Updates}
+use Rattle.topology.specs.declared.status.LimitKind.TheVariants.{Bytes, Events, Epochs, Triggers, Entries, Updates, Control}
 
 -- what is wrong with a line
 abbrev pub bad_words : BadKind → List ℕ
@@ -30,3 +30,4 @@ limit_words Epochs = codes "epochs"
 limit_words Triggers = codes "triggers"
 limit_words Entries = codes "entries"
 limit_words Updates = codes "updates"
+limit_words Control = codes "control"

@@ -38,6 +38,8 @@ pub enum Reason {
     Decided,
     /// The node holds no report of the epoch.
     NoReport,
+    /// There is no control message with this number.
+    NoSuchMessage,
     /// The sender's report is held, the sender is counted, or the ballot is accepted already.
     Duplicate,
     /// The node promised this ballot.
@@ -65,6 +67,8 @@ pub enum LimitKind {
     Entries,
     /// The items that the entries of one node list.
     Updates,
+    /// The control messages that were sent.
+    Control,
 }
 
 impl LimitKind {
@@ -81,6 +85,7 @@ impl LimitKind {
             LimitKind::Triggers => "triggers",
             LimitKind::Entries => "entries",
             LimitKind::Updates => "updates",
+            LimitKind::Control => "control",
         }
     }
 }

@@ -3,7 +3,7 @@ use Rattle.std.proofs.Common.{ℕ, suc, Bool, true, false, ◌&&◌, ◌==◌, �
 use Rattle.std.specs.Prelude.{not, nat_le, if◌then◌else◌}
 use Rattle.std.proofs.lemmas.Bool.Decides.{nat_tests}
 use Rattle.topology.specs.declared.status.LimitKind.{LimitKind}
-use Rattle.topology.specs.declared.status.LimitKind.TheVariants.{Bytes, Events, Epochs, Triggers, Entries, Updates}
+use Rattle.topology.specs.declared.status.LimitKind.TheVariants.{Bytes, Events, Epochs, Triggers, Entries, Updates, Control}
 use Rattle.topology.specs.Lists.{has}
 use Rattle.topology.specs.Net.{Net, IsValid}
 use Rattle.path_vector.specs.Rules.{Rules}
@@ -70,12 +70,14 @@ limit_is true triggers entries updates full Events number e same = absurd (cc (k
 limit_is true triggers entries updates full Triggers number e same = absurd (cc (kinds_are Epochs Triggers MOST_EPOCHS number e))
 limit_is true triggers entries updates full Entries number e same = absurd (cc (kinds_are Epochs Entries MOST_EPOCHS number e))
 limit_is true triggers entries updates full Updates number e same = absurd (cc (kinds_are Epochs Updates MOST_EPOCHS number e))
+limit_is true triggers entries updates full Control number e same = absurd (cc (kinds_are Epochs Control MOST_EPOCHS number e))
 limit_is false triggers entries updates full Epochs number e same = absurd (not_epochs entries updates number e)
 limit_is false triggers entries updates full Bytes number e same = triggers_first triggers full (same refl) (first_of_node false entries updates) Bytes number e
 limit_is false triggers entries updates full Events number e same = triggers_first triggers full (same refl) (first_of_node false entries updates) Events number e
 limit_is false triggers entries updates full Triggers number e same = triggers_first triggers full (same refl) (first_of_node false entries updates) Triggers number e
 limit_is false triggers entries updates full Entries number e same = triggers_first triggers full (same refl) (first_of_node false entries updates) Entries number e
 limit_is false triggers entries updates full Updates number e same = triggers_first triggers full (same refl) (first_of_node false entries updates) Updates number e
+limit_is false triggers entries updates full Control number e same = triggers_first triggers full (same refl) (first_of_node false entries updates) Control number e
 
 -- ---- the triggers
 
