@@ -8,7 +8,7 @@ use Rattle.topology.specs.declared.links.LinkState.TheVariants.{Up, Down}
 use Rattle.topology.specs.Lists.{Begins}
 use Rattle.topology.specs.LinkStates.{are_ends, failed, restored, carries, is_up, number_of}
 use Rattle.link_model.specs.Acts.{Acts, Push, Take, Fail, Restore}
-use Rattle.link_model.specs.Readings.{state, channel, behind_front}
+use Rattle.link_model.specs.Readings.{state, channel_after, behind_front}
 
 ends_turned : (a b c d : ℕ) → are_ends a b c d ≡ are_ends b a c d
 ends_turned a b c d = grind (arith, nat_tests)
@@ -71,12 +71,12 @@ still_down true link e = absurd (true≢false (sym (restored_up link) ∙ e))
 still_down false link e = e
 
 -- nothing is on its way over a link that is down
-pub empty_down : (a b : ℕ) (acts : Acts) → is_up (state a b acts) ≡ false → channel a b acts ≡ []
+pub empty_down : (a b : ℕ) (acts : Acts) → is_up (state a b acts) ≡ false → channel_after a b acts ≡ []
 empty_down a b [] e = refl
 empty_down a b (Push from to session item ∷ acts) e =
-    not_pushed (from == a && to == b) (carries (state a b acts) session) (channel a b acts) (item ∷ []) (carries_none (state a b acts) session e) (empty_down a b acts e)
-empty_down a b (Take from to ∷ acts) e = none_taken (from == a && to == b) (channel a b acts) (empty_down a b acts e)
-empty_down a b (Fail c d ∷ acts) e = emptied_by (are_ends a b c d) (state a b acts) (channel a b acts) e (λ down. empty_down a b acts down)
+    not_pushed (from == a && to == b) (carries (state a b acts) session) (channel_after a b acts) (item ∷ []) (carries_none (state a b acts) session e) (empty_down a b acts e)
+empty_down a b (Take from to ∷ acts) e = none_taken (from == a && to == b) (channel_after a b acts) (empty_down a b acts e)
+empty_down a b (Fail c d ∷ acts) e = emptied_by (are_ends a b c d) (state a b acts) (channel_after a b acts) e (λ down. empty_down a b acts down)
 empty_down a b (Restore c d ∷ acts) e = empty_down a b acts (still_down (are_ends a b c d) (state a b acts) e)
 
 begins_more : (t : Bool) (before more : List Item) → Begins before (if t then before ++ more else before)
@@ -84,5 +84,5 @@ begins_more true before more = (more, refl)
 begins_more false before more = ([], append-nil before)
 
 -- a push takes nothing out
-pub push_begins : (a b from to session : ℕ) (item : Item) (acts : Acts) → Begins (channel a b acts) (channel a b (Push from to session item ∷ acts))
-push_begins a b from to session item acts = begins_more ((from == a && to == b) && carries (state a b acts) session) (channel a b acts) (item ∷ [])
+pub push_begins : (a b from to session : ℕ) (item : Item) (acts : Acts) → Begins (channel_after a b acts) (channel_after a b (Push from to session item ∷ acts))
+push_begins a b from to session item acts = begins_more ((from == a && to == b) && carries (state a b acts) session) (channel_after a b acts) (item ∷ [])

@@ -8,7 +8,7 @@ use Rattle.topology.specs.LinkStates.{are_ends, failed, restored, carries, is_up
 use Rattle.topology.specs.Net.{Net, linked}
 use Rattle.link_model.specs.declared.links.Links.{Links}
 use Rattle.link_model.specs.Acts.{Acts, Push, Take, Fail, Restore}
-use Rattle.link_model.specs.Readings.{state, channel, behind_front}
+use Rattle.link_model.specs.Readings.{state, channel_after, behind_front}
 use Rattle.link_model.specs.Ways.{OneWay, emptied, after_push}
 use Rattle.link_model.specs.Keeping.{Ways, Keeps, replaced}
 use Rattle.link_model.specs.Standing.{StandsFor}
@@ -22,7 +22,7 @@ same_way kept link items e f = ap (λ l. one_way l kept.items) e ∙ ap (one_way
 
 -- each way after the acts
 abbrev pub ways_after : Acts → Ways
-ways_after acts u w = record { state = state u w acts; items = channel u w acts }
+ways_after acts u w = record { state = state u w acts; items = channel_after u w acts }
 
 pub keeps_of : (net : Net) (links : Links) (acts : Acts) → StandsFor net links acts → Keeps net links (ways_after acts)
 keeps_of net links acts stands = record {
@@ -30,7 +30,7 @@ keeps_of net links acts stands = record {
   numbered = stands.numbered;
   each = λ way e kept at here.
       let is = stands.each way e kept at here in
-      same_way kept (state e.from e.to acts) (channel e.from e.to acts) is.state is.items;
+      same_way kept (state e.from e.to acts) (channel_after e.from e.to acts) is.state is.items;
 }
 
 pub stands_of : (net : Net) (links : Links) (ways : Ways) (acts : Acts) → Keeps net links ways → ((u w : ℕ) → ways u w ≡ ways_after acts u w) → StandsFor net links acts
@@ -65,18 +65,18 @@ pub pushed : (net : Net) (links : Links) (acts : Acts) (from to session : ℕ) (
 pushed net links acts from to session item keeps = stands_of net links _ (Push from to session item ∷ acts) keeps (λ u w.
     (elim (from == u && to == w) as (λ t. (from == u && to == w) ≡ t
     → (if t then after_push session item (ways_after acts from to) else ways_after acts u w)
-    ≡ one_way (state u w acts) (if t && carries (state u w acts) session then channel u w acts ++ item ∷ [] else channel u w acts)) [
-      | true ↦ λ e. let is = both_same from to u w e in rw (is.0, is.1) (more_at (carries (state u w acts) session) (state u w acts) (channel u w acts) item)
+    ≡ one_way (state u w acts) (if t && carries (state u w acts) session then channel_after u w acts ++ item ∷ [] else channel_after u w acts)) [
+      | true ↦ λ e. let is = both_same from to u w e in rw (is.0, is.1) (more_at (carries (state u w acts) session) (state u w acts) (channel_after u w acts) item)
       | false ↦ λ e. refl
     ]) refl)
 
 -- a take
 pub taken : (net : Net) (links : Links) (acts : Acts) (from to : ℕ)
-    → Keeps net links (replaced from to (one_way (state from to acts) (behind_front (channel from to acts))) (ways_after acts)) → StandsFor net links (Take from to ∷ acts)
+    → Keeps net links (replaced from to (one_way (state from to acts) (behind_front (channel_after from to acts))) (ways_after acts)) → StandsFor net links (Take from to ∷ acts)
 taken net links acts from to keeps = stands_of net links _ (Take from to ∷ acts) keeps (λ u w.
     (elim (from == u && to == w) as (λ t. (from == u && to == w) ≡ t
-    → (if t then one_way (state from to acts) (behind_front (channel from to acts)) else ways_after acts u w)
-    ≡ one_way (state u w acts) (if t then behind_front (channel u w acts) else channel u w acts)) [
+    → (if t then one_way (state from to acts) (behind_front (channel_after from to acts)) else ways_after acts u w)
+    ≡ one_way (state u w acts) (if t then behind_front (channel_after u w acts) else channel_after u w acts)) [
       | true ↦ λ e. let is = both_same from to u w e in rw (is.0, is.1) refl
       | false ↦ λ e. refl
     ]) refl)
@@ -112,16 +112,16 @@ module _ (net : Net) (links : Links) (acts : Acts) (a b : ℕ) (d : LinkState) (
   pub failed_both : failed (state a b acts) ≡ d → StandsFor net links (Fail a b ∷ acts)
   failed_both same = stands_of net links _ (Fail a b ∷ acts) keeps (λ u w.
       let ends = ends_at u w a b in
-      rw ends (twice_at (a == u && b == w) (b == u && a == w) d (failed (state u w acts)) (state u w acts) (channel u w acts) []
+      rw ends (twice_at (a == u && b == w) (b == u && a == w) d (failed (state u w acts)) (state u w acts) (channel_after u w acts) []
       (λ e. ap failed (at_ends u w a b acts (ends ∙ e)) ∙ same) (λ e. refl)))
 
   -- the link was down
   pub restored_both : restored (state a b acts) ≡ d → is_up (state a b acts) ≡ false → StandsFor net links (Restore a b ∷ acts)
   restored_both same down = stands_of net links _ (Restore a b ∷ acts) keeps (λ u w.
       let ends = ends_at u w a b in
-      rw ends (twice_at (a == u && b == w) (b == u && a == w) d (restored (state u w acts)) (state u w acts) (channel u w acts) (channel u w acts)
+      rw ends (twice_at (a == u && b == w) (b == u && a == w) d (restored (state u w acts)) (state u w acts) (channel_after u w acts) (channel_after u w acts)
       (λ e. ap restored (at_ends u w a b acts (ends ∙ e)) ∙ same) (λ e. empty_down u w acts (ap is_up (at_ends u w a b acts (ends ∙ e)) ∙ down))
-      ∙ ap (one_way _) (either_way (a == u && b == w || b == u && a == w) (channel u w acts))))
+      ∙ ap (one_way _) (either_way (a == u && b == w || b == u && a == w) (channel_after u w acts))))
 
 -- ---- calls that change nothing
 
@@ -141,15 +141,15 @@ still_restored (Down s) e = absurd (true≢false (sym e))
 -- the link was down already
 pub not_failed : (net : Net) (links : Links) (acts : Acts) (a b : ℕ) → StandsFor net links acts → is_up (state a b acts) ≡ false → StandsFor net links (Fail a b ∷ acts)
 not_failed net links acts a b stands down = stands_of net links (ways_after acts) (Fail a b ∷ acts) (keeps_of net links acts stands) (λ u w.
-    once_at (are_ends u w a b) (state u w acts) (failed (state u w acts)) (channel u w acts) []
+    once_at (are_ends u w a b) (state u w acts) (failed (state u w acts)) (channel_after u w acts) []
     (λ e. still_failed (state u w acts) (ap is_up (at_ends u w a b acts e) ∙ down)) (λ e. empty_down u w acts (ap is_up (at_ends u w a b acts e) ∙ down)))
 
 -- the link was up already
 pub not_restored : (net : Net) (links : Links) (acts : Acts) (a b : ℕ) → StandsFor net links acts → is_up (state a b acts) ≡ true → StandsFor net links (Restore a b ∷ acts)
 not_restored net links acts a b stands up = stands_of net links (ways_after acts) (Restore a b ∷ acts) (keeps_of net links acts stands) (λ u w.
-    once_at (are_ends u w a b) (state u w acts) (restored (state u w acts)) (channel u w acts) (channel u w acts)
+    once_at (are_ends u w a b) (state u w acts) (restored (state u w acts)) (channel_after u w acts) (channel_after u w acts)
     (λ e. still_restored (state u w acts) (ap is_up (at_ends u w a b acts e) ∙ up)) (λ e. refl)
-    ∙ ap (one_way _) (either_way (are_ends u w a b) (channel u w acts)))
+    ∙ ap (one_way _) (either_way (are_ends u w a b) (channel_after u w acts)))
 
 pub on_err : {T E : Type 0} (r : Result T E) (P : Type 0) → P → OnErr r P
 on_err (Ok x) P p = tt

@@ -25,15 +25,15 @@ behind_front (x ∷ xs) = xs
 
 -- an item that is pushed in the session that the link carries goes to the end, a take drops the front
 -- one, and a failure empties both ways
-abbrev pub channel_by : ℕ → ℕ → LinkState → Act → List Item → List Item
-channel_by a b link (Push from to session item) before =
+abbrev pub channel_after_by : ℕ → ℕ → LinkState → Act → List Item → List Item
+channel_after_by a b link (Push from to session item) before =
     if (from == a && to == b) && carries link session then before ++ item ∷ [] else before
-channel_by a b link (Take from to) before = if from == a && to == b then behind_front before else before
-channel_by a b link (Fail c d) before = if are_ends a b c d then [] else before
-channel_by a b link (Restore c d) before = before
+channel_after_by a b link (Take from to) before = if from == a && to == b then behind_front before else before
+channel_after_by a b link (Fail c d) before = if are_ends a b c d then [] else before
+channel_after_by a b link (Restore c d) before = before
 
 -- the items on the way from a to b, the oldest first: those that were pushed in the session that the
 -- link carries, and not taken
-abbrev pub channel : ℕ → ℕ → Acts → List Item
-channel a b [] = []
-channel a b (act ∷ acts) = channel_by a b (state a b acts) act (channel a b acts)
+abbrev pub channel_after : ℕ → ℕ → Acts → List Item
+channel_after a b [] = []
+channel_after a b (act ∷ acts) = channel_after_by a b (state a b acts) act (channel_after a b acts)

@@ -6,12 +6,12 @@ use Rattle.link_model.specs.declared.links.Links.{Links}
 use Rattle.link_model.specs.Acts.{Acts}
 use Rattle.link_model.specs.Tables.{ways_of}
 use Rattle.link_model.specs.Ways.{OneWay}
-use Rattle.link_model.specs.Readings.{state, channel}
+use Rattle.link_model.specs.Readings.{state, channel_after}
 
 -- what is kept of the way from u to w
 pub record IsChannel (acts : Acts) (u w : ℕ) (kept : OneWay) : Type 0 where
   pub state : kept.state ≡ state u w acts
-  pub items : kept.items ≡ channel u w acts
+  pub items : kept.items ≡ channel_after u w acts
 
 -- a channel for each way, at its number
 pub record StandsFor (net : Net) (links : Links) (acts : Acts) : Type 0 where

@@ -4,7 +4,7 @@ ghost use Rattle.topology.specs.declared.items.Item.{Item};
 ghost use Rattle.topology.specs.Lists.{Begins};
 ghost use Rattle.topology.specs.LinkStates.{is_up, number_of};
 ghost use Rattle.link_model.specs.Acts.{Acts, Push, Restore};
-ghost use Rattle.link_model.specs.Readings.{state, channel};
+ghost use Rattle.link_model.specs.Readings.{state, channel_after};
 
 /// Both ends see one link.
 pub fn both_ends_see_one_link()
@@ -18,13 +18,13 @@ pub fn sessions_rise()
 
 /// Nothing is on its way over a link that is down.
 pub fn a_link_that_is_down_is_empty()
-    ensures { (a b : ℕ) (acts : Acts) → is_up (state a b acts) ≡ false → channel a b acts ≡ [] }
+    ensures { (a b : ℕ) (acts : Acts) → is_up (state a b acts) ≡ false → channel_after a b acts ≡ [] }
 {}
 
 /// What is pushed and what is restored take nothing out of a channel.
 pub fn only_a_take_and_a_failure_empty()
     ensures push { (a b from to session : ℕ) (item : Item) (acts : Acts) →
-        Begins (channel a b acts) (channel a b (Push from to session item ∷ acts)) }
+        Begins (channel_after a b acts) (channel_after a b (Push from to session item ∷ acts)) }
     ensures restore { (a b c d : ℕ) (acts : Acts) →
-        channel a b (Restore c d ∷ acts) ≡ channel a b acts }
+        channel_after a b (Restore c d ∷ acts) ≡ channel_after a b acts }
 {}

@@ -5,7 +5,7 @@ ghost use Rattle.topology.specs.Net.{Net, linked};
 ghost use Rattle.topology.specs.LinkStates.{carries, is_up, number_of};
 ghost use Rattle.link_model.specs.declared.ends.TheConstants.{MOST_WAYS};
 ghost use Rattle.link_model.specs.Acts.{Acts, Push, Take, Fail, Restore};
-ghost use Rattle.link_model.specs.Readings.{state, channel};
+ghost use Rattle.link_model.specs.Readings.{state, channel_after};
 ghost use Rattle.link_model.specs.Tables.{ways_of};
 ghost use Rattle.link_model.specs.Ways.{OneWay, emptied, unused};
 
@@ -175,9 +175,9 @@ impl Links {
     /// The oldest item on its way from the one node to the other. Takes no memory.
     pub fn front(&self, from: NodeId, to: NodeId) -> Option<&Item>
         ensures some { IfSome result (λ item. (net : Net) (acts : Acts) → StandsFor net self.now acts →
-            linked net from to ≡ true → (rest : List Carried) × (channel from to acts ≡ item.now ∷ rest)) }
+            linked net from to ≡ true → (rest : List Carried) × (channel_after from to acts ≡ item.now ∷ rest)) }
         ensures none { IfNone result ((net : Net) (acts : Acts) → StandsFor net self.now acts →
-            linked net from to ≡ true → channel from to acts ≡ []) }
+            linked net from to ≡ true → channel_after from to acts ≡ []) }
     {
         let Some(channel) = self.channel(from, to) else {
             return None;
@@ -188,10 +188,10 @@ impl Links {
     /// Takes the oldest item on its way from the one node to the other. Takes no memory.
     pub fn pop_front(&mut self, from: NodeId, to: NodeId) -> Option<Item>
         ensures some { IfSome result (λ item. (net : Net) (acts : Acts) → StandsFor net self.old acts →
-            linked net from to ≡ true → (rest : List Carried) × (channel from to acts ≡ item ∷ rest) ×
+            linked net from to ≡ true → (rest : List Carried) × (channel_after from to acts ≡ item ∷ rest) ×
             StandsFor net self.new (Take from to ∷ acts)) }
         ensures none { IfNone result ((net : Net) (acts : Acts) → StandsFor net self.old acts →
-            linked net from to ≡ true → channel from to acts ≡ []) }
+            linked net from to ≡ true → channel_after from to acts ≡ []) }
         ensures unchanged { IfNone result (self.new ≡ self.old) }
     {
         let Some(way) = self.way_of(from, to) else {

@@ -11,7 +11,7 @@ use Rattle.trigger_log.specs.Entries.{Entry}
 use Rattle.trigger_log.specs.Going.{Item, item_of}
 use Rattle.link_model.specs.declared.links.Links.{Links}
 use Rattle.link_model.specs.Acts as act
-use Rattle.link_model.specs.Readings.{behind_front, state, channel}
+use Rattle.link_model.specs.Readings.{behind_front, state, channel_after}
 use Rattle.link_model.specs.Standing.{StandsFor}
 use Rattle.chronicle.specs.Facts.{Chronicle, Log, Sent, Took, Fail, Restore}
 use Rattle.chronicle.specs.Links.{link}
@@ -64,7 +64,7 @@ module _ (net : Net) (past : Chronicle) (old new : Links) (was : AreLinks net pa
     stands = stands;
     states = was.states;
     items = λ a b.
-        grown (from == a && to == b) (carries (state a b was.acts) s) (carries (link from to past) s) (channel a b was.acts) (channel_of a b past) x
+        grown (from == a && to == b) (carries (state a b was.acts) s) (carries (link from to past) s) (channel_after a b was.acts) (channel_of a b past) x
         (same_way from to s a b) (was.items a b);
   }
 
@@ -74,7 +74,7 @@ module _ (net : Net) (past : Chronicle) (old new : Links) (was : AreLinks net pa
     acts = act.Take from to ∷ was.acts;
     stands = stands;
     states = was.states;
-    items = λ a b. behind (from == a && to == b) (channel a b was.acts) (channel_of a b past) (was.items a b);
+    items = λ a b. behind (from == a && to == b) (channel_after a b was.acts) (channel_of a b past) (was.items a b);
   }
 
   -- a link has failed
@@ -83,7 +83,7 @@ module _ (net : Net) (past : Chronicle) (old new : Links) (was : AreLinks net pa
     acts = act.Fail c d ∷ was.acts;
     stands = stands;
     states = λ a b. ap (λ l. if are_ends a b c d then failed l else l) (was.states a b);
-    items = λ a b. emptied (are_ends a b c d) (channel a b was.acts) (channel_of a b past) (was.items a b);
+    items = λ a b. emptied (are_ends a b c d) (channel_after a b was.acts) (channel_of a b past) (was.items a b);
   }
 
   -- a link was restored
@@ -104,10 +104,10 @@ pub link_read : (net : Net) (past : Chronicle) (links : Links) (was : AreLinks n
 link_read net past links was a b l is = sym (is ∙ was.states a b)
 
 -- so of the items on a way
-pub front_read : (net : Net) (past : Chronicle) (links : Links) (was : AreLinks net past links) (a b : ℕ) (x : Message) (rest : List Message) → channel a b was.acts ≡ x ∷ rest
+pub front_read : (net : Net) (past : Chronicle) (links : Links) (was : AreLinks net past links) (a b : ℕ) (x : Message) (rest : List Message) → channel_after a b was.acts ≡ x ∷ rest
     → channel_of a b past ≡ item_of x ∷ map item_of rest
 front_read net past links was a b x rest is = sym (was.items a b) ∙ ap (map item_of) is
 
 -- so of a way on which nothing is
-pub empty_read : (net : Net) (past : Chronicle) (links : Links) (was : AreLinks net past links) (a b : ℕ) → channel a b was.acts ≡ [] → channel_of a b past ≡ []
+pub empty_read : (net : Net) (past : Chronicle) (links : Links) (was : AreLinks net past links) (a b : ℕ) → channel_after a b was.acts ≡ [] → channel_of a b past ≡ []
 empty_read net past links was a b is = sym (was.items a b) ∙ ap (map item_of) is

@@ -6,7 +6,7 @@ use Rattle.path_vector.specs.Rules.{Rules}
 use Rattle.trigger_log.specs.Going.{item_of}
 use Rattle.link_model.specs.declared.links.Links.{Links}
 use Rattle.link_model.specs.Acts.{Acts}
-use Rattle.link_model.specs.Readings.{state as state_after, channel as channel_after}
+use Rattle.link_model.specs.Readings.{state as state_after, channel_after}
 use Rattle.link_model.specs.Standing.{StandsFor as LinksStandFor}
 use Rattle.chronicle.specs.Facts.{Chronicle}
 use Rattle.chronicle.specs.Links.{link}

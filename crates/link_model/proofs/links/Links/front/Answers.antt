@@ -1,6 +1,6 @@
 use Rattle.std.proofs.Common.{◌∙◌, sym, true≢false}
 use Rattle.std.proofs.lemmas.Option.{IfSome_then}
-use Rattle.link_model.specs.Readings.{channel, behind_front}
+use Rattle.link_model.specs.Readings.{channel_after, behind_front}
 use Rattle.link_model.proofs.Places.{IfNone_then}
 use Rattle.link_model.proofs.links.Links.front.Goals as goal
 
@@ -9,7 +9,7 @@ returns-in_default-clause-none c net acts stands link = absurd (true≢false (sy
 
 pub returns-clause-some : goal.returns-clause-some
 returns-clause-some c = IfSome_then c.front.result c.front.ensures.some (λ item first net acts stands link. (
-  behind_front (channel c.args.from c.args.to acts),
+  behind_front (channel_after c.args.from c.args.to acts),
   rw (c.in-Some.ensures.some net acts stands).items at first,
 ))
 

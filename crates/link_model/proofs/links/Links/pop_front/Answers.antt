@@ -1,7 +1,7 @@
 use Rattle.std.proofs.Common.{◌∙◌, sym, ap, set, arith, refl}
 use Rattle.std.proofs.lemmas.Option.{IfSome_then}
 use Rattle.link_model.specs.Ways.{OneWay}
-use Rattle.link_model.specs.Readings.{state, channel, behind_front}
+use Rattle.link_model.specs.Readings.{state, channel_after, behind_front}
 use Rattle.link_model.proofs.Keeping.{way_inside, keeps_with, way_at}
 use Rattle.link_model.proofs.Places.{IfNone_then}
 use Rattle.link_model.proofs.Standing.{ways_after, keeps_of, not_linked, same_way, taken}
@@ -24,7 +24,7 @@ returns-clause-some c = IfSome_then c.pop_front.result c.pop_front.ensures.some 
       front,
       taken net _ acts c.args.from c.args.to
           (keeps_with net c.args.self.now _ (ways_after acts) c.args.from c.args.to c.in-Some.way _ c.args.self.now.sized c.in-Some.ensures.some refl
-          (ap (λ k. set c.args.self.now.channels.items c.in-Some.way k) (same_way c.pop_front.new.self (state c.args.from c.args.to acts) (behind_front (channel c.args.from c.args.to acts))
+          (ap (λ k. set c.args.self.now.channels.items c.in-Some.way k) (same_way c.pop_front.new.self (state c.args.from c.args.to acts) (behind_front (channel_after c.args.from c.args.to acts))
           (c.pop_front.ensures.state ∙ ap (λ (k : OneWay). k.state) was) (sym (ap behind_front front)))) keeps),
     ))
 
