@@ -3,3 +3,4 @@ pub mod Parting
 pub mod Hearing
 pub mod Projecting
 pub mod Keeping
+pub mod Beside

@@ -1,4 +1,5 @@
 pub mod Answers
+pub mod Beside
 pub mod Facts
 pub mod Holding
 pub mod Keeping

@@ -3,6 +3,7 @@
 
 pub mod consolidators;
 pub mod held_reports;
+pub mod laws;
 pub mod messages;
 pub mod parts;
 

@@ -10,3 +10,4 @@ pub mod Tallies
 pub mod Following
 pub mod Unread
 pub mod Standing
+pub mod Beside

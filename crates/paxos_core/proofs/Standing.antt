@@ -162,14 +162,15 @@ sent_stood members past u to (Accepted b) o s may = (s.0, proposer_unread (lengt
 sent_stood members past u to (Decision v) o s may = (s.0, proposer_unread (length members) s.0 past u (Mail u to (Decision v)) tt s.1)
 
 -- w is another node, so that its facts are not read
-heard_aside : {V : Type 0} (m : Message V) (u w : ℕ) → w ≢ u → PassesBy u w m
+pub heard_aside : {V : Type 0} (m : Message V) (u w : ℕ) → w ≢ u → PassesBy u w m
 heard_aside (Prepare b) u w h = tt
 heard_aside (Accept b v) u w h = tt
 heard_aside (Promise b n) u w h = h
 heard_aside (Accepted b) u w h = h
 heard_aside (Decision v) u w h = h
 
-sent_aside : {V : Type 0} (m : Message V) (u w : ℕ) → w ≢ u → Leaves u w m
+-- nor is what it sends
+pub sent_aside : {V : Type 0} (m : Message V) (u w : ℕ) → w ≢ u → Leaves u w m
 sent_aside (Prepare b) u w h = tt
 sent_aside (Accept b v) u w h = h
 sent_aside (Promise b n) u w h = tt
