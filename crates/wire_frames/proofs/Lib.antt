@@ -1,0 +1,12 @@
+pub mod Formats
+pub mod Fields
+pub mod Spelled
+pub mod Found
+pub mod Skipping
+pub mod Passing
+pub mod Answering
+pub mod Written
+pub mod Collecting
+pub mod Different
+pub mod Named
+pub mod Short

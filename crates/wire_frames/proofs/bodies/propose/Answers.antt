@@ -1,0 +1,12 @@
+use Rattle.std.proofs.Common.{refl}
+use Rattle.wire_frames.specs.declared.frames.Frame.TheVariants as frame
+use Rattle.wire_frames.specs.Reading.{body_at}
+use Rattle.wire_frames.proofs.bodies.propose.Goals as goal
+
+pub returns : goal.returns
+unfolding body_at
+returns c = (
+  frame.Propose c.in_ok-epoch.epoch,
+  rw (← c.new-fields.ensures, c.in_ok-epoch.ensures, c.in_ok-finish.ensures) refl,
+  refl,
+)

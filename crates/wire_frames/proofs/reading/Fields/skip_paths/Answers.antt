@@ -1,0 +1,8 @@
+use Rattle.std.proofs.Common.{ℕ}
+use Rattle.wire_frames.specs.Fields.{many, paths, paths_in_order}
+use Rattle.wire_frames.proofs.Passing.{list_passes}
+use Rattle.wire_frames.proofs.reading.Fields.skip_paths.Goals as goal
+
+pub returns : goal.returns
+unfolding paths
+returns c = list_passes (many 256) (paths_in_order {S = ℕ}) 0 c.in_ok-count.count c.args.self.now c.many.new.self c.skip_many.new.fields c.skip_many.result c.in_ok-count.ensures.number (c.skip_many.ensures)

@@ -1,0 +1,16 @@
+use Rattle.wire_frames.specs.Formats.{pair, listed}
+use Rattle.wire_frames.specs.Fields.{node, epoch, many, rows, session_rows, report, report_meaning}
+use Rattle.wire_frames.proofs.Passing.{pair_passes, meant_passes}
+use Rattle.wire_frames.proofs.reading.Fields.skip_report.Goals as goal
+
+pub returns : goal.returns
+unfolding report
+returns c =
+    let end = c.skip_sessions.new.self in
+    let r = c.skip_sessions.result in
+    let first = listed (many 2048) rows 0 in
+    let second = listed (many 65535) session_rows (0, 0) in
+    meant_passes (pair node (pair epoch (pair first second))) report_meaning c.args.self.now end r
+    (pair_passes node (pair epoch (pair first second)) c.in_ok-node.field-0 c.args.self.now c.node.new.self end r c.in_ok-node.ensures
+    (pair_passes epoch (pair first second) c.in_ok-epoch.field-0 c.node.new.self c.epoch.new.self end r c.in_ok-epoch.ensures
+    (pair_passes first second c.in_ok-skip_rows.ensures.0 c.epoch.new.self c.skip_rows.new.self end r c.in_ok-skip_rows.ensures.1 c.skip_sessions.ensures)))

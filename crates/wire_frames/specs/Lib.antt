@@ -1,0 +1,5 @@
+pub mod Formats
+pub mod Fields
+pub mod Frames
+pub mod Reading
+pub mod Shown

@@ -1,0 +1,207 @@
+//! Frames, and how much of one stands at the front of some bytes.
+use crate::FrameKind;
+use crate::paths::Paths;
+use epoch_packet::{End, Nodes, Packet};
+use incomplete_closure::{Report, Value};
+use topology::{Ballot, Epoch, NodeId, Path, PrefixId, Session, Trigger};
+
+/// A frame. `peer` is the sender in a frame to the process, and the addressee in a frame from it.
+#[derive(Debug, Drop)]
+pub enum Frame {
+    Originate {
+        prefix: PrefixId,
+    },
+    Withdraw {
+        prefix: PrefixId,
+    },
+    Prefer {
+        nbr: NodeId,
+        value: u32,
+    },
+    Notice {
+        nbr: NodeId,
+    },
+    OpenSession {
+        nbr: NodeId,
+        session: Session,
+    },
+    Snap,
+    Propose {
+        epoch: Epoch,
+    },
+    Update {
+        peer: NodeId,
+        session: Session,
+        seq: u32,
+        trigger: Trigger,
+        prefix: PrefixId,
+        path: Option<Path>,
+    },
+    Marker {
+        peer: NodeId,
+        session: Session,
+        epoch: Epoch,
+    },
+    Hello {
+        peer: NodeId,
+        session: Session,
+        epoch: Epoch,
+    },
+    Report {
+        peer: NodeId,
+        report: Report,
+    },
+    Prepare {
+        peer: NodeId,
+        epoch: Epoch,
+        ballot: Ballot,
+    },
+    Promise {
+        peer: NodeId,
+        epoch: Epoch,
+        ballot: Ballot,
+        named: Option<(Ballot, Value)>,
+    },
+    Accept {
+        peer: NodeId,
+        epoch: Epoch,
+        ballot: Ballot,
+        value: Value,
+    },
+    Accepted {
+        peer: NodeId,
+        epoch: Epoch,
+        ballot: Ballot,
+    },
+    Decision {
+        peer: NodeId,
+        epoch: Epoch,
+        value: Value,
+    },
+    Hop {
+        packet: Packet,
+        up: Nodes,
+    },
+    Forward {
+        next: NodeId,
+        packet: Packet,
+    },
+    Ended {
+        id: u32,
+        end: End,
+    },
+    Published {
+        epoch: Epoch,
+        paths: Paths,
+    },
+    Inject {
+        id: u32,
+        prefix: PrefixId,
+    },
+}
+
+/// A frame that lies in bytes: each path, report, value, packet and list is the part that spells it.
+#[derive(Clone, Copy, Debug, PartialEq, Eq)]
+pub enum FrameRef<'a> {
+    Originate {
+        prefix: PrefixId,
+    },
+    Withdraw {
+        prefix: PrefixId,
+    },
+    Prefer {
+        nbr: NodeId,
+        value: u32,
+    },
+    Notice {
+        nbr: NodeId,
+    },
+    OpenSession {
+        nbr: NodeId,
+        session: Session,
+    },
+    Snap,
+    Propose {
+        epoch: Epoch,
+    },
+    Update {
+        peer: NodeId,
+        session: Session,
+        seq: u32,
+        trigger: Trigger,
+        prefix: PrefixId,
+        path: &'a [u8],
+    },
+    Marker {
+        peer: NodeId,
+        session: Session,
+        epoch: Epoch,
+    },
+    Hello {
+        peer: NodeId,
+        session: Session,
+        epoch: Epoch,
+    },
+    Report {
+        peer: NodeId,
+        report: &'a [u8],
+    },
+    Prepare {
+        peer: NodeId,
+        epoch: Epoch,
+        ballot: Ballot,
+    },
+    Promise {
+        peer: NodeId,
+        epoch: Epoch,
+        ballot: Ballot,
+        named: Option<(Ballot, &'a [u8])>,
+    },
+    Accept {
+        peer: NodeId,
+        epoch: Epoch,
+        ballot: Ballot,
+        value: &'a [u8],
+    },
+    Accepted {
+        peer: NodeId,
+        epoch: Epoch,
+        ballot: Ballot,
+    },
+    Decision {
+        peer: NodeId,
+        epoch: Epoch,
+        value: &'a [u8],
+    },
+    Hop {
+        packet: &'a [u8],
+        up: &'a [u8],
+    },
+    Forward {
+        next: NodeId,
+        packet: &'a [u8],
+    },
+    Ended {
+        id: u32,
+        end: End,
+    },
+    Published {
+        epoch: Epoch,
+        paths: &'a [u8],
+    },
+    Inject {
+        id: u32,
+        prefix: PrefixId,
+    },
+}
+
+/// What stands at the front of some bytes.
+#[derive(Clone, Copy, Debug, PartialEq, Eq)]
+pub enum Decoded<'a> {
+    /// A frame, and how many bytes it has.
+    Frame(FrameRef<'a>, usize),
+    /// What may become a frame, if more bytes come.
+    More,
+    /// No frame, whatever comes.
+    Bad(FrameKind),
+}

@@ -1,0 +1,59 @@
+//! The frames that a process and its peers send each other, read from bytes and written as bytes.
+//!
+//! A frame is a byte version, 1, a byte kind, four bytes length n, and n bytes of body. Numbers have their
+//! highest byte first. n is at most 65,536, and 1,048,576 for the kinds 11, 13, 14 and 16.
+//!
+//! | Kind | Frame | Body |
+//! |---|---|---|
+//! | 1, 2 | originate, withdraw | prefix |
+//! | 3 | prefer | node, value up to 1000000 in four bytes |
+//! | 4 | notice | node |
+//! | 5 | open session | node, session |
+//! | 6 | snap | empty |
+//! | 7 | propose | epoch |
+//! | 8 | update | peer, session, number, trigger, prefix, path |
+//! | 9, 10 | marker, hello | peer, session, epoch (0 in a hello for none) |
+//! | 11 | report | peer, report |
+//! | 12, 15 | prepare, accepted | peer, epoch, ballot |
+//! | 13 | promise | peer, epoch, ballot, a flag, and behind 1 a ballot and a value |
+//! | 14 | accept | peer, epoch, ballot, value |
+//! | 16 | decision | peer, epoch, value |
+//! | 17 | hop | packet, up to 63 nodes ascending |
+//! | 18 | forward | node, packet |
+//! | 19 | ended | packet number, 1 delivered, 2 expired or 3 stuck |
+//! | 20 | published | epoch, in two bytes how many paths, up to 256, the paths |
+//! | 21 | inject | packet number, prefix |
+//!
+//! A node is two bytes, from 1; a prefix two bytes up to 255; session, number, counter and round four bytes,
+//! from 1; an epoch four bytes from 1 to 32. A trigger is a node and a counter, a ballot a round and a node.
+//! A path is a byte count up to 64 and that many different nodes; without nodes it is none. Reports, values
+//! and packets are told in `specs/Fields.antt`.
+#![tactic(auto)]
+
+mod bodies;
+pub mod checking;
+pub mod decoding;
+pub mod encoding;
+pub mod faults;
+mod fitting;
+pub mod frames;
+pub mod laws;
+pub mod owned;
+mod owning;
+mod parts;
+pub mod paths;
+mod reading;
+mod series;
+pub mod tags;
+mod writing;
+
+pub use checking::has_spelling;
+pub use decoding::decode;
+pub use encoding::encode;
+pub use faults::FrameKind;
+pub use frames::{Decoded, Frame, FrameRef};
+pub use owned::to_owned;
+pub use paths::Paths;
+
+#[cfg(test)]
+mod tests;

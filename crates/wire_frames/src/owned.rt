@@ -1,0 +1,260 @@
+//! Frames that lie in bytes, read into memory.
+ghost use Rattle.std.specs.Prelude.{◌≡◌, true, IfOk, Option};
+ghost use Rattle.topology.specs.declared.ballots.Ballot.{Ballot as AnyBallot};
+ghost use Rattle.incomplete_closure.specs.declared.values.Value.{Value as AnyValue};
+ghost use Rattle.wire_frames.specs.declared.frames.Frame.{Frame as AnyFrame};
+ghost use Rattle.wire_frames.specs.Fields.{named};
+ghost use Rattle.wire_frames.specs.Frames.{fields_fit, fits};
+ghost use Rattle.wire_frames.specs.Shown.{IsFrame, NamesSame};
+
+use crate::faults::ReadError;
+use crate::owning::{
+    owned_links, owned_packet, owned_path, owned_paths, owned_report, owned_value,
+};
+use crate::{Frame, FrameKind, FrameRef};
+use incomplete_closure::Value;
+use std::alloc::Global;
+use topology::{Ballot, NoMemory};
+
+// The ballot and the value that a promise names, or none.
+fn owned_named(
+    alloc: Global,
+    accepted: &Option<(Ballot, &[u8])>,
+) -> Result<Option<(Ballot, Value)>, ReadError>
+    ensures { IfOk result (λ x. (y : Option (AnyBallot × AnyValue)) → named.fits y ≡ true
+        → NamesSame accepted.now y → x ≡ y) }
+{
+    match accepted {
+        None => Ok(None),
+        Some((ballot, value)) => {
+            let value = owned_value(alloc, value)?;
+            Ok(Some((*ballot, value)))
+        }
+    }
+}
+
+// Of these kinds, and those that come behind.
+fn owned_rest(alloc: Global, frame: &FrameRef<'_>) -> Result<Frame, ReadError>
+    ensures { IfOk result (λ owned. (f : AnyFrame) → fields_fit f ≡ true → IsFrame frame.now f
+        → owned ≡ f) }
+{
+    match frame {
+        FrameRef::Ended { id, end } => Ok(Frame::Ended { id: *id, end: *end }),
+        FrameRef::Published { epoch, paths } => {
+            let paths = owned_paths(alloc, paths)?;
+            Ok(Frame::Published {
+                epoch: *epoch,
+                paths,
+            })
+        }
+        FrameRef::Inject { id, prefix } => Ok(Frame::Inject {
+            id: *id,
+            prefix: *prefix,
+        }),
+        _ => Err(ReadError::Bad(FrameKind::Kind)),
+    }
+}
+
+// Of these kinds, and those that come behind.
+fn owned_packet_frame(alloc: Global, frame: &FrameRef<'_>) -> Result<Frame, ReadError>
+    ensures { IfOk result (λ owned. (f : AnyFrame) → fields_fit f ≡ true → IsFrame frame.now f
+        → owned ≡ f) }
+{
+    match frame {
+        FrameRef::Decision { peer, epoch, value } => {
+            let value = owned_value(alloc, value)?;
+            Ok(Frame::Decision {
+                peer: *peer,
+                epoch: *epoch,
+                value,
+            })
+        }
+        FrameRef::Hop { packet, up } => {
+            let packet = owned_packet(alloc, packet)?;
+            let up = owned_links(alloc, up)?;
+            Ok(Frame::Hop { packet, up })
+        }
+        FrameRef::Forward { next, packet } => {
+            let packet = owned_packet(alloc, packet)?;
+            Ok(Frame::Forward {
+                next: *next,
+                packet,
+            })
+        }
+        _ => owned_rest(alloc, frame),
+    }
+}
+
+// Of these kinds, and those that come behind.
+fn owned_accept(alloc: Global, frame: &FrameRef<'_>) -> Result<Frame, ReadError>
+    ensures { IfOk result (λ owned. (f : AnyFrame) → fields_fit f ≡ true → IsFrame frame.now f
+        → owned ≡ f) }
+{
+    match frame {
+        FrameRef::Accept {
+            peer,
+            epoch,
+            ballot,
+            value,
+        } => {
+            let value = owned_value(alloc, value)?;
+            Ok(Frame::Accept {
+                peer: *peer,
+                epoch: *epoch,
+                ballot: *ballot,
+                value,
+            })
+        }
+        FrameRef::Accepted {
+            peer,
+            epoch,
+            ballot,
+        } => Ok(Frame::Accepted {
+            peer: *peer,
+            epoch: *epoch,
+            ballot: *ballot,
+        }),
+        _ => owned_packet_frame(alloc, frame),
+    }
+}
+
+// Of these kinds, and those that come behind.
+fn owned_promise(alloc: Global, frame: &FrameRef<'_>) -> Result<Frame, ReadError>
+    ensures { IfOk result (λ owned. (f : AnyFrame) → fields_fit f ≡ true → IsFrame frame.now f
+        → owned ≡ f) }
+{
+    match frame {
+        FrameRef::Promise {
+            peer,
+            epoch,
+            ballot,
+            named,
+        } => {
+            let named = owned_named(alloc, named)?;
+            Ok(Frame::Promise {
+                peer: *peer,
+                epoch: *epoch,
+                ballot: *ballot,
+                named,
+            })
+        }
+        _ => owned_accept(alloc, frame),
+    }
+}
+
+// Of these kinds, and those that come behind.
+fn owned_report_frame(alloc: Global, frame: &FrameRef<'_>) -> Result<Frame, ReadError>
+    ensures { IfOk result (λ owned. (f : AnyFrame) → fields_fit f ≡ true → IsFrame frame.now f
+        → owned ≡ f) }
+{
+    match frame {
+        FrameRef::Report { peer, report } => {
+            let report = owned_report(alloc, report)?;
+            Ok(Frame::Report {
+                peer: *peer,
+                report,
+            })
+        }
+        FrameRef::Prepare {
+            peer,
+            epoch,
+            ballot,
+        } => Ok(Frame::Prepare {
+            peer: *peer,
+            epoch: *epoch,
+            ballot: *ballot,
+        }),
+        _ => owned_promise(alloc, frame),
+    }
+}
+
+// Of these kinds, and those that come behind.
+fn owned_opening(alloc: Global, frame: &FrameRef<'_>) -> Result<Frame, ReadError>
+    ensures { IfOk result (λ owned. (f : AnyFrame) → fields_fit f ≡ true → IsFrame frame.now f
+        → owned ≡ f) }
+{
+    match frame {
+        FrameRef::Marker {
+            peer,
+            session,
+            epoch,
+        } => Ok(Frame::Marker {
+            peer: *peer,
+            session: *session,
+            epoch: *epoch,
+        }),
+        FrameRef::Hello {
+            peer,
+            session,
+            epoch,
+        } => Ok(Frame::Hello {
+            peer: *peer,
+            session: *session,
+            epoch: *epoch,
+        }),
+        _ => owned_report_frame(alloc, frame),
+    }
+}
+
+// Of these kinds, and those that come behind.
+fn owned_update(alloc: Global, frame: &FrameRef<'_>) -> Result<Frame, ReadError>
+    ensures { IfOk result (λ owned. (f : AnyFrame) → fields_fit f ≡ true → IsFrame frame.now f
+        → owned ≡ f) }
+{
+    match frame {
+        FrameRef::Update {
+            peer,
+            session,
+            seq,
+            trigger,
+            prefix,
+            path,
+        } => {
+            let path = owned_path(alloc, path)?;
+            Ok(Frame::Update {
+                peer: *peer,
+                session: *session,
+                seq: *seq,
+                trigger: *trigger,
+                prefix: *prefix,
+                path,
+            })
+        }
+        _ => owned_opening(alloc, frame),
+    }
+}
+
+// What happens at the node, and all others.
+fn owned_input(alloc: Global, frame: &FrameRef<'_>) -> Result<Frame, ReadError>
+    ensures { IfOk result (λ owned. (f : AnyFrame) → fields_fit f ≡ true → IsFrame frame.now f
+        → owned ≡ f) }
+{
+    match frame {
+        FrameRef::Originate { prefix } => Ok(Frame::Originate { prefix: *prefix }),
+        FrameRef::Withdraw { prefix } => Ok(Frame::Withdraw { prefix: *prefix }),
+        FrameRef::Prefer { nbr, value } => Ok(Frame::Prefer {
+            nbr: *nbr,
+            value: *value,
+        }),
+        FrameRef::Notice { nbr } => Ok(Frame::Notice { nbr: *nbr }),
+        FrameRef::OpenSession { nbr, session } => Ok(Frame::OpenSession {
+            nbr: *nbr,
+            session: *session,
+        }),
+        FrameRef::Snap => Ok(Frame::Snap),
+        FrameRef::Propose { epoch } => Ok(Frame::Propose { epoch: *epoch }),
+        _ => owned_update(alloc, frame),
+    }
+}
+
+/// The frame that lies in the bytes, with the same fields. A frame with a part that spells nothing, which
+/// no decoded frame has, is answered as if there were no memory.
+pub fn to_owned(alloc: Global, frame: &FrameRef<'_>) -> Result<Frame, NoMemory>
+    ensures { IfOk result (λ owned. (f : AnyFrame) → fits f ≡ true → IsFrame frame.now f
+        → owned ≡ f) }
+{
+    match owned_input(alloc, frame) {
+        Ok(owned) => Ok(owned),
+        Err(_) => Err(NoMemory),
+    }
+}

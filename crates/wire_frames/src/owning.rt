@@ -1,0 +1,218 @@
+//! Parts of frames, read into memory.
+ghost use Rattle.std.specs.Prelude.{◌≡◌, [], ℕ, List, Option, true, IfOk};
+ghost use Rattle.incomplete_closure.specs.declared.reports.Report.{Report as AnyReport};
+ghost use Rattle.incomplete_closure.specs.declared.values.Value.{Value as AnyValue};
+ghost use Rattle.epoch_packet.specs.declared.packets.Packet.{Packet as AnyPacket};
+ghost use Rattle.wire_frames.specs.Formats.{listed, many_at};
+ghost use Rattle.wire_frames.specs.Fields.{few, many, different, rising, rising_triggers, no_trigger, rows, session_rows, nodes, links, path, paths, value, report, packet, carried};
+
+use crate::FrameKind;
+use crate::faults::ReadError;
+use crate::paths::Paths;
+use crate::reading::Fields;
+use crate::series::{
+    AnyOrder, PathRun, ReportRows, ReportSessions, Rising, RisingTriggers, read_many,
+};
+use epoch_packet::{Nodes, Packet};
+use incomplete_closure::{Nodes as Responding, Report, Rows, SessionRows, Triggers, Value};
+use std::alloc::Global;
+use topology::{NodeId, Path};
+
+// Reads so many nodes, none of which is there twice.
+fn read_different(
+    alloc: Global,
+    count: u16,
+    fields: &mut Fields<'_>,
+) -> Result<Vec<NodeId>, ReadError>
+    ensures { IfOk result (λ list. many_at different [] count fields.old
+        ≡ Ok (list.items, fields.new)) }
+{
+    let mut list = Vec::new(alloc);
+    for _ in 0..count {
+        let node = fields.node()?;
+        if list.contains(&node) {
+            return Err(ReadError::Bad(FrameKind::Order));
+        }
+        list.push(node)?;
+    }
+    Ok(list)
+}
+
+/// Reads a path, or none.
+#[tactic(auto, unfolding(crate::specs::Fields::path))]
+pub(crate) fn read_path(alloc: Global, fields: &mut Fields<'_>) -> Result<Option<Path>, ReadError>
+    ensures { IfOk result (λ way. path.reads fields.old ≡ Ok (way, fields.new)) }
+{
+    let count = fields.few(64)?;
+    let list = read_different(alloc, count, fields)?;
+    Ok(Path::new(list))
+}
+
+#[tactic(auto, unfolding(crate::specs::Fields::nodes))]
+fn read_nodes(alloc: Global, fields: &mut Fields<'_>) -> Result<Nodes, ReadError>
+    ensures { IfOk result (λ x. nodes.reads fields.old ≡ Ok (x, fields.new)) }
+{
+    let count = fields.few(64)?;
+    let list = read_many(&mut AnyOrder, alloc, count, fields)?;
+    Ok(Nodes::new(list))
+}
+
+#[tactic(auto, unfolding(crate::specs::Fields::links))]
+fn read_links(alloc: Global, fields: &mut Fields<'_>) -> Result<Nodes, ReadError>
+    ensures { IfOk result (λ x. links.reads fields.old ≡ Ok (x, fields.new)) }
+{
+    let count = fields.few(63)?;
+    let list = read_many(&mut Rising::first(), alloc, count, fields)?;
+    Ok(Nodes::new(list))
+}
+
+fn read_responding(alloc: Global, fields: &mut Fields<'_>) -> Result<Responding, ReadError>
+    ensures { IfOk result (λ x. (listed (few 64) rising 0).reads fields.old ≡ Ok (x, fields.new)) }
+{
+    let count = fields.few(64)?;
+    let list = read_many(&mut Rising::first(), alloc, count, fields)?;
+    Ok(Responding::new(list))
+}
+
+fn read_incomplete(alloc: Global, fields: &mut Fields<'_>) -> Result<Triggers, ReadError>
+    ensures { IfOk result (λ x.
+        (listed (many 8192) rising_triggers no_trigger).reads fields.old ≡ Ok (x, fields.new)) }
+{
+    let count = fields.many(8192)?;
+    let list = read_many(&mut RisingTriggers::first(), alloc, count, fields)?;
+    Ok(Triggers::new(list))
+}
+
+#[tactic(auto, unfolding(crate::specs::Fields::value))]
+fn read_value(alloc: Global, fields: &mut Fields<'_>) -> Result<Value, ReadError>
+    ensures { IfOk result (λ x. value.reads fields.old ≡ Ok (x, fields.new)) }
+{
+    let responding = read_responding(alloc, fields)?;
+    let incomplete = read_incomplete(alloc, fields)?;
+    Ok(Value {
+        responding,
+        incomplete,
+    })
+}
+
+fn read_rows(alloc: Global, fields: &mut Fields<'_>) -> Result<Rows, ReadError>
+    ensures { IfOk result (λ x. (listed (many 2048) rows 0).reads fields.old ≡ Ok (x, fields.new)) }
+{
+    let count = fields.many(2048)?;
+    let list = read_many(&mut ReportRows::first(), alloc, count, fields)?;
+    Ok(Rows::new(list))
+}
+
+fn read_sessions(alloc: Global, fields: &mut Fields<'_>) -> Result<SessionRows, ReadError>
+    ensures { IfOk result (λ x. (listed (many 65535) session_rows (0, 0)).reads fields.old
+        ≡ Ok (x, fields.new)) }
+{
+    let count = fields.many(65_535)?;
+    let list = read_many(&mut ReportSessions::first(), alloc, count, fields)?;
+    Ok(SessionRows::new(list))
+}
+
+#[tactic(auto, unfolding(crate::specs::Fields::report))]
+fn read_report(alloc: Global, fields: &mut Fields<'_>) -> Result<Report, ReadError>
+    ensures { IfOk result (λ x. report.reads fields.old ≡ Ok (x, fields.new)) }
+{
+    let node = fields.node()?;
+    let epoch = fields.epoch()?;
+    let rows = read_rows(alloc, fields)?;
+    let sessions = read_sessions(alloc, fields)?;
+    Ok(Report {
+        node,
+        epoch,
+        rows,
+        sessions,
+    })
+}
+
+#[tactic(auto, unfolding(crate::specs::Fields::paths))]
+fn read_paths(alloc: Global, fields: &mut Fields<'_>) -> Result<Paths, ReadError>
+    ensures { IfOk result (λ x. paths.reads fields.old ≡ Ok (x, fields.new)) }
+{
+    let count = fields.many(256)?;
+    let list = read_many(&mut PathRun, alloc, count, fields)?;
+    Ok(Paths::new(list))
+}
+
+#[tactic(auto, unfolding(crate::specs::Fields::packet))]
+fn read_packet(alloc: Global, fields: &mut Fields<'_>) -> Result<Packet, ReadError>
+    ensures { IfOk result (λ x. packet.reads fields.old ≡ Ok (x, fields.new)) }
+{
+    let id = fields.positive()?;
+    let prefix = fields.prefix()?;
+    let epoch = fields.epoch_or_none()?;
+    let mode = fields.mode()?;
+    let budget = fields.any16()?;
+    let reached = fields.flag()?;
+    let visited = fields.any64()?;
+    let trail = read_nodes(alloc, fields)?;
+    let route = read_nodes(alloc, fields)?;
+    Ok(Packet {
+        id,
+        prefix,
+        epoch,
+        mode,
+        budget,
+        reached,
+        visited,
+        trail,
+        route,
+    })
+}
+
+/// What is spelled by a part that spells a path, or none.
+pub(crate) fn owned_path(alloc: Global, part: &[u8]) -> Result<Option<Path>, ReadError>
+    ensures { IfOk result (λ x. (y : Option (List ℕ)) → path.fits y ≡ true → part.now
+        ≡ path.spells y → x ≡ y) }
+{
+    let mut fields = Fields::new(part);
+    read_path(alloc, &mut fields)
+}
+
+/// What is spelled by a part that spells a value.
+pub(crate) fn owned_value(alloc: Global, part: &[u8]) -> Result<Value, ReadError>
+    ensures { IfOk result (λ x. (y : AnyValue) → value.fits y ≡ true → part.now
+        ≡ value.spells y → x ≡ y) }
+{
+    let mut fields = Fields::new(part);
+    read_value(alloc, &mut fields)
+}
+
+/// What is spelled by a part that spells a report.
+pub(crate) fn owned_report(alloc: Global, part: &[u8]) -> Result<Report, ReadError>
+    ensures { IfOk result (λ x. (y : AnyReport) → report.fits y ≡ true → part.now
+        ≡ report.spells y → x ≡ y) }
+{
+    let mut fields = Fields::new(part);
+    read_report(alloc, &mut fields)
+}
+
+/// What is spelled by a part that spells a packet.
+pub(crate) fn owned_packet(alloc: Global, part: &[u8]) -> Result<Packet, ReadError>
+    ensures { IfOk result (λ x. (y : AnyPacket) → packet.fits y ≡ true → part.now
+        ≡ packet.spells y → x ≡ y) }
+{
+    let mut fields = Fields::new(part);
+    read_packet(alloc, &mut fields)
+}
+
+/// What is spelled by a part that spells the links that are up.
+pub(crate) fn owned_links(alloc: Global, part: &[u8]) -> Result<Nodes, ReadError>
+    ensures { IfOk result (λ x. (y : List ℕ) → links.fits y ≡ true → part.now ≡ links.spells y
+        → x ≡ y) }
+{
+    let mut fields = Fields::new(part);
+    read_links(alloc, &mut fields)
+}
+
+/// What is spelled by a part that spells the paths of a table.
+pub(crate) fn owned_paths(alloc: Global, part: &[u8]) -> Result<Paths, ReadError>
+    ensures { IfOk result (λ x. (y : List (Option (List ℕ))) → paths.fits y ≡ true → part.now
+        ≡ paths.spells y → x ≡ y) }
+{
+    let mut fields = Fields::new(part);
+    read_paths(alloc, &mut fields)
+}

@@ -1,0 +1,193 @@
+//! The parts of a body that spell paths, reports, values, packets and lists. Takes no memory.
+ghost use Rattle.std.specs.Prelude.{◌≡◌, ◌≤◌, ◌-◌, [], length, take};
+ghost use Rattle.wire_frames.specs.Shown.{Gives, Passes, Cuts};
+ghost use Rattle.wire_frames.specs.Formats.{skipped, listed, pair};
+ghost use Rattle.wire_frames.specs.Fields.{different, few, many, rising, rising_triggers, no_trigger, rows, session_rows, nodes, links, path, paths, value, report, carried, packet};
+
+use crate::FrameKind;
+use crate::reading::Fields;
+use crate::series::{
+    AnyOrder, PathRun, ReportRows, ReportSessions, Rising, RisingTriggers, skip_many,
+};
+use topology::NodeId;
+
+// Goes over so many nodes, none of which is there twice.
+pub(crate) fn skip_different(count: u16, fields: &mut Fields<'_>) -> Result<(), FrameKind>
+    requires { count ≤ 64 }
+    ensures { Gives (λ _. fields.new) result (skipped different [] count fields.old) }
+{
+    let mut seen = [NodeId::new(0); 64];
+    for i in 0..count {
+        let node = fields.node()?;
+        let place = i as usize;
+        if seen[..place].contains(&node) {
+            return Err(FrameKind::Order);
+        }
+        seen[place] = node;
+    }
+    Ok(())
+}
+
+// The bytes in front of the rest.
+fn front_of<'a>(bytes: &'a [u8], rest: &[u8]) -> &'a [u8]
+    ensures { result.now ≡ take (length bytes.now - length rest.now) bytes.now }
+{
+    let (front, _) = bytes.split_at(bytes.len().saturating_sub(rest.len()));
+    front
+}
+
+impl<'a> Fields<'a> {
+    #[tactic(auto, unfolding(crate::specs::Fields::nodes))]
+    fn skip_nodes(&mut self) -> Result<(), FrameKind>
+        ensures { Passes nodes self.old result self.new }
+    {
+        let count = self.few(64)?;
+        skip_many(&mut AnyOrder, count, self)
+    }
+
+    #[tactic(auto, unfolding(crate::specs::Fields::links))]
+    fn skip_links(&mut self) -> Result<(), FrameKind>
+        ensures { Passes links self.old result self.new }
+    {
+        let count = self.few(63)?;
+        skip_many(&mut Rising::first(), count, self)
+    }
+
+    #[tactic(auto, unfolding(crate::specs::Fields::path))]
+    pub(crate) fn skip_path(&mut self) -> Result<(), FrameKind>
+        ensures { Passes path self.old result self.new }
+    {
+        let count = self.few(64)?;
+        skip_different(count, self)
+    }
+
+    fn skip_responding(&mut self) -> Result<(), FrameKind>
+        ensures { Passes (listed (few 64) rising 0) self.old result self.new }
+    {
+        let count = self.few(64)?;
+        skip_many(&mut Rising::first(), count, self)
+    }
+
+    fn skip_incomplete(&mut self) -> Result<(), FrameKind>
+        ensures { Passes (listed (many 8192) rising_triggers no_trigger) self.old result self.new }
+    {
+        let count = self.many(8192)?;
+        skip_many(&mut RisingTriggers::first(), count, self)
+    }
+
+    #[tactic(auto, unfolding(crate::specs::Fields::value))]
+    fn skip_value(&mut self) -> Result<(), FrameKind>
+        ensures { Passes value self.old result self.new }
+    {
+        self.skip_responding()?;
+        self.skip_incomplete()
+    }
+
+    fn skip_rows(&mut self) -> Result<(), FrameKind>
+        ensures { Passes (listed (many 2048) rows 0) self.old result self.new }
+    {
+        let count = self.many(2048)?;
+        skip_many(&mut ReportRows::first(), count, self)
+    }
+
+    fn skip_sessions(&mut self) -> Result<(), FrameKind>
+        ensures { Passes (listed (many 65535) session_rows (0, 0)) self.old result self.new }
+    {
+        let count = self.many(65_535)?;
+        skip_many(&mut ReportSessions::first(), count, self)
+    }
+
+    #[tactic(auto, unfolding(crate::specs::Fields::report))]
+    fn skip_report(&mut self) -> Result<(), FrameKind>
+        ensures { Passes report self.old result self.new }
+    {
+        self.node()?;
+        self.epoch()?;
+        self.skip_rows()?;
+        self.skip_sessions()
+    }
+
+    #[tactic(auto, unfolding(crate::specs::Fields::paths))]
+    fn skip_paths(&mut self) -> Result<(), FrameKind>
+        ensures { Passes paths self.old result self.new }
+    {
+        let count = self.many(256)?;
+        skip_many(&mut PathRun, count, self)
+    }
+
+    // What a packet carries behind its mode.
+    fn skip_carried(&mut self) -> Result<(), FrameKind>
+        ensures { Passes carried self.old result self.new }
+    {
+        self.any16()?;
+        self.flag()?;
+        self.any64()?;
+        self.skip_nodes()?;
+        self.skip_nodes()
+    }
+
+    #[tactic(auto, unfolding(crate::specs::Fields::packet))]
+    fn skip_packet(&mut self) -> Result<(), FrameKind>
+        ensures { Passes packet self.old result self.new }
+    {
+        self.positive()?;
+        self.prefix()?;
+        self.epoch_or_none()?;
+        self.mode()?;
+        self.skip_carried()
+    }
+
+    /// The part that spells a path, or none.
+    pub(crate) fn path_part(&mut self) -> Result<&'a [u8], FrameKind>
+        ensures { Cuts path self.old result self.new }
+    {
+        let before = self.rest();
+        self.skip_path()?;
+        Ok(front_of(before, self.rest()))
+    }
+
+    /// The part that spells a report.
+    pub(crate) fn report_part(&mut self) -> Result<&'a [u8], FrameKind>
+        ensures { Cuts report self.old result self.new }
+    {
+        let before = self.rest();
+        self.skip_report()?;
+        Ok(front_of(before, self.rest()))
+    }
+
+    /// The part that spells a value.
+    pub(crate) fn value_part(&mut self) -> Result<&'a [u8], FrameKind>
+        ensures { Cuts value self.old result self.new }
+    {
+        let before = self.rest();
+        self.skip_value()?;
+        Ok(front_of(before, self.rest()))
+    }
+
+    /// The part that spells a packet.
+    pub(crate) fn packet_part(&mut self) -> Result<&'a [u8], FrameKind>
+        ensures { Cuts packet self.old result self.new }
+    {
+        let before = self.rest();
+        self.skip_packet()?;
+        Ok(front_of(before, self.rest()))
+    }
+
+    /// The part that spells the links that are up.
+    pub(crate) fn links_part(&mut self) -> Result<&'a [u8], FrameKind>
+        ensures { Cuts links self.old result self.new }
+    {
+        let before = self.rest();
+        self.skip_links()?;
+        Ok(front_of(before, self.rest()))
+    }
+
+    /// The part that spells the paths of a table.
+    pub(crate) fn paths_part(&mut self) -> Result<&'a [u8], FrameKind>
+        ensures { Cuts paths self.old result self.new }
+    {
+        let before = self.rest();
+        self.skip_paths()?;
+        Ok(front_of(before, self.rest()))
+    }
+}

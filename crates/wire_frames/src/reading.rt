@@ -1,0 +1,363 @@
+//! The fields of frames, read from the front of bytes. Takes no memory.
+ghost use Rattle.std.specs.Prelude.{◌≡◌, ◌+◌, ◌≤◌, IfOk};
+ghost use Rattle.std.specs.Int.{w8, w16, w32, w64};
+ghost use Rattle.wire_frames.specs.Shown.{Gives};
+ghost use Rattle.wire_frames.specs.Formats.{IsBytes, word_at, number, ordered, optional, stepped};
+ghost use Rattle.wire_frames.specs.Fields.{node, prefix, positive, epoch, epoch_or_none, preference, any16, any32, any64, few, many, more_items, flag, scope, mode, end, trigger, ballot, sent, session_key, above, session_row, session_rows};
+
+use crate::FrameKind;
+use epoch_packet::{End, Mode};
+use incomplete_closure::SessionRow;
+use std::marker::Model;
+use topology::{Ballot, Epoch, NodeId, PrefixId, Scope, Sent, Session, Trigger};
+
+/// The bytes that are left of a body. Each call takes its field off the front, or answers what is wrong
+/// there first.
+#[derive(Drop)]
+pub(crate) struct Fields<'a> {
+    rest: &'a [u8],
+}
+
+impl<'a> Model for Fields<'a> {
+    ghost use Rattle.std.specs.Prelude.{ℕ, List};
+
+    ghost Value = { List ℕ };
+
+    ghost view = { λ f. f.rest.now };
+}
+
+// The type says it, and the clause hands it on.
+pub(crate) fn are_bytes(bytes: &[u8])
+    ensures { IsBytes bytes.now }
+{
+    let _length = bytes.len();
+}
+
+fn u8_at(bytes: &[u8]) -> Result<(u8, &[u8]), FrameKind>
+    ensures { Gives (λ x. (x.0, x.1.now)) result (word_at w8 bytes.now) }
+{
+    if bytes.len() < 1 {
+        return Err(FrameKind::Length);
+    }
+    let (front, rest) = bytes.split_at(1);
+    Ok((front[0], rest))
+}
+
+fn u16_at(bytes: &[u8]) -> Result<(u16, &[u8]), FrameKind>
+    ensures { Gives (λ x. (x.0, x.1.now)) result (word_at w16 bytes.now) }
+{
+    if bytes.len() < 2 {
+        return Err(FrameKind::Length);
+    }
+    let (front, rest) = bytes.split_at(2);
+    let number = u16::from_be_bytes([front[0], front[1]]);
+    Ok((number, rest))
+}
+
+pub(crate) fn u32_at(bytes: &[u8]) -> Result<(u32, &[u8]), FrameKind>
+    ensures { Gives (λ x. (x.0, x.1.now)) result (word_at w32 bytes.now) }
+{
+    if bytes.len() < 4 {
+        return Err(FrameKind::Length);
+    }
+    let (front, rest) = bytes.split_at(4);
+    let number = u32::from_be_bytes([front[0], front[1], front[2], front[3]]);
+    Ok((number, rest))
+}
+
+fn u64_at(bytes: &[u8]) -> Result<(u64, &[u8]), FrameKind>
+    ensures { Gives (λ x. (x.0, x.1.now)) result (word_at w64 bytes.now) }
+{
+    if bytes.len() < 8 {
+        return Err(FrameKind::Length);
+    }
+    let (front, rest) = bytes.split_at(8);
+    let number = u64::from_be_bytes([
+        front[0], front[1], front[2], front[3], front[4], front[5], front[6], front[7],
+    ]);
+    Ok((number, rest))
+}
+
+impl<'a> Fields<'a> {
+    /// The fields of these bytes.
+    pub(crate) fn new(bytes: &'a [u8]) -> Fields<'a>
+        ensures { result ≡ bytes.now }
+    {
+        Fields { rest: bytes }
+    }
+
+    /// The bytes that are left.
+    pub(crate) fn rest(&self) -> &'a [u8]
+        ensures left { result.now ≡ self.now }
+        ensures bytes { IsBytes result.now }
+    {
+        are_bytes(self.rest);
+        self.rest
+    }
+
+    pub(crate) fn number8(&mut self, low: u8, high: u8) -> Result<u8, FrameKind>
+        ensures number { Gives (λ x. (x, self.new)) result ((number w8 low high).reads self.old) }
+        ensures small { IfOk result (λ n. n ≤ high) }
+    {
+        let (number, rest) = u8_at(self.rest)?;
+        self.rest = rest;
+        if number < low || high < number {
+            return Err(FrameKind::Value);
+        }
+        Ok(number)
+    }
+
+    fn number16(&mut self, low: u16, high: u16) -> Result<u16, FrameKind>
+        ensures number { Gives (λ x. (x, self.new)) result ((number w16 low high).reads self.old) }
+        ensures small { IfOk result (λ n. n ≤ high) }
+    {
+        let (number, rest) = u16_at(self.rest)?;
+        self.rest = rest;
+        if number < low || high < number {
+            return Err(FrameKind::Value);
+        }
+        Ok(number)
+    }
+
+    fn number32(&mut self, low: u32, high: u32) -> Result<u32, FrameKind>
+        ensures { Gives (λ x. (x, self.new)) result ((number w32 low high).reads self.old) }
+    {
+        let (number, rest) = u32_at(self.rest)?;
+        self.rest = rest;
+        if number < low || high < number {
+            return Err(FrameKind::Value);
+        }
+        Ok(number)
+    }
+
+    #[tactic(auto, unfolding(crate::specs::Fields::node))]
+    pub(crate) fn node(&mut self) -> Result<NodeId, FrameKind>
+        ensures { Gives (λ x. (x, self.new)) result (node.reads self.old) }
+    {
+        Ok(NodeId::new(self.number16(1, 65_535)?))
+    }
+
+    #[tactic(auto, unfolding(crate::specs::Fields::prefix))]
+    pub(crate) fn prefix(&mut self) -> Result<PrefixId, FrameKind>
+        ensures { Gives (λ x. (x, self.new)) result (prefix.reads self.old) }
+    {
+        Ok(PrefixId::new(self.number16(0, 255)?))
+    }
+
+    #[tactic(auto, unfolding(crate::specs::Fields::positive))]
+    pub(crate) fn positive(&mut self) -> Result<u32, FrameKind>
+        ensures { Gives (λ x. (x, self.new)) result (positive.reads self.old) }
+    {
+        self.number32(1, 4_294_967_295)
+    }
+
+    pub(crate) fn session(&mut self) -> Result<Session, FrameKind>
+        ensures { Gives (λ x. (x, self.new)) result (positive.reads self.old) }
+    {
+        Ok(Session::new(self.positive()?))
+    }
+
+    #[tactic(auto, unfolding(crate::specs::Fields::epoch))]
+    pub(crate) fn epoch(&mut self) -> Result<Epoch, FrameKind>
+        ensures { Gives (λ x. (x, self.new)) result (epoch.reads self.old) }
+    {
+        Ok(Epoch::new(self.number32(1, 32)?))
+    }
+
+    #[tactic(auto, unfolding(crate::specs::Fields::epoch_or_none))]
+    pub(crate) fn epoch_or_none(&mut self) -> Result<Epoch, FrameKind>
+        ensures { Gives (λ x. (x, self.new)) result (epoch_or_none.reads self.old) }
+    {
+        Ok(Epoch::new(self.number32(0, 32)?))
+    }
+
+    #[tactic(auto, unfolding(crate::specs::Fields::preference))]
+    pub(crate) fn preference(&mut self) -> Result<u32, FrameKind>
+        ensures { Gives (λ x. (x, self.new)) result (preference.reads self.old) }
+    {
+        self.number32(0, 1_000_000)
+    }
+
+    #[tactic(auto, unfolding(crate::specs::Fields::any16))]
+    pub(crate) fn any16(&mut self) -> Result<u16, FrameKind>
+        ensures { Gives (λ x. (x, self.new)) result (any16.reads self.old) }
+    {
+        self.number16(0, 65_535)
+    }
+
+    #[tactic(auto, unfolding(crate::specs::Fields::any32))]
+    pub(crate) fn any32(&mut self) -> Result<u32, FrameKind>
+        ensures { Gives (λ x. (x, self.new)) result (any32.reads self.old) }
+    {
+        self.number32(0, 4_294_967_295)
+    }
+
+    #[tactic(auto, unfolding(crate::specs::Fields::any64))]
+    pub(crate) fn any64(&mut self) -> Result<u64, FrameKind>
+        ensures { Gives (λ x. (x, self.new)) result (any64.reads self.old) }
+    {
+        let (number, rest) = u64_at(self.rest)?;
+        self.rest = rest;
+        Ok(number)
+    }
+
+    #[tactic(auto, unfolding(crate::specs::Fields::few))]
+    pub(crate) fn few(&mut self, most: u8) -> Result<u16, FrameKind>
+        ensures number { Gives (λ x. (x, self.new)) result ((few most).reads self.old) }
+        ensures small { IfOk result (λ n. n ≤ most) }
+    {
+        Ok(self.number8(0, most)? as u16)
+    }
+
+    #[tactic(auto, unfolding(crate::specs::Fields::many))]
+    pub(crate) fn many(&mut self, most: u16) -> Result<u16, FrameKind>
+        ensures number { Gives (λ x. (x, self.new)) result ((many most).reads self.old) }
+        ensures small { IfOk result (λ n. n ≤ most) }
+    {
+        self.number16(0, most)
+    }
+
+    #[tactic(auto, unfolding(crate::specs::Fields::more_items))]
+    pub(crate) fn more_items(&mut self, before: u32) -> Result<u16, FrameKind>
+        ensures number { Gives (λ x. (x, self.new)) result ((more_items before).reads self.old) }
+        ensures small { IfOk result (λ n. before + n ≤ 16384) }
+    {
+        let (number, rest) = u16_at(self.rest)?;
+        self.rest = rest;
+        if before > 16_384 || number as u32 > 16_384 - before {
+            return Err(FrameKind::Value);
+        }
+        Ok(number)
+    }
+
+    #[tactic(auto, unfolding(crate::specs::Fields::flag))]
+    pub(crate) fn flag(&mut self) -> Result<bool, FrameKind>
+        ensures { Gives (λ x. (x, self.new)) result (flag.reads self.old) }
+    {
+        Ok(self.number8(0, 1)? == 1)
+    }
+
+    #[tactic(auto, unfolding(crate::specs::Fields::scope))]
+    pub(crate) fn scope(&mut self) -> Result<Scope, FrameKind>
+        ensures { Gives (λ x. (x, self.new)) result (scope.reads self.old) }
+    {
+        let (number, rest) = u16_at(self.rest)?;
+        self.rest = rest;
+        if number == 65_535 {
+            return Ok(Scope::All);
+        }
+        if number > 255 {
+            return Err(FrameKind::Value);
+        }
+        Ok(Scope::One(PrefixId::new(number)))
+    }
+
+    #[tactic(auto, unfolding(crate::specs::Fields::mode))]
+    pub(crate) fn mode(&mut self) -> Result<Mode, FrameKind>
+        ensures { Gives (λ x. (x, self.new)) result (mode.reads self.old) }
+    {
+        if self.number8(0, 1)? == 0 {
+            return Ok(Mode::Stable);
+        }
+        Ok(Mode::Transient)
+    }
+
+    #[tactic(auto, unfolding(crate::specs::Fields::end))]
+    pub(crate) fn end(&mut self) -> Result<End, FrameKind>
+        ensures { Gives (λ x. (x, self.new)) result (end.reads self.old) }
+    {
+        let number = self.number8(1, 3)?;
+        if number == 1 {
+            return Ok(End::Delivered);
+        }
+        if number == 2 {
+            return Ok(End::Expired);
+        }
+        Ok(End::Stuck)
+    }
+
+    #[tactic(auto, unfolding(crate::specs::Fields::trigger))]
+    pub(crate) fn trigger(&mut self) -> Result<Trigger, FrameKind>
+        ensures { Gives (λ x. (x, self.new)) result (trigger.reads self.old) }
+    {
+        let node = self.node()?;
+        let count = self.positive()?;
+        Ok(Trigger { node, count })
+    }
+
+    #[tactic(auto, unfolding(crate::specs::Fields::ballot))]
+    pub(crate) fn ballot(&mut self) -> Result<Ballot, FrameKind>
+        ensures { Gives (λ x. (x, self.new)) result (ballot.reads self.old) }
+    {
+        let round = self.positive()?;
+        let node = self.node()?;
+        Ok(Ballot { round, node })
+    }
+
+    #[tactic(auto, unfolding(crate::specs::Fields::sent))]
+    pub(crate) fn sent(&mut self) -> Result<Sent, FrameKind>
+        ensures { Gives (λ x. (x, self.new)) result (sent.reads self.old) }
+    {
+        let to = self.node()?;
+        let session = self.session()?;
+        let seq = self.positive()?;
+        Ok(Sent { to, session, seq })
+    }
+
+    // The neighbour and the number of a session, behind those of another one.
+    fn key_behind(&mut self, nbr: NodeId, session: Session) -> Result<(NodeId, Session), FrameKind>
+        ensures { Gives (λ x. (x, self.new)) result
+            ((ordered session_key (above (nbr, session))).reads self.old) }
+    {
+        let next = self.node()?;
+        let number = self.session()?;
+        if next < nbr || (next == nbr && number <= session) {
+            return Err(FrameKind::Order);
+        }
+        Ok((next, number))
+    }
+
+    fn optional_trigger(&mut self) -> Result<Option<Trigger>, FrameKind>
+        ensures { Gives (λ x. (x, self.new)) result ((optional trigger).reads self.old) }
+    {
+        if self.number8(0, 1)? == 0 {
+            return Ok(None);
+        }
+        Ok(Some(self.trigger()?))
+    }
+
+    /// A session row behind that of another session.
+    #[tactic(auto, unfolding(crate::specs::Fields::session_row))]
+    pub(crate) fn session_row(
+        &mut self,
+        nbr: NodeId,
+        session: Session,
+    ) -> Result<SessionRow, FrameKind>
+        ensures { Gives (λ x. (x, self.new)) result ((session_row (nbr, session)).reads self.old) }
+    {
+        let (nbr, session) = self.key_behind(nbr, session)?;
+        let received = self.any32()?;
+        let down = self.optional_trigger()?;
+        Ok(SessionRow {
+            nbr,
+            session,
+            received,
+            down,
+        })
+    }
+
+    /// The neighbour and the number of the session of such a row.
+    #[tactic(auto, unfolding(crate::specs::Fields::session_row))]
+    pub(crate) fn skip_session_row(
+        &mut self,
+        nbr: NodeId,
+        session: Session,
+    ) -> Result<(NodeId, Session), FrameKind>
+        ensures { Gives (λ x. (x, self.new)) result (stepped session_rows (nbr, session) self.old) }
+    {
+        let (nbr, session) = self.key_behind(nbr, session)?;
+        self.any32()?;
+        self.optional_trigger()?;
+        Ok((nbr, session))
+    }
+}

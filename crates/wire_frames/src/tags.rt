@@ -1,0 +1,101 @@
+//! The kinds of frames.
+ghost use Rattle.std.specs.Prelude.{◌≡◌};
+ghost use Rattle.wire_frames.specs.Frames.{number_of, tag_in, limit_of};
+
+/// Which kind of frame it is.
+#[derive(Clone, Copy, Debug, PartialEq, Eq)]
+pub enum Tag {
+    Originate,
+    Withdraw,
+    Prefer,
+    Notice,
+    OpenSession,
+    Snap,
+    Propose,
+    Update,
+    Marker,
+    Hello,
+    Report,
+    Prepare,
+    Promise,
+    Accept,
+    Accepted,
+    Decision,
+    Hop,
+    Forward,
+    Ended,
+    Published,
+    Inject,
+}
+
+impl Tag {
+    /// The byte of the kind.
+    pub fn number(self) -> u8
+        ensures { result ≡ number_of self }
+    {
+        match self {
+            Tag::Originate => 1,
+            Tag::Withdraw => 2,
+            Tag::Prefer => 3,
+            Tag::Notice => 4,
+            Tag::OpenSession => 5,
+            Tag::Snap => 6,
+            Tag::Propose => 7,
+            Tag::Update => 8,
+            Tag::Marker => 9,
+            Tag::Hello => 10,
+            Tag::Report => 11,
+            Tag::Prepare => 12,
+            Tag::Promise => 13,
+            Tag::Accept => 14,
+            Tag::Accepted => 15,
+            Tag::Decision => 16,
+            Tag::Hop => 17,
+            Tag::Forward => 18,
+            Tag::Ended => 19,
+            Tag::Published => 20,
+            Tag::Inject => 21,
+        }
+    }
+
+    /// The kind with this byte.
+    #[tactic(auto, unfolding(crate::specs::Frames::tag_in))]
+    pub fn with_number(byte: u8) -> Option<Tag>
+        ensures { result ≡ tag_in byte }
+    {
+        match byte {
+            1 => Some(Tag::Originate),
+            2 => Some(Tag::Withdraw),
+            3 => Some(Tag::Prefer),
+            4 => Some(Tag::Notice),
+            5 => Some(Tag::OpenSession),
+            6 => Some(Tag::Snap),
+            7 => Some(Tag::Propose),
+            8 => Some(Tag::Update),
+            9 => Some(Tag::Marker),
+            10 => Some(Tag::Hello),
+            11 => Some(Tag::Report),
+            12 => Some(Tag::Prepare),
+            13 => Some(Tag::Promise),
+            14 => Some(Tag::Accept),
+            15 => Some(Tag::Accepted),
+            16 => Some(Tag::Decision),
+            17 => Some(Tag::Hop),
+            18 => Some(Tag::Forward),
+            19 => Some(Tag::Ended),
+            20 => Some(Tag::Published),
+            21 => Some(Tag::Inject),
+            _ => None,
+        }
+    }
+
+    /// How long its body may be.
+    pub fn limit(self) -> u32
+        ensures { result ≡ limit_of self }
+    {
+        match self {
+            Tag::Report | Tag::Promise | Tag::Accept | Tag::Decision => 1_048_576,
+            _ => 65_536,
+        }
+    }
+}
