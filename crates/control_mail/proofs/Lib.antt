@@ -1,0 +1,5 @@
+mod Places
+mod Keeping
+mod Lowest
+mod Acting
+mod Standing

@@ -1,0 +1,163 @@
+//! The control messages.
+ghost use Rattle.std.specs.Prelude.{ℕ, suc, ◌≡◌, ◌<◌, ◌-◌, ◌^◌, ◌&&◌, [], ◌∷◌, Some, None, true, false, nat_lt, nat_le, length, IfOk, OnOk, OnErr, IfSome, IfNone};
+ghost use Rattle.consolidator.specs.Seen.{message_seen};
+ghost use Rattle.topology.specs.Lists.{has};
+ghost use Rattle.topology.specs.Net.{Net};
+ghost use Rattle.control_mail.specs.Acts.{Acts, Posts, Delivers, Crashes, Restarts};
+ghost use Rattle.control_mail.specs.Readings.{letters, letter, deliveries, crashed, next_letter};
+ghost use Rattle.control_mail.specs.Seen.{letter_seen};
+ghost use Rattle.control_mail.specs.Standing.{StandsFor};
+
+use crate::inboxes::Inboxes;
+use crate::kept::Kept;
+use consolidator::Mail;
+use std::alloc::Global;
+use std::marker::Model;
+use topology::{NoMemory, NodeId, Topology};
+
+/// The control messages of a network, and which of its nodes are crashed.
+#[derive(Drop)]
+pub struct Mails {
+    // Each message, at its number less 1.
+    kept: Vec<Kept>,
+    inboxes: Inboxes,
+}
+
+impl Model for Mails {
+    ghost use Rattle.std.specs.Prelude.{◌<◌, ◌^◌, length};
+    ghost use Rattle.control_mail.specs.Seen.{Office};
+
+    ghost Value = { Office };
+
+    ghost view = { λ m. record { kept = m.kept.items; boxes = m.inboxes } };
+
+    ghost invariant = { λ m. length m.kept.items < 2 ^ 32 };
+}
+
+// The number after these. None where no number is left.
+fn number_after(count: usize) -> Option<u32>
+    ensures some { IfSome result (λ number. number ≡ suc count) }
+{
+    if count >= u32::MAX as usize {
+        return None;
+    }
+    Some(count as u32 + 1)
+}
+
+// The place of the message with a number, among so many. None where none has it.
+fn place_of(number: u32, count: usize) -> Option<usize>
+    ensures some { IfSome result (λ place. (number ≡ suc place) × (place < count)) }
+    ensures none { IfNone result ((nat_lt 0 number && nat_le number count) ≡ false) }
+{
+    let number = number as usize;
+    if number == 0 || number > count {
+        return None;
+    }
+    Some(number - 1)
+}
+
+impl Mails {
+    /// No message, and each node runs.
+    pub fn new(alloc: Global, topology: &Topology) -> Result<Mails, NoMemory>
+        ensures { IfOk result (λ mails. StandsFor topology.now mails []) }
+    {
+        topology::laws::ascending_is_sorted();
+        let mut inboxes = Inboxes::new(alloc);
+        for node in topology.nodes() {
+            inboxes.open(*node)?;
+        }
+        Ok(Mails {
+            kept: Vec::new(alloc),
+            inboxes,
+        })
+    }
+
+    /// A node sends a message: it gets the next number, and waits for its addressee. Refused, as for want
+    /// of memory, where no number is left: the last one is 2^32 - 1.
+    pub fn post(&mut self, from: NodeId, mail: Mail) -> Result<(), NoMemory>
+        ensures ok { OnOk result ((net : Net) (acts : Acts) → StandsFor net self.old acts →
+            StandsFor net self.new (Posts from mail.to (message_seen mail.message) ∷ acts)) }
+        ensures err { OnErr result (self.new ≡ self.old) }
+    {
+        let Some(number) = number_after(self.kept.len()) else {
+            return Err(NoMemory);
+        };
+        self.kept.reserve(1)?;
+        self.inboxes.put(mail.to, number)?;
+        self.kept
+            .push(Kept {
+                from,
+                mail,
+                deliveries: 0,
+            })
+            .unwrap();
+        Ok(())
+    }
+
+    /// A message is delivered once more. It stays, and no longer waits. Of a number that no message has
+    /// nothing is counted. Takes no memory.
+    pub fn deliver(&mut self, number: u32)
+        ensures { (net : Net) (acts : Acts) → StandsFor net self.old acts → deliveries number acts < 2 ^ 32 - 1 →
+            StandsFor net self.new (Delivers number ∷ acts) }
+    {
+        let Some(place) = place_of(number, self.kept.len()) else {
+            return;
+        };
+        let kept = &mut self.kept[place];
+        kept.deliveries = kept.deliveries.saturating_add(1);
+        let to = kept.mail.to;
+        self.inboxes.take(to, number);
+    }
+
+    /// A node of the network crashes. What waits for it waits on. Takes no memory.
+    pub fn crash(&mut self, node: NodeId)
+        ensures { (net : Net) (acts : Acts) → StandsFor net self.old acts → has net.nodes node ≡ true →
+            StandsFor net self.new (Crashes node ∷ acts) }
+    {
+        self.inboxes.set_crashed(node, true);
+    }
+
+    /// A node of the network comes back. Takes no memory.
+    pub fn restart(&mut self, node: NodeId)
+        ensures { (net : Net) (acts : Acts) → StandsFor net self.old acts → has net.nodes node ≡ true →
+            StandsFor net self.new (Restarts node ∷ acts) }
+    {
+        self.inboxes.set_crashed(node, false);
+    }
+
+    /// The message with a number, and how often it was delivered. None exactly where no message has the
+    /// number. Takes no memory.
+    pub fn kept(&self, number: u32) -> Option<&Kept>
+        ensures some { IfSome result (λ kept. (net : Net) (acts : Acts) → StandsFor net self.now acts →
+            (letter number acts ≡ Some (letter_seen kept.now)) × (kept.now.deliveries ≡ deliveries number acts)) }
+        ensures none { IfNone result ((net : Net) (acts : Acts) → StandsFor net self.now acts →
+            letter number acts ≡ None) }
+    {
+        let Some(place) = place_of(number, self.kept.len()) else {
+            return None;
+        };
+        Some(&self.kept[place])
+    }
+
+    /// How many messages there are: the number of the last one. Takes no memory.
+    pub fn count(&self) -> u32
+        ensures { (net : Net) (acts : Acts) → StandsFor net self.now acts → result ≡ length (letters acts) }
+    {
+        self.kept.len() as u32
+    }
+
+    /// The number of the next message: the lowest that was never delivered and whose addressee is not
+    /// crashed. Goes once over the inboxes of the nodes, and takes no memory.
+    pub fn next(&self) -> Option<u32>
+        ensures { (net : Net) (acts : Acts) → StandsFor net self.now acts → result ≡ next_letter acts }
+    {
+        self.inboxes.next()
+    }
+
+    /// Whether a node is crashed. Takes no memory.
+    pub fn is_crashed(&self, node: NodeId) -> bool
+        ensures { (net : Net) (acts : Acts) → StandsFor net self.now acts → result ≡ crashed node acts }
+    {
+        self.inboxes.is_crashed(node)
+    }
+}
