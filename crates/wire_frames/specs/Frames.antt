@@ -58,9 +58,11 @@ limit_of _ = 65536
 
 -- ---- the fields of each kind
 
+-- a session that is opened: the neighbour and the number
 abbrev pub session_opened : Format (ℕ × ℕ)
 session_opened = pair node positive
 
+-- the neighbour and its preference
 abbrev pub preferred : Format (ℕ × ℕ)
 preferred = pair node preference
 
@@ -68,12 +70,15 @@ preferred = pair node preference
 abbrev pub update : Format (ℕ × (ℕ × (ℕ × (Trigger × (ℕ × Option (List ℕ))))))
 update = pair node (pair positive (pair positive (pair trigger (pair prefix path))))
 
+-- a marker: the peer, the session and the epoch
 abbrev pub marker : Format (ℕ × (ℕ × ℕ))
 marker = pair node (pair positive epoch)
 
+-- a hello: the peer, the session, and the epoch or none
 abbrev pub hello : Format (ℕ × (ℕ × ℕ))
 hello = pair node (pair positive epoch_or_none)
 
+-- the peer and a report
 abbrev pub reported : Format (ℕ × TheReport)
 reported = pair node report
 
@@ -81,27 +86,35 @@ reported = pair node report
 abbrev pub in_ballot : Format (ℕ × (ℕ × Ballot))
 in_ballot = pair node (pair epoch ballot)
 
+-- the peer, the epoch, the ballot, and what is named
 abbrev pub promise : Format (ℕ × (ℕ × (Ballot × Option (Ballot × Value))))
 promise = pair node (pair epoch (pair ballot named))
 
+-- the peer, the epoch, the ballot and the value
 abbrev pub accept : Format (ℕ × (ℕ × (Ballot × Value)))
 accept = pair node (pair epoch (pair ballot value))
 
+-- the peer, the epoch and the value
 abbrev pub decision : Format (ℕ × (ℕ × Value))
 decision = pair node (pair epoch value)
 
+-- the packet and the links that are up
 abbrev pub hop : Format (Packet × List ℕ)
 hop = pair packet links
 
+-- the next node and the packet
 abbrev pub forward : Format (ℕ × Packet)
 forward = pair node packet
 
+-- the number of a packet and how its walk ended
 abbrev pub ended : Format (ℕ × End)
 ended = pair any32 end
 
+-- the epoch and the paths of its table
 abbrev pub published : Format (ℕ × List (Option (List ℕ)))
 published = pair epoch paths
 
+-- the number of a packet and its prefix
 abbrev pub injected : Format (ℕ × ℕ)
 injected = pair positive prefix
 
