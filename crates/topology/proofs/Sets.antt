@@ -14,6 +14,7 @@ use Rattle.topology.specs.Lists.{has, put_ascending, ascending}
 use Rattle.topology.specs.Paths.{differ}
 use Rattle.topology.specs.Tables.{InBothOrders}
 use Rattle.topology.proofs.Tests.{or_false, and_left, and_right, and_both, or_left, or_right, or_none, not_true, not_false, same_sym, same_is, same_refl}
+use Rattle.topology.proofs.Places.{has_placed}
 use Rattle.topology.proofs.Ascending.{Climbs, climbs_at, ascending-append, climbs-ascending, has-ascending}
 
 -- the new one stands at the place of the first greater
@@ -84,6 +85,12 @@ rank_none nodes xs n r o e s is =
     let said = sought xs n r s (rw e (climbs-ascending nodes)) in
     let same : has xs n ≡ has nodes n = rw e (has-ascending nodes n) in
     rw (is, ← same) said
+
+-- what the place of a node says, where the node stands there in the ascending nodes
+pub placed_rank : (nodes xs : List ℕ) (n i : ℕ) → xs ≡ ascending nodes → slice_get xs i ≡ Some n → (true ≡ false → has nodes n ≡ false) × (has nodes n ≡ false → true ≡ false)
+placed_rank nodes xs n i e at =
+    let is : has nodes n ≡ true = sym (has-ascending nodes n) ∙ ap (λ l. has l n) (sym e) ∙ has_placed xs i n at in
+    (λ none. absurd (true≢false none), λ absent. sym is ∙ absent)
 
 -- the first place that passes, or the end
 pub place_is : (p : ℕ → Bool) (xs : List ℕ) → unwrap_or (position p xs) (length xs) ≡ position_or_len p xs

@@ -1,5 +1,5 @@
 //! Sets of nodes that are read in two orders.
-ghost use Rattle.std.specs.Prelude.{◌≡◌, ◌<◌, ◌↔◌, [], ◌∷◌, ◌++◌, Some, false, length, slice_get, nat_lt, position, vec_len, vec_capacity, IsOk, OnOk, IfOk, IfSome, IsNone};
+ghost use Rattle.std.specs.Prelude.{◌≡◌, ◌<◌, ◌↔◌, [], ◌∷◌, ◌++◌, Some, false, length, slice_get, nat_lt, position, vec_len, vec_capacity, IsOk, OnOk, IfOk, IfSome, IsNone, IsTrue};
 ghost use Rattle.topology.specs.Lists.{ascending, has, put_ascending};
 
 use crate::{NoMemory, NodeId};
@@ -12,6 +12,21 @@ fn first_greater(nodes: &[NodeId], id: NodeId) -> Option<usize>
     ensures { result ≡ position (λ x. nat_lt id x) nodes.now }
 {
     nodes.iter().position(|other| id < *other)
+}
+
+// How far the number of a node is above the first one: its place, where no number between them is left out.
+fn offset(nodes: &[NodeId], id: NodeId) -> usize {
+    match nodes.first() {
+        Some(first) => usize::from(id.number().saturating_sub(first.number())),
+        None => 0,
+    }
+}
+
+// Whether the node stands at this place.
+fn stands_at(nodes: &[NodeId], place: usize, id: NodeId) -> bool
+    ensures { IsTrue result → slice_get nodes.now place ≡ Some id }
+{
+    place < nodes.len() && nodes[place] == id
 }
 
 /// Puts a node in front of the first greater one.
@@ -89,8 +104,20 @@ impl NodeSet {
         &self.ascending
     }
 
-    /// The place of a node among the nodes, ascending.
+    /// The place of a node among the nodes, ascending. Where their numbers have no gap it is known at once.
     pub fn rank(&self, id: NodeId) -> Option<usize>
+        ensures some { IfSome result (λ rank. slice_get (ascending self.now.nodes) rank ≡ Some id) }
+        ensures none { IsNone result ↔ (has self.now.nodes id ≡ false) }
+    {
+        let place = offset(&self.ascending, id);
+        if stands_at(&self.ascending, place, id) {
+            return Some(place);
+        }
+        self.searched(id)
+    }
+
+    // The place of a node among the nodes, ascending, by a search.
+    fn searched(&self, id: NodeId) -> Option<usize>
         ensures some { IfSome result (λ rank. slice_get (ascending self.now.nodes) rank ≡ Some id) }
         ensures none { IsNone result ↔ (has self.now.nodes id ≡ false) }
     {

@@ -50,6 +50,12 @@ pub enum Reason {
     NoRound(Ballot),
     /// The node is not crashed.
     NotCrashed,
+    /// A packet has this number already.
+    PacketKnown,
+    /// There is no packet with this number.
+    NoSuchPacket,
+    /// The walk of the packet has ended.
+    PacketEnded,
 }
 
 /// A count that has a limit.
@@ -69,6 +75,8 @@ pub enum LimitKind {
     Updates,
     /// The control messages that were sent.
     Control,
+    /// The packets that were injected.
+    Packets,
 }
 
 impl LimitKind {
@@ -86,6 +94,7 @@ impl LimitKind {
             LimitKind::Entries => "entries",
             LimitKind::Updates => "updates",
             LimitKind::Control => "control",
+            LimitKind::Packets => "packets",
         }
     }
 }

@@ -1,11 +1,10 @@
 use Rattle.std.proofs.Common.{◌∙◌, ap}
 use Rattle.topology.specs.Lists.{ascending}
-use Rattle.topology.proofs.Sets.{rank_none}
+use Rattle.topology.proofs.Sets.{placed_rank}
 use Rattle.topology.proofs.node_set.NodeSet.rank.Goals as goal
 
-pub returns-clause-none : goal.returns-clause-none
-returns-clause-none c =
-    rank_none c.args.self.now.nodes _ c.args.id c.binary_search.result c.ok.result
-    (c.deref.ensures.value ∙ c.self.invariant.sorted ∙ ap (λ m. ascending m.nodes) c.self.view_is)
-    c.binary_search.ensures.position
-    c.ok.ensures.value
+pub returns-then-stands_at-clause-none : goal.returns-then-stands_at-clause-none
+returns-then-stands_at-clause-none c =
+    placed_rank c.args.self.now.nodes c.deref-2.result.now c.args.id c.offset-place.result
+    (c.deref-2.ensures.value ∙ c.self.invariant.sorted ∙ ap (λ m. ascending m.nodes) c.self.view_is)
+    (c.stands_at.ensures c.if-stands_at.true)
