@@ -1,4 +1,4 @@
--- A source and a sink, as promises see them.
+-- A source, a sink and a link, as promises see them.
 use Rattle.std.specs.Prelude.{ℕ, Option, List}
 
 -- a source: the bytes that are still to come, where told, and how many of its calls have failed
@@ -11,4 +11,13 @@ pub record SourceView : Type 0 where
 pub record SinkView : Type 0 where
   pub held : Option (List ℕ)
   pub room : Option ℕ
+  pub faults : ℕ
+
+-- a link to a peer: the bytes that are still to come from it, those that were taken for it, how many
+-- can be taken in all and how many writes were made, where told, and how many of its calls have failed
+pub record LinkView : Type 0 where
+  pub incoming : Option (List ℕ)
+  pub outgoing : Option (List ℕ)
+  pub room : Option ℕ
+  pub writes : Option ℕ
   pub faults : ℕ

@@ -86,7 +86,7 @@ impl<W: Write> Sink for StdSink<W> {
 }
 
 // Writes and flushes. None is an error, or a write that took nothing of a piece.
-fn write_through<W: Write>(writer: &mut W, piece: &[u8]) -> Option<usize>
+pub(crate) fn write_through<W: Write>(writer: &mut W, piece: &[u8]) -> Option<usize>
     ensures bound { IfSome result (λ n. n ≤ length piece.now) }
     ensures some { 0 < length piece.now → IfSome result (λ n. 0 < n) }
     ensures took { IfSome result (λ n.

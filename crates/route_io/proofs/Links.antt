@@ -1,0 +1,50 @@
+-- Writes of a link, one after the other.
+use Rattle.std.proofs.Common.{ℕ, ◌+◌, ◌-◌, ◌<◌, ◌≤◌, ◌≡◌, ◌⊎◌, inl, inr, min, List, length, Option, Some, ap, ap₂, subst, ◌∙◌, arith, IfSome}
+use Rattle.route_io.specs.Links.{OnlyWrites, HasRoom, WritesOnce, room_left}
+use Rattle.route_io.specs.Views.{LinkView}
+
+-- no write was made yet
+pub record AtFirst (was now : LinkView) (done : ℕ) : Type 0 where
+  pub none_done : done ≡ 0
+  pub same : now ≡ was
+
+-- something was taken; where the piece had room, that was the whole, by one write
+pub record IsOnward (was now : LinkView) (piece : List ℕ) (done : ℕ) : Type 0 where
+  pub some : 0 < done
+  pub whole : HasRoom was piece → done ≡ length piece
+  pub once : HasRoom was piece → WritesOnce was now
+
+-- what a write takes where the room is told
+fill_at : (o : Option ℕ) (size n left : ℕ) → o ≡ Some left → IfSome o (λ l. n ≡ min size l) → n ≡ min size left
+fill_at o size n left told fills = rw told at fills
+
+-- one more write, of what is left
+pub onward :
+    (was now next : LinkView) (piece rest : List ℕ) (done n : ℕ) →
+    AtFirst was now done ⊎ IsOnward was now piece done → done < length piece →
+    length rest ≡ length piece - done → 0 < n → n ≤ length rest →
+    IfSome (room_left now) (λ left. n ≡ min (length rest) left) → WritesOnce now next →
+    IsOnward was next piece (done + n)
+onward was now next piece rest done n (inl first) inside size some within fills once =
+    let start : done ≡ 0 = first.none_done in record {
+      some = omega (arith, some);
+      whole = λ h.
+          let taken : n ≡ min (length rest) h.0 =
+          fill_at (room_left now) _ n h.0 (ap room_left first.same ∙ h.1) fills
+          in omega (arith, taken, h.3, size, start);
+      once = λ _. subst (λ v. WritesOnce v next) first.same once;
+    }
+onward was now next piece rest done n (inr further) inside size some within fills once =
+    record {
+      some = omega (arith, some);
+      whole = λ h. absurd (omega (arith, further.whole h, inside));
+      once = λ h. absurd (omega (arith, further.whole h, inside));
+    }
+
+-- what changes by two writes
+pub only_writes_on : (a b c : LinkView) → OnlyWrites a b → OnlyWrites b c → OnlyWrites a c
+only_writes_on a b c h k =
+    k
+    ∙ ap₂
+    (λ i r. record { incoming = i; outgoing = c.outgoing; room = r; writes = c.writes; faults = c.faults })
+    (ap (λ v. v.incoming) h) (ap (λ v. v.room) h)

@@ -1,0 +1,22 @@
+use Rattle.std.proofs.Common.{arith, ◌∙◌, inr}
+use Rattle.route_io.proofs.Bytes.{told_on, appended}
+use Rattle.route_io.proofs.Links.{only_writes_on, onward}
+use Rattle.route_io.proofs.link.Link.write_all.Goals as goal
+
+pub loop-done-preserved : goal.loop-done-preserved
+loop-done-preserved g c =
+    let seen = g.Self.Link.seen in
+    let took = rw c.split_at.ensures.back at c.in_ok-done.ensures.bytes in
+    record {
+      inside = omega (arith, c.in_ok-done.ensures.bound, c.split_at.ensures.back_len);
+      written = appended _ _ _ c.args.piece.now c.loop-done.done _ c.loop-done.invariant.written took;
+      told = told_on _ _ _ c.loop-done.invariant.told c.write.ensures.told;
+      others = only_writes_on (seen c.args.self.now) (seen c.loop-done.self) (seen c.write.new.self) c.loop-done.invariant.others c.write.ensures.others;
+      writes = inr (
+          onward _ _ _ c.args.piece.now _ _ _ c.loop-done.invariant.writes c.loop-done-test.true
+          (omega (arith, c.split_at.ensures.back_len, c.loop-done-test.true))
+          (c.in_ok-done.ensures.some (omega (arith, c.split_at.ensures.back_len, c.loop-done-test.true)))
+          c.in_ok-done.ensures.bound c.in_ok-done.ensures.fills c.write.ensures.counted
+          );
+      quiet = c.in_ok-done.ensures.cause.quiet ∙ c.loop-done.invariant.quiet;
+    }

@@ -1,0 +1,115 @@
+//! A link in memory, with calls that are listed to fail.
+ghost use Rattle.std.specs.Prelude.{◌≡◌, ◌+◌, ◌<◌, ◌↔◌, ◌⊎◌, min, length, [], Some, IfOk, IsErr, IsTrue, is_err};
+ghost use Rattle.std.specs.Io.{ReadsAtMost};
+ghost use Rattle.std.specs.Io.KnownBytes.{ReadConsumes, WriteAppends};
+ghost use Rattle.route_io.specs.Causes.{HasCause, counted};
+ghost use Rattle.route_io.specs.Calls.{Counts, IsFresh, NextIsListed};
+ghost use Rattle.route_io.specs.Shelf.{FindsNoRoom, free};
+
+use crate::link::Link;
+use crate::memory::{MemSink, MemSource};
+use crate::outside::{Failed, Sink, Source};
+
+/// What comes from a peer and what goes to it, in memory. No call takes memory.
+#[derive(Drop)]
+pub struct MemLink {
+    source: MemSource,
+    sink: MemSink,
+    fail_dial: bool,
+    dial_faults: u64,
+}
+
+impl MemLink {
+    /// All of `incoming` is to come. Nothing was taken, and as many bytes can be taken as `room`
+    /// is long. Each dial fails where `fail_dial` says so, and so do the reads and writes whose
+    /// numbers stand in `fail_reads` and `fail_writes`, each kind counted from 1.
+    pub fn new(
+        incoming: Vec<u8>,
+        room: Vec<u8>,
+        fail_dial: bool,
+        fail_reads: Vec<u64>,
+        fail_writes: Vec<u64>,
+    ) -> MemLink
+        ensures seen { ⟦<MemLink as Link>⟧.seen result ≡ record {
+          incoming = Some incoming.items;
+          outgoing = Some [];
+          room = Some (length room.items);
+          writes = Some 0;
+          faults = 0;
+        } }
+        ensures dials { result.fail_dial ≡ fail_dial }
+        ensures reads { IsFresh result.source.calls fail_reads.items }
+        ensures writes { IsFresh result.sink.calls fail_writes.items }
+    {
+        MemLink {
+            source: MemSource::new(incoming, fail_reads),
+            sink: MemSink::new(room, fail_writes),
+            fail_dial,
+            dial_faults: 0,
+        }
+    }
+
+    /// The bytes that were taken.
+    pub fn outgoing(&self) -> &[u8]
+        ensures { (⟦<MemLink as Link>⟧.seen self.now).outgoing ≡ Some result.now }
+    {
+        self.sink.held()
+    }
+}
+
+impl Link for MemLink {
+    ghost seen = { λ s. record {
+      incoming = Some s.source.content;
+      outgoing = Some s.sink.room.held;
+      room = Some s.sink.room.size;
+      writes = Some s.sink.calls.made;
+      faults = s.dial_faults + (s.source.calls.faults + s.sink.calls.faults);
+    } };
+
+    fn dial(&mut self, _address: &str) -> Result<(), Failed>
+        ensures cause { HasCause (⟦<MemLink as Link>⟧.seen self.old).faults
+            (⟦<MemLink as Link>⟧.seen self.new).faults result }
+        ensures listed { IsErr result ↔ IsTrue self.old.fail_dial }
+        ensures counted { self.new ≡ record self.old {
+          dial_faults = counted (is_err result) self.old.dial_faults;
+        } }
+    {
+        if self.fail_dial {
+            self.dial_faults = self.dial_faults.saturating_add(1);
+            return Err(Failed);
+        }
+        Ok(())
+    }
+
+    fn read(&mut self, buf: &mut [u8]) -> Result<usize, Failed>
+        ensures bound { ReadsAtMost result buf.new }
+        ensures bytes { ReadConsumes (Some self.old.source.content) (Some self.new.source.content)
+            result buf.new }
+        ensures cause { HasCause (⟦<MemLink as Link>⟧.seen self.old).faults
+            (⟦<MemLink as Link>⟧.seen self.new).faults result }
+        ensures listed { IsErr result ↔ NextIsListed self.old.source.calls }
+        ensures fills { IfOk result (λ n.
+            n ≡ min (length buf.old) (length self.old.source.content)) }
+        ensures counted { Counts self.old.source.calls self.new.source.calls result }
+        ensures others { self.new ≡ record self.old { source = self.new.source } }
+    {
+        self.source.read(buf)
+    }
+
+    fn write(&mut self, piece: &[u8]) -> Result<usize, Failed>
+        ensures some { 0 < length piece.now → IfOk result (λ n. 0 < n) }
+        ensures bytes { WriteAppends (Some self.old.sink.room.held) (Some self.new.sink.room.held)
+            result piece.now }
+        ensures same_room { self.new.sink.room.size ≡ self.old.sink.room.size }
+        ensures cause { HasCause (⟦<MemLink as Link>⟧.seen self.old).faults
+            (⟦<MemLink as Link>⟧.seen self.new).faults result }
+        ensures fails { IsErr result ↔
+            (NextIsListed self.old.sink.calls ⊎ FindsNoRoom self.old.sink.room piece.now) }
+        ensures takes { IfOk result (λ n.
+            n ≡ min (length piece.now) (free self.old.sink.room)) }
+        ensures counted { Counts self.old.sink.calls self.new.sink.calls result }
+        ensures others { self.new ≡ record self.old { sink = self.new.sink } }
+    {
+        self.sink.write(piece)
+    }
+}

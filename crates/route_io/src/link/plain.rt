@@ -1,0 +1,88 @@
+//! A link in memory with no call that is listed to fail.
+ghost use Rattle.std.specs.Prelude.{◌≡◌, ◌<◌, ◌↔◌, min, length, [], None, Some, IfOk, IsOk, IsErr, is_err};
+ghost use Rattle.std.specs.Io.{ReadsAtMost};
+ghost use Rattle.std.specs.Io.KnownBytes.{ReadConsumes, WriteAppends};
+ghost use Rattle.route_io.specs.Causes.{HasCause, counted};
+ghost use Rattle.route_io.specs.Shelf.{FindsNoRoom, free};
+
+use crate::link::Link;
+use crate::outside::{Failed, Sink, Source};
+use crate::plain::{PlainSink, PlainSource};
+
+/// What comes from a peer and what goes to it, in memory. No dial and no read fails, and a write
+/// fails exactly where it finds nothing free. No call takes memory.
+#[derive(Drop)]
+pub struct PlainLink {
+    source: PlainSource,
+    sink: PlainSink,
+}
+
+impl PlainLink {
+    /// All of `incoming` is to come. Nothing was taken, and as many bytes can be taken as `room`
+    /// is long.
+    pub fn new(incoming: Vec<u8>, room: Vec<u8>) -> PlainLink
+        ensures { ⟦<PlainLink as Link>⟧.seen result ≡ record {
+          incoming = Some incoming.items;
+          outgoing = Some [];
+          room = Some (length room.items);
+          writes = None;
+          faults = 0;
+        } }
+    {
+        PlainLink {
+            source: PlainSource::new(incoming),
+            sink: PlainSink::new(room),
+        }
+    }
+
+    /// The bytes that were taken.
+    pub fn outgoing(&self) -> &[u8]
+        ensures { (⟦<PlainLink as Link>⟧.seen self.now).outgoing ≡ Some result.now }
+    {
+        self.sink.held()
+    }
+}
+
+impl Link for PlainLink {
+    ghost seen = { λ s. record {
+      incoming = Some s.source.content;
+      outgoing = Some s.sink.room.held;
+      room = Some s.sink.room.size;
+      writes = None;
+      faults = s.sink.faults;
+    } };
+
+    fn dial(&mut self, _address: &str) -> Result<(), Failed>
+        ensures never_fails { IsOk result }
+        ensures same { self.new ≡ self.old }
+    {
+        Ok(())
+    }
+
+    fn read(&mut self, buf: &mut [u8]) -> Result<usize, Failed>
+        ensures bound { ReadsAtMost result buf.new }
+        ensures bytes { ReadConsumes (Some self.old.source.content) (Some self.new.source.content)
+            result buf.new }
+        ensures never_fails { IsOk result }
+        ensures fills { IfOk result (λ n.
+            n ≡ min (length buf.old) (length self.old.source.content)) }
+        ensures others { self.new ≡ record self.old { source = self.new.source } }
+    {
+        self.source.read(buf)
+    }
+
+    fn write(&mut self, piece: &[u8]) -> Result<usize, Failed>
+        ensures some { 0 < length piece.now → IfOk result (λ n. 0 < n) }
+        ensures bytes { WriteAppends (Some self.old.sink.room.held) (Some self.new.sink.room.held)
+            result piece.now }
+        ensures same_room { self.new.sink.room.size ≡ self.old.sink.room.size }
+        ensures cause { HasCause self.old.sink.faults self.new.sink.faults result }
+        ensures fails { IsErr result ↔ FindsNoRoom self.old.sink.room piece.now }
+        ensures takes { IfOk result (λ n.
+            n ≡ min (length piece.now) (free self.old.sink.room)) }
+        ensures counted { self.new.sink.faults ≡ counted (is_err result) self.old.sink.faults }
+        ensures others { self.new ≡ record self.old { sink = self.new.sink } }
+    {
+        self.sink.write(piece)
+    }
+}

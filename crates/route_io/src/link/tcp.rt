@@ -1,0 +1,141 @@
+//! The trusted edge: a link over TCP.
+//!
+//! What the system gives and takes is told by no contract, so it tells no content.
+ghost use Rattle.std.specs.Prelude.{◌≡◌, ◌<◌, ◌≤◌, length, None, Some, IfOk, IsErr, is_err};
+ghost use Rattle.std.specs.Io.{ReadsAtMost};
+ghost use Rattle.std.specs.Io.KnownBytes.{ReadConsumes, WriteAppends};
+ghost use Rattle.route_io.specs.Causes.{HasCause, counted, next_count};
+
+use crate::link::Link;
+use crate::outside::Failed;
+use crate::standard::write_through;
+use std::io;
+use std::io::Read;
+use std::net::{Net, OpenStream, TcpStream};
+
+/// A peer over TCP. Each error that the system answers is counted, and so is a read or a write
+/// before a dial has reached the peer, and a write that takes nothing of a piece.
+#[derive(Drop)]
+pub struct TcpLink<'a, R: Net> {
+    net: &'a R,
+    stream: Option<R::Stream>,
+    faults: u64,
+}
+
+impl<'a, R: Net> TcpLink<'a, R> {
+    /// No call was made yet, and no peer is reached.
+    pub fn new(net: &'a R) -> TcpLink<'a, R>
+        ensures { result.faults ≡ 0 }
+    {
+        TcpLink {
+            net,
+            stream: None,
+            faults: 0,
+        }
+    }
+
+    fn fail<T>(&mut self) -> Result<T, Failed>
+        ensures failed { IsErr result }
+        ensures cause { HasCause self.old.faults self.new.faults result }
+        ensures counted { self.new.faults ≡ next_count self.old.faults }
+    {
+        self.faults = self.faults.saturating_add(1);
+        Err(Failed)
+    }
+}
+
+impl<'a, R: Net> Link for TcpLink<'a, R> {
+    ghost seen = { λ s. record {
+      incoming = None;
+      outgoing = None;
+      room = None;
+      writes = None;
+      faults = s.faults;
+    } };
+
+    fn dial(&mut self, address: &str) -> Result<(), Failed>
+        ensures cause { HasCause self.old.faults self.new.faults result }
+        ensures counted { self.new.faults ≡ counted (is_err result) self.old.faults }
+    {
+        let Ok(stream) = connect(self.net, address) else {
+            return self.fail();
+        };
+        self.stream = Some(stream);
+        Ok(())
+    }
+
+    fn read(&mut self, buf: &mut [u8]) -> Result<usize, Failed>
+        ensures bound { ReadsAtMost result buf.new }
+        ensures bytes { ReadConsumes None None result buf.new }
+        ensures cause { HasCause self.old.faults self.new.faults result }
+        ensures counted { self.new.faults ≡ counted (is_err result) self.old.faults }
+    {
+        let Some(stream) = &mut self.stream else {
+            return self.fail();
+        };
+        let Ok(count) = stream.read(buf) else {
+            return self.fail();
+        };
+        Ok(count)
+    }
+
+    fn write(&mut self, piece: &[u8]) -> Result<usize, Failed>
+        ensures bound { IfOk result (λ n. n ≤ length piece.now) }
+        ensures some { 0 < length piece.now → IfOk result (λ n. 0 < n) }
+        ensures bytes { WriteAppends None None result piece.now }
+        ensures cause { HasCause self.old.faults self.new.faults result }
+        ensures counted { self.new.faults ≡ counted (is_err result) self.old.faults }
+    {
+        let Some(stream) = &mut self.stream else {
+            return self.fail();
+        };
+        let Some(count) = write_through(stream, piece) else {
+            return self.fail();
+        };
+        Ok(count)
+    }
+}
+
+// What is written goes out at once, and waits for no answer to what went before.
+fn connect<R: Net>(net: &R, address: &str) -> io::Result<R::Stream> {
+    let stream = TcpStream::connect(net, address)?;
+    stream.set_nodelay(true)?;
+    Ok(stream)
+}
+
+#[cfg(test)]
+mod tests {
+    use super::TcpLink;
+    use crate::link::Link;
+    use crate::outside::Failed;
+    use std::io::{Read, Write};
+    use std::net::{Ipv4Addr, SocketAddr, TcpListener};
+    use std::test::Fail;
+
+    #[test]
+    fn reads_and_writes_over_tcp(rt: HostRuntime) -> Result<(), Fail> {
+        let listener = TcpListener::bind(&rt, SocketAddr::from((Ipv4Addr::LOCALHOST, 0)))?;
+        let address = format!(in rt.alloc(); "{}", listener.local_addr()?)?;
+        let mut link = TcpLink::new(&rt);
+        let mut front = [0u8; 2];
+        assert_eq!(rt; link.read(&mut front), Err(Failed), "before a dial");
+        assert_eq!(rt; link.write(b"a"), Err(Failed), "before a dial");
+        assert_eq!(rt; link.dial("no port"), Err(Failed));
+        assert_eq!(rt; link.faults, 3);
+        assert_eq!(rt; link.dial(address.as_str()), Ok(()));
+        let (mut peer, _) = listener.accept()?;
+        assert_eq!(rt; link.write_all(b"update"), Ok(()));
+        let mut came = [0u8; 6];
+        peer.read_exact(&mut came)?;
+        assert_eq!(rt; came, *b"update");
+        peer.write_all(b"marker")?;
+        assert_eq!(rt; link.read(&mut front), Ok(2));
+        assert_eq!(rt; front, *b"ma");
+        assert_eq!(rt; link.read(&mut came), Ok(4));
+        assert_eq!(rt; came, *b"rkerte");
+        drop(peer);
+        assert_eq!(rt; link.read(&mut came), Ok(0), "the peer has closed");
+        assert_eq!(rt; link.faults, 3);
+        Ok(())
+    }
+}
