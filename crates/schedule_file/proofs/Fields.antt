@@ -4,10 +4,11 @@ use Rattle.std.specs.Prelude.{Option, Some, None}
 use Rattle.std.specs.Option.{option_or}
 use Rattle.std.proofs.lemmas.Bool.{cond-true, cond-false, not_from_true, not_from_false}
 use Rattle.std.proofs.lemmas.Option.{none-some}
-use Rattle.topology.specs.declared.status.BadKind.TheVariants.{NotBuilt, NotHere, WrongCount}
+use Rattle.topology.specs.declared.status.BadKind.TheVariants.{NotHere, WrongCount}
 use Rattle.schedule_file.specs.declared.table.Keyword.{Keyword}
+use Rattle.schedule_file.specs.declared.table.Part.{Part}
 use Rattle.schedule_file.specs.Table.{Field, spells_field, fault_of, first_fault, shape_of, may_stand, may_have, fields}
-use Rattle.schedule_file.specs.Refusals.{is_later, form_fault, fault_by}
+use Rattle.schedule_file.specs.Refusals.{form_fault, fault_by}
 
 -- a word that spells its field has no fault, and the others decide
 pub fine : (field : Field) (wanted : List Field) (word : List ℕ) (words : List (List ℕ)) → spells_field field word ≡ true → first_fault (field ∷ wanted) (word ∷ words) ≡ first_fault wanted words
@@ -91,35 +92,28 @@ three field other last words e =
     }
 
 -- the form of a line has no fault exactly where each of its tests passes
-pub good_form : (started : Bool) (k : Keyword) (words : List (List ℕ)) → is_later k words ≡ false → may_stand started (shape_of k) ≡ true → may_have (shape_of k) (suc (length words)) ≡ true → form_fault started k words ≡ None
-good_form started k words now here count =
-    cond-false (is_later k words) (Some NotBuilt) _ now
-    ∙ cond-false (not (may_stand started (shape_of k))) (Some NotHere) _ (not_from_true (may_stand started (shape_of k)) here)
+pub good_form : (part : Part) (k : Keyword) (words : List (List ℕ)) → may_stand part (shape_of k) ≡ true → may_have (shape_of k) (suc (length words)) ≡ true → form_fault part k words ≡ None
+good_form part k words here count =
+    cond-false (not (may_stand part (shape_of k))) (Some NotHere) _ (not_from_true (may_stand part (shape_of k)) here)
     ∙ cond-false (not (may_have (shape_of k) (suc (length words)))) (Some WrongCount) None (not_from_true (may_have (shape_of k) (suc (length words))) count)
 
-pub later_form : (started : Bool) (k : Keyword) (words : List (List ℕ)) → is_later k words ≡ true → form_fault started k words ≡ Some NotBuilt
-later_form started k words later = cond-true (is_later k words) (Some NotBuilt) _ later
+away_form : (part : Part) (k : Keyword) (words : List (List ℕ)) → may_stand part (shape_of k) ≡ false → form_fault part k words ≡ Some NotHere
+away_form part k words away = cond-true (not (may_stand part (shape_of k))) (Some NotHere) _ (not_from_false (may_stand part (shape_of k)) away)
 
-pub away_form : (started : Bool) (k : Keyword) (words : List (List ℕ)) → is_later k words ≡ false → may_stand started (shape_of k) ≡ false → form_fault started k words ≡ Some NotHere
-away_form started k words now away =
-    cond-false (is_later k words) (Some NotBuilt) _ now
-    ∙ cond-true (not (may_stand started (shape_of k))) (Some NotHere) _ (not_from_false (may_stand started (shape_of k)) away)
-
-stands_from : (started : Bool) (k : Keyword) (words : List (List ℕ)) (later here : Bool) → is_later k words ≡ later → may_stand started (shape_of k) ≡ here → form_fault started k words ≡ None → here ≡ true
-stands_from started k words true here l h e = absurd (none-some NotBuilt (sym e ∙ later_form started k words l))
-stands_from started k words false true l h e = refl
-stands_from started k words false false l h e = absurd (none-some NotHere (sym e ∙ away_form started k words l h))
+stands_from : (part : Part) (k : Keyword) (words : List (List ℕ)) (here : Bool) → may_stand part (shape_of k) ≡ here → form_fault part k words ≡ None → here ≡ true
+stands_from part k words true h e = refl
+stands_from part k words false h e = absurd (none-some NotHere (sym e ∙ away_form part k words h))
 
 -- what holds of a line that begins with a keyword and has no fault
-pub record Fits (started : Bool) (k : Keyword) (words : List (List ℕ)) : Type 0 where
-  pub here : may_stand started (shape_of k) ≡ true
+pub record Fits (part : Part) (k : Keyword) (words : List (List ℕ)) : Type 0 where
+  pub here : may_stand part (shape_of k) ≡ true
   pub fine_words : first_fault (fields k words) words ≡ None
 
 neither : {A : Type 0} (x y : Option A) → option_or x y ≡ None → (x ≡ None) × (y ≡ None)
 neither None y e = (refl, e)
 neither (Some a) y e = absurd (none-some a (sym e))
 
-pub fits : (started : Bool) (word : List ℕ) (k : Keyword) (words : List (List ℕ)) → fault_by started word (Some k) words ≡ None → Fits started k words
-fits started word k words e =
-    let both = neither (form_fault started k words) (first_fault (fields k words) words) e in
-    record { here = stands_from started k words (is_later k words) (may_stand started (shape_of k)) refl refl both.0; fine_words = both.1 }
+pub fits : (part : Part) (k : Keyword) (words : List (List ℕ)) → fault_by part (Some k) words ≡ None → Fits part k words
+fits part k words e =
+    let both = neither (form_fault part k words) (first_fault (fields k words) words) e in
+    record { here = stands_from part k words (may_stand part (shape_of k)) refl both.0; fine_words = both.1 }

@@ -1,15 +1,17 @@
 -- What a file directs follows from its instructions, on the network that it describes.
-use Rattle.std.proofs.Common.{◌≡◌, ℕ, suc, Bool, true, false, not, List, [], ◌∷◌, ◌++◌, length, refl, sym, ap, ◌∙◌, subst}
-use Rattle.std.specs.Prelude.{None, is_none}
+use Rattle.std.proofs.Common.{◌≡◌, ℕ, suc, Bool, true, false, List, [], ◌∷◌, ◌++◌, length, refl, sym, ap, ◌∙◌, subst}
+use Rattle.std.specs.Prelude.{None, is_none, if◌then◌else◌}
 use Rattle.std.proofs.lemmas.List.Elements.{All-nil, All-cons, All-append}
 use Rattle.std.proofs.lemmas.Bool.{and_parts, false≢true}
 use Rattle.schedule_file.specs.declared.lines.Line.{Line}
 use Rattle.schedule_file.specs.declared.lines.Line.TheVariants.{Blank, Begin, Declares, Directs}
 use Rattle.schedule_file.specs.declared.lines.Numbered.{Numbered}
 use Rattle.schedule_file.specs.declared.lines.Schedule.{Schedule}
+use Rattle.schedule_file.specs.declared.table.Part.TheVariants.{Network, Run}
 use Rattle.schedule_file.specs.Spelling.{words_by_line}
+use Rattle.schedule_file.specs.Table.{may_declare, may_direct}
 use Rattle.schedule_file.specs.Lines.{InRange}
-use Rattle.schedule_file.specs.Grammar.{net_of, begun, stands, name_fault, directives_of, directive_of, Reads, IsFile, Follows, AllFollow}
+use Rattle.schedule_file.specs.Grammar.{net_of, begun, part_in, stands, name_fault, directives_of, directive_of, Reads, IsFile, Follows, AllFollow}
 use Rattle.schedule_file.proofs.Steps.{none_of}
 
 -- the directives so far follow, and there are none before begin
@@ -21,9 +23,14 @@ no_more : (xs : List Numbered) → xs ++ [] ≡ xs
 no_more [] = refl
 no_more (x ∷ xs) = ap (λ r. x ∷ r) (no_more xs)
 
-not_begun : (b : Bool) → not b ≡ true → b ≡ false
+-- the lines of a schedule that describe the network stand before begin, the others behind it
+not_begun : (b : Bool) → may_declare (if b then Run else Network) ≡ true → b ≡ false
 not_begun true e = let q : false ≡ true = e in absurd (false≢true q)
 not_begun false e = refl
+
+has_begun : (b : Bool) → may_direct (if b then Run else Network) ≡ true → b ≡ true
+has_begun true e = refl
+has_begun false e = let q : false ≡ true = e in absurd (false≢true q)
 
 -- a line before begin directs nothing, and nothing was directed
 still_none : (e : List Line) (line : Line) → Sound e → begun e ≡ false → directives_of (line ∷ e) ≡ directives_of e ++ [] → Sound (line ∷ e)
@@ -31,7 +38,7 @@ still_none e line s before same =
     let none = same ∙ no_more (directives_of e) ∙ s.none before in
     record { follow = subst (AllFollow (net_of (line ∷ e))) (sym none) (All-nil (λ (d : Numbered). Follows (net_of (line ∷ e)) d.directive)); none = λ _. none }
 
-keeps : (e : List Line) (line : Line) → Sound e → InRange line → stands (begun e) line ≡ true → name_fault (net_of e) line ≡ None → Sound (line ∷ e)
+keeps : (e : List Line) (line : Line) → Sound e → InRange line → stands (part_in Run e) line ≡ true → name_fault (net_of e) line ≡ None → Sound (line ∷ e)
 keeps e Blank s r place fine = record {
   follow = subst (AllFollow (net_of e)) (sym (no_more (directives_of e))) s.follow;
   none = λ before. no_more (directives_of e) ∙ s.none before;
@@ -46,13 +53,13 @@ keeps e (Directs i) s r place fine =
     let last : Numbered = record { line = suc (length e); directive = directive_of (net_of e) i } in
     record {
       follow = All-append P (directives_of e) (last ∷ []) s.follow (All-cons P last [] (record { instruction = i; same = refl; in_range = r; named = fine }) (All-nil P));
-      none = λ before. absurd (false≢true (sym before ∙ place));
+      none = λ before. absurd (false≢true (sym before ∙ has_begun (begun e) place));
     }
 
 all_keep : (e : List Line) (texts : List (List (List ℕ))) (all : List Line) → Reads e texts all → Sound e → Sound all
 all_keep e [] all r s = subst Sound (sym r) s
 all_keep e (text ∷ texts) all r s =
-    let may = and_parts (stands (begun e) r.0) (is_none (name_fault (net_of e) r.0)) r.2 in
+    let may = and_parts (stands (part_in Run e) r.0) (is_none (name_fault (net_of e) r.0)) r.2 in
     all_keep (r.0 ∷ e) texts all r.3 (keeps e r.0 s r.1.in_range may.0 (none_of (name_fault (net_of e) r.0) may.1))
 
 pub file_follows : (bytes : List ℕ) (schedule : Schedule) → IsFile bytes schedule → AllFollow schedule.topology schedule.lines.items

@@ -1,21 +1,22 @@
--- The first word of a line, and the word behind show.
+-- The first word of a line, and the words behind show and transient.
 use Rattle.std.proofs.Common.{◌≡◌, ◌≢◌, ℕ, Bool, true, false, List, [], ◌∷◌, refl, sym, ap, ◌∙◌, inl, inr}
 use Rattle.std.specs.Prelude.{Some, None, bytes_eq}
 use Rattle.std.specs.List.{find}
 use Rattle.std.proofs.lemmas.Bool.{cases_Bool, cond-true, cond-false}
 use Rattle.std.proofs.lemmas.Option.{none-some, same_Some}
-use Rattle.topology.specs.declared.status.BadKind.TheVariants.{UnknownWord, NotBuilt}
+use Rattle.topology.specs.declared.status.BadKind.TheVariants.{UnknownWord}
 use Rattle.schedule_file.specs.declared.table.Keyword.{Keyword}
-use Rattle.schedule_file.specs.declared.table.Keyword.TheVariants.{Node, Link, Pref, Prefix, Begin, Origin, Single, Pair, Prefer, Drain, Show}
+use Rattle.schedule_file.specs.declared.table.Part.{Part}
+use Rattle.schedule_file.specs.declared.table.Keyword.TheVariants.{Node, Link, Pref, Prefix, Hops, Transient, Begin, Origin, Single, Pair, Prefer, Propose, Drain, Control, Inject, Hop, Show}
 use Rattle.schedule_file.specs.declared.table.OriginEvent.TheVariants.{Originate}
 use Rattle.schedule_file.specs.declared.table.NodeEvent.TheVariants.{Snap, Crash, Restart}
 use Rattle.schedule_file.specs.declared.table.PairEvent.TheVariants.{Deliver}
 use Rattle.schedule_file.specs.declared.table.PlainView.TheVariants.{Rib}
-use Rattle.schedule_file.specs.declared.table.EpochView.TheVariants.{Cut, Closure}
+use Rattle.schedule_file.specs.declared.table.EpochView.TheVariants.{Cut}
 use Rattle.schedule_file.specs.declared.table.View.{View}
-use Rattle.schedule_file.specs.declared.table.View.TheVariants.{Plain, OfEpoch}
-use Rattle.schedule_file.specs.Words.{has_word}
-use Rattle.schedule_file.specs.Table.{keyword_text, keywords, keyword_in, view_text, views, view_in, later_words}
+use Rattle.schedule_file.specs.declared.table.View.TheVariants.{Plain, OfEpoch, Walk}
+use Rattle.schedule_file.specs.declared.table.SchemeName.{SchemeName}
+use Rattle.schedule_file.specs.Table.{keyword_text, keywords, keyword_in, view_text, views, view_in, scheme_text, schemes, scheme_in}
 use Rattle.schedule_file.specs.Refusals.{fault_by}
 use Rattle.schedule_file.proofs.Passing.{word_is, other_word}
 
@@ -25,6 +26,8 @@ keyword_found Node = refl
 keyword_found Link = refl
 keyword_found Pref = refl
 keyword_found Prefix = refl
+keyword_found Hops = refl
+keyword_found Transient = refl
 keyword_found Begin = refl
 keyword_found (Origin Originate) = refl
 keyword_found (Origin event) = refl
@@ -34,14 +37,19 @@ keyword_found (Single Restart) = refl
 keyword_found (Pair Deliver) = refl
 keyword_found (Pair event) = refl
 keyword_found Prefer = refl
+keyword_found Propose = refl
 keyword_found Drain = refl
+keyword_found Control = refl
+keyword_found Inject = refl
+keyword_found Hop = refl
 keyword_found Show = refl
 
 pub view_found : (v : View) → view_in (view_text v) ≡ Some v
 view_found (Plain Rib) = refl
 view_found (Plain view) = refl
 view_found (OfEpoch Cut) = refl
-view_found (OfEpoch Closure) = refl
+view_found (OfEpoch view) = refl
+view_found Walk = refl
 
 passes : {X : Type 0} (p : X → Bool) (xs : List X) (x : X) → find p xs ≡ Some x → p x ≡ true
 passes p [] x e = absurd (none-some x e)
@@ -61,16 +69,18 @@ keyword_is word k e = word_is word (keyword_text k) (passes (λ k. bytes_eq word
 pub view_is : (word : List ℕ) (v : View) → view_in word ≡ Some v → word ≡ view_text v
 view_is word v e = word_is word (view_text v) (passes (λ v. bytes_eq word (view_text v)) views v e)
 
+pub scheme_is : (word : List ℕ) (n : SchemeName) → scheme_in word ≡ Some n → word ≡ scheme_text n
+scheme_is word n e = word_is word (scheme_text n) (passes (λ n. bytes_eq word (scheme_text n)) schemes n e)
+
 pub no_keyword : (word : List ℕ) → ((k : Keyword) → word ≢ keyword_text k) → keyword_in word ≡ None
 no_keyword word none = none_passes (λ k. bytes_eq word (keyword_text k)) keywords (λ k. other_word word (keyword_text k) (none k))
 
 pub no_view : (word : List ℕ) → ((v : View) → word ≢ view_text v) → view_in word ≡ None
 no_view word none = none_passes (λ v. bytes_eq word (view_text v)) views (λ v. other_word word (view_text v) (none v))
 
+pub no_scheme : (word : List ℕ) → ((n : SchemeName) → word ≢ scheme_text n) → scheme_in word ≡ None
+no_scheme word none = none_passes (λ n. bytes_eq word (scheme_text n)) schemes (λ n. other_word word (scheme_text n) (none n))
+
 -- another word is always a fault
-pub other_is_bad : {P : Type 0} (started : Bool) (word : List ℕ) (words : List (List ℕ)) → fault_by started word None words ≡ None → P
-other_is_bad started word words e =
-    elim (cases_Bool (has_word later_words word)) [
-      | inl t ↦ absurd (none-some NotBuilt (sym e ∙ cond-true (has_word later_words word) (Some NotBuilt) (Some UnknownWord) t))
-      | inr f ↦ absurd (none-some UnknownWord (sym e ∙ cond-false (has_word later_words word) (Some NotBuilt) (Some UnknownWord) f))
-    ]
+pub other_is_bad : {P : Type 0} (part : Part) (words : List (List ℕ)) → fault_by part None words ≡ None → P
+other_is_bad part words e = absurd (none-some UnknownWord (sym e))

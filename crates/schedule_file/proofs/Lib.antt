@@ -12,3 +12,11 @@ mod Places
 mod Steps
 pub mod Readings
 mod Following
+mod Files
+mod Plain
+mod Coming
+mod Growing
+mod Preferences
+mod Sections
+mod Described
+mod Again

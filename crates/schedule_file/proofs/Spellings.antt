@@ -1,27 +1,29 @@
 -- A line in its place has no fault in its words, and is read back from them. So words spell one line.
-use Rattle.std.proofs.Common.{◌≡◌, ℕ, suc, ◌≤◌, Bool, true, false, List, [], ◌∷◌, length, refl, sym, ap, ap₂, ◌∙◌, arith}
+use Rattle.std.proofs.Common.{◌≡◌, ℕ, suc, ◌≤◌, true, false, List, [], ◌∷◌, length, refl, sym, ap, ap₂, ◌∙◌, arith}
 use Rattle.std.specs.Prelude.{None, codes}
 use Rattle.std.specs.Option.{option_or}
 use Rattle.std.specs.Fmt.{decimal}
+use Rattle.topology.specs.declared.names.Scheme.TheVariants as scheme
 use Rattle.schedule_file.specs.declared.lines.Line.{Line}
 use Rattle.schedule_file.specs.declared.lines.Line.TheVariants.{Blank, Begin, Declares, Directs}
 use Rattle.schedule_file.specs.declared.lines.Declaration.{Declaration}
-use Rattle.schedule_file.specs.declared.lines.Declaration.TheVariants.{Node, Link, Pref, Prefix}
+use Rattle.schedule_file.specs.declared.lines.Declaration.TheVariants.{Node, Link, Pref, Prefix, Hops, Transient}
 use Rattle.schedule_file.specs.declared.lines.Instruction.{Instruction}
-use Rattle.schedule_file.specs.declared.lines.Instruction.TheVariants.{Origin, Single, Pair, Prefer, Drain, Show, ShowEpoch}
+use Rattle.schedule_file.specs.declared.lines.Instruction.TheVariants.{Origin, Single, Pair, Prefer, Propose, Drain, Control, ControlAll, Inject, Hop, HopTimes, Show, ShowEpoch, ShowWalk}
 use Rattle.schedule_file.specs.declared.table.Keyword.{Keyword}
+use Rattle.schedule_file.specs.declared.table.Part.{Part}
 use Rattle.schedule_file.specs.declared.table.Keyword.TheVariants as keyword
-use Rattle.schedule_file.specs.declared.table.EpochView.TheVariants.{Cut, Closure}
+use Rattle.schedule_file.specs.declared.table.EpochView.TheVariants.{Cut, Closure, Tables}
 use Rattle.schedule_file.specs.declared.table.PlainView.{PlainView}
 use Rattle.schedule_file.specs.declared.table.PlainView.TheVariants.{Rib}
 use Rattle.schedule_file.specs.declared.table.View.TheVariants.{Plain, OfEpoch}
 use Rattle.schedule_file.specs.Spelling.{prefix_text, relation_text, IsNumber}
 use Rattle.schedule_file.specs.Lines.{declaring, declared_words, directing, directed_words, line_words, DeclaresInRange, DirectsInRange, InRange, Spells}
-use Rattle.schedule_file.specs.Words.{has_word, number_of, relation_of}
-use Rattle.schedule_file.specs.Table.{Field, keyword_text, plain_text, epoch_text, view_in, later_views, shape_of, may_stand, may_have, fields, view_fields, spells_field, first_fault, relations}
-use Rattle.schedule_file.specs.Table.Field.{NodeNumber, Value, Times, Masked, OneOf, Viewed, EpochNumber}
+use Rattle.schedule_file.specs.Words.{number_of, prefix_of, relation_of}
+use Rattle.schedule_file.specs.Table.{Field, keyword_text, plain_text, epoch_text, view_in, shape_of, may_stand, may_have, fields, view_fields, spells_field, first_fault, relations}
+use Rattle.schedule_file.specs.Table.Field.{NodeNumber, Value, HopLimit, Times, MessageNumber, PacketNumber, Masked, OneOf, Viewed, Schemed, EpochNumber}
 use Rattle.schedule_file.specs.Grammar.{stands}
-use Rattle.schedule_file.specs.Refusals.{is_later, fault_by, word_fault, shown_by, line_by, line_from, line_of}
+use Rattle.schedule_file.specs.Refusals.{fault_by, word_fault, shown_by, line_by, line_from, line_of}
 use Rattle.schedule_file.proofs.Numbers.{decimal_value}
 use Rattle.schedule_file.proofs.Passing.{spells_decimal, spells_text, prefix_of_text, relation_of_text, relation_known, has_only}
 use Rattle.schedule_file.proofs.Fields.{fine, good_form}
@@ -35,6 +37,15 @@ value_fine n h = spells_decimal 0 1000000 n (omega arith) h (omega arith)
 
 times_fine : (n : ℕ) → 1 ≤ n → n ≤ 1000000 → spells_field Times (decimal n) ≡ true
 times_fine n h k = spells_decimal 1 1000000 n h k (omega arith)
+
+message_fine : (n : ℕ) → 1 ≤ n → n ≤ 1000000 → spells_field MessageNumber (decimal n) ≡ true
+message_fine n h k = spells_decimal 1 1000000 n h k (omega arith)
+
+hops_fine : (n : ℕ) → n ≤ 65535 → spells_field HopLimit (decimal n) ≡ true
+hops_fine n h = spells_decimal 0 65535 n (omega arith) h (omega arith)
+
+packet_fine : (n : ℕ) → 1 ≤ n → n ≤ 4294967295 → spells_field PacketNumber (decimal n) ≡ true
+packet_fine n h k = spells_decimal 1 4294967295 n h k (omega arith)
 
 epoch_fine : (n : ℕ) → 1 ≤ n → n ≤ 32 → spells_field EpochNumber (decimal n) ≡ true
 epoch_fine n h k = spells_decimal 1 32 n h k (omega arith)
@@ -51,33 +62,31 @@ three_fine f g x a b c h k l = fine f (g ∷ x ∷ []) a (b ∷ c ∷ []) h ∙ 
 
 -- the words behind a keyword are as many as it may have, and each may stand there
 record Fine (k : Keyword) (words : List (List ℕ)) : Type 0 where
-  now : is_later k words ≡ false
   counted : may_have (shape_of k) (suc (length words)) ≡ true
   fine_words : first_fault (fields k words) words ≡ None
 
 fine_declaration : (d : Declaration) → DeclaresInRange d → Fine (declaring d) (declared_words d)
-fine_declaration (Node id false) h = record { now = refl; counted = refl; fine_words = one_fine NodeNumber (decimal id) (node_fine id h) }
+fine_declaration (Node id false) h = record { counted = refl; fine_words = one_fine NodeNumber (decimal id) (node_fine id h) }
 fine_declaration (Node id true) h = record {
-  now = refl;
   counted = refl;
   fine_words = two_fine NodeNumber (OneOf (codes "consolidator" ∷ [])) (decimal id) (codes "consolidator") (node_fine id h) (has_only (codes "consolidator"));
 }
 fine_declaration (Link a b relation) h = record {
-  now = refl;
   counted = refl;
   fine_words = three_fine NodeNumber NodeNumber (OneOf relations) (decimal a) (decimal b) (relation_text relation) (node_fine a h.0) (node_fine b h.1) (relation_known relation);
 }
 fine_declaration (Pref a b value) h = record {
-  now = refl;
   counted = refl;
   fine_words = three_fine NodeNumber NodeNumber Value (decimal a) (decimal b) (decimal value) (node_fine a h.0) (node_fine b h.1) (value_fine value h.2);
 }
-fine_declaration (Prefix p) h = record { now = refl; counted = refl; fine_words = one_fine Masked (prefix_text p) (spells_text p h) }
-
--- what is shown is of this version
-plain_now : (view : PlainView) → has_word later_views (plain_text view) ≡ false
-plain_now Rib = refl
-plain_now view = refl
+fine_declaration (Prefix p) h = record { counted = refl; fine_words = one_fine Masked (prefix_text p) (spells_text p h) }
+fine_declaration (Hops hops) h = record { counted = refl; fine_words = one_fine HopLimit (decimal hops) (hops_fine hops h) }
+fine_declaration (Transient scheme.Deflect) h = record { counted = refl; fine_words = refl }
+fine_declaration (Transient (scheme.Detour node)) h = record {
+  counted = refl;
+  fine_words = two_fine Schemed NodeNumber (codes "detour") (decimal node) refl (node_fine node h);
+}
+fine_declaration (Transient scheme.Backup) h = record { counted = refl; fine_words = refl }
 
 plain_fine : (view : PlainView) → first_fault (view_fields (view_in (plain_text view))) (plain_text view ∷ []) ≡ None
 plain_fine Rib = refl
@@ -85,61 +94,94 @@ plain_fine view = refl
 
 fine_instruction : (i : Instruction) → DirectsInRange i → Fine (directing i) (directed_words i)
 fine_instruction (Origin event node p) h = record {
-  now = refl;
   counted = refl;
   fine_words = two_fine NodeNumber Masked (decimal node) (prefix_text p) (node_fine node h.0) (spells_text p h.1);
 }
-fine_instruction (Single event node) h = record { now = refl; counted = refl; fine_words = one_fine NodeNumber (decimal node) (node_fine node h) }
+fine_instruction (Single event node) h = record { counted = refl; fine_words = one_fine NodeNumber (decimal node) (node_fine node h) }
 fine_instruction (Pair event a b) h = record {
-  now = refl;
   counted = refl;
   fine_words = two_fine NodeNumber NodeNumber (decimal a) (decimal b) (node_fine a h.0) (node_fine b h.1);
 }
 fine_instruction (Prefer node nbr value) h = record {
-  now = refl;
   counted = refl;
   fine_words = three_fine NodeNumber NodeNumber Value (decimal node) (decimal nbr) (decimal value) (node_fine node h.0) (node_fine nbr h.1) (value_fine value h.2);
 }
-fine_instruction (Drain times) h = record { now = refl; counted = refl; fine_words = one_fine Times (decimal times) (times_fine times h.0 h.1) }
-fine_instruction (Show view) h = record { now = plain_now view; counted = refl; fine_words = plain_fine view }
+fine_instruction (Propose node epoch) h = record {
+  counted = refl;
+  fine_words = two_fine NodeNumber EpochNumber (decimal node) (decimal epoch) (node_fine node h.0) (epoch_fine epoch h.1 h.2);
+}
+fine_instruction (Drain times) h = record { counted = refl; fine_words = one_fine Times (decimal times) (times_fine times h.0 h.1) }
+fine_instruction (Control number) h = record {
+  counted = refl;
+  fine_words = one_fine MessageNumber (decimal number) (message_fine number h.0 h.1);
+}
+fine_instruction (ControlAll times) h = record {
+  counted = refl;
+  fine_words = two_fine (OneOf (codes "all" ∷ [])) Times (codes "all") (decimal times) (has_only (codes "all")) (times_fine times h.0 h.1);
+}
+fine_instruction (Inject packet node p) h = record {
+  counted = refl;
+  fine_words = three_fine PacketNumber NodeNumber Masked (decimal packet) (decimal node) (prefix_text p) (packet_fine packet h.0 h.1) (node_fine node h.2) (spells_text p h.3);
+}
+fine_instruction (Hop packet) h = record { counted = refl; fine_words = one_fine PacketNumber (decimal packet) (packet_fine packet h.0 h.1) }
+fine_instruction (HopTimes packet times) h = record {
+  counted = refl;
+  fine_words = two_fine PacketNumber Times (decimal packet) (decimal times) (packet_fine packet h.0 h.1) (times_fine times h.2 h.3);
+}
+fine_instruction (Show view) h = record { counted = refl; fine_words = plain_fine view }
 fine_instruction (ShowEpoch Cut epoch) h = record {
-  now = refl;
   counted = refl;
   fine_words = two_fine Viewed EpochNumber (codes "cut") (decimal epoch) refl (epoch_fine epoch h.0 h.1);
 }
 fine_instruction (ShowEpoch Closure epoch) h = record {
-  now = refl;
   counted = refl;
   fine_words = two_fine Viewed EpochNumber (codes "closure") (decimal epoch) refl (epoch_fine epoch h.0 h.1);
 }
+fine_instruction (ShowEpoch Tables epoch) h = record {
+  counted = refl;
+  fine_words = two_fine Viewed EpochNumber (codes "tables") (decimal epoch) refl (epoch_fine epoch h.0 h.1);
+}
+fine_instruction (ShowWalk packet) h = record {
+  counted = refl;
+  fine_words = two_fine Viewed PacketNumber (codes "walk") (decimal packet) refl (packet_fine packet h.0 h.1);
+}
 
 -- a line stands where lines of its keyword do
-declares_here : (started : Bool) (d : Declaration) → stands started (Declares d) ≡ may_stand started (shape_of (declaring d))
-declares_here started (Node id consolidator) = refl
-declares_here started (Link a b relation) = refl
-declares_here started (Pref a b value) = refl
-declares_here started (Prefix p) = refl
+declares_here : (part : Part) (d : Declaration) → stands part (Declares d) ≡ may_stand part (shape_of (declaring d))
+declares_here part (Node id consolidator) = refl
+declares_here part (Link a b relation) = refl
+declares_here part (Pref a b value) = refl
+declares_here part (Prefix p) = refl
+declares_here part (Hops hops) = refl
+declares_here part (Transient chosen) = refl
 
-directs_here : (started : Bool) (i : Instruction) → stands started (Directs i) ≡ may_stand started (shape_of (directing i))
-directs_here started (Origin event node p) = refl
-directs_here started (Single event node) = refl
-directs_here started (Pair event a b) = refl
-directs_here started (Prefer node nbr value) = refl
-directs_here started (Drain times) = refl
-directs_here started (Show view) = refl
-directs_here started (ShowEpoch view epoch) = refl
+directs_here : (part : Part) (i : Instruction) → stands part (Directs i) ≡ may_stand part (shape_of (directing i))
+directs_here part (Origin event node p) = refl
+directs_here part (Single event node) = refl
+directs_here part (Pair event a b) = refl
+directs_here part (Prefer node nbr value) = refl
+directs_here part (Propose node epoch) = refl
+directs_here part (Drain times) = refl
+directs_here part (Control number) = refl
+directs_here part (ControlAll times) = refl
+directs_here part (Inject packet node p) = refl
+directs_here part (Hop packet) = refl
+directs_here part (HopTimes packet times) = refl
+directs_here part (Show view) = refl
+directs_here part (ShowEpoch view epoch) = refl
+directs_here part (ShowWalk packet) = refl
 
-by_keyword : (started : Bool) (k : Keyword) (words : List (List ℕ)) → may_stand started (shape_of k) ≡ true → Fine k words → word_fault started (keyword_text k ∷ words) ≡ None
-by_keyword started k words here f =
-    ap (λ found. fault_by started (keyword_text k) found words) (keyword_found k)
-    ∙ ap (λ fault. option_or fault (first_fault (fields k words) words)) (good_form started k words f.now here f.counted)
+by_keyword : (part : Part) (k : Keyword) (words : List (List ℕ)) → may_stand part (shape_of k) ≡ true → Fine k words → word_fault part (keyword_text k ∷ words) ≡ None
+by_keyword part k words here f =
+    ap (λ found. fault_by part found words) (keyword_found k)
+    ∙ ap (λ fault. option_or fault (first_fault (fields k words) words)) (good_form part k words here f.counted)
     ∙ f.fine_words
 
-pub fine_line : (started : Bool) (line : Line) → InRange line → stands started line ≡ true → word_fault started (line_words line) ≡ None
-fine_line started Blank h s = refl
-fine_line started Begin h s = by_keyword started keyword.Begin [] s (record { now = refl; counted = refl; fine_words = refl })
-fine_line started (Declares d) h s = by_keyword started (declaring d) (declared_words d) (sym (declares_here started d) ∙ s) (fine_declaration d h)
-fine_line started (Directs i) h s = by_keyword started (directing i) (directed_words i) (sym (directs_here started i) ∙ s) (fine_instruction i h)
+pub fine_line : (part : Part) (line : Line) → InRange line → stands part line ≡ true → word_fault part (line_words line) ≡ None
+fine_line part Blank h s = refl
+fine_line part Begin h s = by_keyword part keyword.Begin [] s (record { counted = refl; fine_words = refl })
+fine_line part (Declares d) h s = by_keyword part (declaring d) (declared_words d) (sym (declares_here part d) ∙ s) (fine_declaration d h)
+fine_line part (Directs i) h s = by_keyword part (directing i) (directed_words i) (sym (directs_here part i) ∙ s) (fine_instruction i h)
 
 value_back : (n : ℕ) → IsNumber n → number_of (decimal n) ≡ n
 value_back n h = decimal_value n (omega (arith, h.1))
@@ -152,6 +194,10 @@ declared_back (Link a b relation) h =
 declared_back (Pref a b value) h =
     ap₂ (λ m n. Declares (Pref m n (number_of (decimal value)))) (value_back a h.0) (value_back b h.1) ∙ ap (λ n. Declares (Pref a b n)) (decimal_value value (omega (arith, h.2)))
 declared_back (Prefix p) h = ap (λ q. Declares (Prefix q)) (prefix_of_text p h)
+declared_back (Hops hops) h = ap (λ n. Declares (Hops n)) (decimal_value hops (omega (arith, h)))
+declared_back (Transient scheme.Deflect) h = refl
+declared_back (Transient (scheme.Detour node)) h = ap (λ n. Declares (Transient (scheme.Detour n))) (value_back node h)
+declared_back (Transient scheme.Backup) h = refl
 
 directed_back : (i : Instruction) → DirectsInRange i → line_by (directing i) (directed_words i) ≡ Directs i
 directed_back (Origin event node p) h = ap₂ (λ n q. Directs (Origin event n q)) (value_back node h.0) (prefix_of_text p h.1)
@@ -159,11 +205,19 @@ directed_back (Single event node) h = ap (λ n. Directs (Single event n)) (value
 directed_back (Pair event a b) h = ap₂ (λ m n. Directs (Pair event m n)) (value_back a h.0) (value_back b h.1)
 directed_back (Prefer node nbr value) h =
     ap₂ (λ m n. Directs (Prefer m n (number_of (decimal value)))) (value_back node h.0) (value_back nbr h.1) ∙ ap (λ n. Directs (Prefer node nbr n)) (decimal_value value (omega (arith, h.2)))
+directed_back (Propose node epoch) h = ap₂ (λ m n. Directs (Propose m n)) (value_back node h.0) (decimal_value epoch (omega (arith, h.2)))
 directed_back (Drain times) h = ap (λ n. Directs (Drain n)) (decimal_value times (omega (arith, h.1)))
+directed_back (Control number) h = ap (λ n. Directs (Control n)) (decimal_value number (omega (arith, h.1)))
+directed_back (ControlAll times) h = ap (λ n. Directs (ControlAll n)) (decimal_value times (omega (arith, h.1)))
+directed_back (Inject packet node p) h =
+    ap₂ (λ k n. Directs (Inject k n (prefix_of (prefix_text p)))) (decimal_value packet (omega (arith, h.1))) (value_back node h.2) ∙ ap (λ q. Directs (Inject packet node q)) (prefix_of_text p h.3)
+directed_back (Hop packet) h = ap (λ k. Directs (Hop k)) (decimal_value packet (omega (arith, h.1)))
+directed_back (HopTimes packet times) h = ap₂ (λ k n. Directs (HopTimes k n)) (decimal_value packet (omega (arith, h.1))) (decimal_value times (omega (arith, h.3)))
 directed_back (Show view) h = ap (λ v. shown_by v (plain_text view ∷ [])) (view_found (Plain view))
 directed_back (ShowEpoch view epoch) h =
     ap (λ v. shown_by v (epoch_text view ∷ decimal epoch ∷ [])) (view_found (OfEpoch view))
     ∙ ap (λ n. Directs (ShowEpoch view n)) (decimal_value epoch (omega (arith, h.1)))
+directed_back (ShowWalk packet) h = ap (λ k. Directs (ShowWalk k)) (decimal_value packet (omega (arith, h.1)))
 
 from_keyword : (k : Keyword) (words : List (List ℕ)) → line_of (keyword_text k ∷ words) ≡ line_by k words
 from_keyword k words = ap (λ found. line_from found words) (keyword_found k)
@@ -175,8 +229,8 @@ read_back (Declares d) h = from_keyword (declaring d) (declared_words d) ∙ dec
 read_back (Directs i) h = from_keyword (directing i) (directed_words i) ∙ directed_back i h
 
 -- the same of words that spell a line
-pub fine_words : (started : Bool) (words : List (List ℕ)) (line : Line) → Spells words line → stands started line ≡ true → word_fault started words ≡ None
-fine_words started words line h s = ap (word_fault started) h.spelled ∙ fine_line started line h.in_range s
+pub fine_words : (part : Part) (words : List (List ℕ)) (line : Line) → Spells words line → stands part line ≡ true → word_fault part words ≡ None
+fine_words part words line h s = ap (word_fault part) h.spelled ∙ fine_line part line h.in_range s
 
 pub line_read : (words : List (List ℕ)) (line : Line) → Spells words line → line_of words ≡ line
 line_read words line h = ap line_of h.spelled ∙ read_back line h.in_range

@@ -1,22 +1,22 @@
 -- What the ends of a parse mean.
 use Rattle.std.specs.Prelude.{ℕ, ◌≡◌, List, Result, Ok, Err}
 use Rattle.topology.specs.declared.status.BadKind.{BadKind}
-use Rattle.schedule_file.specs.declared.lines.Schedule.{Schedule}
+use Rattle.schedule_file.specs.declared.table.Part.{Part}
 use Rattle.schedule_file.specs.declared.parser.ParseEnd.{ParseEnd}
 use Rattle.schedule_file.specs.declared.parser.ParseEnd.TheVariants.{NoMemory, Bad}
-use Rattle.schedule_file.specs.Refusals.{FirstBad}
+use Rattle.schedule_file.specs.Refusals.{FirstBadIn}
 
 -- a line is named where it is the first bad one, with what is wrong; want of memory may come at any time
-abbrev pub SaysWhy : List ℕ → ParseEnd → Type 0
-SaysWhy bytes NoMemory = Unit {0}
-SaysWhy bytes (Bad line kind) = FirstBad bytes line kind
+abbrev pub SaysWhy : Part → List ℕ → ParseEnd → Type 0
+SaysWhy behind bytes NoMemory = Unit {0}
+SaysWhy behind bytes (Bad line kind) = FirstBadIn behind bytes line kind
 
 abbrev pub IsWantOfMemory : ParseEnd → Type 0
 IsWantOfMemory NoMemory = Unit {0}
 IsWantOfMemory (Bad line kind) = ⊥
 
 -- this line is named for this, or memory ran out
-abbrev pub IsBadOrMemory : ℕ → BadKind → Result Schedule ParseEnd → Type 0
-IsBadOrMemory number bad (Ok schedule) = ⊥
+abbrev pub IsBadOrMemory : {T : Type 0} → ℕ → BadKind → Result T ParseEnd → Type 0
+IsBadOrMemory number bad (Ok done) = ⊥
 IsBadOrMemory number bad (Err NoMemory) = Unit {0}
 IsBadOrMemory number bad (Err (Bad line kind)) = (line ≡ number) × (kind ≡ bad)

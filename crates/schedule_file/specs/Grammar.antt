@@ -8,29 +8,33 @@ use Rattle.topology.specs.declared.status.BadKind.{BadKind}
 use Rattle.topology.specs.declared.status.BadKind.TheVariants as bad
 use Rattle.topology.specs.Lists.{has}
 use Rattle.topology.specs.Net.{Net, linked, has_prefix, same_prefix}
-use Rattle.topology.specs.Building.{nothing, with_node, with_link, with_pref, with_prefix, node_refusal, link_refusal, pref_refusal, prefix_refusal}
+use Rattle.topology.specs.Building.{nothing, with_node, with_link, with_pref, with_prefix, with_hops, with_scheme, node_refusal, link_refusal, pref_refusal, prefix_refusal, scheme_refusal}
 use Rattle.schedule_file.specs.declared.lines.Line.{Line}
 use Rattle.schedule_file.specs.declared.lines.Line.TheVariants.{Blank, Begin, Declares, Directs}
 use Rattle.schedule_file.specs.declared.lines.Declaration.{Declaration}
-use Rattle.schedule_file.specs.declared.lines.Declaration.TheVariants.{Node, Link, Pref, Prefix}
+use Rattle.schedule_file.specs.declared.lines.Declaration.TheVariants.{Node, Link, Pref, Prefix, Hops, Transient}
 use Rattle.schedule_file.specs.declared.lines.Instruction.{Instruction}
-use Rattle.schedule_file.specs.declared.lines.Instruction.TheVariants.{Origin, Single, Pair, Prefer, Drain, Show, ShowEpoch}
+use Rattle.schedule_file.specs.declared.lines.Instruction.TheVariants.{Origin, Single, Pair, Prefer, Propose, Drain, Control, ControlAll, Inject, Hop, HopTimes, Show, ShowEpoch, ShowWalk}
 use Rattle.schedule_file.specs.declared.lines.Directive.{Directive}
 use Rattle.schedule_file.specs.declared.lines.Directive.TheVariants as directive
 use Rattle.schedule_file.specs.declared.lines.Numbered.{Numbered}
 use Rattle.schedule_file.specs.declared.lines.Schedule.{Schedule}
 use Rattle.schedule_file.specs.Spelling.{words_by_line}
 use Rattle.schedule_file.specs.Lines.{DirectsInRange, Spells}
-use Rattle.schedule_file.specs.Table.{origin_directive, node_directive, pair_directive, plain_directive, epoch_directive}
+use Rattle.schedule_file.specs.declared.table.Part.{Part}
+use Rattle.schedule_file.specs.declared.table.Part.TheVariants.{Network, Run, Over}
+use Rattle.schedule_file.specs.Table.{may_declare, may_direct, origin_directive, node_directive, pair_directive, plain_directive, epoch_directive}
 
 -- lists of lines are newest first
 
--- what a declaration adds to the network
+-- what a declaration adds to the network; the hop limit and the scheme take the place of earlier ones
 abbrev pub with_declaration : Declaration → Net → Net
 with_declaration (Node id consolidator) net = with_node net id consolidator
 with_declaration (Link a b relation) net = with_link net (record { a = a; b = b; relation = relation })
 with_declaration (Pref a b value) net = with_pref net (record { a = a; b = b; value = value })
 with_declaration (Prefix p) net = with_prefix net p
+with_declaration (Hops hops) net = with_hops net hops
+with_declaration (Transient scheme) net = with_scheme net scheme
 
 -- what a line adds to the network
 abbrev pub with_line : Line → Net → Net
@@ -52,12 +56,16 @@ begun (Begin ∷ earlier) = true
 begun (Declares declaration ∷ earlier) = begun earlier
 begun (Directs instruction ∷ earlier) = begun earlier
 
--- the line stands on its side of begin, of which there is one
-abbrev pub stands : Bool → Line → Bool
-stands started Blank = true
-stands started Begin = not started
-stands started (Declares declaration) = not started
-stands started (Directs instruction) = started
+-- what may stand behind these lines, where this may stand behind begin
+abbrev pub part_in : Part → List Line → Part
+part_in behind earlier = if begun earlier then behind else Network
+
+-- the line may stand in this part; begin ends the first one
+abbrev pub stands : Part → Line → Bool
+stands part Blank = true
+stands part Begin = may_declare part
+stands part (Declares declaration) = may_declare part
+stands part (Directs instruction) = may_direct part
 
 -- the kind of each refusal of the network; want of memory is no fault of a line
 abbrev pub kind_of : BuildError → Option BadKind
@@ -103,6 +111,8 @@ declared_fault net (Node id consolidator) = fault_from (node_refusal net id cons
 declared_fault net (Link a b relation) = fault_from (link_refusal net a b)
 declared_fault net (Pref a b value) = fault_from (pref_refusal net a b)
 declared_fault net (Prefix p) = fault_from (prefix_refusal net p)
+declared_fault net (Hops hops) = None
+declared_fault net (Transient scheme) = fault_from (scheme_refusal net scheme)
 
 -- the first fault of the names of an instruction: an unknown node, an unknown prefix, equal ends, no link
 abbrev pub directed_fault : Net → Instruction → Option BadKind
@@ -110,9 +120,16 @@ directed_fault net (Origin event node p) = origin_fault net node p
 directed_fault net (Single event node) = node_fault net node
 directed_fault net (Pair event a b) = pair_fault net a b
 directed_fault net (Prefer node nbr value) = neighbour_fault net node nbr
+directed_fault net (Propose node epoch) = node_fault net node
 directed_fault net (Drain times) = None
+directed_fault net (Control number) = None
+directed_fault net (ControlAll times) = None
+directed_fault net (Inject packet node p) = origin_fault net node p
+directed_fault net (Hop packet) = None
+directed_fault net (HopTimes packet times) = None
 directed_fault net (Show view) = None
 directed_fault net (ShowEpoch view epoch) = None
+directed_fault net (ShowWalk packet) = None
 
 -- the first fault of the names of a line
 abbrev pub name_fault : Net → Line → Option BadKind
@@ -122,8 +139,8 @@ name_fault net (Declares declaration) = declared_fault net declaration
 name_fault net (Directs instruction) = directed_fault net instruction
 
 -- the line may follow these
-abbrev pub allowed : List Line → Line → Bool
-allowed earlier line = stands (begun earlier) line && is_none (name_fault (net_of earlier) line)
+abbrev pub allowed : Part → List Line → Line → Bool
+allowed behind earlier line = stands (part_in behind earlier) line && is_none (name_fault (net_of earlier) line)
 
 -- the place of the prefix in file order, from 0
 abbrev pub place_in : Range → List Range → ℕ
@@ -136,9 +153,16 @@ directive_of net (Origin event node p) = origin_directive event node (place_in p
 directive_of net (Single event node) = node_directive event node
 directive_of net (Pair event a b) = pair_directive event a b
 directive_of net (Prefer node nbr value) = directive.Prefer node nbr value
+directive_of net (Propose node epoch) = directive.Propose node epoch
 directive_of net (Drain times) = directive.Drain times
+directive_of net (Control number) = directive.Control number
+directive_of net (ControlAll times) = directive.ControlAll times
+directive_of net (Inject packet node p) = directive.Inject packet node (place_in p net.prefixes)
+directive_of net (Hop packet) = directive.Hop packet None
+directive_of net (HopTimes packet times) = directive.Hop packet (Some times)
 directive_of net (Show view) = plain_directive view
 directive_of net (ShowEpoch view epoch) = epoch_directive view epoch
+directive_of net (ShowWalk packet) = directive.ShowWalk packet
 
 -- what a line directs
 abbrev pub directed : Net → Line → List Directive
@@ -154,14 +178,27 @@ directives_of (line ∷ earlier) =
     directives_of earlier ++ map (λ d. record { line = suc (length earlier); directive = d }) (directed (net_of earlier) line)
 
 -- after the earlier lines these are spelled, one by one, by allowed lines; all are the lines then. Blank spells a line without words
+abbrev pub ReadsIn : Part → List Line → List (List (List ℕ)) → List Line → Type 0
+ReadsIn behind earlier [] all = all ≡ earlier
+ReadsIn behind earlier (words ∷ others) all =
+    (line : Line) × Spells words line × IsTrue (allowed behind earlier line) × ReadsIn behind (line ∷ earlier) others all
+
+-- the same in a schedule, which has a second part
 abbrev pub Reads : List Line → List (List (List ℕ)) → List Line → Type 0
-Reads earlier [] all = all ≡ earlier
-Reads earlier (words ∷ others) all = (line : Line) × Spells words line × IsTrue (allowed earlier line) × Reads (line ∷ earlier) others all
+Reads earlier texts all = ReadsIn Run earlier texts all
+
+-- the lines of the bytes say this, where such lines may stand behind begin
+abbrev pub IsRead : Part → List ℕ → Schedule → Type 0
+IsRead behind bytes schedule =
+    (lines : List Line) × ReadsIn behind [] (words_by_line bytes) lines × (schedule.topology ≡ net_of lines) × (schedule.lines.items ≡ directives_of lines)
 
 -- the bytes are the file of this schedule
 abbrev pub IsFile : List ℕ → Schedule → Type 0
-IsFile bytes schedule =
-    (lines : List Line) × Reads [] (words_by_line bytes) lines × (schedule.topology ≡ net_of lines) × (schedule.lines.items ≡ directives_of lines)
+IsFile bytes schedule = IsRead Run bytes schedule
+
+-- the bytes are the file of this network alone: behind begin no line has words
+abbrev pub IsTopologyFile : List ℕ → Net → Type 0
+IsTopologyFile bytes net = (lines : List Line) × ReadsIn Over [] (words_by_line bytes) lines × (net ≡ net_of lines)
 
 -- the directive is that of an instruction whose numbers are within their ranges and whose names are those of the network
 pub record Follows (net : Net) (d : Directive) : Type 0 where

@@ -7,3 +7,4 @@ pub mod Refusals
 pub mod Standing
 pub mod Cutting
 pub mod Ends
+pub mod Printing

@@ -1,17 +1,21 @@
 -- How lines are spelled: by their words alone.
 use Rattle.std.specs.Prelude.{ℕ, true, false, ◌≡◌, ◌≤◌, List, [], ◌∷◌, codes}
 use Rattle.std.specs.Fmt.{decimal}
+use Rattle.topology.specs.declared.names.Scheme.{Scheme}
+use Rattle.topology.specs.declared.names.Scheme.TheVariants.{Deflect, Detour, Backup}
 use Rattle.schedule_file.specs.declared.lines.Line.{Line}
 use Rattle.schedule_file.specs.declared.lines.Line.TheVariants.{Blank, Begin, Declares, Directs}
 use Rattle.schedule_file.specs.declared.lines.Declaration.{Declaration}
-use Rattle.schedule_file.specs.declared.lines.Declaration.TheVariants.{Node, Link, Pref, Prefix}
+use Rattle.schedule_file.specs.declared.lines.Declaration.TheVariants.{Node, Link, Pref, Prefix, Hops, Transient}
 use Rattle.schedule_file.specs.declared.lines.Instruction.{Instruction}
-use Rattle.schedule_file.specs.declared.lines.Instruction.TheVariants.{Origin, Single, Pair, Prefer, Drain, Show, ShowEpoch}
+use Rattle.schedule_file.specs.declared.lines.Instruction.TheVariants.{Origin, Single, Pair, Prefer, Propose, Drain, Control, ControlAll, Inject, Hop, HopTimes, Show, ShowEpoch, ShowWalk}
 use Rattle.schedule_file.specs.declared.table.Keyword.{Keyword}
 use Rattle.schedule_file.specs.declared.table.Keyword.TheVariants as keyword
-use Rattle.schedule_file.specs.declared.table.TheConstants.{MAX_PREFERENCE, MAX_TIMES, MAX_EPOCH}
+use Rattle.schedule_file.specs.declared.table.View.TheVariants.{Walk}
+use Rattle.schedule_file.specs.declared.table.SchemeName.TheVariants as name
+use Rattle.schedule_file.specs.declared.table.TheConstants.{MAX_PREFERENCE, MAX_HOPS, MAX_TIMES, MAX_MESSAGE, MAX_PACKET, MAX_EPOCH}
 use Rattle.schedule_file.specs.Spelling.{prefix_text, relation_text, IsNumber, IsRange}
-use Rattle.schedule_file.specs.Table.{keyword_text, plain_text, epoch_text}
+use Rattle.schedule_file.specs.Table.{keyword_text, plain_text, epoch_text, view_text, scheme_text}
 
 -- the kind of line that declares this
 abbrev pub declaring : Declaration → Keyword
@@ -19,6 +23,14 @@ declaring (Node id consolidator) = keyword.Node
 declaring (Link a b relation) = keyword.Link
 declaring (Pref a b value) = keyword.Pref
 declaring (Prefix p) = keyword.Prefix
+declaring (Hops hops) = keyword.Hops
+declaring (Transient scheme) = keyword.Transient
+
+-- the words of a scheme
+abbrev pub scheme_words : Scheme → List (List ℕ)
+scheme_words Deflect = scheme_text name.Deflect ∷ []
+scheme_words (Detour node) = scheme_text name.Detour ∷ decimal node ∷ []
+scheme_words Backup = scheme_text name.Backup ∷ []
 
 -- the words behind its first
 abbrev pub declared_words : Declaration → List (List ℕ)
@@ -27,6 +39,8 @@ declared_words (Node id true) = decimal id ∷ codes "consolidator" ∷ []
 declared_words (Link a b relation) = decimal a ∷ decimal b ∷ relation_text relation ∷ []
 declared_words (Pref a b value) = decimal a ∷ decimal b ∷ decimal value ∷ []
 declared_words (Prefix p) = prefix_text p ∷ []
+declared_words (Hops hops) = decimal hops ∷ []
+declared_words (Transient scheme) = scheme_words scheme
 
 -- the kind of line that directs this
 abbrev pub directing : Instruction → Keyword
@@ -34,9 +48,16 @@ directing (Origin event node p) = keyword.Origin event
 directing (Single event node) = keyword.Single event
 directing (Pair event a b) = keyword.Pair event
 directing (Prefer node nbr value) = keyword.Prefer
+directing (Propose node epoch) = keyword.Propose
 directing (Drain times) = keyword.Drain
+directing (Control number) = keyword.Control
+directing (ControlAll times) = keyword.Control
+directing (Inject packet node p) = keyword.Inject
+directing (Hop packet) = keyword.Hop
+directing (HopTimes packet times) = keyword.Hop
 directing (Show view) = keyword.Show
 directing (ShowEpoch view epoch) = keyword.Show
+directing (ShowWalk packet) = keyword.Show
 
 -- the words behind its first
 abbrev pub directed_words : Instruction → List (List ℕ)
@@ -44,9 +65,16 @@ directed_words (Origin event node p) = decimal node ∷ prefix_text p ∷ []
 directed_words (Single event node) = decimal node ∷ []
 directed_words (Pair event a b) = decimal a ∷ decimal b ∷ []
 directed_words (Prefer node nbr value) = decimal node ∷ decimal nbr ∷ decimal value ∷ []
+directed_words (Propose node epoch) = decimal node ∷ decimal epoch ∷ []
 directed_words (Drain times) = decimal times ∷ []
+directed_words (Control number) = decimal number ∷ []
+directed_words (ControlAll times) = codes "all" ∷ decimal times ∷ []
+directed_words (Inject packet node p) = decimal packet ∷ decimal node ∷ prefix_text p ∷ []
+directed_words (Hop packet) = decimal packet ∷ []
+directed_words (HopTimes packet times) = decimal packet ∷ decimal times ∷ []
 directed_words (Show view) = plain_text view ∷ []
 directed_words (ShowEpoch view epoch) = epoch_text view ∷ decimal epoch ∷ []
+directed_words (ShowWalk packet) = view_text Walk ∷ decimal packet ∷ []
 
 -- the words that spell a line
 abbrev pub line_words : Line → List (List ℕ)
@@ -55,12 +83,20 @@ line_words Begin = keyword_text keyword.Begin ∷ []
 line_words (Declares declaration) = keyword_text (declaring declaration) ∷ declared_words declaration
 line_words (Directs instruction) = keyword_text (directing instruction) ∷ directed_words instruction
 
+-- the number of a scheme's node is within its range
+abbrev pub SchemeInRange : Scheme → Type 0
+SchemeInRange Deflect = Unit {0}
+SchemeInRange (Detour node) = IsNumber node
+SchemeInRange Backup = Unit {0}
+
 -- each number of a declaration is within its range
 abbrev pub DeclaresInRange : Declaration → Type 0
 DeclaresInRange (Node id consolidator) = IsNumber id
 DeclaresInRange (Link a b relation) = IsNumber a × IsNumber b
 DeclaresInRange (Pref a b value) = IsNumber a × IsNumber b × (value ≤ MAX_PREFERENCE)
 DeclaresInRange (Prefix p) = IsRange p
+DeclaresInRange (Hops hops) = hops ≤ MAX_HOPS
+DeclaresInRange (Transient scheme) = SchemeInRange scheme
 
 -- each number of an instruction is within its range
 abbrev pub DirectsInRange : Instruction → Type 0
@@ -68,9 +104,16 @@ DirectsInRange (Origin event node p) = IsNumber node × IsRange p
 DirectsInRange (Single event node) = IsNumber node
 DirectsInRange (Pair event a b) = IsNumber a × IsNumber b
 DirectsInRange (Prefer node nbr value) = IsNumber node × IsNumber nbr × (value ≤ MAX_PREFERENCE)
+DirectsInRange (Propose node epoch) = IsNumber node × (1 ≤ epoch) × (epoch ≤ MAX_EPOCH)
 DirectsInRange (Drain times) = (1 ≤ times) × (times ≤ MAX_TIMES)
+DirectsInRange (Control number) = (1 ≤ number) × (number ≤ MAX_MESSAGE)
+DirectsInRange (ControlAll times) = (1 ≤ times) × (times ≤ MAX_TIMES)
+DirectsInRange (Inject packet node p) = (1 ≤ packet) × (packet ≤ MAX_PACKET) × IsNumber node × IsRange p
+DirectsInRange (Hop packet) = (1 ≤ packet) × (packet ≤ MAX_PACKET)
+DirectsInRange (HopTimes packet times) = (1 ≤ packet) × (packet ≤ MAX_PACKET) × (1 ≤ times) × (times ≤ MAX_TIMES)
 DirectsInRange (Show view) = Unit {0}
 DirectsInRange (ShowEpoch view epoch) = (1 ≤ epoch) × (epoch ≤ MAX_EPOCH)
+DirectsInRange (ShowWalk packet) = (1 ≤ packet) × (packet ≤ MAX_PACKET)
 
 abbrev pub InRange : Line → Type 0
 InRange Blank = Unit {0}

@@ -1,59 +1,57 @@
 -- What is wrong with a line, and which line of a file is the first bad one.
-use Rattle.std.specs.Prelude.{ℕ, zero, suc, Bool, true, false, not, ◌≡◌, IsTrue, Option, Some, None, List, [], ◌∷◌, length, if◌then◌else◌}
+use Rattle.std.specs.Prelude.{ℕ, zero, suc, true, false, not, ◌≡◌, IsTrue, Option, Some, None, List, [], ◌∷◌, length, if◌then◌else◌}
 use Rattle.std.specs.Option.{option_or}
+use Rattle.topology.specs.declared.names.Scheme.TheVariants as scheme
 use Rattle.topology.specs.declared.status.BadKind.{BadKind}
-use Rattle.topology.specs.declared.status.BadKind.TheVariants.{UnknownWord, NotBuilt, NotHere, WrongCount}
+use Rattle.topology.specs.declared.status.BadKind.TheVariants.{UnknownWord, NotHere, WrongCount}
 use Rattle.schedule_file.specs.declared.lines.Line.{Line}
 use Rattle.schedule_file.specs.declared.lines.Line.TheVariants as form
 use Rattle.schedule_file.specs.declared.lines.Declaration.TheVariants as declares
 use Rattle.schedule_file.specs.declared.lines.Instruction.TheVariants as directs
 use Rattle.schedule_file.specs.declared.table.Keyword.{Keyword}
-use Rattle.schedule_file.specs.declared.table.Keyword.TheVariants.{Node, Link, Pref, Prefix, Begin, Origin, Single, Pair, Prefer, Drain, Show}
+use Rattle.schedule_file.specs.declared.table.Keyword.TheVariants.{Node, Link, Pref, Prefix, Hops, Transient, Begin, Origin, Single, Pair, Prefer, Propose, Drain, Control, Inject, Hop, Show}
+use Rattle.schedule_file.specs.declared.table.Part.{Part}
+use Rattle.schedule_file.specs.declared.table.Part.TheVariants.{Run, Over}
 use Rattle.schedule_file.specs.declared.table.View.{View}
-use Rattle.schedule_file.specs.declared.table.View.TheVariants.{Plain, OfEpoch}
+use Rattle.schedule_file.specs.declared.table.View.TheVariants.{Plain, OfEpoch, Walk}
+use Rattle.schedule_file.specs.declared.table.SchemeName.{SchemeName}
+use Rattle.schedule_file.specs.declared.table.SchemeName.TheVariants.{Deflect, Detour, Backup}
 use Rattle.schedule_file.specs.Spelling.{words_by_line}
 use Rattle.schedule_file.specs.Lines.{Spells}
-use Rattle.schedule_file.specs.Words.{has_word, word_at, number_at, prefix_of, relation_of}
-use Rattle.schedule_file.specs.Table.{keyword_in, view_in, later_words, later_views, shape_of, may_stand, may_have, fields, first_fault}
-use Rattle.schedule_file.specs.Grammar.{allowed, begun, name_fault, net_of}
+use Rattle.schedule_file.specs.Words.{word_at, number_at, prefix_of, relation_of}
+use Rattle.schedule_file.specs.Table.{keyword_in, view_in, scheme_in, shape_of, may_stand, may_have, fields, first_fault}
+use Rattle.schedule_file.specs.Grammar.{allowed, part_in, name_fault, net_of}
 
--- the line is one of a later version: show with such a second word
-abbrev pub is_later : Keyword → List (List ℕ) → Bool
-is_later Node words = false
-is_later Link words = false
-is_later Pref words = false
-is_later Prefix words = false
-is_later Begin words = false
-is_later (Origin event) words = false
-is_later (Single event) words = false
-is_later (Pair event) words = false
-is_later Prefer words = false
-is_later Drain words = false
-is_later Show words = has_word later_views (word_at 0 words)
-
--- the first fault of the form of a line: it is of a later version, stands on the wrong side of begin, or has too few or too many words
-abbrev pub form_fault : Bool → Keyword → List (List ℕ) → Option BadKind
-form_fault started keyword words =
-    if is_later keyword words then Some NotBuilt
-    else if not (may_stand started (shape_of keyword)) then Some NotHere
+-- the first fault of the form of a line: it stands on the wrong side of begin, or has too few or too many words
+abbrev pub form_fault : Part → Keyword → List (List ℕ) → Option BadKind
+form_fault part keyword words =
+    if not (may_stand part (shape_of keyword)) then Some NotHere
     else if not (may_have (shape_of keyword) (suc (length words))) then Some WrongCount
     else None
 
 -- the first fault of a line that begins with a keyword, or with another word
-abbrev pub fault_by : Bool → List ℕ → Option Keyword → List (List ℕ) → Option BadKind
-fault_by started word None words = if has_word later_words word then Some NotBuilt else Some UnknownWord
-fault_by started word (Some keyword) words = option_or (form_fault started keyword words) (first_fault (fields keyword words) words)
+abbrev pub fault_by : Part → Option Keyword → List (List ℕ) → Option BadKind
+fault_by part None words = Some UnknownWord
+fault_by part (Some keyword) words = option_or (form_fault part keyword words) (first_fault (fields keyword words) words)
 
 -- the first fault of a line before its names are looked up
-abbrev pub word_fault : Bool → List (List ℕ) → Option BadKind
-word_fault started [] = None
-word_fault started (word ∷ words) = fault_by started word (keyword_in word) words
+abbrev pub word_fault : Part → List (List ℕ) → Option BadKind
+word_fault part [] = None
+word_fault part (word ∷ words) = fault_by part (keyword_in word) words
 
 -- the line of what show asks for; of another word it is of no account
 abbrev pub shown_by : Option View → List (List ℕ) → Line
 shown_by None words = form.Blank
 shown_by (Some (Plain view)) words = form.Directs (directs.Show view)
 shown_by (Some (OfEpoch view)) words = form.Directs (directs.ShowEpoch view (number_at 1 words))
+shown_by (Some Walk) words = form.Directs (directs.ShowWalk (number_at 1 words))
+
+-- the line of the scheme that transient names; of another word it is of no account
+abbrev pub set_by : Option SchemeName → List (List ℕ) → Line
+set_by None words = form.Blank
+set_by (Some Deflect) words = form.Declares (declares.Transient scheme.Deflect)
+set_by (Some Detour) words = form.Declares (declares.Transient (scheme.Detour (number_at 1 words)))
+set_by (Some Backup) words = form.Declares (declares.Transient scheme.Backup)
 
 -- the line of a keyword and the words behind it; where one of them may not stand there it is of no account
 abbrev pub line_by : Keyword → List (List ℕ) → Line
@@ -62,12 +60,20 @@ line_by Node words = form.Declares (declares.Node (number_at 0 words) false)
 line_by Link words = form.Declares (declares.Link (number_at 0 words) (number_at 1 words) (relation_of (word_at 2 words)))
 line_by Pref words = form.Declares (declares.Pref (number_at 0 words) (number_at 1 words) (number_at 2 words))
 line_by Prefix words = form.Declares (declares.Prefix (prefix_of (word_at 0 words)))
+line_by Hops words = form.Declares (declares.Hops (number_at 0 words))
+line_by Transient words = set_by (scheme_in (word_at 0 words)) words
 line_by Begin words = form.Begin
 line_by (Origin event) words = form.Directs (directs.Origin event (number_at 0 words) (prefix_of (word_at 1 words)))
 line_by (Single event) words = form.Directs (directs.Single event (number_at 0 words))
 line_by (Pair event) words = form.Directs (directs.Pair event (number_at 0 words) (number_at 1 words))
 line_by Prefer words = form.Directs (directs.Prefer (number_at 0 words) (number_at 1 words) (number_at 2 words))
+line_by Propose words = form.Directs (directs.Propose (number_at 0 words) (number_at 1 words))
 line_by Drain words = form.Directs (directs.Drain (number_at 0 words))
+line_by Control (all ∷ times ∷ others) = form.Directs (directs.ControlAll (number_at 1 (all ∷ times ∷ others)))
+line_by Control words = form.Directs (directs.Control (number_at 0 words))
+line_by Inject words = form.Directs (directs.Inject (number_at 0 words) (number_at 1 words) (prefix_of (word_at 2 words)))
+line_by Hop (packet ∷ times ∷ others) = form.Directs (directs.HopTimes (number_at 0 (packet ∷ times ∷ others)) (number_at 1 (packet ∷ times ∷ others)))
+line_by Hop words = form.Directs (directs.Hop (number_at 0 words))
 line_by Show words = shown_by (view_in (word_at 0 words)) words
 
 -- the line that begins with a keyword; that of another word is of no account
@@ -81,15 +87,24 @@ line_of [] = form.Blank
 line_of (word ∷ words) = line_from (keyword_in word) words
 
 -- what is wrong with a line of these words behind the earlier ones: the first fault of its words, or else of its names
-unfoldable pub refusal : List Line → List (List ℕ) → Option BadKind
-refusal earlier words = option_or (word_fault (begun earlier) words) (name_fault (net_of earlier) (line_of words))
+unfoldable pub refusal : Part → List Line → List (List ℕ) → Option BadKind
+refusal behind earlier words = option_or (word_fault (part_in behind earlier) words) (name_fault (net_of earlier) (line_of words))
 
 -- after the earlier lines n lines are spelled by allowed ones, and the next one is bad
-abbrev pub BadAt : List Line → List (List (List ℕ)) → ℕ → BadKind → Type 0
-BadAt earlier [] n kind = ⊥
-BadAt earlier (words ∷ others) zero kind = refusal earlier words ≡ Some kind
-BadAt earlier (words ∷ others) (suc n) kind = (line : Line) × Spells words line × IsTrue (allowed earlier line) × BadAt (line ∷ earlier) others n kind
+abbrev pub BadAt : Part → List Line → List (List (List ℕ)) → ℕ → BadKind → Type 0
+BadAt behind earlier [] n kind = ⊥
+BadAt behind earlier (words ∷ others) zero kind = refusal behind earlier words ≡ Some kind
+BadAt behind earlier (words ∷ others) (suc n) kind =
+    (line : Line) × Spells words line × IsTrue (allowed behind earlier line) × BadAt behind (line ∷ earlier) others n kind
 
 -- the line of this number, from 1, is the first bad one, and this is what is wrong with it
+abbrev pub FirstBadIn : Part → List ℕ → ℕ → BadKind → Type 0
+FirstBadIn behind bytes number kind = (n : ℕ) × (number ≡ suc n) × BadAt behind [] (words_by_line bytes) n kind
+
+-- the same of a schedule
 abbrev pub FirstBad : List ℕ → ℕ → BadKind → Type 0
-FirstBad bytes number kind = (n : ℕ) × (number ≡ suc n) × BadAt [] (words_by_line bytes) n kind
+FirstBad bytes number kind = FirstBadIn Run bytes number kind
+
+-- and of a network alone
+abbrev pub FirstBadOfTopology : List ℕ → ℕ → BadKind → Type 0
+FirstBadOfTopology bytes number kind = FirstBadIn Over bytes number kind

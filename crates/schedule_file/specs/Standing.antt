@@ -1,18 +1,19 @@
 -- What the parser holds after some lines, and what its steps promise.
-use Rattle.std.specs.Prelude.{ℕ, suc, Bool, ◌≡◌, IsTrue, Option, Some, None, Result, Ok, Err, List, ◌∷◌, length}
+use Rattle.std.specs.Prelude.{ℕ, suc, ◌≡◌, IsTrue, Option, Some, None, Result, Ok, Err, List, ◌∷◌, length}
 use Rattle.topology.specs.declared.building.BuildError.{BuildError}
 use Rattle.topology.specs.declared.building.BuildError.TheVariants as building
 use Rattle.topology.specs.declared.status.BadKind.{BadKind}
 use Rattle.topology.specs.declared.status.BadKind.TheVariants as bad
 use Rattle.schedule_file.specs.declared.lines.Line.{Line}
-use Rattle.schedule_file.specs.declared.lines.Schedule.{Schedule}
+use Rattle.schedule_file.specs.declared.parser.Draft.{Draft}
+use Rattle.schedule_file.specs.declared.table.Part.{Part}
 use Rattle.schedule_file.specs.declared.table.Keyword.{Keyword}
 use Rattle.schedule_file.specs.declared.words.Words.{Words}
 use Rattle.schedule_file.specs.declared.names.Refusal.{Refusal}
 use Rattle.schedule_file.specs.declared.names.Refusal.TheVariants.{NoMemory, Bad}
 use Rattle.schedule_file.specs.Lines.{Spells}
 use Rattle.schedule_file.specs.Words.{word_at}
-use Rattle.schedule_file.specs.Grammar.{net_of, begun, directives_of, allowed, name_fault}
+use Rattle.schedule_file.specs.Grammar.{net_of, part_in, directives_of, allowed, name_fault}
 use Rattle.schedule_file.specs.Table.{fields, first_fault}
 use Rattle.schedule_file.specs.Refusals.{refusal, form_fault, line_by}
 
@@ -32,9 +33,9 @@ ReadsAs keyword words (Ok line) = (line ≡ line_by keyword words) × (first_fau
 ReadsAs keyword words (Err kind) = first_fault (fields keyword words) words ≡ Some kind
 
 -- an answer of the check of a line's form: nothing is wrong with it, or its first fault
-abbrev pub HasForm : {T : Type 0} → Bool → Keyword → List (List ℕ) → Result T BadKind → Type 0
-HasForm started keyword words (Ok done) = form_fault started keyword words ≡ None
-HasForm started keyword words (Err kind) = form_fault started keyword words ≡ Some kind
+abbrev pub HasForm : {T : Type 0} → Part → Keyword → List (List ℕ) → Result T BadKind → Type 0
+HasForm part keyword words (Ok done) = form_fault part keyword words ≡ None
+HasForm part keyword words (Err kind) = form_fault part keyword words ≡ Some kind
 
 -- what the refusal of the network means for the line
 abbrev pub refusal_of : BuildError → Refusal
@@ -52,27 +53,27 @@ abbrev pub NamesFault : Refusal → Option BadKind → Type 0
 NamesFault NoMemory fault = Unit {0}
 NamesFault (Bad kind) fault = fault ≡ Some kind
 
--- the schedule, and whether begin was there, are those of the lines
-pub record IsAfter (schedule : Schedule) (started : Bool) (earlier : List Line) : Type 0 where
-  pub topology : schedule.topology ≡ net_of earlier
-  pub lines : schedule.lines.items ≡ directives_of earlier
-  pub start : started ≡ begun earlier
+-- the network, the directives and the part are those of the lines
+pub record IsAfter (draft : Draft) (earlier : List Line) : Type 0 where
+  pub topology : draft.schedule.topology ≡ net_of earlier
+  pub lines : draft.schedule.lines.items ≡ directives_of earlier
+  pub start : draft.part ≡ part_in draft.behind earlier
 
--- after any lines that the schedule stands for, the line may follow, and then it stands for all of them
-abbrev pub Takes : Schedule → Bool → ℕ → Line → Schedule → Bool → Type 0
-Takes old started number line new later =
-    (earlier : List Line) → IsAfter old started earlier → number ≡ suc (length earlier) → IsTrue (allowed earlier line) × IsAfter new later (line ∷ earlier)
+-- after any lines that the draft stands for, the line may follow, and then it stands for all of them
+abbrev pub Takes : Draft → ℕ → Line → Draft → Type 0
+Takes old number line new =
+    (earlier : List Line) → IsAfter old earlier → number ≡ suc (length earlier) → IsTrue (allowed old.behind earlier line) × IsAfter new (line ∷ earlier)
 
--- after any lines that the schedule stands for, this is wrong with the names of the line
-abbrev pub Refuses : Schedule → Bool → Line → Refusal → Type 0
-Refuses old started line why = (earlier : List Line) → IsAfter old started earlier → NamesFault why (name_fault (net_of earlier) line)
+-- after any lines that the draft stands for, this is wrong with the names of the line
+abbrev pub Refuses : Draft → Line → Refusal → Type 0
+Refuses old line why = (earlier : List Line) → IsAfter old earlier → NamesFault why (name_fault (net_of earlier) line)
 
--- after any lines that the schedule stands for, these words spell a line that may follow, and then it stands for all of them
-abbrev pub TakesLine : Schedule → Bool → ℕ → List (List ℕ) → Schedule → Bool → Type 0
-TakesLine old started number words new later =
-    (earlier : List Line) → IsAfter old started earlier → number ≡ suc (length earlier)
-    → (line : Line) × Spells words line × IsTrue (allowed earlier line) × IsAfter new later (line ∷ earlier)
+-- after any lines that the draft stands for, these words spell a line that may follow, and then it stands for all of them
+abbrev pub TakesLine : Draft → ℕ → List (List ℕ) → Draft → Type 0
+TakesLine old number words new =
+    (earlier : List Line) → IsAfter old earlier → number ≡ suc (length earlier)
+    → (line : Line) × Spells words line × IsTrue (allowed old.behind earlier line) × IsAfter new (line ∷ earlier)
 
--- after any lines that the schedule stands for, this is wrong with a line of these words
-abbrev pub RefusesLine : Schedule → Bool → List (List ℕ) → Refusal → Type 0
-RefusesLine old started words why = (earlier : List Line) → IsAfter old started earlier → NamesFault why (refusal earlier words)
+-- after any lines that the draft stands for, this is wrong with a line of these words
+abbrev pub RefusesLine : Draft → List (List ℕ) → Refusal → Type 0
+RefusesLine old words why = (earlier : List Line) → IsAfter old earlier → NamesFault why (refusal old.behind earlier words)

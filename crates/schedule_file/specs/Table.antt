@@ -1,12 +1,12 @@
 -- The table of the grammar: each word that begins a line, how many words such a line has, on which side of begin it stands, which words may stand behind the first, and what it directs.
-use Rattle.std.specs.Prelude.{ℕ, Bool, true, false, not, ◌&&◌, nat_le, is_some, List, [], ◌∷◌, Option, Some, None, codes, bytes_eq, if◌then◌else◌}
+use Rattle.std.specs.Prelude.{ℕ, Bool, true, false, ◌&&◌, nat_le, is_some, List, [], ◌∷◌, Option, Some, None, codes, bytes_eq, if◌then◌else◌}
 use Rattle.std.specs.List.{find}
 use Rattle.topology.specs.declared.status.BadKind.{BadKind}
 use Rattle.topology.specs.declared.status.BadKind.TheVariants.{UnknownWord, WrongCount, BadNumber, BadPrefix}
 use Rattle.schedule_file.specs.declared.lines.Directive.{Directive}
 use Rattle.schedule_file.specs.declared.lines.Directive.TheVariants as directive
 use Rattle.schedule_file.specs.declared.table.Keyword.{Keyword}
-use Rattle.schedule_file.specs.declared.table.Keyword.TheVariants.{Node, Link, Pref, Prefix, Begin, Origin, Single, Pair, Prefer, Drain, Show}
+use Rattle.schedule_file.specs.declared.table.Keyword.TheVariants.{Node, Link, Pref, Prefix, Hops, Transient, Begin, Origin, Single, Pair, Prefer, Propose, Drain, Control, Inject, Hop, Show}
 use Rattle.schedule_file.specs.declared.table.OriginEvent.{OriginEvent}
 use Rattle.schedule_file.specs.declared.table.OriginEvent.TheVariants.{Originate, Withdraw}
 use Rattle.schedule_file.specs.declared.table.NodeEvent.{NodeEvent}
@@ -14,13 +14,17 @@ use Rattle.schedule_file.specs.declared.table.NodeEvent.TheVariants.{Snap, Crash
 use Rattle.schedule_file.specs.declared.table.PairEvent.{PairEvent}
 use Rattle.schedule_file.specs.declared.table.PairEvent.TheVariants.{Deliver, Fail, Restore, Notice, Open}
 use Rattle.schedule_file.specs.declared.table.PlainView.{PlainView}
-use Rattle.schedule_file.specs.declared.table.PlainView.TheVariants.{Rib, Log}
+use Rattle.schedule_file.specs.declared.table.PlainView.TheVariants as plain
 use Rattle.schedule_file.specs.declared.table.EpochView.{EpochView}
-use Rattle.schedule_file.specs.declared.table.EpochView.TheVariants.{Cut, Closure}
+use Rattle.schedule_file.specs.declared.table.EpochView.TheVariants.{Cut, Closure, Tables}
 use Rattle.schedule_file.specs.declared.table.View.{View}
-use Rattle.schedule_file.specs.declared.table.View.TheVariants.{Plain, OfEpoch}
+use Rattle.schedule_file.specs.declared.table.View.TheVariants.{Plain, OfEpoch, Walk}
+use Rattle.schedule_file.specs.declared.table.SchemeName.{SchemeName}
+use Rattle.schedule_file.specs.declared.table.SchemeName.TheVariants.{Deflect, Detour, Backup}
+use Rattle.schedule_file.specs.declared.table.Part.{Part}
+use Rattle.schedule_file.specs.declared.table.Part.TheVariants.{Network, Run, Over}
 use Rattle.schedule_file.specs.declared.table.Shape.{Shape}
-use Rattle.schedule_file.specs.declared.table.TheConstants.{MAX_NODE, MAX_PREFERENCE, MAX_TIMES, MAX_EPOCH}
+use Rattle.schedule_file.specs.declared.table.TheConstants.{MAX_NODE, MAX_PREFERENCE, MAX_HOPS, MAX_TIMES, MAX_MESSAGE, MAX_PACKET, MAX_EPOCH}
 use Rattle.schedule_file.specs.Words.{has_word, word_at, spells_number, spells_prefix}
 
 -- an event of a node and a prefix: its word
@@ -63,35 +67,53 @@ pair_directive Open a b = directive.OpenSession a b
 
 -- what is shown of the run so far: its word
 abbrev pub plain_text : PlainView → List ℕ
-plain_text Rib = codes "rib"
-plain_text Log = codes "log"
+plain_text plain.Rib = codes "rib"
+plain_text plain.Log = codes "log"
+plain_text plain.Control = codes "ctl"
 
 -- and what it directs
 abbrev pub plain_directive : PlainView → Directive
-plain_directive Rib = directive.ShowRib
-plain_directive Log = directive.ShowLog
+plain_directive plain.Rib = directive.ShowRib
+plain_directive plain.Log = directive.ShowLog
+plain_directive plain.Control = directive.ShowControl
 
 -- what is shown of one epoch: its word
 abbrev pub epoch_text : EpochView → List ℕ
 epoch_text Cut = codes "cut"
 epoch_text Closure = codes "closure"
+epoch_text Tables = codes "tables"
 
 -- and what it directs
 abbrev pub epoch_directive : EpochView → ℕ → Directive
 epoch_directive Cut epoch = directive.ShowCut epoch
 epoch_directive Closure epoch = directive.ShowClosure epoch
+epoch_directive Tables epoch = directive.ShowTables epoch
 
 -- the word behind show
 abbrev pub view_text : View → List ℕ
 view_text (Plain view) = plain_text view
 view_text (OfEpoch view) = epoch_text view
+view_text Walk = codes "walk"
 
 abbrev pub views : List View
-views = Plain Rib ∷ Plain Log ∷ OfEpoch Cut ∷ OfEpoch Closure ∷ []
+views = Plain plain.Rib ∷ Plain plain.Log ∷ Plain plain.Control ∷ OfEpoch Cut ∷ OfEpoch Closure ∷ OfEpoch Tables ∷ Walk ∷ []
 
 -- what the word behind show asks for
 abbrev pub view_in : List ℕ → Option View
 view_in word = find (λ view. bytes_eq word (view_text view)) views
+
+-- how a packet goes on that has left the stable tables: its word
+abbrev pub scheme_text : SchemeName → List ℕ
+scheme_text Deflect = codes "deflect"
+scheme_text Detour = codes "detour"
+scheme_text Backup = codes "backup"
+
+abbrev pub schemes : List SchemeName
+schemes = Deflect ∷ Detour ∷ Backup ∷ []
+
+-- which scheme the word behind transient names
+abbrev pub scheme_in : List ℕ → Option SchemeName
+scheme_in word = find (λ name. bytes_eq word (scheme_text name)) schemes
 
 -- the word that a line of this kind begins with
 abbrev pub keyword_text : Keyword → List ℕ
@@ -99,34 +121,31 @@ keyword_text Node = codes "node"
 keyword_text Link = codes "link"
 keyword_text Pref = codes "pref"
 keyword_text Prefix = codes "prefix"
+keyword_text Hops = codes "hops"
+keyword_text Transient = codes "transient"
 keyword_text Begin = codes "begin"
 keyword_text (Origin event) = origin_text event
 keyword_text (Single event) = node_text event
 keyword_text (Pair event) = pair_text event
 keyword_text Prefer = codes "prefer"
+keyword_text Propose = codes "propose"
 keyword_text Drain = codes "drain"
+keyword_text Control = codes "ctl"
+keyword_text Inject = codes "inject"
+keyword_text Hop = codes "hop"
 keyword_text Show = codes "show"
 
 abbrev pub keywords : List Keyword
 keywords =
-    Node ∷ Link ∷ Pref ∷ Prefix ∷ Begin
+    Node ∷ Link ∷ Pref ∷ Prefix ∷ Hops ∷ Transient ∷ Begin
     ∷ Origin Originate ∷ Origin Withdraw
     ∷ Single Snap ∷ Single Crash ∷ Single Restart
     ∷ Pair Deliver ∷ Pair Fail ∷ Pair Restore ∷ Pair Notice ∷ Pair Open
-    ∷ Prefer ∷ Drain ∷ Show ∷ []
+    ∷ Prefer ∷ Propose ∷ Drain ∷ Control ∷ Inject ∷ Hop ∷ Show ∷ []
 
 -- the kind of line that begins with this word
 abbrev pub keyword_in : List ℕ → Option Keyword
 keyword_in word = find (λ keyword. bytes_eq word (keyword_text keyword)) keywords
-
--- words that begin lines of later versions
-abbrev pub later_words : List (List ℕ)
-later_words =
-    codes "propose" ∷ codes "ctl" ∷ codes "hops" ∷ codes "transient" ∷ codes "inject" ∷ codes "hop" ∷ []
-
--- what later versions show
-abbrev pub later_views : List (List ℕ)
-later_views = codes "ctl" ∷ codes "tables" ∷ codes "walk" ∷ []
 
 -- a line before begin, of so many words
 abbrev pub declares : ℕ → ℕ → Shape
@@ -142,17 +161,35 @@ shape_of Node = declares 2 3
 shape_of Link = declares 4 4
 shape_of Pref = declares 4 4
 shape_of Prefix = declares 2 2
+shape_of Hops = declares 2 2
+shape_of Transient = declares 2 3
 shape_of Begin = declares 1 1
 shape_of (Origin event) = directs 3 3
 shape_of (Single event) = directs 2 2
 shape_of (Pair event) = directs 3 3
 shape_of Prefer = directs 4 4
+shape_of Propose = directs 3 3
 shape_of Drain = directs 2 2
+shape_of Control = directs 2 3
+shape_of Inject = directs 4 4
+shape_of Hop = directs 2 3
 shape_of Show = directs 2 3
 
--- the line may stand here
-abbrev pub may_stand : Bool → Shape → Bool
-may_stand started shape = if shape.directs then started else not started
+-- lines that describe the network may stand in this part
+abbrev pub may_declare : Part → Bool
+may_declare Network = true
+may_declare Run = false
+may_declare Over = false
+
+-- lines that say what happens may stand in this part
+abbrev pub may_direct : Part → Bool
+may_direct Network = false
+may_direct Run = true
+may_direct Over = false
+
+-- the line may stand in this part
+abbrev pub may_stand : Part → Shape → Bool
+may_stand part shape = if shape.directs then may_direct part else may_declare part
 
 -- the line may have so many words
 abbrev pub may_have : Shape → ℕ → Bool
@@ -162,10 +199,14 @@ may_have shape count = nat_le shape.least count && nat_le count shape.most
 pub data Field : Type 0 where
   NodeNumber : Field
   Value : Field
+  HopLimit : Field
   Times : Field
+  MessageNumber : Field
+  PacketNumber : Field
   Masked : Field
   OneOf : List (List ℕ) → Field
   Viewed : Field
+  Schemed : Field
   EpochNumber : Field
 
 abbrev pub relations : List (List ℕ)
@@ -176,6 +217,14 @@ abbrev pub view_fields : Option View → List Field
 view_fields None = Viewed ∷ []
 view_fields (Some (Plain view)) = Viewed ∷ []
 view_fields (Some (OfEpoch view)) = Viewed ∷ EpochNumber ∷ []
+view_fields (Some Walk) = Viewed ∷ PacketNumber ∷ []
+
+-- what stands behind transient: the word for a scheme, and what that wants
+abbrev pub scheme_fields : Option SchemeName → List Field
+scheme_fields None = Schemed ∷ []
+scheme_fields (Some Deflect) = Schemed ∷ []
+scheme_fields (Some Detour) = Schemed ∷ NodeNumber ∷ []
+scheme_fields (Some Backup) = Schemed ∷ []
 
 -- what is to stand behind the first word, where these words do
 abbrev pub fields : Keyword → List (List ℕ) → List Field
@@ -184,32 +233,48 @@ fields Node words = NodeNumber ∷ OneOf (codes "consolidator" ∷ []) ∷ []
 fields Link words = NodeNumber ∷ NodeNumber ∷ OneOf relations ∷ []
 fields Pref words = NodeNumber ∷ NodeNumber ∷ Value ∷ []
 fields Prefix words = Masked ∷ []
+fields Hops words = HopLimit ∷ []
+fields Transient words = scheme_fields (scheme_in (word_at 0 words))
 fields Begin words = []
 fields (Origin event) words = NodeNumber ∷ Masked ∷ []
 fields (Single event) words = NodeNumber ∷ []
 fields (Pair event) words = NodeNumber ∷ NodeNumber ∷ []
 fields Prefer words = NodeNumber ∷ NodeNumber ∷ Value ∷ []
+fields Propose words = NodeNumber ∷ EpochNumber ∷ []
 fields Drain words = Times ∷ []
+fields Control (number ∷ []) = MessageNumber ∷ []
+fields Control words = OneOf (codes "all" ∷ []) ∷ Times ∷ []
+fields Inject words = PacketNumber ∷ NodeNumber ∷ Masked ∷ []
+fields Hop (packet ∷ []) = PacketNumber ∷ []
+fields Hop words = PacketNumber ∷ Times ∷ []
 fields Show words = view_fields (view_in (word_at 0 words))
 
 -- the word is one that may stand there
 abbrev pub spells_field : Field → List ℕ → Bool
 spells_field NodeNumber word = spells_number 1 MAX_NODE word
 spells_field Value word = spells_number 0 MAX_PREFERENCE word
+spells_field HopLimit word = spells_number 0 MAX_HOPS word
 spells_field Times word = spells_number 1 MAX_TIMES word
+spells_field MessageNumber word = spells_number 1 MAX_MESSAGE word
+spells_field PacketNumber word = spells_number 1 MAX_PACKET word
 spells_field Masked word = spells_prefix word
 spells_field (OneOf words) word = has_word words word
 spells_field Viewed word = is_some (view_in word)
+spells_field Schemed word = is_some (scheme_in word)
 spells_field EpochNumber word = spells_number 1 MAX_EPOCH word
 
 -- what is wrong with another word
 abbrev pub fault_of : Field → BadKind
 fault_of NodeNumber = BadNumber
 fault_of Value = BadNumber
+fault_of HopLimit = BadNumber
 fault_of Times = BadNumber
+fault_of MessageNumber = BadNumber
+fault_of PacketNumber = BadNumber
 fault_of Masked = BadPrefix
 fault_of (OneOf words) = UnknownWord
 fault_of Viewed = UnknownWord
+fault_of Schemed = UnknownWord
 fault_of EpochNumber = BadNumber
 
 -- the first from the left; words that are missing or left over are the wrong number of words

@@ -1,6 +1,6 @@
 //! What a schedule file holds.
 use crate::table::{EpochView, NodeEvent, OriginEvent, PairEvent, PlainView};
-use topology::{Epoch, NodeId, Prefix, PrefixId, Relation, Topology};
+use topology::{Epoch, NodeId, Prefix, PrefixId, Relation, Scheme, Topology};
 
 /// A line of the file, by its words alone: names are not looked up.
 #[derive(Clone, Copy, Debug, PartialEq, Eq)]
@@ -37,6 +37,14 @@ pub enum Declaration {
     Prefix {
         prefix: Prefix,
     },
+    /// How many moves a packet may make that has left the stable tables.
+    Hops {
+        hops: u16,
+    },
+    /// How such a packet goes on.
+    Transient {
+        scheme: Scheme,
+    },
 }
 
 /// What a line says is to happen, by names that are not looked up.
@@ -65,8 +73,36 @@ pub enum Instruction {
         nbr: NodeId,
         value: u32,
     },
+    /// The node begins a ballot on the value of the epoch.
+    Propose {
+        node: NodeId,
+        epoch: Epoch,
+    },
     /// At most so many deliveries, each the next one.
     Drain {
+        times: u32,
+    },
+    /// The control message of this number arrives.
+    Control {
+        number: u32,
+    },
+    /// At most so many control messages, each the next one.
+    ControlAll {
+        times: u32,
+    },
+    /// A packet of this number starts at the node, for the prefix.
+    Inject {
+        packet: u32,
+        node: NodeId,
+        prefix: Prefix,
+    },
+    /// The packet makes its next move.
+    Hop {
+        packet: u32,
+    },
+    /// At most so many moves of the packet.
+    HopTimes {
+        packet: u32,
         times: u32,
     },
     Show {
@@ -75,6 +111,10 @@ pub enum Instruction {
     ShowEpoch {
         view: EpochView,
         epoch: Epoch,
+    },
+    /// The way of the packet is shown.
+    ShowWalk {
+        packet: u32,
     },
 }
 
@@ -123,14 +163,42 @@ pub enum Directive {
     Restart {
         node: NodeId,
     },
+    /// The node begins a ballot on the value of the epoch.
+    Propose {
+        node: NodeId,
+        epoch: Epoch,
+    },
     /// At most so many deliveries, each the next one.
     Drain {
         times: u32,
     },
+    /// The control message of this number arrives.
+    Control {
+        number: u32,
+    },
+    /// At most so many control messages, each the next one.
+    ControlAll {
+        times: u32,
+    },
+    /// A packet of this number, from 1, starts at the node, for the prefix.
+    Inject {
+        packet: u32,
+        node: NodeId,
+        prefix: PrefixId,
+    },
+    /// The packet makes its next move, where `times` is given at most so many.
+    Hop {
+        packet: u32,
+        times: Option<u32>,
+    },
     ShowRib,
     ShowLog,
+    ShowControl,
     ShowCut(Epoch),
     ShowClosure(Epoch),
+    ShowTables(Epoch),
+    /// The way of the packet of this number.
+    ShowWalk(u32),
 }
 
 /// A directive and the number of its line, from 1.

@@ -1,5 +1,6 @@
 //! Looks up the names of lines in the network.
 ghost use Rattle.std.specs.Prelude.{◌≡◌, None, Some, IfOk, OnOk, IfErr};
+ghost use Rattle.schedule_file.specs.declared.lines.Directive.TheVariants as directive;
 ghost use Rattle.schedule_file.specs.declared.names.Refusal.TheVariants.{Bad};
 ghost use Rattle.schedule_file.specs.Lines.{DeclaresInRange};
 ghost use Rattle.schedule_file.specs.Grammar.{with_declaration, place_in, directive_of, origin_fault, node_fault, pair_fault, neighbour_fault, declared_fault, directed_fault};
@@ -41,7 +42,7 @@ impl From<BadKind> for Refusal {
     }
 }
 
-/// Adds what the line declares.
+/// Adds what the line declares, or sets it.
 pub fn declare(topology: &mut Topology, declaration: &Declaration) -> Result<(), Refusal>
     requires { DeclaresInRange declaration.now }
     ensures ok { OnOk result (topology.new ≡ with_declaration declaration.now topology.old) }
@@ -55,6 +56,8 @@ pub fn declare(topology: &mut Topology, declaration: &Declaration) -> Result<(),
         Declaration::Prefix { prefix } => {
             topology.add_prefix(*prefix)?;
         }
+        Declaration::Hops { hops } => topology.set_hops(*hops),
+        Declaration::Transient { scheme } => topology.set_scheme(*scheme)?,
     }
     Ok(())
 }
@@ -121,6 +124,33 @@ fn check_neighbour(topology: &Topology, node: NodeId, nbr: NodeId) -> Result<(),
     Ok(())
 }
 
+// A packet starts at the node, for the prefix.
+fn inject(
+    topology: &Topology,
+    packet: u32,
+    node: NodeId,
+    prefix: Prefix,
+) -> Result<Directive, BadKind>
+    ensures ok { IfOk result (λ injected. injected
+        ≡ directive.Inject packet node (place_in prefix topology.now.prefixes)) }
+    ensures fine { OnOk result (origin_fault topology.now node prefix ≡ None) }
+    ensures err { IfErr result (λ kind. origin_fault topology.now node prefix ≡ Some kind) }
+{
+    let prefix = origin(topology, node, prefix)?;
+    Ok(Directive::Inject {
+        packet,
+        node,
+        prefix,
+    })
+}
+
+// The packet makes its next move, or at most so many.
+fn hop(packet: u32, times: Option<u32>) -> Directive
+    ensures { result ≡ directive.Hop packet times }
+{
+    Directive::Hop { packet, times }
+}
+
 /// The directive of the instruction, its names looked up.
 pub fn look_up(topology: &Topology, instruction: &Instruction) -> Result<Directive, BadKind>
     ensures ok { IfOk result (λ directive. directive ≡ directive_of topology.now instruction.now) }
@@ -145,8 +175,22 @@ pub fn look_up(topology: &Topology, instruction: &Instruction) -> Result<Directi
             check_neighbour(topology, node, nbr)?;
             Ok(Directive::Prefer { node, nbr, value })
         }
+        Instruction::Propose { node, epoch } => {
+            check_node(topology, node)?;
+            Ok(Directive::Propose { node, epoch })
+        }
         Instruction::Drain { times } => Ok(Directive::Drain { times }),
+        Instruction::Control { number } => Ok(Directive::Control { number }),
+        Instruction::ControlAll { times } => Ok(Directive::ControlAll { times }),
+        Instruction::Inject {
+            packet,
+            node,
+            prefix,
+        } => inject(topology, packet, node, prefix),
+        Instruction::Hop { packet } => Ok(hop(packet, None)),
+        Instruction::HopTimes { packet, times } => Ok(hop(packet, Some(times))),
         Instruction::Show { view } => Ok(view.directive()),
         Instruction::ShowEpoch { view, epoch } => Ok(view.directive(epoch)),
+        Instruction::ShowWalk { packet } => Ok(Directive::ShowWalk(packet)),
     }
 }

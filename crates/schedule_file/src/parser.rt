@@ -2,16 +2,19 @@
 ghost use Rattle.std.specs.Prelude.{ℕ, suc, ◌≡◌, ◌≤◌, ◌<◌, ◌-◌, ◌^◌, Some, true, List, length, slice_range, IfOk, IfErr, OnOk};
 ghost use Rattle.text_lines.specs.Words.{words_of};
 ghost use Rattle.topology.specs.declared.status.BadKind.{BadKind};
-ghost use Rattle.schedule_file.specs.Grammar.{IsFile, AllFollow, stands};
-ghost use Rattle.schedule_file.specs.Refusals.{FirstBad};
+ghost use Rattle.topology.specs.Net.{Net};
+ghost use Rattle.schedule_file.specs.Grammar.{IsRead, IsFile, IsTopologyFile, AllFollow, stands};
+ghost use Rattle.schedule_file.specs.Refusals.{FirstBad, FirstBadOfTopology};
 ghost use Rattle.schedule_file.specs.Standing.{Takes, Refuses, TakesLine, RefusesLine};
 ghost use Rattle.schedule_file.specs.Ends.{SaysWhy, IsWantOfMemory, IsBadOrMemory};
 ghost use Rattle.schedule_file.specs.Lines.{InRange};
 ghost use Rattle.schedule_file.specs.declared.lines.Schedule.{Schedule};
+ghost use Rattle.schedule_file.specs.declared.table.Part.TheVariants.{Run, Over};
 
 use crate::lines::{Line, Numbered, Schedule};
 use crate::names::{Refusal, declare, look_up};
 use crate::reading::read_line;
+use crate::table::Part;
 use crate::words::words_of;
 use std::alloc::Global;
 use text_lines::{Line as Span, Lines};
@@ -25,73 +28,78 @@ pub enum ParseEnd {
     Bad { line: u32, kind: BadKind },
 }
 
-// Takes one line that stands on its side of begin.
-fn take(schedule: &mut Schedule, begun: &mut bool, number: u32, line: &Line) -> Result<(), Refusal>
-    requires in_range { InRange line.now }
-    requires place { stands begun.old line.now ≡ true }
-    ensures ok { OnOk result (Takes schedule.old begun.old number line.now schedule.new begun.new) }
-    ensures err { IfErr result (Refuses schedule.old begun.old line.now) }
-{
-    match line {
-        Line::Blank => {}
-        Line::Begin => *begun = true,
-        Line::Declares(declaration) => declare(&mut schedule.topology, declaration)?,
-        Line::Directs(instruction) => {
-            let directive = look_up(&schedule.topology, instruction)?;
-            let numbered = Numbered {
-                line: number,
-                directive,
-            };
-            if schedule.lines.push(numbered).is_err() {
-                return Err(Refusal::NoMemory);
+// A schedule as far as it was read.
+#[derive(Drop)]
+struct Draft {
+    schedule: Schedule,
+    /// What may stand next.
+    part: Part,
+    /// What may stand behind `begin`.
+    behind: Part,
+}
+
+impl Draft {
+    // Takes one line that may stand here.
+    fn take(&mut self, number: u32, line: &Line) -> Result<(), Refusal>
+        requires in_range { InRange line.now }
+        requires place { stands self.old.part line.now ≡ true }
+        ensures ok { OnOk result (Takes self.old number line.now self.new) }
+        ensures behind { OnOk result (self.new.behind ≡ self.old.behind) }
+        ensures err { IfErr result (Refuses self.old line.now) }
+    {
+        match line {
+            Line::Blank => {}
+            Line::Begin => self.part = self.behind,
+            Line::Declares(declaration) => declare(&mut self.schedule.topology, declaration)?,
+            Line::Directs(instruction) => {
+                let directive = look_up(&self.schedule.topology, instruction)?;
+                let numbered = Numbered {
+                    line: number,
+                    directive,
+                };
+                if self.schedule.lines.push(numbered).is_err() {
+                    return Err(Refusal::NoMemory);
+                }
             }
         }
+        Ok(())
     }
-    Ok(())
-}
 
-// Takes the next line of the text.
-fn take_line(
-    schedule: &mut Schedule,
-    begun: &mut bool,
-    text: &[u8],
-    line: Span,
-) -> Result<(), Refusal>
-    requires ordered { line.start ≤ line.end }
-    requires inside { line.end ≤ length text.now }
-    ensures ok { let words = words_of (slice_range text.now line.start line.end) in
-        OnOk result (TakesLine schedule.old begun.old line.number words schedule.new begun.new) }
-    ensures err { let words = words_of (slice_range text.now line.start line.end) in
-        IfErr result (RefusesLine schedule.old begun.old words) }
-{
-    let words = words_of(text, line);
-    match read_line(&words, *begun) {
-        Ok(read) => take(schedule, begun, line.number, &read),
-        Err(kind) => Err(Refusal::Bad(kind)),
+    // Takes the next line of the text.
+    fn take_line(&mut self, text: &[u8], line: Span) -> Result<(), Refusal>
+        requires ordered { line.start ≤ line.end }
+        requires inside { line.end ≤ length text.now }
+        ensures ok { let words = words_of (slice_range text.now line.start line.end) in
+            OnOk result (TakesLine self.old line.number words self.new) }
+        ensures behind { OnOk result (self.new.behind ≡ self.old.behind) }
+        ensures err { let words = words_of (slice_range text.now line.start line.end) in
+            IfErr result (RefusesLine self.old words) }
+    {
+        let words = words_of(text, line);
+        match read_line(&words, self.part) {
+            Ok(read) => self.take(line.number, &read),
+            Err(kind) => Err(Refusal::Bad(kind)),
+        }
     }
 }
 
-/// The schedule that the bytes spell, else the first bad line and what is wrong with it. Linear in
-/// the bytes.
-pub fn parse(alloc: Global, text: &[u8]) -> Result<Schedule, ParseEnd>
+// What the lines of the text say, where this may stand behind `begin`.
+fn read(alloc: Global, text: &[u8], behind: Part) -> Result<Schedule, ParseEnd>
     requires { length text.now < 2 ^ 32 - 1 }
-    ensures ok { IfOk result (IsFile text.now) }
-    ensures err { IfErr result (SaysWhy text.now) }
-    // What is directed names what the network has.
-    ensures follow { IfOk result (λ schedule. AllFollow schedule.topology schedule.lines.items) }
-    // A file is refused for want of memory alone.
-    ensures complete { (schedule : Schedule) → IsFile text.now schedule → IfErr result IsWantOfMemory }
-    // The first bad line is named, unless memory runs out before.
-    ensures named { (line : ℕ) (kind : BadKind) → FirstBad text.now line kind → IsBadOrMemory line kind result }
+    ensures ok { IfOk result (λ schedule. IsRead behind text.now schedule) }
+    ensures err { IfErr result (SaysWhy behind text.now) }
 {
-    let mut schedule = Schedule {
-        topology: Topology::empty(alloc),
-        lines: Vec::new(alloc),
+    let mut draft = Draft {
+        schedule: Schedule {
+            topology: Topology::empty(alloc),
+            lines: Vec::new(alloc),
+        },
+        part: Part::Network,
+        behind,
     };
-    let mut begun = false;
     let mut lines = Lines::new(text);
     while let Some(line) = lines.next() {
-        match take_line(&mut schedule, &mut begun, text, line) {
+        match draft.take_line(text, line) {
             Ok(()) => {}
             Err(Refusal::NoMemory) => return Err(ParseEnd::NoMemory),
             Err(Refusal::Bad(kind)) => {
@@ -102,5 +110,36 @@ pub fn parse(alloc: Global, text: &[u8]) -> Result<Schedule, ParseEnd>
             }
         }
     }
-    Ok(schedule)
+    Ok(draft.schedule)
+}
+
+/// The schedule that the bytes spell, else the first bad line and what is wrong with it. Linear in
+/// the bytes.
+pub fn parse(alloc: Global, text: &[u8]) -> Result<Schedule, ParseEnd>
+    requires { length text.now < 2 ^ 32 - 1 }
+    ensures ok { IfOk result (IsFile text.now) }
+    ensures err { IfErr result (SaysWhy Run text.now) }
+    // What is directed names what the network has.
+    ensures follow { IfOk result (λ schedule. AllFollow schedule.topology schedule.lines.items) }
+    // A file is refused for want of memory alone.
+    ensures complete { (schedule : Schedule) → IsFile text.now schedule → IfErr result IsWantOfMemory }
+    // The first bad line is named, unless memory runs out before.
+    ensures named { (line : ℕ) (kind : BadKind) → FirstBad text.now line kind → IsBadOrMemory line kind result }
+{
+    read(alloc, text, Part::Run)
+}
+
+/// The network that the bytes describe, in a file for one node: nothing stands behind `begin`.
+/// Else the first bad line and what is wrong with it. Linear in the bytes.
+pub fn parse_topology(alloc: Global, text: &[u8]) -> Result<Topology, ParseEnd>
+    requires { length text.now < 2 ^ 32 - 1 }
+    ensures ok { IfOk result (IsTopologyFile text.now) }
+    ensures err { IfErr result (SaysWhy Over text.now) }
+    // A file is refused for want of memory alone.
+    ensures complete { (net : Net) → IsTopologyFile text.now net → IfErr result IsWantOfMemory }
+    // The first bad line is named, unless memory runs out before.
+    ensures named { (line : ℕ) (kind : BadKind) → FirstBadOfTopology text.now line kind → IsBadOrMemory line kind result }
+{
+    let Schedule { topology, lines: _ } = read(alloc, text, Part::Over)?;
+    Ok(topology)
 }

@@ -1,26 +1,21 @@
 //! Reads one line by its words.
 ghost use Rattle.std.specs.Prelude.{ℕ, ◌≡◌, true, List, [], ◌∷◌, IfOk, IfErr, OnOk, Some};
+ghost use Rattle.schedule_file.specs.declared.lines.Line.TheVariants.{Declares};
+ghost use Rattle.schedule_file.specs.declared.lines.Declaration.TheVariants as declares;
 ghost use Rattle.schedule_file.specs.declared.table.Keyword.TheVariants as keyword;
 ghost use Rattle.schedule_file.specs.Lines.{Spells};
-ghost use Rattle.schedule_file.specs.Table.{shape_of, may_stand, may_have};
+ghost use Rattle.schedule_file.specs.Table.{shape_of, may_have};
 ghost use Rattle.schedule_file.specs.Grammar.{stands};
-ghost use Rattle.schedule_file.specs.Refusals.{is_later, word_fault};
+ghost use Rattle.schedule_file.specs.Refusals.{word_fault};
 ghost use Rattle.schedule_file.specs.Standing.{Holds, ReadsAs, HasForm};
 
 use crate::lines::{Declaration, Instruction, Line};
-use crate::table::{Keyword, NodeEvent, OriginEvent, PairEvent, Shape, View};
+use crate::table::{Keyword, NodeEvent, OriginEvent, PairEvent, Part, SchemeName, Shape, View};
 use crate::words::{
-    Words, epoch_of, is_later_view, keyword_of, node_of, prefix_of, relation_of, times_of,
-    value_of, view_of,
+    Words, epoch_of, hops_of, keyword_of, message_of, node_of, packet_of, prefix_of, relation_of,
+    scheme_of, times_of, value_of, view_of,
 };
-use topology::BadKind;
-
-// Such a line may stand here.
-fn may_stand(shape: &Shape, begun: bool) -> bool
-    ensures { result ≡ may_stand begun shape.now }
-{
-    if shape.directs { begun } else { !begun }
-}
+use topology::{BadKind, Scheme};
 
 // Such a line may have so many words.
 fn may_have(shape: &Shape, count: usize) -> bool
@@ -29,28 +24,14 @@ fn may_have(shape: &Shape, count: usize) -> bool
     shape.least <= count && count <= shape.most
 }
 
-// The line is of a later version: `show` with such a second word.
-fn is_later(keyword: Keyword, words: &Words<'_>) -> bool
-    ensures { (word : List ℕ) (rest : List (List ℕ)) → Holds words.now (word ∷ rest)
-        → result ≡ is_later keyword rest }
-{
-    match keyword {
-        Keyword::Show => is_later_view(words.second),
-        _ => false,
-    }
-}
-
-// The line is of this version, stands on its side of `begin` and has as many words as it may have.
-fn check_form(keyword: Keyword, words: &Words<'_>, begun: bool) -> Result<(), BadKind>
+// The line may stand here and has as many words as it may have.
+fn check_form(keyword: Keyword, words: &Words<'_>, part: Part) -> Result<(), BadKind>
     ensures count { OnOk result (may_have (shape_of keyword) words.now.count ≡ true) }
     ensures form { (word : List ℕ) (rest : List (List ℕ)) → Holds words.now (word ∷ rest)
-        → HasForm begun keyword rest result }
+        → HasForm part keyword rest result }
 {
     let shape = keyword.shape();
-    if is_later(keyword, words) {
-        return Err(BadKind::NotBuilt);
-    }
-    if !may_stand(&shape, begun) {
+    if !part.takes(&shape) {
         return Err(BadKind::NotHere);
     }
     if !may_have(&shape, words.count) {
@@ -112,6 +93,46 @@ fn prefix_line(prefix: &[u8]) -> Result<Line, BadKind>
     Ok(Line::Declares(Declaration::Prefix { prefix }))
 }
 
+// The word behind `hops`.
+fn hops_line(hops: &[u8]) -> Result<Line, BadKind>
+    ensures { ReadsAs keyword.Hops (hops.now ∷ []) result }
+{
+    let hops = hops_of(hops)?;
+    Ok(Line::Declares(Declaration::Hops { hops }))
+}
+
+// This scheme is set.
+fn set(scheme: Scheme) -> Line
+    ensures { result ≡ Declares (declares.Transient scheme) }
+{
+    Line::Declares(Declaration::Transient { scheme })
+}
+
+// The word behind `transient`, where there is one.
+fn transient_line(name: &[u8]) -> Result<Line, BadKind>
+    ensures { ReadsAs keyword.Transient (name.now ∷ []) result }
+{
+    match scheme_of(name)? {
+        SchemeName::Deflect => Ok(set(Scheme::Deflect)),
+        SchemeName::Detour => Err(BadKind::WrongCount),
+        SchemeName::Backup => Ok(set(Scheme::Backup)),
+    }
+}
+
+// The words behind `transient`, where there are two.
+fn transient_more_line(name: &[u8], more: &[u8]) -> Result<Line, BadKind>
+    ensures { ReadsAs keyword.Transient (name.now ∷ more.now ∷ []) result }
+{
+    match scheme_of(name)? {
+        SchemeName::Deflect => Err(BadKind::WrongCount),
+        SchemeName::Detour => {
+            let node = node_of(more)?;
+            Ok(set(Scheme::Detour(node)))
+        }
+        SchemeName::Backup => Err(BadKind::WrongCount),
+    }
+}
+
 // The words of an event of a node and a prefix.
 fn origin_line(event: OriginEvent, node: &[u8], prefix: &[u8]) -> Result<Line, BadKind>
     ensures { ReadsAs (keyword.Origin event) (node.now ∷ prefix.now ∷ []) result }
@@ -152,12 +173,71 @@ fn prefer_line(node: &[u8], nbr: &[u8], value: &[u8]) -> Result<Line, BadKind>
     Ok(Line::Directs(Instruction::Prefer { node, nbr, value }))
 }
 
+// The words behind `propose`.
+fn propose_line(node: &[u8], epoch: &[u8]) -> Result<Line, BadKind>
+    ensures { ReadsAs keyword.Propose (node.now ∷ epoch.now ∷ []) result }
+{
+    let node = node_of(node)?;
+    let epoch = epoch_of(epoch)?;
+    Ok(Line::Directs(Instruction::Propose { node, epoch }))
+}
+
 // The word behind `drain`.
 fn drain_line(times: &[u8]) -> Result<Line, BadKind>
     ensures { ReadsAs keyword.Drain (times.now ∷ []) result }
 {
     let times = times_of(times)?;
     Ok(Line::Directs(Instruction::Drain { times }))
+}
+
+// The word behind `ctl`, where there is one.
+fn control_line(number: &[u8]) -> Result<Line, BadKind>
+    ensures { ReadsAs keyword.Control (number.now ∷ []) result }
+{
+    let number = message_of(number)?;
+    Ok(Line::Directs(Instruction::Control { number }))
+}
+
+// The words behind `ctl`, where there are two.
+fn control_all_line(all: &[u8], times: &[u8]) -> Result<Line, BadKind>
+    ensures { ReadsAs keyword.Control (all.now ∷ times.now ∷ []) result }
+{
+    if all != b"all".as_slice() {
+        return Err(BadKind::UnknownWord);
+    }
+    let times = times_of(times)?;
+    Ok(Line::Directs(Instruction::ControlAll { times }))
+}
+
+// The words behind `inject`.
+fn inject_line(packet: &[u8], node: &[u8], prefix: &[u8]) -> Result<Line, BadKind>
+    ensures { ReadsAs keyword.Inject (packet.now ∷ node.now ∷ prefix.now ∷ []) result }
+{
+    let packet = packet_of(packet)?;
+    let node = node_of(node)?;
+    let prefix = prefix_of(prefix)?;
+    Ok(Line::Directs(Instruction::Inject {
+        packet,
+        node,
+        prefix,
+    }))
+}
+
+// The word behind `hop`, where there is one.
+fn hop_line(packet: &[u8]) -> Result<Line, BadKind>
+    ensures { ReadsAs keyword.Hop (packet.now ∷ []) result }
+{
+    let packet = packet_of(packet)?;
+    Ok(Line::Directs(Instruction::Hop { packet }))
+}
+
+// The words behind `hop`, where there are two.
+fn hop_times_line(packet: &[u8], times: &[u8]) -> Result<Line, BadKind>
+    ensures { ReadsAs keyword.Hop (packet.now ∷ times.now ∷ []) result }
+{
+    let packet = packet_of(packet)?;
+    let times = times_of(times)?;
+    Ok(Line::Directs(Instruction::HopTimes { packet, times }))
 }
 
 // The word behind `show`, where there is one.
@@ -167,6 +247,7 @@ fn show_line(view: &[u8]) -> Result<Line, BadKind>
     match view_of(view)? {
         View::Plain(view) => Ok(Line::Directs(Instruction::Show { view })),
         View::OfEpoch(_) => Err(BadKind::WrongCount),
+        View::Walk => Err(BadKind::WrongCount),
     }
 }
 
@@ -179,6 +260,10 @@ fn show_more_line(view: &[u8], more: &[u8]) -> Result<Line, BadKind>
         View::OfEpoch(view) => {
             let epoch = epoch_of(more)?;
             Ok(Line::Directs(Instruction::ShowEpoch { view, epoch }))
+        }
+        View::Walk => {
+            let packet = packet_of(more)?;
+            Ok(Line::Directs(Instruction::ShowWalk { packet }))
         }
     }
 }
@@ -195,29 +280,38 @@ fn line_of(keyword: Keyword, words: &Words<'_>) -> Result<Line, BadKind>
         Keyword::Link => link_line(words.second, words.third, words.fourth),
         Keyword::Pref => pref_line(words.second, words.third, words.fourth),
         Keyword::Prefix => prefix_line(words.second),
+        Keyword::Hops => hops_line(words.second),
+        Keyword::Transient if words.count == 3 => transient_more_line(words.second, words.third),
+        Keyword::Transient => transient_line(words.second),
         Keyword::Begin => Ok(Line::Begin),
         Keyword::Origin(event) => origin_line(event, words.second, words.third),
         Keyword::Single(event) => single_line(event, words.second),
         Keyword::Pair(event) => pair_line(event, words.second, words.third),
         Keyword::Prefer => prefer_line(words.second, words.third, words.fourth),
+        Keyword::Propose => propose_line(words.second, words.third),
         Keyword::Drain => drain_line(words.second),
+        Keyword::Control if words.count == 3 => control_all_line(words.second, words.third),
+        Keyword::Control => control_line(words.second),
+        Keyword::Inject => inject_line(words.second, words.third, words.fourth),
+        Keyword::Hop if words.count == 3 => hop_times_line(words.second, words.third),
+        Keyword::Hop => hop_line(words.second),
         Keyword::Show if words.count == 3 => show_more_line(words.second, words.third),
         Keyword::Show => show_line(words.second),
     }
 }
 
-/// The line that the words spell, where it may stand on its side of `begin`, else the first fault
-/// of the words. Names are not looked up.
-pub fn read_line(words: &Words<'_>, begun: bool) -> Result<Line, BadKind>
+/// The line that the words spell, where it may stand in this part, else the first fault of the
+/// words. Names are not looked up.
+pub fn read_line(words: &Words<'_>, part: Part) -> Result<Line, BadKind>
     ensures ok { IfOk result (λ line. (all : List (List ℕ)) → Holds words.now all → Spells all line) }
-    ensures stands { IfOk result (λ line. (all : List (List ℕ)) → Holds words.now all → stands begun line ≡ true) }
+    ensures stands { IfOk result (λ line. (all : List (List ℕ)) → Holds words.now all → stands part line ≡ true) }
     ensures err { IfErr result (λ kind. (all : List (List ℕ))
-        → Holds words.now all → word_fault begun all ≡ Some kind) }
+        → Holds words.now all → word_fault part all ≡ Some kind) }
 {
     if words.count == 0 {
         return Ok(Line::Blank);
     }
     let keyword = keyword_of(words.first)?;
-    check_form(keyword, words, begun)?;
+    check_form(keyword, words, part)?;
     line_of(keyword, words)
 }

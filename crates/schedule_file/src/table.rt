@@ -1,9 +1,9 @@
 //! The table of the grammar: the words that begin a line, how many words each such line has, on
 //! which side of `begin` it stands, and what it directs. `specs/Table.antt` is its definition. A
-//! word for one more event of two nodes is one row here, and one there.
+//! word for one more event of two nodes is a row here for each way, and one there.
 ghost use Rattle.std.specs.Prelude.{◌≡◌, ◌≢◌, true, false, IfSome, IfNone};
 ghost use Rattle.schedule_file.specs.Spelling.{relation_text};
-ghost use Rattle.schedule_file.specs.Table.{keyword_text, view_text, shape_of, origin_directive, node_directive, pair_directive, plain_directive, epoch_directive};
+ghost use Rattle.schedule_file.specs.Table.{keyword_text, view_text, scheme_text, origin_text, node_text, pair_text, plain_text, epoch_text, shape_of, may_stand, origin_directive, node_directive, pair_directive, plain_directive, epoch_directive};
 
 use crate::lines::Directive;
 use topology::{Epoch, NodeId, PrefixId, Relation};
@@ -14,8 +14,17 @@ pub const MAX_NODE: u32 = 65_535;
 /// The highest preference. The lowest is 0.
 pub const MAX_PREFERENCE: u32 = 1_000_000;
 
+/// The highest limit of the moves that a packet may make. The lowest is 0.
+pub const MAX_HOPS: u32 = 65_535;
+
 /// The most times that one line repeats something. The fewest are 1.
 pub const MAX_TIMES: u32 = 1_000_000;
+
+/// The highest number of a control message. The lowest is 1.
+pub const MAX_MESSAGE: u32 = 1_000_000;
+
+/// The highest number of a packet. The lowest is 1.
+pub const MAX_PACKET: u32 = 4_294_967_295;
 
 /// The highest epoch. The lowest is 1.
 pub const MAX_EPOCH: u32 = 32;
@@ -50,6 +59,7 @@ pub enum PairEvent {
 pub enum PlainView {
     Rib,
     Log,
+    Control,
 }
 
 /// What `show` writes of one epoch.
@@ -57,6 +67,7 @@ pub enum PlainView {
 pub enum EpochView {
     Cut,
     Closure,
+    Tables,
 }
 
 /// The word behind `show`.
@@ -64,6 +75,17 @@ pub enum EpochView {
 pub enum View {
     Plain(PlainView),
     OfEpoch(EpochView),
+    /// The way of one packet.
+    Walk,
+}
+
+/// The word behind `transient`.
+#[derive(Clone, Copy, Debug, PartialEq, Eq)]
+pub enum SchemeName {
+    Deflect,
+    /// A node is named behind it.
+    Detour,
+    Backup,
 }
 
 /// What a line begins with.
@@ -73,13 +95,30 @@ pub enum Keyword {
     Link,
     Pref,
     Prefix,
+    Hops,
+    Transient,
     Begin,
     Origin(OriginEvent),
     Single(NodeEvent),
     Pair(PairEvent),
     Prefer,
+    Propose,
     Drain,
+    Control,
+    Inject,
+    Hop,
     Show,
+}
+
+/// What may stand at a place of a file.
+#[derive(Clone, Copy, Debug, PartialEq, Eq)]
+pub enum Part {
+    /// Lines that describe the network, up to `begin`.
+    Network,
+    /// Lines that say what happens.
+    Run,
+    /// No line that has words.
+    Over,
 }
 
 /// What a line of one keyword is like.
@@ -114,8 +153,14 @@ pub fn keyword_named(word: &[u8]) -> Option<Keyword>
         b"notice" => Some(Keyword::Pair(PairEvent::Notice)),
         b"open" => Some(Keyword::Pair(PairEvent::Open)),
         b"prefer" => Some(Keyword::Prefer),
+        b"propose" => Some(Keyword::Propose),
         b"drain" => Some(Keyword::Drain),
+        b"ctl" => Some(Keyword::Control),
         b"show" => Some(Keyword::Show),
+        b"hop" => Some(Keyword::Hop),
+        b"inject" => Some(Keyword::Inject),
+        b"hops" => Some(Keyword::Hops),
+        b"transient" => Some(Keyword::Transient),
         _ => None,
     }
 }
@@ -128,8 +173,24 @@ pub fn view_named(word: &[u8]) -> Option<View>
     match word {
         b"rib" => Some(View::Plain(PlainView::Rib)),
         b"log" => Some(View::Plain(PlainView::Log)),
+        b"ctl" => Some(View::Plain(PlainView::Control)),
         b"cut" => Some(View::OfEpoch(EpochView::Cut)),
         b"closure" => Some(View::OfEpoch(EpochView::Closure)),
+        b"tables" => Some(View::OfEpoch(EpochView::Tables)),
+        b"walk" => Some(View::Walk),
+        _ => None,
+    }
+}
+
+/// Which scheme the word behind `transient` names.
+pub fn scheme_named(word: &[u8]) -> Option<SchemeName>
+    ensures some { IfSome result (λ name. word.now ≡ scheme_text name) }
+    ensures none { IfNone result ((name : SchemeName) → word.now ≢ scheme_text name) }
+{
+    match word {
+        b"deflect" => Some(SchemeName::Deflect),
+        b"detour" => Some(SchemeName::Detour),
+        b"backup" => Some(SchemeName::Backup),
         _ => None,
     }
 }
@@ -145,6 +206,31 @@ pub fn relation_named(word: &[u8]) -> Option<Relation>
         b"peer" => Some(Relation::Peer),
         b"any" => Some(Relation::Any),
         _ => None,
+    }
+}
+
+/// The word for the relation.
+pub fn relation_word(relation: Relation) -> &'static str
+    ensures { result.now ≡ relation_text relation }
+{
+    match relation {
+        Relation::Customer => "customer",
+        Relation::Provider => "provider",
+        Relation::Peer => "peer",
+        Relation::Any => "any",
+    }
+}
+
+impl Part {
+    /// Such a line may stand here.
+    pub fn takes(self, shape: &Shape) -> bool
+        ensures { result ≡ may_stand self shape.now }
+    {
+        match self {
+            Part::Network => !shape.directs,
+            Part::Run => shape.directs,
+            Part::Over => false,
+        }
     }
 }
 
@@ -180,17 +266,28 @@ impl Keyword {
         match self {
             Keyword::Node => Shape::declares(2, 3),
             Keyword::Link | Keyword::Pref => Shape::declares(4, 4),
-            Keyword::Prefix => Shape::declares(2, 2),
+            Keyword::Prefix | Keyword::Hops => Shape::declares(2, 2),
+            Keyword::Transient => Shape::declares(2, 3),
             Keyword::Begin => Shape::declares(1, 1),
-            Keyword::Origin(_) | Keyword::Pair(_) => Shape::directs(3, 3),
-            Keyword::Prefer => Shape::directs(4, 4),
+            Keyword::Origin(_) | Keyword::Pair(_) | Keyword::Propose => Shape::directs(3, 3),
+            Keyword::Prefer | Keyword::Inject => Shape::directs(4, 4),
             Keyword::Single(_) | Keyword::Drain => Shape::directs(2, 2),
-            Keyword::Show => Shape::directs(2, 3),
+            Keyword::Control | Keyword::Hop | Keyword::Show => Shape::directs(2, 3),
         }
     }
 }
 
 impl OriginEvent {
+    /// The word for it.
+    pub fn word(self) -> &'static str
+        ensures { result.now ≡ origin_text self }
+    {
+        match self {
+            OriginEvent::Originate => "originate",
+            OriginEvent::Withdraw => "withdraw",
+        }
+    }
+
     /// The directive at this node and prefix.
     pub fn directive(self, node: NodeId, prefix: PrefixId) -> Directive
         ensures { result ≡ origin_directive self node prefix }
@@ -203,6 +300,17 @@ impl OriginEvent {
 }
 
 impl NodeEvent {
+    /// The word for it.
+    pub fn word(self) -> &'static str
+        ensures { result.now ≡ node_text self }
+    {
+        match self {
+            NodeEvent::Snap => "snap",
+            NodeEvent::Crash => "crash",
+            NodeEvent::Restart => "restart",
+        }
+    }
+
     /// The directive at this node.
     pub fn directive(self, node: NodeId) -> Directive
         ensures { result ≡ node_directive self node }
@@ -216,6 +324,19 @@ impl NodeEvent {
 }
 
 impl PairEvent {
+    /// The word for it.
+    pub fn word(self) -> &'static str
+        ensures { result.now ≡ pair_text self }
+    {
+        match self {
+            PairEvent::Deliver => "deliver",
+            PairEvent::Fail => "fail",
+            PairEvent::Restore => "restore",
+            PairEvent::Notice => "notice",
+            PairEvent::Open => "open",
+        }
+    }
+
     /// The directive at these two nodes.
     pub fn directive(self, a: NodeId, b: NodeId) -> Directive
         ensures { result ≡ pair_directive self a b }
@@ -231,17 +352,40 @@ impl PairEvent {
 }
 
 impl PlainView {
+    /// The word for it.
+    pub fn word(self) -> &'static str
+        ensures { result.now ≡ plain_text self }
+    {
+        match self {
+            PlainView::Rib => "rib",
+            PlainView::Log => "log",
+            PlainView::Control => "ctl",
+        }
+    }
+
     pub fn directive(self) -> Directive
         ensures { result ≡ plain_directive self }
     {
         match self {
             PlainView::Rib => Directive::ShowRib,
             PlainView::Log => Directive::ShowLog,
+            PlainView::Control => Directive::ShowControl,
         }
     }
 }
 
 impl EpochView {
+    /// The word for it.
+    pub fn word(self) -> &'static str
+        ensures { result.now ≡ epoch_text self }
+    {
+        match self {
+            EpochView::Cut => "cut",
+            EpochView::Closure => "closure",
+            EpochView::Tables => "tables",
+        }
+    }
+
     /// The directive of this epoch.
     pub fn directive(self, epoch: Epoch) -> Directive
         ensures { result ≡ epoch_directive self epoch }
@@ -249,6 +393,20 @@ impl EpochView {
         match self {
             EpochView::Cut => Directive::ShowCut(epoch),
             EpochView::Closure => Directive::ShowClosure(epoch),
+            EpochView::Tables => Directive::ShowTables(epoch),
+        }
+    }
+}
+
+impl SchemeName {
+    /// The word for it.
+    pub fn word(self) -> &'static str
+        ensures { result.now ≡ scheme_text self }
+    {
+        match self {
+            SchemeName::Deflect => "deflect",
+            SchemeName::Detour => "detour",
+            SchemeName::Backup => "backup",
         }
     }
 }

@@ -1,26 +1,20 @@
 //! The words of a line, and what each may be.
-ghost use Rattle.std.specs.Prelude.{ℕ, ◌≡◌, ◌≢◌, ◌≤◌, ◌+◌, Bool, false, true, List, None, Some, IfOk, OnOk, OnErr, IfErr, IfSome, IfNone, length, slice_range, drop, bytes_eq};
-ghost use Rattle.std.specs.List.{list_any};
+ghost use Rattle.std.specs.Prelude.{ℕ, ◌≡◌, ◌≢◌, ◌≤◌, ◌+◌, false, true, List, None, Some, IfOk, OnOk, OnErr, IfErr, IfSome, IfNone, length, slice_range, drop};
 ghost use Rattle.text_lines.specs.Words.{words_of};
 ghost use Rattle.text_lines.specs.Readings.{words_left};
 ghost use Rattle.topology.specs.declared.status.BadKind.TheVariants.{UnknownWord, BadNumber, BadPrefix};
-ghost use Rattle.schedule_file.specs.Words.{has_word, word_at, number_of, prefix_of, relation_of};
-ghost use Rattle.schedule_file.specs.Table.{Field, spells_field, keyword_in, view_in, later_words, later_views, relations};
-ghost use Rattle.schedule_file.specs.Table.Field.{NodeNumber, Value, Times, Masked, OneOf, EpochNumber};
-ghost use Rattle.schedule_file.specs.Refusals.{fault_by};
+ghost use Rattle.schedule_file.specs.Words.{word_at, number_of, spells_number, prefix_of, relation_of};
+ghost use Rattle.schedule_file.specs.Table.{Field, spells_field, keyword_in, view_in, scheme_in, relations};
+ghost use Rattle.schedule_file.specs.Table.Field.{NodeNumber, Value, HopLimit, Times, MessageNumber, PacketNumber, Masked, OneOf, EpochNumber};
 ghost use Rattle.schedule_file.specs.Standing.{Holds};
 
 use crate::prefixes::read_prefix;
 use crate::table::{
-    Keyword, MAX_EPOCH, MAX_NODE, MAX_PREFERENCE, MAX_TIMES, View, keyword_named, relation_named,
-    view_named,
+    Keyword, MAX_EPOCH, MAX_HOPS, MAX_MESSAGE, MAX_NODE, MAX_PACKET, MAX_PREFERENCE, MAX_TIMES,
+    SchemeName, View, keyword_named, relation_named, scheme_named, view_named,
 };
 use text_lines::{Line as Span, Tokens, read_number};
 use topology::{BadKind, Epoch, NodeId, Prefix, Relation};
-
-const LATER_WORDS: [&[u8]; 6] = [b"propose", b"ctl", b"hops", b"transient", b"inject", b"hop"];
-
-const LATER_VIEWS: [&[u8]; 3] = [b"ctl", b"tables", b"walk"];
 
 /// The words of one line: how many, and the first four. One that is not there is empty.
 #[derive(Clone, Copy, Debug)]
@@ -81,37 +75,14 @@ pub fn words_of<'a>(text: &'a [u8], line: Span) -> Words<'a>
     }
 }
 
-// The word is one of these.
-fn is_among(word: &[u8], words: &[&[u8]]) -> bool
-    ensures { result ≡ list_any (λ other. bytes_eq word.now other.now) words.now }
-{
-    words.iter().any(|other| word == *other)
-}
-
-// The word begins a line of a later version.
-fn begins_later(word: &[u8]) -> bool
-    ensures { result ≡ has_word later_words word.now }
-{
-    is_among(word, &LATER_WORDS)
-}
-
-/// A later version shows this.
-pub fn is_later_view(word: &[u8]) -> bool
-    ensures { result ≡ has_word later_views word.now }
-{
-    is_among(word, &LATER_VIEWS)
-}
-
 /// The kind of line that begins with the word.
 pub fn keyword_of(word: &[u8]) -> Result<Keyword, BadKind>
     ensures ok { IfOk result (λ keyword. keyword_in word.now ≡ Some keyword) }
-    ensures none { OnErr result (keyword_in word.now ≡ None) }
-    ensures err { IfErr result
-        (λ kind. (started : Bool) (words : List (List ℕ)) → fault_by started word.now None words ≡ Some kind) }
+    ensures err { OnErr result (keyword_in word.now ≡ None) }
+    ensures kind { IfErr result (λ kind. kind ≡ UnknownWord) }
 {
     match keyword_named(word) {
         Some(keyword) => Ok(keyword),
-        None if begins_later(word) => Err(BadKind::NotBuilt),
         None => Err(BadKind::UnknownWord),
     }
 }
@@ -128,6 +99,49 @@ pub fn view_of(word: &[u8]) -> Result<View, BadKind>
     }
 }
 
+/// Which scheme the word behind `transient` names.
+pub fn scheme_of(word: &[u8]) -> Result<SchemeName, BadKind>
+    ensures ok { IfOk result (λ name. scheme_in word.now ≡ Some name) }
+    ensures err { OnErr result (scheme_in word.now ≡ None) }
+    ensures kind { IfErr result (λ kind. kind ≡ UnknownWord) }
+{
+    match scheme_named(word) {
+        Some(name) => Ok(name),
+        None => Err(BadKind::UnknownWord),
+    }
+}
+
+// A number from 0.
+fn number_to(word: &[u8], high: u32) -> Result<u32, BadKind>
+    ensures ok { IfOk result (λ number. number ≡ number_of word.now) }
+    ensures fine { OnOk result (spells_number 0 high word.now ≡ true) }
+    ensures within { IfOk result (λ number. number ≤ high) }
+    ensures err { OnErr result (spells_number 0 high word.now ≡ false) }
+    ensures kind { IfErr result (λ kind. kind ≡ BadNumber) }
+{
+    match read_number(word, high) {
+        Some(number) => Ok(number),
+        None => Err(BadKind::BadNumber),
+    }
+}
+
+// A number from 1.
+fn number_of(word: &[u8], high: u32) -> Result<u32, BadKind>
+    ensures ok { IfOk result (λ number. number ≡ number_of word.now) }
+    ensures fine { OnOk result (spells_number 1 high word.now ≡ true) }
+    ensures within { IfOk result (λ number. (1 ≤ number) × (number ≤ high)) }
+    ensures err { OnErr result (spells_number 1 high word.now ≡ false) }
+    ensures kind { IfErr result (λ kind. kind ≡ BadNumber) }
+{
+    let Some(number) = read_number(word, high) else {
+        return Err(BadKind::BadNumber);
+    };
+    if number == 0 {
+        return Err(BadKind::BadNumber);
+    }
+    Ok(number)
+}
+
 /// The number of a node, from 1.
 pub fn node_of(word: &[u8]) -> Result<NodeId, BadKind>
     ensures ok { IfOk result (λ node. node ≡ number_of word.now) }
@@ -135,12 +149,7 @@ pub fn node_of(word: &[u8]) -> Result<NodeId, BadKind>
     ensures err { OnErr result (spells_field NodeNumber word.now ≡ false) }
     ensures kind { IfErr result (λ kind. kind ≡ BadNumber) }
 {
-    let Some(number) = read_number(word, MAX_NODE) else {
-        return Err(BadKind::BadNumber);
-    };
-    if number == 0 {
-        return Err(BadKind::BadNumber);
-    }
+    let number = number_of(word, MAX_NODE)?;
     Ok(NodeId::new(number as u16))
 }
 
@@ -151,10 +160,18 @@ pub fn value_of(word: &[u8]) -> Result<u32, BadKind>
     ensures err { OnErr result (spells_field Value word.now ≡ false) }
     ensures kind { IfErr result (λ kind. kind ≡ BadNumber) }
 {
-    let Some(value) = read_number(word, MAX_PREFERENCE) else {
-        return Err(BadKind::BadNumber);
-    };
-    Ok(value)
+    number_to(word, MAX_PREFERENCE)
+}
+
+/// How many moves a packet may make.
+pub fn hops_of(word: &[u8]) -> Result<u16, BadKind>
+    ensures ok { IfOk result (λ hops. hops ≡ number_of word.now) }
+    ensures fine { OnOk result (spells_field HopLimit word.now ≡ true) }
+    ensures err { OnErr result (spells_field HopLimit word.now ≡ false) }
+    ensures kind { IfErr result (λ kind. kind ≡ BadNumber) }
+{
+    let hops = number_to(word, MAX_HOPS)?;
+    Ok(hops as u16)
 }
 
 /// How many times, from 1.
@@ -164,13 +181,27 @@ pub fn times_of(word: &[u8]) -> Result<u32, BadKind>
     ensures err { OnErr result (spells_field Times word.now ≡ false) }
     ensures kind { IfErr result (λ kind. kind ≡ BadNumber) }
 {
-    let Some(times) = read_number(word, MAX_TIMES) else {
-        return Err(BadKind::BadNumber);
-    };
-    if times == 0 {
-        return Err(BadKind::BadNumber);
-    }
-    Ok(times)
+    number_of(word, MAX_TIMES)
+}
+
+/// The number of a control message, from 1.
+pub fn message_of(word: &[u8]) -> Result<u32, BadKind>
+    ensures ok { IfOk result (λ number. number ≡ number_of word.now) }
+    ensures fine { OnOk result (spells_field MessageNumber word.now ≡ true) }
+    ensures err { OnErr result (spells_field MessageNumber word.now ≡ false) }
+    ensures kind { IfErr result (λ kind. kind ≡ BadNumber) }
+{
+    number_of(word, MAX_MESSAGE)
+}
+
+/// The number of a packet, from 1.
+pub fn packet_of(word: &[u8]) -> Result<u32, BadKind>
+    ensures ok { IfOk result (λ packet. packet ≡ number_of word.now) }
+    ensures fine { OnOk result (spells_field PacketNumber word.now ≡ true) }
+    ensures err { OnErr result (spells_field PacketNumber word.now ≡ false) }
+    ensures kind { IfErr result (λ kind. kind ≡ BadNumber) }
+{
+    number_of(word, MAX_PACKET)
 }
 
 /// The number of an epoch, from 1.
@@ -180,12 +211,7 @@ pub fn epoch_of(word: &[u8]) -> Result<Epoch, BadKind>
     ensures err { OnErr result (spells_field EpochNumber word.now ≡ false) }
     ensures kind { IfErr result (λ kind. kind ≡ BadNumber) }
 {
-    let Some(epoch) = read_number(word, MAX_EPOCH) else {
-        return Err(BadKind::BadNumber);
-    };
-    if epoch == 0 {
-        return Err(BadKind::BadNumber);
-    }
+    let epoch = number_of(word, MAX_EPOCH)?;
     Ok(Epoch::new(epoch))
 }
 

@@ -1,0 +1,144 @@
+-- What print writes of a schedule, and what it is for a text to be read as the same schedule.
+use Rattle.std.specs.Prelude.{ℕ, ◌≡◌, List, [], ◌∷◌, ◌++◌, map, Option, Some, None, option_map, unwrap_or, slice_get, find, codes}
+use Rattle.std.specs.List.{flat_map, join_with_byte}
+use Rattle.topology.specs.declared.links.Link.{Link}
+use Rattle.topology.specs.declared.links.Pref.{Pref}
+use Rattle.topology.specs.declared.prefixes.Prefix.{Prefix as Range}
+use Rattle.topology.specs.Lists.{has, ascending}
+use Rattle.topology.specs.Net.{Net, neighbours, prefers}
+use Rattle.schedule_file.specs.declared.lines.Line.{Line}
+use Rattle.schedule_file.specs.declared.lines.Line.TheVariants.{Begin, Declares, Directs}
+use Rattle.schedule_file.specs.declared.lines.Declaration.TheVariants as declares
+use Rattle.schedule_file.specs.declared.lines.Instruction.{Instruction}
+use Rattle.schedule_file.specs.declared.lines.Instruction.TheVariants.{Origin, Single, Pair, Prefer, Propose, Drain, Control, ControlAll, Inject, Hop, HopTimes, Show, ShowEpoch, ShowWalk}
+use Rattle.schedule_file.specs.declared.lines.Directive.{Directive}
+use Rattle.schedule_file.specs.declared.lines.Directive.TheVariants as directive
+use Rattle.schedule_file.specs.declared.lines.Numbered.{Numbered}
+use Rattle.schedule_file.specs.declared.lines.Schedule.{Schedule}
+use Rattle.schedule_file.specs.declared.table.OriginEvent.TheVariants.{Originate, Withdraw}
+use Rattle.schedule_file.specs.declared.table.NodeEvent.TheVariants.{Snap, Crash, Restart}
+use Rattle.schedule_file.specs.declared.table.PairEvent.TheVariants.{Deliver, Fail, Restore, Notice, Open}
+use Rattle.schedule_file.specs.declared.table.PlainView.TheVariants as plain
+use Rattle.schedule_file.specs.declared.table.EpochView.TheVariants.{Cut, Closure, Tables}
+use Rattle.schedule_file.specs.Spelling.{words_by_line}
+use Rattle.schedule_file.specs.Lines.{line_words}
+use Rattle.schedule_file.specs.Grammar.{Reads, net_of, directives_of}
+
+-- the words of a line joined by spaces (32), and a newline
+abbrev pub line_text : Line → List ℕ
+line_text line = join_with_byte 32 (line_words line) ++ codes "\n"
+
+-- a node, a link, a prefix and a preference as they are declared
+abbrev pub node_line : Net → ℕ → Line
+node_line net id = Declares (declares.Node id (has net.consolidators id))
+
+abbrev pub link_line : Link → Line
+link_line link = Declares (declares.Link link.a link.b link.relation)
+
+abbrev pub prefix_line : Range → Line
+prefix_line p = Declares (declares.Prefix p)
+
+abbrev pub pref_line : Pref → Line
+pref_line pref = Declares (declares.Pref pref.a pref.b pref.value)
+
+-- how far and by which scheme a packet goes that has left the stable tables, said also where nothing was said of it
+abbrev pub hops_line : Net → Line
+hops_line net = Declares (declares.Hops net.hops)
+
+abbrev pub scheme_line : Net → Line
+scheme_line net = Declares (declares.Transient net.scheme)
+
+abbrev pub packet_lines : Net → List Line
+packet_lines net = hops_line net ∷ scheme_line net ∷ []
+
+-- the preference of u for v with this value, where there is one
+abbrev pub pref_with : ℕ → ℕ → Option ℕ → List Pref
+pref_with u v None = []
+pref_with u v (Some value) = record { a = u; b = v; value = value } ∷ []
+
+-- the preference that was added for v at u
+abbrev pub added : Net → ℕ → ℕ → List Pref
+added net u v = pref_with u v (option_map (λ pref. pref.value) (find (prefers u v) net.preferences))
+
+-- all preferences, ascending by node and then by neighbour
+abbrev pub sorted_preferences : Net → List Pref
+sorted_preferences net = flat_map (λ u. flat_map (added net u) (neighbours net u)) (ascending net.nodes)
+
+-- the prefix at a place in file order; where there is none it is of no account
+abbrev pub prefix_at : Net → ℕ → Range
+prefix_at net place = unwrap_or (slice_get net.prefixes place) (record { bits = 0; len = 0 })
+
+-- the next move of a packet, or at most so many
+abbrev pub hop_instruction : ℕ → Option ℕ → Instruction
+hop_instruction packet None = Hop packet
+hop_instruction packet (Some times) = HopTimes packet times
+
+-- the instruction that says this, its prefix by name
+abbrev pub instruction_of : Net → Directive → Instruction
+instruction_of net (directive.Originate node place) = Origin Originate node (prefix_at net place)
+instruction_of net (directive.Withdraw node place) = Origin Withdraw node (prefix_at net place)
+instruction_of net (directive.Prefer node nbr value) = Prefer node nbr value
+instruction_of net (directive.Deliver a b) = Pair Deliver a b
+instruction_of net (directive.Fail a b) = Pair Fail a b
+instruction_of net (directive.Restore a b) = Pair Restore a b
+instruction_of net (directive.Notice a b) = Pair Notice a b
+instruction_of net (directive.OpenSession a b) = Pair Open a b
+instruction_of net (directive.Snap node) = Single Snap node
+instruction_of net (directive.Crash node) = Single Crash node
+instruction_of net (directive.Restart node) = Single Restart node
+instruction_of net (directive.Propose node epoch) = Propose node epoch
+instruction_of net (directive.Drain times) = Drain times
+instruction_of net (directive.Control number) = Control number
+instruction_of net (directive.ControlAll times) = ControlAll times
+instruction_of net (directive.Inject packet node place) = Inject packet node (prefix_at net place)
+instruction_of net (directive.Hop packet times) = hop_instruction packet times
+instruction_of net directive.ShowRib = Show plain.Rib
+instruction_of net directive.ShowLog = Show plain.Log
+instruction_of net directive.ShowControl = Show plain.Control
+instruction_of net (directive.ShowCut epoch) = ShowEpoch Cut epoch
+instruction_of net (directive.ShowClosure epoch) = ShowEpoch Closure epoch
+instruction_of net (directive.ShowTables epoch) = ShowEpoch Tables epoch
+instruction_of net (directive.ShowWalk packet) = ShowWalk packet
+
+-- the line of a directive
+abbrev pub directive_line : Net → Numbered → Line
+directive_line net numbered = Directs (instruction_of net numbered.directive)
+
+-- the lines up to begin: nodes, links and prefixes in file order, the preferences, then what is said of packets
+abbrev pub network_lines : Net → List Line
+network_lines net =
+    map (node_line net) net.nodes ++ map link_line net.links ++ map prefix_line net.prefixes ++ map pref_line (sorted_preferences net) ++ packet_lines net
+
+-- all lines
+abbrev pub printed_lines : Net → List Numbered → List Line
+printed_lines net directives = network_lines net ++ (Begin ∷ map (directive_line net) directives)
+
+-- what is written
+unfoldable pub printed : Net → List Numbered → List ℕ
+printed net directives = flat_map line_text (printed_lines net directives)
+
+-- the same network. Preferences are asked for by their two nodes, and have no order of their own
+pub record SameNet (net other : Net) : Type 0 where
+  pub nodes : other.nodes ≡ net.nodes
+  pub consolidators : other.consolidators ≡ net.consolidators
+  pub links : other.links ≡ net.links
+  pub prefixes : other.prefixes ≡ net.prefixes
+  pub preferences : (u v : ℕ) → find (prefers u v) other.preferences ≡ find (prefers u v) net.preferences
+  pub hops : other.hops ≡ net.hops
+  pub scheme : other.scheme ≡ net.scheme
+
+-- what is directed, whatever the numbers of the lines
+abbrev pub unnumbered : List Numbered → List Directive
+unnumbered directives = map (λ numbered. numbered.directive) directives
+
+-- the same schedule but for the numbers of lines
+pub record IsSame (schedule other : Schedule) : Type 0 where
+  pub topology : SameNet schedule.topology other.topology
+  pub directives : unnumbered other.lines.items ≡ unnumbered schedule.lines.items
+
+-- the bytes are a file of this schedule but for the numbers of lines, which are those of the bytes
+pub record IsFileAgain (bytes : List ℕ) (schedule : Schedule) : Type 0 where
+  pub lines : List Line
+  pub reads : Reads [] (words_by_line bytes) lines
+  pub topology : SameNet schedule.topology (net_of lines)
+  pub directives : unnumbered (directives_of lines) ≡ unnumbered schedule.lines.items
