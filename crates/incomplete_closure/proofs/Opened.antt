@@ -18,7 +18,7 @@ use Rattle.incomplete_closure.specs.Blocked.{Missing, Starts, shares, Precedes, 
 use Rattle.incomplete_closure.specs.Values.{IsValue, IsClosed}
 use Rattle.incomplete_closure.specs.Seen.{item_seen, row_seen, session_seen, report_seen, reports_seen}
 use Rattle.incomplete_closure.specs.Opening.{row_of, received_of, down_of, if_open, of_node, open_at, open_in_row, open_in_report, open_items}
-use Rattle.incomplete_closure.specs.Rounds.{is_due, ClosedAt, ClosedFrom, ClosedRows, ClosedFor, IsLeast}
+use Rattle.incomplete_closure.specs.Closed.{is_due, ClosedAt, ClosedFrom, ClosedRows, ClosedFor, IsLeast}
 use Rattle.incomplete_closure.specs.Together.{OfOneEpoch, nodes_of}
 use Rattle.incomplete_closure.proofs.Listing.{and_both, both_and, in_map, of_map, in_flat, of_flat, each_at, all_from_each}
 use Rattle.incomplete_closure.proofs.Sorting.{found_passes}

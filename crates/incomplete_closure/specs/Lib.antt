@@ -1,10 +1,14 @@
 pub mod Blocked
+pub mod Closed
+pub mod Following
+pub mod Graphs
 pub mod Marking
+pub mod Marks
 pub mod Opening
-pub mod Reaching
 pub mod Reports
-pub mod Rounds
 pub mod Seen
+pub mod Sizes
 pub mod Tables
 pub mod Together
 pub mod Values
+pub mod Wiring

@@ -1,21 +1,27 @@
 //! Which triggers are incomplete: reports of cuts, what is missing between them, and the value agreed on.
 #![tactic(auto)]
 
+mod behind;
 pub mod closing;
 pub mod cut_rows;
+mod graph;
 pub mod laws;
 mod marks;
+mod names;
 mod opening;
-mod reached;
 pub mod reports;
+mod search;
 pub mod session_rows;
 mod session_table;
+pub mod steps;
 pub mod values;
+mod wiring;
 
-pub use closing::closure;
+pub use closing::{closure, closure_counting};
 pub use cut_rows::{Row, Rows};
 pub use reports::{Report, missing};
 pub use session_rows::{SessionRow, SessionRows};
+pub use steps::Steps;
 pub use values::{Nodes, Triggers, Value};
 
 #[cfg(test)]

@@ -1,7 +1,6 @@
 //! The triggers that are marked so far.
-ghost use Rattle.std.specs.Prelude.{◌≡◌, [], length, OnOk, IfOk};
-ghost use Rattle.topology.specs.Triggers.{lists};
-ghost use Rattle.incomplete_closure.specs.Rounds.{mark_if};
+ghost use Rattle.std.specs.Prelude.{◌≡◌, [], OnOk, IfOk};
+ghost use Rattle.incomplete_closure.specs.Marks.{mark_if};
 
 use std::alloc::Global;
 use std::collections::BTreeSet;
@@ -30,18 +29,6 @@ impl Marks {
         Marks {
             set: BTreeSet::new(alloc),
         }
-    }
-
-    pub(crate) fn len(&self) -> usize
-        ensures { result ≡ length self.now }
-    {
-        self.set.len()
-    }
-
-    pub(crate) fn has(&self, trigger: Trigger) -> bool
-        ensures { result ≡ lists self.now trigger }
-    {
-        self.set.contains(&trigger)
     }
 
     /// Puts the trigger in, where there is cause for it.

@@ -1,11 +1,15 @@
 //! Which items are open: sent to a node of the reports, and not received there.
-ghost use Rattle.std.specs.Prelude.{◌≡◌, ◌++◌, List, map, OnOk, IfOk};
+ghost use Rattle.std.specs.Prelude.{◌≡◌, ◌++◌, ◌+◌, ◌≤◌, List, map, length, OnOk, IfOk};
 ghost use Rattle.std.specs.Rc.{rc_value};
 ghost use Rattle.incomplete_closure.specs.declared.reports.Report.{Report as AnyReport};
 ghost use Rattle.incomplete_closure.specs.Opening.{if_open, open_at, of_node, open_in_row, open_in_report, open_items};
 ghost use Rattle.incomplete_closure.specs.Tables.{IsTableOf};
+ghost use Rattle.incomplete_closure.specs.Wiring.{with_rows, with_reports};
+ghost use Rattle.incomplete_closure.specs.Sizes.{items_in, size_of};
 
+use crate::names::Names;
 use crate::session_table::SessionTable;
+use crate::steps::Steps;
 use crate::{Report, Row, SessionRow};
 use std::alloc::Global;
 use std::rc::Rc;
@@ -65,38 +69,55 @@ fn gather_row(
     table: &SessionTable,
     from: NodeId,
     row: &Row,
+    steps: &mut Steps,
 ) -> Result<(), NoMemory>
-    ensures { OnOk result ((reports : List AnyReport) → IsTableOf reports table.now →
+    ensures opened { OnOk result ((reports : List AnyReport) → IsTableOf reports table.now →
         opened.new.items ≡ opened.old.items ++ open_in_row reports from row.now) }
+    ensures steps { steps.new ≤ steps.old + length row.now.sent }
 {
     for item in row.sent.as_slice() {
+        steps.take();
         gather_item(opened, table, from, row.trigger, item)?;
     }
     Ok(())
 }
 
+// The open items of a report, and the triggers of its rows.
 fn gather_report(
     opened: &mut Vec<OpenItem>,
+    names: &mut Names,
     table: &SessionTable,
     report: &Report,
+    steps: &mut Steps,
 ) -> Result<(), NoMemory>
-    ensures { OnOk result ((reports : List AnyReport) → IsTableOf reports table.now →
+    ensures opened { OnOk result ((reports : List AnyReport) → IsTableOf reports table.now →
         opened.new.items ≡ opened.old.items ++ open_in_report reports report.now) }
+    ensures names { OnOk result (names.new ≡ with_rows names.old report.now.rows) }
+    ensures steps { steps.new ≤ steps.old + (length report.now.rows + items_in report.now.rows) }
 {
     for row in report.rows.as_slice() {
-        gather_row(opened, table, report.node, row)?;
+        steps.take();
+        names.add(row.trigger)?;
+        gather_row(opened, table, report.node, row, steps)?;
     }
     Ok(())
 }
 
-/// The open items of the reports.
-pub(crate) fn open_items(alloc: Global, reports: &[Rc<Report>]) -> Result<Vec<OpenItem>, NoMemory>
-    ensures { IfOk result (λ opened. opened.items ≡ open_items (map rc_value reports.now)) }
+/// The open items of the reports. The triggers of their rows are added to the names.
+pub(crate) fn open_items(
+    alloc: Global,
+    reports: &[Rc<Report>],
+    names: &mut Names,
+    steps: &mut Steps,
+) -> Result<Vec<OpenItem>, NoMemory>
+    ensures opened { IfOk result (λ opened. opened.items ≡ open_items (map rc_value reports.now)) }
+    ensures names { OnOk result (names.new ≡ with_reports names.old (map rc_value reports.now)) }
+    ensures steps { steps.new ≤ steps.old + size_of (map rc_value reports.now) }
 {
-    let table = SessionTable::of(alloc, reports)?;
+    let table = SessionTable::of(alloc, reports, steps)?;
     let mut opened = Vec::new(alloc);
     for report in reports {
-        gather_report(&mut opened, &table, report)?;
+        gather_report(&mut opened, names, &table, report, steps)?;
     }
     Ok(opened)
 }

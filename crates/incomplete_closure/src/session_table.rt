@@ -1,11 +1,13 @@
 //! The session rows of reports, by key.
-ghost use Rattle.std.specs.Prelude.{ℕ, ◌≡◌, ◌==◌, ◌&&◌, [], ◌∷◌, ◌++◌, List, map, Some, None, OnOk, IfOk, if◌then◌else◌};
+ghost use Rattle.std.specs.Prelude.{ℕ, ◌≡◌, ◌==◌, ◌&&◌, [], ◌∷◌, ◌++◌, ◌+◌, ◌≤◌, List, map, length, Some, None, OnOk, IfOk, if◌then◌else◌};
 ghost use Rattle.std.specs.Option.{option_or};
 ghost use Rattle.std.specs.Rc.{rc_value};
 ghost use Rattle.incomplete_closure.specs.Opening.{row_of};
 ghost use Rattle.incomplete_closure.specs.declared.reports.Report.{Report as AnyReport};
 ghost use Rattle.incomplete_closure.specs.Tables.{has_node, row_at, IsTableOf};
+ghost use Rattle.incomplete_closure.specs.Sizes.{sessions_of};
 
+use crate::steps::Steps;
 use crate::{Report, SessionRow};
 use std::alloc::Global;
 use std::collections::{BTreeMap, BTreeSet};
@@ -29,37 +31,45 @@ pub(crate) struct SessionTable {
 
 impl SessionTable {
     /// The table of these reports: the first of each node counts, and the first row of each session.
-    pub(crate) fn of(alloc: Global, reports: &[Rc<Report>]) -> Result<SessionTable, NoMemory>
-        ensures { IfOk result (IsTableOf (map rc_value reports.now)) }
+    pub(crate) fn of(
+        alloc: Global,
+        reports: &[Rc<Report>],
+        steps: &mut Steps,
+    ) -> Result<SessionTable, NoMemory>
+        ensures table { IfOk result (IsTableOf (map rc_value reports.now)) }
+        ensures steps { steps.new ≤ steps.old + sessions_of (map rc_value reports.now) }
     {
         let mut table = SessionTable {
             nodes: BTreeSet::new(alloc),
             rows: BTreeMap::new(alloc),
         };
         for report in reports {
-            table.add(report)?;
+            table.add(report, steps)?;
         }
         Ok(table)
     }
 
-    fn add(&mut self, report: &Report) -> Result<(), NoMemory>
-        ensures { OnOk result ((before : List AnyReport) →
+    fn add(&mut self, report: &Report, steps: &mut Steps) -> Result<(), NoMemory>
+        ensures table { OnOk result ((before : List AnyReport) →
             IsTableOf before self.old → IsTableOf (before ++ report.now ∷ []) self.new) }
+        ensures steps { steps.new ≤ steps.old + length report.now.sessions }
     {
         if self.has_node(report.node) {
             return Ok(());
         }
-        self.fill(report)?;
+        self.fill(report, steps)?;
         self.nodes.insert(report.node)?;
         Ok(())
     }
 
-    fn fill(&mut self, report: &Report) -> Result<(), NoMemory>
+    fn fill(&mut self, report: &Report, steps: &mut Steps) -> Result<(), NoMemory>
         ensures nodes { OnOk result (self.new.nodes.keys ≡ self.old.nodes.keys) }
         ensures rows { OnOk result ((n v s : ℕ) → row_at self.new n v s ≡
             option_or (row_at self.old n v s) (if n == report.now.node then row_of report.now v s else None)) }
+        ensures steps { steps.new ≤ steps.old + length report.now.sessions }
     {
         for row in report.sessions.as_slice() {
+            steps.take();
             self.put(report.node, row)?;
         }
         Ok(())

@@ -1,3 +1,4 @@
 //! Reports of three nodes, with their incomplete triggers worked out by hand.
 mod cases;
 mod reading;
+mod rounds;

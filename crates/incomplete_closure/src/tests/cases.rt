@@ -2,7 +2,8 @@
 ghost use Rattle.std.specs.Prelude.{◌≡◌};
 
 use super::reading::{report, trigger};
-use crate::{Report, Value, closure, missing};
+use super::rounds::rounds;
+use crate::{Report, Steps, Value, closure_counting, missing};
 use std::alloc::Global;
 use std::process::Abort;
 use std::rc::Rc;
@@ -25,12 +26,23 @@ order: a later row of the prefix | 1.1:P>2/1/1 1.2:P | | | 1.1 1.2
 order: not one of another prefix | 1.1:P>2/1/1 1.2:Q | | | 1.1
 order: a row of all prefixes, and what follows it | 1.1:P>2/1/1 1.2:* 1.3:Q | | | 1.1 1.2 1.3
 order: not an earlier row | 1.1:P 1.2:P>2/1/1 | | | 1.2
+order: over a row of another prefix | 1.1:P>2/1/1 1.2:Q 1.3:P 1.4:Q 1.5:P | | | 1.1 1.3 1.5
+order: rows of all prefixes, and what stands between and behind them | 1.1:P>2/1/1 1.2:* 1.3:Q 1.4:* 1.5:P | | | 1.1 1.2 1.3 1.4 1.5
+order: not what stands before the row of all prefixes | 1.1:P>2/1/1 1.2:Q 1.3:* 1.4:Q | | | 1.1 1.3 1.4
+order: from a row of all prefixes to the next one | 1.1:*>2/1/1 1.2:P 1.3:Q 1.4:P 1.5:* | | | 1.1 1.2 1.3 1.4 1.5
+order: from each row of a trigger | 1.1:P 1.2:P 1.1:Q>2/1/1 1.3:Q | | | 1.1 1.2 1.3
+order: from node to node | 1.1:P>2/1/1 1.2:P | 1.2:Q 1.3:Q | 1.3:P 1.4:P | 1.1 1.2 1.3 1.4
 order: at another node | 1.1:P>2/1/1 | | 1.1:P 3.1:P | 1.1 3.1
+cover: two items of one session | 1.1:P>2/1/1 1.2:Q>2/1/2 | 2.1:*>3/1/1 =1/1/0/2.1 | | 1.1 1.2 2.1
+cover: from one session to the next | 1.1:P>2/1/1 | 2.1:*>3/1/1 =1/1/0/2.1 | 3.1:*>1/1/1 =2/1/0/3.1 | 1.1 2.1 3.1
+cover: in a circle, without a start | 1.1:P>2/1/1 =3/1/0/1.1 | 2.1:*>3/1/1 =1/1/0/2.1 | 3.1:*>1/1/1 =2/1/0/3.1 | 
 cover, then order | 1.1:P>2/1/1 | 2.1:*>3/1/1 =1/1/0/2.1 | 1.1:Q 3.1:Q | 1.1 2.1 3.1
 order, then cover | 1.1:P>2/1/1 | 2.2:P>3/1/1 | 1.1:P 3.1:* =2/1/0/3.1 | 1.1 2.2 3.1
 the receiver has no report | 1.1:P>9/1/1 | | | 
 an item to oneself | 1.1:P>1/1/1 | | | 1.1
 an item to oneself that was received | 1.1:P>1/1/1 =1/1/1 | | | 
+an item to oneself that its own row covers | 1.1:P>1/1/1 =1/1/0/1.1 | | | 
+an item to oneself that an incomplete row covers | 1.1:P>1/1/1 1.2:Q>2/1/1 =1/1/0/1.2 | | | 1.1 1.2
 of repeated session rows the first counts | 1.1:P>2/1/1 | =1/1/0 =1/1/1 | | 1.1
 of repeated session rows the first counts, again | 1.1:P>2/1/1 | =1/1/1 =1/1/0 | | 
 so for what closed the session | 1.1:P>2/1/1 | =1/1/0/2.1 =1/1/0 | | 
@@ -41,8 +53,27 @@ what came of it on its way | 1.1:P>2/1/1 1.1:P 1.2:P>2/1/2 1.2:P =2/1/2 | 1.1:P>
 a new preference after it | 1.1:P>2/1/1 1.1:P 1.2:P>2/1/2 1.2:P =2/1/2 | 1.1:P>1/1/1>3/1/1 1.1:P 1.2:P>1/1/2>3/1/2 2.1:* =1/1/2 =3/1/1 | 1.1:P>2/1/1 =2/1/1 | 1.2 2.1
 a link that one end has closed | 3.1:P>2/1/1 1.1:*>2/1/2 =2/1/1/1.1 | 3.1:P>1/1/1>3/1/1 3.1:P =1/1/1 =3/1/1 | 3.1:P>2/1/1 3.1:P =2/1/1 | 1.1";
 
-// The value of three reports.
-fn value(alloc: Global, one: Report, two: Report, three: Report) -> Result<Value, Fail>
+// How many rows, sent items and session rows the reports have.
+fn size(reports: &[Rc<Report>]) -> usize {
+    let mut size: usize = 0;
+    for report in reports {
+        size = size.saturating_add(report.rows.as_slice().len());
+        size = size.saturating_add(report.sessions.as_slice().len());
+        for row in report.rows.as_slice() {
+            size = size.saturating_add(row.sent.as_slice().len());
+        }
+    }
+    size
+}
+
+// The value of three reports. Rounds find the same, and the steps are few.
+fn value(
+    rt: &impl Abort,
+    alloc: Global,
+    one: Report,
+    two: Report,
+    three: Report,
+) -> Result<Value, Fail>
     requires one { one.node ≡ 1 }
     requires two { two.node ≡ 2 }
     requires three { three.node ≡ 3 }
@@ -55,7 +86,12 @@ fn value(alloc: Global, one: Report, two: Report, three: Report) -> Result<Value
         Rc::new(alloc, two)?,
         Rc::new(alloc, three)?,
     ];
-    Ok(closure(alloc, &reports)?)
+    let mut steps = Steps::new();
+    let value = closure_counting(alloc, &reports, &mut steps)?;
+    let marked = rounds(alloc, &reports)?;
+    assert_eq!(rt; value.incomplete.as_slice(), marked.as_slice());
+    assert!(rt; steps.taken() <= (size(&reports) as u64).saturating_mul(6));
+    Ok(value)
 }
 
 fn triggers(alloc: Global, text: &str) -> Result<Vec<Trigger>, Fail> {
@@ -74,7 +110,7 @@ fn check(rt: &impl Abort, alloc: Global, case: &str) -> Result<(), Fail> {
     let one = report(alloc, 1, one)?;
     let two = report(alloc, 2, two)?;
     let three = report(alloc, 3, three)?;
-    let value = value(alloc, one, two, three)?;
+    let value = value(rt, alloc, one, two, three)?;
     let expected = triggers(alloc, incomplete)?;
     let copy = value.copy()?;
     assert_eq!(rt; copy.incomplete.as_slice(), expected.as_slice(), "{name}");

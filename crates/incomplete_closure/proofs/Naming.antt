@@ -1,0 +1,238 @@
+-- Triggers and their places, and the marks of those whose places pass.
+use Rattle.std.proofs.Common.{ℕ, zero, suc, ◌+◌, ◌<◌, ◌≤◌, Bool, true, false, ◌||◌, Some, None, List, [], ◌∷◌, ◌++◌, length, get_or, drop, slice_get, nat_lt, ◌≡◌, ◌⊎◌, inl, inr, refl, sym, ◌∙◌, ap, subst, arith, if◌then◌else◌}
+use Rattle.std.specs.List.{list_any, position_or_len}
+use Rattle.std.proofs.lemmas.Bool.Decides.{nat_tests}
+use Rattle.std.proofs.lemmas.List.{drop_more, drop_all}
+use Rattle.std.proofs.lemmas.List.Quantifiers.{position-Some}
+use Rattle.std.proofs.lemmas.Option.{slice_get_within, get_or_from_slice_get, slice_get-get_or}
+use Rattle.topology.specs.declared.names.Trigger.{Trigger}
+use Rattle.topology.specs.Triggers.{same_trigger, Ascend, lists}
+use Rattle.topology.specs.Lists.{Among}
+use Rattle.incomplete_closure.specs.declared.cut_rows.Row.{Row}
+use Rattle.incomplete_closure.specs.declared.reports.Report.{Report}
+use Rattle.incomplete_closure.specs.Marking.{put}
+use Rattle.incomplete_closure.specs.Marks.{mark_if, mark_names}
+use Rattle.incomplete_closure.specs.Wiring.{with_name, with_rows, with_reports, place_of}
+use Rattle.incomplete_closure.proofs.Listing.{same_is, lists_among, among_lists, in_front, at_end}
+use Rattle.incomplete_closure.proofs.Sorting.{in_put, in_put_either, put_ascends}
+
+-- ---- marks, one place after another
+
+next_place : (n : ℕ) → suc n ≡ n + 1
+next_place n = omega arith
+
+pub mark_on : (due : ℕ → Bool) (names : List Trigger) (place : ℕ) (t : Trigger) (marked : List Trigger) → slice_get names place ≡ Some t
+    → mark_names due (place + 1) (drop (place + 1) names) (mark_if (due place) t marked) ≡ mark_names due place (drop place names) marked
+mark_on due names place t marked e =
+    let more = drop_more names place t (slice_get_within names place t e) in
+    let is : get_or names place t ≡ t = get_or_from_slice_get names place t t e in
+    sym (ap (λ ts. mark_names due place ts marked) (more ∙ ap (λ x. x ∷ drop (place + 1) names) is) ∙ ap (λ n. mark_names due n (drop (place + 1) names) (mark_if (due place) t marked)) (next_place place))
+
+none_past : (names : List Trigger) (place : ℕ) → slice_get names place ≡ None → length names ≤ place
+none_past [] place e = omega arith
+none_past (t ∷ names) zero e = absurd (cc e)
+none_past (t ∷ names) (suc place) e = let more = none_past names place e in omega arith
+
+pub mark_past : (due : ℕ → Bool) (names : List Trigger) (place : ℕ) (marked : List Trigger) → slice_get names place ≡ None
+    → mark_names due (place + 1) (drop (place + 1) names) marked ≡ mark_names due place (drop place names) marked
+mark_past due names place marked e =
+    let past = none_past names place e in
+    ap (λ ts. mark_names due (place + 1) ts marked) (drop_all (place + 1) names (omega arith)) ∙ sym (ap (λ ts. mark_names due place ts marked) (drop_all place names past))
+
+-- ---- which triggers are marked
+
+-- a trigger of the list whose place passes
+abbrev pub Passes : (ℕ → Bool) → ℕ → List Trigger → Trigger → Type 0
+Passes due n names t = (i : ℕ) × (slice_get names i ≡ Some t) × (due (n + i) ≡ true)
+
+in_mark : (due : Bool) (s t : Trigger) (marked : List Trigger) → Among t (mark_if due s marked) → Among t marked ⊎ ((s ≡ t) × (due ≡ true))
+in_mark false s t marked a = inl a
+in_mark true s t marked a =
+    elim (lists marked s) as (λ b. Among t (if b then marked else put s marked) → Among t marked ⊎ ((s ≡ t) × (true ≡ true))) [
+      | true ↦ λ m. inl m
+      | false ↦ λ m. either (in_put_either s t marked m)
+    ] a
+  where
+    either : (s ≡ t) ⊎ Among t marked → Among t marked ⊎ ((s ≡ t) × (true ≡ true))
+    either (inl e) = inr (e, refl)
+    either (inr m) = inl m
+
+no_more : (n : ℕ) → n ≡ n + 0
+no_more n = omega arith
+
+one_further : (n i : ℕ) → suc n + i ≡ n + suc i
+one_further n i = omega arith
+
+pub in_marks : (due : ℕ → Bool) (n : ℕ) (names marked : List Trigger) (t : Trigger) → Among t (mark_names due n names marked) → Among t marked ⊎ Passes due n names t
+in_marks due n [] marked t a = inl a
+in_marks due n (s ∷ names) marked t a = either (in_marks due (suc n) names (mark_if (due n) s marked) t a)
+  where
+    here : Among t marked ⊎ ((s ≡ t) × (due n ≡ true)) → Among t marked ⊎ Passes due n (s ∷ names) t
+    here (inl m) = inl m
+    here (inr e) = inr (0, ap Some e.0, subst (λ k. due k ≡ true) (no_more n) e.1)
+
+    either : Among t (mark_if (due n) s marked) ⊎ Passes due (suc n) names t → Among t marked ⊎ Passes due n (s ∷ names) t
+    either (inl m) = here (in_mark (due n) s t marked m)
+    either (inr p) = inr (suc p.0, p.1, subst (λ k. due k ≡ true) (one_further n p.0) p.2)
+
+mark_keeps : (due : Bool) (s t : Trigger) (marked : List Trigger) → Among t marked → Among t (mark_if due s marked)
+mark_keeps false s t marked a = a
+mark_keeps true s t marked a =
+    elim (lists marked s) as (λ b. Among t (if b then marked else put s marked)) [
+      | true ↦ a
+      | false ↦ in_put t s marked (inr a)
+    ]
+
+marks_keep : (due : ℕ → Bool) (n : ℕ) (names marked : List Trigger) (t : Trigger) → Among t marked → Among t (mark_names due n names marked)
+marks_keep due n [] marked t a = a
+marks_keep due n (s ∷ names) marked t a = marks_keep due (suc n) names (mark_if (due n) s marked) t (mark_keeps (due n) s t marked a)
+
+mark_there : (t : Trigger) (marked : List Trigger) → Among t (mark_if true t marked)
+mark_there t marked =
+    (elim (lists marked t) as (λ b. lists marked t ≡ b → Among t (if b then marked else put t marked)) [
+      | true ↦ λ e. lists_among marked t e
+      | false ↦ λ e. in_put t t marked (inl refl)
+    ]) refl
+
+pub passes_marked : (due : ℕ → Bool) (n : ℕ) (names marked : List Trigger) (t : Trigger) (i : ℕ) → slice_get names i ≡ Some t → due (n + i) ≡ true → Among t (mark_names due n names marked)
+passes_marked due n [] marked t i e d = absurd (cc e)
+passes_marked due n (s ∷ names) marked t zero e d =
+    let is : s ≡ t = cc e in
+    marks_keep due (suc n) names (mark_if (due n) s marked) t
+    (subst (λ z. Among z (mark_if (due n) s marked)) is (subst (λ b. Among s (mark_if b s marked)) (sym (subst (λ k. due k ≡ true) (sym (no_more n)) d)) (mark_there s marked)))
+passes_marked due n (s ∷ names) marked t (suc i) e d = passes_marked due (suc n) names (mark_if (due n) s marked) t i e (subst (λ k. due k ≡ true) (sym (one_further n i)) d)
+
+mark_ascends : (due : Bool) (t : Trigger) (marked : List Trigger) → Ascend marked → Ascend (mark_if due t marked)
+mark_ascends false t marked a = a
+mark_ascends true t marked a =
+    elim (lists marked t) as (λ b. Ascend (if b then marked else put t marked)) [
+      | true ↦ a
+      | false ↦ put_ascends t marked a
+    ]
+
+pub marks_ascend : (due : ℕ → Bool) (n : ℕ) (names marked : List Trigger) → Ascend marked → Ascend (mark_names due n names marked)
+marks_ascend due n [] marked a = a
+marks_ascend due n (s ∷ names) marked a = marks_ascend due (suc n) names (mark_if (due n) s marked) (mark_ascends (due n) s marked a)
+
+-- ---- places
+
+at_lists : (names : List Trigger) (i : ℕ) (t : Trigger) → slice_get names i ≡ Some t → lists names t ≡ true
+at_lists names i t e = among_lists names t (at names i e)
+  where
+    at : (ts : List Trigger) (i : ℕ) → slice_get ts i ≡ Some t → Among t ts
+    at [] i e = absurd (cc e)
+    at (s ∷ ts) zero e = let is : s ≡ t = cc e in inl is
+    at (s ∷ ts) (suc i) e = inr (at ts i e)
+
+-- each has one place
+abbrev pub Distinct : List Trigger → Type 0
+Distinct names = (i j : ℕ) (t : Trigger) → slice_get names i ≡ Some t → slice_get names j ≡ Some t → i ≡ j
+
+-- where one stands in a list with one more
+at_more : (names : List Trigger) (s : Trigger) (i : ℕ) (t : Trigger) → slice_get (names ++ s ∷ []) i ≡ Some t → (slice_get names i ≡ Some t) ⊎ ((i ≡ length names) × (s ≡ t))
+at_more [] s zero t e = inr (refl, cc e)
+at_more [] s (suc i) t e = absurd (cc e)
+at_more (x ∷ names) s zero t e = inl e
+at_more (x ∷ names) s (suc i) t e = up (at_more names s i t e)
+  where
+    up : (slice_get names i ≡ Some t) ⊎ ((i ≡ length names) × (s ≡ t)) → (slice_get names i ≡ Some t) ⊎ ((suc i ≡ suc (length names)) × (s ≡ t))
+    up (inl f) = inl f
+    up (inr f) = inr (ap suc f.0, f.1)
+
+differ : {b : Bool} → b ≡ true → b ≡ false → ⊥
+differ e f = cc (sym e ∙ f)
+
+distinct_more : (names : List Trigger) (s : Trigger) → Distinct names → lists names s ≡ false → Distinct (names ++ s ∷ [])
+distinct_more names s one new i j t e f = both (at_more names s i t e) (at_more names s j t f)
+  where
+    new_is : (k : ℕ) → slice_get names k ≡ Some t → s ≡ t → ⊥
+    new_is k g is = differ (at_lists names k t g) (subst (λ z. lists names z ≡ false) is new)
+
+    both : (slice_get names i ≡ Some t) ⊎ ((i ≡ length names) × (s ≡ t)) → (slice_get names j ≡ Some t) ⊎ ((j ≡ length names) × (s ≡ t)) → i ≡ j
+    both (inl g) (inl h) = one i j t g h
+    both (inl g) (inr h) = absurd (new_is i g h.1)
+    both (inr g) (inl h) = absurd (new_is j h g.1)
+    both (inr g) (inr h) = g.0 ∙ sym h.0
+
+distinct_name : (names : List Trigger) (s : Trigger) → Distinct names → Distinct (with_name names s)
+distinct_name names s one =
+    (elim (lists names s) as (λ b. lists names s ≡ b → Distinct (if b then names else names ++ s ∷ [])) [
+      | true ↦ λ e. one
+      | false ↦ λ e. distinct_more names s one e
+    ]) refl
+
+distinct_rows : (names : List Trigger) (rows : List Row) → Distinct names → Distinct (with_rows names rows)
+distinct_rows names [] one = one
+distinct_rows names (row ∷ rows) one = distinct_rows (with_name names row.trigger) rows (distinct_name names row.trigger one)
+
+distinct_reports : (names : List Trigger) (rs : List Report) → Distinct names → Distinct (with_reports names rs)
+distinct_reports names [] one = one
+distinct_reports names (r ∷ rs) one = distinct_reports (with_rows names r.rows) rs (distinct_rows names r.rows one)
+
+pub names_distinct : (rs : List Report) → Distinct (with_reports [] rs)
+names_distinct rs = distinct_reports [] rs (λ i j t e f. absurd (cc e))
+
+-- ---- every row has its trigger there
+
+name_keeps : (names : List Trigger) (s t : Trigger) → Among t names → Among t (with_name names s)
+name_keeps names s t a =
+    elim (lists names s) as (λ b. Among t (if b then names else names ++ s ∷ [])) [ true ↦ a | false ↦ in_front t names (s ∷ []) a ]
+
+name_there : (names : List Trigger) (s : Trigger) → Among s (with_name names s)
+name_there names s =
+    (elim (lists names s) as (λ b. lists names s ≡ b → Among s (if b then names else names ++ s ∷ [])) [
+      | true ↦ λ e. lists_among names s e
+      | false ↦ λ e. at_end s names (s ∷ []) (inl refl)
+    ]) refl
+
+rows_keep : (names : List Trigger) (rows : List Row) (t : Trigger) → Among t names → Among t (with_rows names rows)
+rows_keep names [] t a = a
+rows_keep names (row ∷ rows) t a = rows_keep (with_name names row.trigger) rows t (name_keeps names row.trigger t a)
+
+rows_there : (names : List Trigger) (rows : List Row) (row : Row) → Among row rows → Among row.trigger (with_rows names rows)
+rows_there names [] row a = absurd a
+rows_there names (r ∷ rows) row (inl e) = rows_keep (with_name names r.trigger) rows row.trigger (subst (λ z. Among z.trigger (with_name names r.trigger)) e (name_there names r.trigger))
+rows_there names (r ∷ rows) row (inr a) = rows_there (with_name names r.trigger) rows row a
+
+reports_keep : (names : List Trigger) (rs : List Report) (t : Trigger) → Among t names → Among t (with_reports names rs)
+reports_keep names [] t a = a
+reports_keep names (r ∷ rs) t a = reports_keep (with_rows names r.rows) rs t (rows_keep names r.rows t a)
+
+pub reports_there : (names : List Trigger) (rs : List Report) (r : Report) (row : Row) → Among r rs → Among row r.rows → Among row.trigger (with_reports names rs)
+reports_there names [] r row a b = absurd a
+reports_there names (q ∷ rs) r row (inl e) b =
+    reports_keep (with_rows names q.rows) rs row.trigger (rows_there names q.rows row (subst (λ z. Among row z.rows) (sym e) b))
+reports_there names (q ∷ rs) r row (inr a) b = reports_there (with_rows names q.rows) rs r row a b
+
+-- ---- the place that is found
+
+found_below : (p : Trigger → Bool) (ts : List Trigger) → list_any p ts ≡ true → position_or_len p ts < length ts
+found_below p [] e = absurd (cc e)
+found_below p (t ∷ ts) e =
+    (elim (p t) as (λ b. p t ≡ b → position_or_len p (t ∷ ts) < length (t ∷ ts)) [
+      | true ↦ λ f. rw f (omega arith)
+      | false ↦ λ f. let more = found_below p ts (later (p t) (list_any p ts) e f) in rw f (omega arith)
+    ]) refl
+  where
+    later : (b c : Bool) → (b || c) ≡ true → b ≡ false → c ≡ true
+    later true c e f = absurd (cc f)
+    later false c e f = e
+
+-- where the place is known, it stands there
+pub place_stands : (names : List Trigger) (t : Trigger) (i : ℕ) → place_of names t ≡ Some i → slice_get names i ≡ Some t
+place_stands names t i e =
+    let f = position-Some (same_trigger t) names i t e in
+    slice_get-get_or names i t f.0 ∙ ap Some (sym (same_is t (get_or names i t) f.1))
+
+-- a trigger of the list has a place, and stands there
+pub place_found : (names : List Trigger) (t : Trigger) → Among t names → (i : ℕ) × (place_of names t ≡ Some i) × (slice_get names i ≡ Some t)
+place_found names t a =
+    let up = found_below (same_trigger t) names (among_lists names t a) in
+    let n = position_or_len (same_trigger t) names in
+    let is : place_of names t ≡ Some n = (let b : nat_lt n (length names) ≡ true = grind (arith, nat_tests) in rw b refl) in
+    (n, is, place_stands names t n is)
+
+pub place_at : (names : List Trigger) → Distinct names → (i : ℕ) (t : Trigger) → slice_get names i ≡ Some t → place_of names t ≡ Some i
+place_at names one i t e =
+    let found = place_found names t (lists_among names t (at_lists names i t e)) in
+    found.1 ∙ ap Some (one found.0 i t found.2 e)
