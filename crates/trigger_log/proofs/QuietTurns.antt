@@ -100,6 +100,13 @@ module _ (rules : Rules) (net : Net) (u : ℕ) (h : List Entry) (k : Entry) (w :
       → updates_over (making rules net u h k) true w (prefixes_of offers) ≡ []
   none_over offers before after = ap (map (update_of (making rules net u h k) w)) (none_differs offers before after)
 
+-- a route that stood before the entry is offered as it was to whom knows what was offered
+pub stood : (rules : Rules) (net : Net) (u : ℕ) (h : List Entry) (k : Entry) (knows : Bool) (w : ℕ) (b o : Offer) → knows ≡ true → b ≡ o
+    → Copies net u b.chosen (best rules net u (reads h) b.prefix) → Copies net u o.chosen (best rules net u (k.read ∷ reads h) o.prefix) → differs (making rules net u h k) knows w o.prefix ≡ false
+stood rules net u h k knows w b o known equal before after =
+    ap (λ t. differs (making rules net u h k) t w o.prefix) known
+    ∙ same_offered rules net u h k w o (subst (λ (x : Offer). Copies net u x.chosen (best rules net u (reads h) x.prefix)) equal before) after
+
 flat_none : {A : Type 0} (f : ℕ → List A) (ns : List ℕ) → ((n : ℕ) → f n ≡ []) → flat_map f ns ≡ []
 flat_none f [] none = refl
 flat_none f (n ∷ ns) none = ap (λ l. l ++ flat_map f ns) (none n) ∙ flat_none f ns none

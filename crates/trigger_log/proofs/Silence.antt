@@ -1,5 +1,5 @@
 -- Where a node says nothing: by an opening, and in a session that the other end has not opened.
-use Rattle.std.proofs.Common.{ℕ, ◌<◌, Bool, true, false, cond, ◌==◌, Option, Some, None, List, [], ◌∷◌, ◌≡◌, ◌⊎◌, inl, inr, ⊎_elim, refl, ap, subst, arith, option_and_then, filter, map}
+use Rattle.std.proofs.Common.{ℕ, ◌<◌, Bool, true, false, cond, ◌==◌, Option, Some, None, List, [], ◌∷◌, ◌≡◌, ◌⊎◌, inl, inr, ⊎_elim, refl, sym, ap, subst, arith, option_and_then, filter, map}
 use Rattle.std.specs.Prelude.{if◌then◌else◌}
 use Rattle.std.proofs.lemmas.Bool.Decides.{nat_tests}
 use Rattle.topology.specs.declared.names.Trigger.{Trigger}
@@ -9,11 +9,11 @@ use Rattle.topology.specs.Net.{Net, places}
 use Rattle.path_vector.specs.declared.causes.Cause.{Cause}
 use Rattle.path_vector.specs.declared.causes.Cause.TheVariants.{Originate, Withdraw, Recv, Down, Up, Ready, Prefer}
 use Rattle.path_vector.specs.Rules.{Rules}
-use Rattle.path_vector.specs.History.{held, held_by, last, opened, opened_by, ready}
+use Rattle.path_vector.specs.History.{change, held, held_by, last, opened, opened_by, ready}
 use Rattle.path_vector.specs.Offers.{changed}
 use Rattle.path_vector.proofs.Opening.{opening_changes_nothing, unopened}
 use Rattle.trigger_log.specs.Entries.{Entry, Update, reads, entry, is_session}
-use Rattle.trigger_log.specs.Making.{making}
+use Rattle.trigger_log.specs.Making.{Making, making}
 use Rattle.trigger_log.specs.Sending.{news, outbox, update_of}
 use Rattle.trigger_log.specs.Fits.{CauseFits, Fits}
 use Rattle.trigger_log.proofs.Holding.{fits_up, highest_is_last}
@@ -34,6 +34,13 @@ pub opening_says_nothing : (rules : Rules) (net : Net) (u : ℕ) (h : List Entry
 opening_says_nothing rules net u h triggers w s x f none above =
     let top = highest_is_last h w f in
     no_news rules net u h (entry triggers All (Up w s)) x (λ p. opening_changes_nothing rules net u (reads h) w s x p none (omega arith))
+
+-- the same of any entry that is read as an opening
+pub opening_entry_says_nothing : (m : Making) (w s x : ℕ) → Fits m.before → held (reads m.before) w ≡ None → last (reads m.before) w < s → m.entry.read ≡ change All (Up w s)
+    → news m.rules m.net m.node m.before m.entry x ≡ []
+opening_entry_says_nothing m w s x f none above e =
+    subst (λ r. news m.rules m.net m.node m.before (record { triggers = m.entry.triggers; read = r }) x ≡ []) (sym e)
+    (opening_says_nothing m.rules m.net m.node m.before m.entry.triggers w s x f none above)
 
 -- a session above the newest is not opened
 pub opened_above : (h : List Entry) (w s : ℕ) → Fits h → last (reads h) w < s → opened (reads h) w s ≡ false

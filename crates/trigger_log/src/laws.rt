@@ -11,9 +11,9 @@ ghost use Rattle.topology.specs.Net.{Net, IsValid, neighbours, places};
 ghost use Rattle.path_vector.specs.declared.causes.Cause.{Cause};
 ghost use Rattle.path_vector.specs.declared.causes.Cause.TheVariants.{Up};
 ghost use Rattle.path_vector.specs.Rules.{Rules};
-ghost use Rattle.path_vector.specs.History.{Accepts, held, last, opened, ready};
+ghost use Rattle.path_vector.specs.History.{Accepts, change, held, last, opened, ready};
 ghost use Rattle.path_vector.specs.Offers.{offer, changed};
-ghost use Rattle.trigger_log.specs.Entries.{Entry, Update, entry, reads, inbox, closing, close};
+ghost use Rattle.trigger_log.specs.Entries.{Entry, Update, reads, inbox, closing, close};
 ghost use Rattle.trigger_log.specs.Making.{Making};
 ghost use Rattle.trigger_log.specs.Sending.{news, outbox, said, Lists, sent_by, sent_of, sent_count, is_sent_in, Rises};
 ghost use Rattle.trigger_log.specs.Fits.{Fits, CauseFits};
@@ -60,19 +60,18 @@ pub fn an_unready_session_says_nothing()
 {}
 
 /// An opening sends no update.
-#[tactic(auto, using(crate::proofs::Silence::opening_says_nothing))]
 pub fn an_opening_says_nothing()
-    ensures { (rules : Rules) (net : Net) (u : ℕ) (h : List Entry) (triggers : List Trigger) (w s x : ℕ) →
-        Fits h → held (reads h) w ≡ None → last (reads h) w < s →
-        news rules net u h (entry triggers All (Up w s)) x ≡ [] }
+    ensures { (m : Making) (w s x : ℕ) → Fits m.before → held (reads m.before) w ≡ None →
+        last (reads m.before) w < s → m.entry.read ≡ change All (Up w s) →
+        news m.rules m.net m.node m.before m.entry x ≡ [] }
 {}
 
-/// What was said last of a prefix in a ready session is what is offered.
+/// What was said last of a prefix in a ready session, before an entry is made, is what is offered.
 #[tactic(auto, using(crate::proofs::Saying::said_is_offered))]
 pub fn what_was_said_is_offered()
-    ensures { (rules : Rules) (net : Net) (u : ℕ) (h : List Entry) (w s p : ℕ) → Fits h →
-        has (places net) p ≡ true → ready (reads h) w ≡ Some s →
-        said p (outbox rules net u h w s) ≡ offer rules net u (reads h) p w }
+    ensures { (m : Making) (w s p : ℕ) → Fits m.before →
+        has (places m.net) p ≡ true → ready (reads m.before) w ≡ Some s →
+        said p (outbox m.rules m.net m.node m.before w s) ≡ offer m.rules m.net m.node (reads m.before) p w }
 {}
 
 /// An update of a prefix goes out exactly where the offer differs from what was said last in its
@@ -87,8 +86,8 @@ pub fn an_update_goes_out_where_the_offer_differs()
 /// Each trigger of an item is listed by an entry.
 #[tactic(auto, using(crate::proofs::Listed::outbox_listed, crate::proofs::Listed::close_listed))]
 pub fn items_list_what_entries_list()
-    ensures updates { (rules : Rules) (net : Net) (u : ℕ) (h : List Entry) (w s : ℕ) (x : Update) (t : Trigger) →
-        Among x (outbox rules net u h w s) → Among t x.triggers → Lists h t }
+    ensures updates { (m : Making) (w s : ℕ) (x : Update) (t : Trigger) →
+        Among x (outbox m.rules m.net m.node m.before w s) → Among t x.triggers → Lists m.before t }
     ensures close { (h : List Entry) (w s : ℕ) (triggers : List Trigger) (t : Trigger) →
         close h w s ≡ Some triggers → Among t triggers → Lists h t }
 {}

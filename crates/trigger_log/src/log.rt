@@ -123,6 +123,33 @@ impl<P: Policy + Copy> NodeLog<P> {
         Ok((log, outgoing))
     }
 
+    /// The same of a log behind a box. The log stays where it is: nothing of it is copied. It has to fit the
+    /// entries before: of a log with another entry nothing is promised.
+    pub fn append_boxed(
+        log: Box<NodeLog<P>>,
+        topology: &Topology,
+        trigger: Trigger,
+        scope: Scope,
+        cause: Cause,
+    ) -> Result<(Box<NodeLog<P>>, Vec<Outgoing>), NoMemory>
+        ensures log { IfOk result (λ r. (policy : P) (u : ℕ) (h : List Logged) →
+            StandsFor policy (P.rules policy) topology.now u log.value h → IsOfNeighbour topology.now u cause →
+            IsPlaced topology.now scope → CauseFits h scope cause →
+            StandsFor policy (P.rules policy) topology.now u r.0.value (entry (trigger ∷ []) scope cause ∷ h)) }
+        ensures outgoing { IfOk result (λ r. (policy : P) (u : ℕ) (h : List Logged) →
+            StandsFor policy (P.rules policy) topology.now u log.value h → IsOfNeighbour topology.now u cause →
+            IsPlaced topology.now scope → CauseFits h scope cause →
+            map going_of r.1.items ≡ going_by (P.rules policy) topology.now u h (entry (trigger ∷ []) scope cause)) }
+        ensures due { IfOk result (λ r. (policy : P) (u : ℕ) (h : List Logged) →
+            StandsFor policy (P.rules policy) topology.now u log.value h → IsOfNeighbour topology.now u cause →
+            IsPlaced topology.now scope → CauseFits h scope cause →
+            SendsWhatIsDue (P.rules policy) topology.now u h (entry (trigger ∷ []) scope cause) (map going_of r.1.items)) }
+    {
+        let mut longer = log;
+        let outgoing = longer.enter(topology, trigger, scope, cause)?;
+        Ok((longer, outgoing))
+    }
+
     /// The trigger that the next local entry gets.
     pub fn next_trigger(&self) -> Trigger
         ensures { (policy : P) (net : Net) (u : ℕ) (h : List Logged) →
@@ -308,8 +335,8 @@ impl<P: Policy + Copy> NodeLog<P> {
         let turn = Turn {
             trigger: &trigger,
             cause: &cause,
-            before: &before,
-            after: &after,
+            before: before.as_slice(),
+            after: after.as_slice(),
         };
         let mut said = Said::with_room(self.alloc, self.sessions.len())?;
         tell_all(&self.routes, &mut self.sessions, &turn, &mut said)?;

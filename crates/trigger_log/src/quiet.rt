@@ -23,8 +23,8 @@ fn turns_session(cause: &Cause) -> bool
     }
 }
 
-// Whether both are the same best route of the same prefix.
-fn same_offer(a: &Offer, b: &Offer) -> bool
+/// Whether both are the same best route of the same prefix.
+pub fn same_offer(a: &Offer, b: &Offer) -> bool
     ensures { IsTrue result ↔ (a.now ≡ b.now) }
 {
     if a.prefix != b.prefix || a.chosen.learned != b.chosen.learned {

@@ -1,5 +1,5 @@
 //! What an entry makes a node tell one neighbour.
-ghost use Rattle.std.specs.Prelude.{ℕ, suc, ◌≡◌, ◌∷◌, [], ◌++◌, true, None, map, option_map, if◌then◌else◌, List, IfOk};
+ghost use Rattle.std.specs.Prelude.{ℕ, suc, ◌≡◌, ◌∷◌, [], ◌++◌, true, None, map, option_map, if◌then◌else◌, List, IsTrue, IfOk};
 ghost use Rattle.std.specs.Option.{option_copied};
 ghost use Rattle.topology.specs.Lists.{has, same_nodes, same_path};
 ghost use Rattle.topology.specs.Net.{Net, neighbours};
@@ -17,6 +17,7 @@ ghost use Rattle.trigger_log.specs.Telling.{TellsUpdates, speech_of, update_goin
 use crate::counting::next_number;
 use crate::offers::Offer;
 use crate::outgoing::Outgoing;
+use crate::quiet::same_offer;
 use path_vector::{Cause, Policy, RouteState};
 use std::alloc::Global;
 use topology::{Item, NoMemory, NodeId, Path, PrefixId, Sent, Session, Trigger};
@@ -146,6 +147,17 @@ fn say(
     Ok(seq)
 }
 
+// Whether the listener knows the best route after an entry, since it was the best one before. The
+// only one of an entry is not compared again: it is mostly another, or the entry is quiet.
+fn stands_known(listener: &Listener, only: bool, before: &Offer, after: &Offer) -> bool
+    ensures { IsTrue result → (listener.now.knows ≡ true) × (before.now ≡ after.now) }
+{
+    if only || !listener.knows {
+        return false;
+    }
+    same_offer(before, after)
+}
+
 /// Lists an update of each prefix of which the neighbour is offered another path than it knows,
 /// and answers how many items were sent in its session then.
 pub fn tell<P: Policy + Copy>(
@@ -166,8 +178,12 @@ pub fn tell<P: Policy + Copy>(
     let mut count = listener.sent;
     for i in 0..turn.after.len() {
         let offer = &turn.after[i];
+        let before = &turn.before[i];
+        if stands_known(listener, turn.after.len() == 1, before, offer) {
+            continue;
+        }
         let offered = routes.offered_path(&offer.chosen, listener.nbr);
-        if same(offered, known(routes, &turn.before[i], listener)) {
+        if same(offered, known(routes, before, listener)) {
             continue;
         }
         count = say(listener, count, offer.prefix, turn.trigger, offered, said)?;

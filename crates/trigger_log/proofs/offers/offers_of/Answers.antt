@@ -12,8 +12,8 @@ pub loop-place-preserved : goal.loop-place-preserved
 loop-place-preserved g c =
     let is : c.in_ok-offer_of-2.field-0.prefix ≡ c.loop-place.place = c.in_ok-offer_of-2.ensures.prefix ∙ c.new.ensures in
     record {
-      covers = rw c.in_ok-push-2.ensures.items (offers_more c.loop-place.offers.items c.loop-place.place c.in_ok-offer_of-2.field-0 c.loop-place.invariant.covers is);
-      chosen = λ policy u h stands. rw c.in_ok-push-2.ensures.items
+      covers = rw c.in_ok-push.ensures.items (offers_more c.loop-place.offers.items c.loop-place.place c.in_ok-offer_of-2.field-0 c.loop-place.invariant.covers is);
+      chosen = λ policy u h stands. rw c.in_ok-push.ensures.items
           (all_more (λ (o : Offer). Copies c.args.topology.now u o.chosen (best (g.P.Policy.rules policy) c.args.topology.now u h o.prefix)) c.loop-place.offers.items c.in_ok-offer_of-2.field-0
           (c.loop-place.invariant.chosen policy u h stands)
           (rw c.in_ok-offer_of-2.ensures.prefix (c.in_ok-offer_of-2.ensures.chosen policy c.args.topology.now u h stands (omega arith))));

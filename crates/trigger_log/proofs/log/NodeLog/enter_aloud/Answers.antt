@@ -3,6 +3,7 @@ use Rattle.topology.specs.Net.{neighbours}
 use Rattle.path_vector.specs.Standing.{StandsFor as RoutesStandFor}
 use Rattle.trigger_log.specs.Entries.{entry, reads}
 use Rattle.trigger_log.specs.Making.{making}
+use Rattle.trigger_log.specs.Offered.{listed}
 use Rattle.trigger_log.specs.Telling.{speech_of}
 use Rattle.trigger_log.specs.Marked.{ToldTo}
 use Rattle.trigger_log.specs.Rows.{MarkRows}
@@ -24,7 +25,7 @@ returns-clause-log g c = λ policy u h was near placed fits.
     let marked = c.in_ok-mark.ensures.marked rules net u h scope was.routes.valid was.near fitting near was.marks in
     let none_yet = told_none rules net u h k fitting c.mark.new.sessions.rows (speech_of c.in_ok-said.said) marked in
     let told = c.in_ok-tell_all.ensures.told policy net u h k (speech_of c.in_ok-said.said)
-    (enters policy rules net u h trigger scope cause c.apply.new.self _ c.in_ok-before.before.items c.in_ok-after.after.items fitting stands refl refl c.deref.ensures.value c.deref-2.ensures.value
+    (enters policy rules net u h trigger scope cause c.apply.new.self _ (listed c.in_ok-before.before) (listed c.in_ok-after.after) fitting stands refl refl c.as_slice.ensures c.as_slice-2.ensures
     placed c.in_ok-after.ensures.covers (c.in_ok-before.ensures.chosen policy u (reads h) was.routes placed) (c.in_ok-after.ensures.chosen policy u (k.read ∷ reads h) stands placed))
     none_yet in
     let whole : length (neighbours net u) ≤ length c.mark.new.sessions.rows = let same : length c.mark.new.sessions.rows ≡ length (neighbours net u) = none_yet.width in omega arith in
@@ -48,7 +49,7 @@ returns-clause-outgoing g c = λ policy u h was near placed fits.
     let marked = c.in_ok-mark.ensures.marked rules net u h scope was.routes.valid was.near fitting near was.marks in
     let none_yet = told_none rules net u h k fitting c.mark.new.sessions.rows (speech_of c.in_ok-said.said) marked in
     let told = c.in_ok-tell_all.ensures.told policy net u h k (speech_of c.in_ok-said.said)
-    (enters policy rules net u h trigger scope cause c.apply.new.self _ c.in_ok-before.before.items c.in_ok-after.after.items fitting stands refl refl c.deref.ensures.value c.deref-2.ensures.value
+    (enters policy rules net u h trigger scope cause c.apply.new.self _ (listed c.in_ok-before.before) (listed c.in_ok-after.after) fitting stands refl refl c.as_slice.ensures c.as_slice-2.ensures
     placed c.in_ok-after.ensures.covers (c.in_ok-before.ensures.chosen policy u (reads h) was.routes placed) (c.in_ok-after.ensures.chosen policy u (k.read ∷ reads h) stands placed))
     none_yet in
     let whole : length (neighbours net u) ≤ length c.mark.new.sessions.rows = let same : length c.mark.new.sessions.rows ≡ length (neighbours net u) = none_yet.width in omega arith in
