@@ -1,5 +1,5 @@
 -- The backups of a prefix, neighbour by neighbour.
-use Rattle.std.proofs.Common.{ℕ, suc, ◌+◌, ◌<◌, ◌≤◌, get_or, length, drop, true, false, cond, not, ◌==◌, ◌||◌, Option, Some, None, List, [], ◌∷◌, ◌++◌, ◌≡◌, inl, inr, ⊎_elim, refl, sym, ◌∙◌, ap, subst, arith, map, filter, filter_map, Result, Ok, Err, IfOk, IfSome, option_map, option_and_then, append_assoc, append-nil}
+use Rattle.std.proofs.Common.{ℕ, zero, suc, ◌+◌, ◌<◌, ◌≤◌, get_or, length, drop, true, false, cond, not, ◌==◌, ◌||◌, Option, Some, None, List, [], ◌∷◌, ◌++◌, ◌≡◌, inl, inr, ⊎_elim, refl, sym, ◌∙◌, ap, subst, arith, map, filter, filter_map, Result, Ok, Err, IfOk, IfSome, option_map, option_and_then, append_assoc, append-nil}
 use Rattle.std.specs.Prelude.{if◌then◌else◌, is_some, option_to_list}
 use Rattle.std.specs.List.{AllByRecursion, cons_option}
 use Rattle.std.proofs.lemmas.Bool.Decides.{nat_tests}
@@ -19,6 +19,12 @@ use Rattle.stable_table.specs.Tables.{all_responded, answered}
 use Rattle.stable_table.specs.Backups.{backup}
 use Rattle.stable_table.proofs.Simple.{candidate_simple}
 use Rattle.stable_table.proofs.Keeping.{dropped}
+
+-- what holds of each element holds of the one at a place
+pub all_at : {A : Type 0} (P : A → Type 0) (xs : List A) (i : ℕ) (d : A) → i < length xs → AllByRecursion P xs → P (get_or xs i d)
+all_at P [] i d below all = absurd (omega arith)
+all_at P (x ∷ xs) zero d below all = all.0
+all_at P (x ∷ xs) (suc i) d below all = all_at P xs i d (omega arith) all.1
 
 -- what one fact gives of an answer, another gives
 pub if_ok : {A E : Type 0} (P Q : A → Type 0) (r : Result A E) → ((x : A) → P x → Q x) → IfOk r P → IfOk r Q

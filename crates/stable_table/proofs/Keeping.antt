@@ -109,6 +109,12 @@ cut_shown rules net u newer entries shown z =
     subst (λ n. AllZip (Shows rules net u) (all_entered entries) (take n shown)) (entered_count entries)
     (zip_take (Shows rules net u) (all_entered entries) more.0 shown (subst (λ l. AllZip (Shows rules net u) l shown) more.1 z))
 
+-- two lists that list the same triggers keep the same entries
+pub kept_alike : (a b : List Trigger) → ((t : Trigger) → lists a t ≡ lists b t) → (past : History) (es : List Shown) → fold (kept_by a) past es ≡ fold (kept_by b) past es
+kept_alike a b same past [] = refl
+kept_alike a b same past (e ∷ es) =
+    ap (λ (t : Bool). fold (kept_by a) (if t then past else change e.scope e.cause ∷ past) es) (same e.trigger) ∙ kept_alike a b same (kept_by b past e) es
+
 -- ---- a part of a log is a log
 
 pub fits_before : (newer entries : List Entry) → Fits (newer ++ entries) → Fits entries

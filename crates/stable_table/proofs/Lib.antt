@@ -1,4 +1,6 @@
-pub mod Searching
+pub mod Inserting
+pub mod Published
+pub mod Two
 pub mod Keeping
 pub mod Simple
 pub mod Backed

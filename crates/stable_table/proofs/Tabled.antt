@@ -59,8 +59,8 @@ zip_same R f g same [] (y ∷ ys) z = absurd z
 zip_same R f g same (x ∷ xs) [] z = absurd z
 zip_same R f g same (x ∷ xs) (y ∷ ys) z = ap₂ (λ a b. a ∷ b) (same x y z.0) (zip_same R f g same xs ys z.1)
 
-made : ℕ → List (Option (List ℕ)) → List (List (List ℕ)) → View
-made epoch paths backups = record { epoch = epoch; paths = paths; backups = backups }
+made : ℕ → Value → List (Option (List ℕ)) → List (List (List ℕ)) → View
+made epoch value paths backups = record { epoch = epoch; value = value; paths = paths; backups = backups }
 
 module _ (rules : Rules) (net : Net) (u : ℕ) (value : Value) (entries : List Entry) (fits : Fits entries) where
   scoped : Scoped (reads_kept value.incomplete entries)
@@ -80,11 +80,12 @@ module _ (rules : Rules) (net : Net) (u : ℕ) (value : Value) (entries : List E
   unfolding backups
   backups_is p row r = r.backups ∙ ap (λ (cs : List Choice). if has value.responding u then filter (all_responded value) (map (λ (c : Choice). c.path) cs) else []) (ranks_are p)
 
-  pub table_is : (epoch : ℕ) (rows : List Row) → AllZip (IsRow rules net u value (reads_kept value.incomplete entries)) (places net) rows
-      → record { epoch = epoch; paths = map (λ (r : Row). r.path) rows; backups = map (λ (r : Row). r.backups.items) rows } ≡ table_of rules net u epoch value entries
+  pub table_is : (epoch : ℕ) (copied : Value) (rows : List Row) → copied ≡ value → AllZip (IsRow rules net u value (reads_kept value.incomplete entries)) (places net) rows
+      → record { epoch = epoch; value = copied; paths = map (λ (r : Row). r.path) rows; backups = map (λ (r : Row). r.backups.items) rows } ≡ table_of rules net u epoch value entries
   unfolding made table
-  table_is epoch rows z =
-      ap₂ (made epoch)
+  table_is epoch copied rows same z =
+      ap (λ v. made epoch v (map (λ (r : Row). r.path) rows) (map (λ (r : Row). r.backups.items) rows)) same
+      ∙ ap₂ (made epoch value)
       (zip_same (IsRow rules net u value (reads_kept value.incomplete entries)) (table_path rules net u value entries) (λ (r : Row). r.path) path_is (places net) rows z)
       (zip_same (IsRow rules net u value (reads_kept value.incomplete entries)) (backups rules net u value entries) (λ (r : Row). r.backups.items) backups_is (places net) rows z)
 

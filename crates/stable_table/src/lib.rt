@@ -1,14 +1,17 @@
 //! The stable tables of epochs: for each prefix the best path over the complete entries of a cut, and
-//! the backups, through nodes that responded.
+//! the backups, through nodes that responded; and the two tables that a node keeps.
 #![tactic(auto)]
 
 mod backups;
+mod incomplete;
 mod responders;
 mod routes;
 pub mod rows;
 pub mod tables;
+pub mod two_tables;
 
 pub use tables::{Table, table_of};
+pub use two_tables::{Older, TwoTables};
 
 #[cfg(test)]
 mod tests;

@@ -2,24 +2,17 @@
 ghost use Rattle.std.specs.Prelude.{ℕ, ◌≡◌, OnOk, IfOk};
 ghost use Rattle.topology.specs.Net.{Net};
 ghost use Rattle.topology.specs.Paths.{IsPath};
-ghost use Rattle.topology.specs.Triggers.{Ascend, lists};
 ghost use Rattle.path_vector.specs.History.{History};
 ghost use Rattle.path_vector.specs.Parts.{Accepted};
 ghost use Rattle.path_vector.specs.Simple.{Brings, BringsPaths};
 ghost use Rattle.path_vector.specs.Standing.{StandsFor};
 ghost use Rattle.stable_table.specs.Keeping.{kept_by, kept};
 
+use crate::incomplete::Incomplete;
 use path_vector::{Cause, Policy, RouteState};
 use std::alloc::Global;
-use topology::{NoMemory, NodeId, Topology, Trigger};
+use topology::{NoMemory, NodeId, Topology};
 use trigger_log::Entry;
-
-// Whether the trigger is one of these, which ascend.
-fn is_listed(triggers: &[Trigger], trigger: Trigger) -> bool
-    ensures { Ascend triggers.now → result ≡ lists triggers.now trigger }
-{
-    triggers.binary_search(&trigger).is_ok()
-}
 
 // What an update brings. No node is there twice, since that holds of each path.
 fn brought(cause: &Cause) -> &[NodeId]
@@ -38,18 +31,18 @@ fn brought(cause: &Cause) -> &[NodeId]
 #[tactic(auto, using(crate::proofs::Keeping::brings_more))]
 fn take<P: Policy + Copy>(
     state: &mut RouteState<P>,
-    incomplete: &[Trigger],
+    incomplete: &Incomplete,
     entry: &Entry,
 ) -> Result<(), NoMemory>
     ensures stands { OnOk result ((policy : P) (net : Net) (u : ℕ) (past : History) →
-        Ascend incomplete.now → Accepted (kept_by incomplete.now past entry.now) →
+        Accepted (kept_by incomplete.now past entry.now) →
         StandsFor policy net u state.old past →
         StandsFor policy net u state.new (kept_by incomplete.now past entry.now)) }
     ensures paths { (past : History) → BringsPaths past → BringsPaths (kept_by incomplete.now past entry.now) }
 {
     // what holds of each path is said where it is read
     let _nodes = brought(&entry.cause);
-    if !is_listed(incomplete, entry.trigger) {
+    if !incomplete.has(entry.trigger) {
         state.apply(entry.scope, &entry.cause)?;
     }
     Ok(())
@@ -62,9 +55,9 @@ pub(crate) fn routes_of<P: Policy + Copy>(
     node: NodeId,
     policy: P,
     entries: &[Entry],
-    incomplete: &[Trigger],
+    incomplete: &Incomplete,
 ) -> Result<RouteState<P>, NoMemory>
-    ensures stands { IfOk result (λ state. Ascend incomplete.now → Accepted (kept incomplete.now entries.now) →
+    ensures stands { IfOk result (λ state. Accepted (kept incomplete.now entries.now) →
         StandsFor policy topology.now node state (kept incomplete.now entries.now)) }
     ensures paths { OnOk result (BringsPaths (kept incomplete.now entries.now)) }
 {

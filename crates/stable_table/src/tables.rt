@@ -1,10 +1,10 @@
 //! The table of an epoch.
 ghost use Rattle.std.specs.Prelude.{ℕ, List, [], ◌≡◌, ◌++◌, length, take, slice_get, option_map, option_and_then, unwrap_or, IfOk};
-ghost use Rattle.topology.specs.Triggers.{Ascend};
 ghost use Rattle.trigger_log.specs.Entries.{Entry as Logged};
 ghost use Rattle.trigger_log.specs.Standing.{StandsFor};
 ghost use Rattle.stable_table.specs.Tables.{table_of};
 
+use crate::incomplete::Incomplete;
 use crate::routes::routes_of;
 use crate::rows::{Row, rows_of};
 use incomplete_closure::Value;
@@ -18,6 +18,7 @@ use trigger_log::{Entry, NodeLog};
 #[derive(Debug, Drop)]
 pub struct Table {
     epoch: Epoch,
+    value: Value,
     rows: Vec<Row>,
 }
 
@@ -30,6 +31,7 @@ impl Model for Table {
 
     ghost view = { λ t. record {
       epoch = t.epoch;
+      value = t.value;
       paths = map (λ (r : Row). r.path) t.rows.items;
       backups = map (λ (r : Row). r.backups.items) t.rows.items;
     } };
@@ -41,6 +43,13 @@ impl Table {
         ensures { result ≡ self.now.epoch }
     {
         self.epoch
+    }
+
+    /// The value that the table is by.
+    pub fn value(&self) -> &Value
+        ensures { result.now ≡ self.now.value }
+    {
+        &self.value
     }
 
     /// The path of a prefix, from the own node on. None where there is none, and where there is no
@@ -89,13 +98,16 @@ pub fn table_of<P: Policy + Copy>(
 ) -> Result<Table, NoMemory>
     ensures { IfOk result (λ table. (u : ℕ) (newer entries : List Logged) →
         StandsFor policy (P.rules policy) topology.now u log.now (newer ++ entries) → cut ≡ length entries →
-        Ascend value.now.incomplete →
         table ≡ table_of (P.rules policy) topology.now u epoch value.now entries) }
 {
     let node = log.next_trigger().node;
     let entries = first_of(log.entries(), cut);
-    let incomplete = value.incomplete.as_slice();
-    let state = routes_of(alloc, topology, node, policy, entries, incomplete)?;
+    let incomplete = Incomplete::new(alloc, value.incomplete.as_slice())?;
+    let state = routes_of(alloc, topology, node, policy, entries, &incomplete)?;
     let rows = rows_of(alloc, topology, &state, value, node)?;
-    Ok(Table { epoch, rows })
+    Ok(Table {
+        epoch,
+        value: value.copy()?,
+        rows,
+    })
 }

@@ -1,9 +1,10 @@
 //! What no clause says: each call on its happy path, with ample memory.
-use crate::{Table, table_of};
+use crate::{Table, TwoTables, table_of};
 use incomplete_closure::{Nodes, Triggers, Value};
 use path_vector::{Cause, ShortestAll};
 use std::alloc::Global;
 use std::process::Abort;
+use std::rc::Rc;
 use std::test::Fail;
 use topology::{
     Epoch, NodeId, Path, Prefix, PrefixId, Relation, Scope, Session, Topology, Trigger,
@@ -22,6 +23,16 @@ const CASES: &str = "2 1,2,3,4,9 0 2,1,9 2,1,9,2,3,9 -
 4 1,2,3,9 4 - 2,1,9,2,3,9 -
 6 1,2,3,4,9 4 2,4 2,4,2,3,9 2
 6 1,3,4,9 4 - - -";
+
+// What is published in turn at node 2: the epoch, the entries of the cut and the counter as above; then
+// the newest epoch so far where it is refused, the newest epoch now, and for the epochs 1 to 6 the node
+// to which a table sends what goes to the first prefix, where there is such a table. The second prefix
+// goes nowhere: no table but the last has a path of it, and that one ends where it begins.
+const PUBLISHED: &str = "2 2 0: - 2 -1----
+5 4 0: - 5 -1--3-
+4 4 4: 5 5 -1--3-
+5 2 0: 5 5 -1--3-
+6 6 4: - 6 ----34";
 
 fn fill(net: &mut Topology) -> Result<(), Fail> {
     for id in [1, 2, 3, 4, 9] {
@@ -159,6 +170,12 @@ fn has(rt: &impl Abort, alloc: Global, table: &Table, wanted: &str) -> Result<()
     has_path(rt, alloc, table, 2, "-")
 }
 
+fn is_by(rt: &impl Abort, table: &Table, agreed: &Value) {
+    let by = table.value();
+    assert_eq!(rt; by.responding.as_slice(), agreed.responding.as_slice());
+    assert_eq!(rt; by.incomplete.as_slice(), agreed.incomplete.as_slice());
+}
+
 fn shows(
     rt: &impl Abort,
     alloc: Global,
@@ -172,6 +189,7 @@ fn shows(
     let agreed = value(alloc, responding, incomplete)?;
     let epoch = Epoch::new(3);
     let table = table_of(alloc, net, log, number(cut)?, epoch, &agreed, ShortestAll)?;
+    is_by(rt, &table, &agreed);
     has(rt, alloc, &table, wanted)
 }
 
@@ -187,11 +205,104 @@ fn show_all(
     Ok(())
 }
 
+fn epoch_in(word: &str) -> Option<Epoch> {
+    match word.parse::<u32>() {
+        Ok(number) => Some(Epoch::new(number)),
+        Err(_) => None,
+    }
+}
+
+// The digit, as a node.
+fn node_in(digit: u8) -> Option<NodeId> {
+    let number = digit.checked_sub(b'0')?;
+    Some(NodeId::new(u16::from(number)))
+}
+
+// Whether there is a table of the epoch, and where it sends what goes to the two prefixes.
+fn sends(rt: &impl Abort, tables: &TwoTables, epoch: Epoch, hop: Option<NodeId>) {
+    assert_eq!(rt; tables.of(epoch).is_some(), hop.is_some());
+    assert_eq!(rt; tables.next_hop(epoch, PrefixId::new(0)), hop);
+    assert_eq!(rt; tables.next_hop(epoch, PrefixId::new(1)), None);
+}
+
+fn keeps(rt: &impl Abort, tables: &TwoTables, newest: &str, hops: &str) {
+    let epoch = match tables.newest() {
+        None => None,
+        Some(table) => Some(table.epoch()),
+    };
+    assert_eq!(rt; epoch, epoch_in(newest));
+    for (epoch, digit) in (1..7).zip(hops.bytes()) {
+        sends(rt, tables, Epoch::new(epoch), node_in(digit));
+    }
+}
+
+fn publishes(rt: &impl Abort, tables: &mut TwoTables, table: Rc<Table>, refused: &str) {
+    let kept = match tables.publish(table) {
+        Ok(()) => None,
+        Err(older) => Some(older.kept),
+    };
+    assert_eq!(rt; kept, epoch_in(refused));
+}
+
+// The table of which the line says the epoch, the entries of the cut and the counter.
+fn made(
+    alloc: Global,
+    net: &Topology,
+    log: &NodeLog<ShortestAll>,
+    line: &str,
+) -> Result<Rc<Table>, Fail> {
+    let (epoch, rest) = split(line)?;
+    let (cut, incomplete) = split(rest)?;
+    let epoch = Epoch::new(number(epoch)?);
+    let cut = number(cut)?;
+    let agreed = value(alloc, "1,2,3,4,9", incomplete)?;
+    let table = table_of(alloc, net, log, cut, epoch, &agreed, ShortestAll)?;
+    Ok(Rc::new(alloc, table)?)
+}
+
+fn sees(
+    rt: &impl Abort,
+    tables: &mut TwoTables,
+    table: Rc<Table>,
+    wanted: &str,
+) -> Result<(), Fail> {
+    let (refused, rest) = split(wanted)?;
+    let (newest, hops) = split(rest)?;
+    publishes(rt, tables, table, refused);
+    keeps(rt, tables, newest, hops);
+    Ok(())
+}
+
+fn publish_all(
+    rt: &impl Abort,
+    alloc: Global,
+    net: &Topology,
+    log: &NodeLog<ShortestAll>,
+) -> Result<(), Fail> {
+    let mut tables = TwoTables::new();
+    keeps(rt, &tables, "-", "------");
+    for line in PUBLISHED.lines() {
+        let (table, wanted) = line.split_once(": ").ok_or("what is wanted")?;
+        sees(rt, &mut tables, made(alloc, net, log, table)?, wanted)?;
+    }
+    Ok(())
+}
+
+fn show_and_publish(
+    rt: &impl Abort,
+    alloc: Global,
+    net: &Topology,
+    log: &NodeLog<ShortestAll>,
+) -> Result<(), Fail> {
+    show_all(rt, alloc, net, log)?;
+    publish_all(rt, alloc, net, log)
+}
+
 #[test]
-fn tables_follow_the_value(rt: HostRuntime) -> Result<(), Fail> {
+fn tables_follow_the_value_and_two_are_kept(rt: HostRuntime) -> Result<(), Fail> {
     let mut net = Topology::empty(rt.alloc());
     fill(&mut net)?;
     let log = NodeLog::new(rt.alloc(), &net, NodeId::new(2), ShortestAll)?;
     let log = begin(&net, play(rt.alloc(), &net, log)?)?;
-    show_all(&rt, rt.alloc(), &net, &log)
+    show_and_publish(&rt, rt.alloc(), &net, &log)
 }

@@ -6,8 +6,7 @@ use Rattle.path_vector.specs.Ranking.{order}
 use Rattle.path_vector.proofs.Ranking.{order_is_one}
 use Rattle.path_vector.proofs.InOrder.{ranking_is}
 use Rattle.stable_table.specs.Backups.{backup}
-use Rattle.stable_table.proofs.Searching.{all_at}
-use Rattle.stable_table.proofs.Backed.{backed_more, backed_all, order_near, backups_are}
+use Rattle.stable_table.proofs.Backed.{all_at, backed_more, backed_all, order_near, backups_are}
 use Rattle.stable_table.proofs.backups.backups_of.Goals as goal
 
 pub loop-nbr-preserved : goal.loop-nbr-preserved

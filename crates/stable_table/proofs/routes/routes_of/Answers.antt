@@ -18,6 +18,6 @@ loop-entry-preserved g c =
       past,
       same,
       c.take.ensures.paths before.0 before.2,
-      λ up a. c.in_ok-take.ensures.stands c.args.policy c.args.topology.now c.args.node before.0 up
-          (accepted_before incomplete past (drop (i + 1) entries) (subst Accepted (sym same) a)) (before.3 up a),
+      λ a. c.in_ok-take.ensures.stands c.args.policy c.args.topology.now c.args.node before.0
+          (accepted_before incomplete past (drop (i + 1) entries) (subst Accepted (sym same) a)) (before.3 a),
     )

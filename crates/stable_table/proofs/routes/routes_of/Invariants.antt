@@ -1,5 +1,4 @@
 use Rattle.std.proofs.Common.{◌≡◌, drop, fold}
-use Rattle.topology.specs.Triggers.{Ascend}
 use Rattle.path_vector.specs.History.{History}
 use Rattle.path_vector.specs.Parts.{Accepted}
 use Rattle.path_vector.specs.Simple.{BringsPaths}
@@ -11,4 +10,4 @@ abbrev pub invariant-loop-entry : goal.invariant-loop-entry
 invariant-loop-entry g l =
     (past : History) × (fold (kept_by l.incomplete) past (drop l.entry-index l.entries) ≡ kept l.incomplete l.entries)
     × BringsPaths past
-    × (Ascend l.incomplete → Accepted (kept l.incomplete l.entries) → StandsFor l.fn.policy l.topology l.fn.node l.state past)
+    × (Accepted (kept l.incomplete l.entries) → StandsFor l.fn.policy l.topology l.fn.node l.state past)

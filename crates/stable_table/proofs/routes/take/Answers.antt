@@ -7,9 +7,9 @@ use Rattle.path_vector.specs.Standing.{StandsFor}
 use Rattle.stable_table.proofs.routes.take.Goals as goal
 
 pub returns-in_ok-apply-clause-stands : goal.returns-in_ok-apply-clause-stands
-returns-in_ok-apply-clause-stands g c = λ policy net u past up.
+returns-in_ok-apply-clause-stands g c = λ policy net u past.
     let e = c.args.entry.now in
-    let off : lists c.args.incomplete.now e.trigger ≡ false = grind (arith, c.is_listed.ensures up, c.if-not-is_listed.true) in
+    let off : lists c.args.incomplete.now e.trigger ≡ false = grind (arith, c.has.ensures, c.if-not-has.true) in
     subst (λ b. Accepted (if b then past else change e.scope e.cause ∷ past) → StandsFor policy net u c.args.state.now past
     → StandsFor policy net u c.apply.new.self (if b then past else change e.scope e.cause ∷ past)) (sym off)
     (λ a stands. c.in_ok-apply.ensures.ok policy net u past stands a.0)

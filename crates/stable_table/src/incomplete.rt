@@ -1,0 +1,44 @@
+//! The incomplete triggers of a value, to be looked up.
+ghost use Rattle.std.specs.Prelude.{◌≡◌, ℕ, IfOk};
+ghost use Rattle.topology.specs.declared.names.Trigger.{Trigger as AnyTrigger};
+ghost use Rattle.topology.specs.Triggers.{lists};
+
+use std::alloc::Global;
+use std::collections::BTreeSet;
+use std::marker::Model;
+use topology::{NoMemory, Trigger};
+
+/// A set of triggers, in which one is found without going over all of them, in whatever order they were given.
+#[derive(Drop)]
+pub(crate) struct Incomplete {
+    set: BTreeSet<Trigger>,
+}
+
+impl Model for Incomplete {
+    ghost use Rattle.std.specs.Prelude.{List};
+    ghost use Rattle.topology.specs.declared.names.Trigger.{Trigger};
+
+    ghost Value = { List Trigger };
+
+    ghost view = { λ i. i.set.keys };
+}
+
+impl Incomplete {
+    /// The set of these triggers.
+    pub(crate) fn new(alloc: Global, triggers: &[Trigger]) -> Result<Incomplete, NoMemory>
+        ensures { IfOk result (λ set. (t : AnyTrigger) → lists set t ≡ lists triggers.now t) }
+    {
+        let mut set = BTreeSet::new(alloc);
+        for trigger in triggers {
+            set.insert(*trigger)?;
+        }
+        Ok(Incomplete { set })
+    }
+
+    /// Whether the trigger is in the set.
+    pub(crate) fn has(&self, trigger: Trigger) -> bool
+        ensures { result ≡ lists self.now trigger }
+    {
+        self.set.contains(&trigger)
+    }
+}
