@@ -1,5 +1,5 @@
 -- What an event may come to, as moves: what each of these keeps is kept by every event, and holds of every run.
-use Rattle.std.proofs.Common.{ℕ, suc, ◌<◌, ◌≤◌, Bool, true, false, not, ◌==◌, Option, Some, None, List, [], ◌∷◌, ◌≡◌, refl, sym, ◌∙◌, ap, subst, arith, fold, length, nat_lt, option_and_then}
+use Rattle.std.proofs.Common.{ℕ, suc, ◌<◌, ◌≤◌, Bool, true, false, not, ◌==◌, Option, Some, None, List, [], ◌∷◌, ◌≡◌, refl, sym, ◌∙◌, ap, subst, arith, fold, length, nat_lt, find, option_map, option_and_then}
 use Rattle.std.specs.Prelude.{if◌then◌else◌}
 use Rattle.std.proofs.lemmas.Bool.Decides.{nat_tests}
 use Rattle.topology.specs.declared.names.Scope.TheVariants.{One, All}
@@ -16,21 +16,32 @@ use Rattle.path_vector.specs.History.{held, last, opened, ready, owns}
 use Rattle.trigger_log.specs.Entries.{Entry, Update, reads, local, inbox, is_session}
 use Rattle.trigger_log.specs.Going.{Item, News, Marker, Hello, mark_of}
 use Rattle.trigger_log.specs.Fits.{CauseFits, Inherits}
+use Rattle.stable_table.specs.Tables.{table}
+use Rattle.incomplete_closure.specs.declared.values.Value.{Value}
+use Rattle.consolidator.specs.Messages.{Message}
+use Rattle.consolidator.specs.Answers.{refusal_of, replies, proposal_refusal, ballot_of, asks}
+use Rattle.control_mail.specs.Readings.{Letter}
+use Rattle.epoch_packet.specs.declared.walks.End.{End as Ending}
 use Rattle.chronicle.specs.declared.events.Event.{Event}
 use Rattle.chronicle.specs.declared.events.Event.TheVariants as event
-use Rattle.chronicle.specs.Facts.{Fact, Chronicle, Took}
+use Rattle.chronicle.specs.Facts.{Fact, Chronicle, Took, happen}
 use Rattle.chronicle.specs.Facts as fact
 use Rattle.chronicle.specs.Logs.{log_of}
 use Rattle.chronicle.specs.Links.{link}
 use Rattle.chronicle.specs.Channels.{channel}
-use Rattle.chronicle.specs.Epochs.{epoch}
+use Rattle.chronicle.specs.Epochs.{epoch, raised, cut}
+use Rattle.chronicle.specs.Control.{control, decision, mail_with}
+use Rattle.chronicle.specs.Publications.{completes, publication_of, goes_on_with, publish}
+use Rattle.chronicle.specs.Walks.{Standing, standing, ending}
 use Rattle.chronicle.specs.Inputs.{Input, arrival}
 use Rattle.chronicle.specs.Inputs as input
-use Rattle.chronicle.specs.Steps.{Step, Idle, Goes, Carried, write, open_session, take_cut, meet_mark, heard, unless_ready, take_item}
-use Rattle.chronicle.specs.Giving.{unless, out_of_turn, closes, opens, give}
+use Rattle.chronicle.specs.Steps.{Step, Idle, Goes, Carried, mails, write, open_session, take_cut, reporting, raise, meet_mark, heard, unless_ready, take_item}
+use Rattle.chronicle.specs.Giving.{unless, out_of_turn, closes, opens, proposes, hears, answer, concluded, give}
 use Rattle.chronicle.specs.Crashes.{crashed}
-use Rattle.chronicle.specs.Run.{held_with, carried_by, given, delivered, is_carried, opened_by_link, fails, restores, actor, is_stopped, does, step, chronicle_of, after, run}
-use Rattle.chronicle.proofs.Blocks.{AreCarried, log_take_cut, link_take_cut}
+use Rattle.chronicle.specs.Run.{held_with, carried_by, given, delivered, is_carried, opened_by_link, fails, restores, handed, injected, up_links, hopped, actor, is_stopped, does, step, chronicle_of, after, run}
+use Rattle.chronicle.proofs.Blocks.{AreCarried, log_raise, link_raise}
+use Rattle.chronicle.proofs.Quieting.{IsQuiet, IsQuietOf, quiet_of, IsOfPacket, quiet_packet}
+use Rattle.chronicle.proofs.Forwarding.{forwards_keep, injects_keep}
 
 -- a node enters a cause by itself, and opens nothing by it; of a session that it closes this is known
 abbrev pub IsOwnWhere : (ℕ → ℕ → Type 0) → Cause → Type 0
@@ -49,15 +60,17 @@ pub record MayWriteWhere (Over : ℕ → ℕ → Type 0) (past : Chronicle) (u :
   pub own : IsOwnWhere Over k.read.cause
 
 -- what is known where something comes to a node: of its links, of an item that comes, of a session that is
--- closed, and of one that is opened
+-- closed, and of one that is opened; and whether packets come
 pub record Known : Type 1 where
   pub Carries : Carried → Chronicle → Type 0
   pub Comes : Chronicle → ℕ → ℕ → Item → Type 0
   pub Over : Chronicle → ℕ → ℕ → Type 0
   pub Opens : Chronicle → ℕ → ℕ → Type 0
+  pub Packets : Type 0
 
 -- P is kept by each move of u, with what is known there: an entry of its own, an update that is heard, a mark
--- that is met and not higher, a cut, a mark that is met and higher, and an opening
+-- that is met and not higher, a cut, a mark that is met and higher, an opening, and each quiet fact of it: a
+-- ballot, a control message that it sends or hears, a table; and, where packets come, each fact that tells of one
 pub record NodeMoves (rules : Rules) (net : Net) (u : ℕ) (known : Known) (P : Chronicle → Type 0) : Type 0 where
   pub writes : (past : Chronicle) (carried : Carried) (k : Entry) → P past → known.Carries carried past → MayWriteWhere (known.Over past) past u k → P (write rules net carried u k past)
   pub meets_update : (past : Chronicle) (v s : ℕ) (carried : Carried) (n : ℕ) (x : Update) → P past → known.Carries carried past → known.Comes past v s (News n x) → held_with u v past ≡ Some s
@@ -69,6 +82,8 @@ pub record NodeMoves (rules : Rules) (net : Net) (u : ℕ) (known : Known) (P : 
       → mark_of x ≡ Some e → epoch u past < e → P (take_cut net carried u e (Took v u s x ∷ past))
   pub opens : (past : Chronicle) (v s : ℕ) (carried : Carried) → P past → known.Carries carried past → known.Opens past v s
       → held_with u v past ≡ None → last (reads (log_of u past)) v < s → P (open_session carried u v s past)
+  pub quiet : (past : Chronicle) (f : Fact) → P past → IsQuietOf u f → P (f ∷ past)
+  pub packets : (past : Chronicle) (f : Fact) → P past → known.Packets → IsOfPacket f → P (f ∷ past)
 
 -- ---- in a run
 
@@ -98,20 +113,20 @@ pub record Arrives (past : Chronicle) (v u s : ℕ) (x : Item) : Type 0 where
   pub held : held_with u v past ≡ Some s
   pub front : (rest : List Item) × (channel v u past ≡ x ∷ rest)
 
--- what is known in a run where something comes to u
+-- what is known in a run where something comes to u, whether packets come or not
+abbrev pub known_in : Type 0 → ℕ → Known
+known_in Packets u = record { Carries = λ carried past. AreCarried carried u past; Comes = IsFront u; Over = IsOver u; Opens = IsUp u; Packets = Packets }
+
+-- where packets come
 abbrev pub known_to : ℕ → Known
-known_to u = record { Carries = λ carried past. AreCarried carried u past; Comes = IsFront u; Over = IsOver u; Opens = IsUp u }
+known_to u = known_in (Unit {0}) u
 
 -- P is kept by each move of each node, in a run
 abbrev pub ByNodes : Rules → Net → (Chronicle → Type 0) → Type 0
 ByNodes rules net P = (u : ℕ) → NodeMoves rules net u (known_to u) P
 
--- the fact is that a node crashed, or came back: it changes no link, no log and no session
-pub data IsQuiet : Fact → Type 0 where
-  Crashes : (u : ℕ) → IsQuiet (fact.Crash u)
-  Restarts : (u : ℕ) → IsQuiet (fact.Restart u)
-
--- P is kept by each move of a run: those of nodes, a link that fails or is restored, and a node that crashes or comes back
+-- P is kept by each move of a run: those of nodes, a link that fails or is restored, and each quiet fact, among them a
+-- node that crashes or comes back
 pub record Kept (rules : Rules) (net : Net) (P : Chronicle → Type 0) : Type 0 where
   pub writes : (past : Chronicle) (u : ℕ) (carried : Carried) (k : Entry) → P past → AreCarried carried u past → MayWrite past u k
       → P (write rules net carried u k past)
@@ -139,6 +154,8 @@ by_nodes rules net P kept u = record {
   rises = λ past carried e before are high. kept.rises past u carried e before are high;
   meets_higher = λ past v s carried x e before are front holds is high. kept.meets_higher past v u s carried x e before are (record { up = front.0; held = holds; front = front.1 }) is high;
   opens = λ past v s carried before are up none higher. kept.opens past u v s carried before are up none higher;
+  quiet = λ past f before of. kept.quiet past f before (quiet_of u f of);
+  packets = λ past f before come of. kept.quiet past f before (quiet_packet f of);
 }
 
 -- ---- what is known of an input
@@ -152,6 +169,10 @@ KnownOf known u past (input.Originate p) = Unit {0}
 KnownOf known u past (input.Withdraw p) = Unit {0}
 KnownOf known u past (input.Prefer v value) = Unit {0}
 KnownOf known u past input.Snap = Unit {0}
+KnownOf known u past (input.Propose e) = Unit {0}
+KnownOf known u past (input.Control from m) = Unit {0}
+KnownOf known u past (input.Inject id p) = known.Packets
+KnownOf known u past (input.Hop packet up) = known.Packets
 
 -- what is held and not ready was not opened by the other end
 unopened : (a : Option ℕ) (o : ℕ → Bool) (s : ℕ) → a ≡ Some s → option_and_then (λ t. if o t then Some t else None) a ≡ None → o s ≡ false
@@ -166,6 +187,37 @@ Leaves P past s = P (chronicle_of past s)
 
 module _ (rules : Rules) (net : Net) (u : ℕ) (known : Known) (P : Chronicle → Type 0) (moves : NodeMoves rules net u known P)
     (stable : (past now : Chronicle) (carried : Carried) → ((a b : ℕ) → link a b now ≡ link a b past) → known.Carries carried past → known.Carries carried now) where
+  -- control messages that the node sends are quiet
+  pub mails_kept : (ms : List (ℕ × Message)) (now : Chronicle) → P now → P (happen now (mails u ms))
+  mails_kept [] now before = before
+  mails_kept (m ∷ ms) now before = mails_kept ms (fact.Mail u m.0 m.1 ∷ now) (moves.quiet now (fact.Mail u m.0 m.1) before refl)
+
+  -- a cut is reported
+  pub raise_kept : (carried : Carried) (e : ℕ) (past : Chronicle) → P (take_cut net carried u e past) → P (raise rules net carried u e past)
+  unfolding raise
+  raise_kept carried e past before = mails_kept (reporting rules net u e (log_of u past)) (take_cut net carried u e past) before
+
+  -- the table of an epoch is quiet, where there is one
+  publication_kept : (e : ℕ) (c : Option (List Entry)) (value : Option Value) (now : Chronicle) → P now
+      → P (goes_on_with (option_and_then (λ (entries : List Entry). option_map (λ (v : Value). fact.Publish u e v (table rules net u v entries)) value) c) now)
+  publication_kept e None value now before = before
+  publication_kept e (Some c) None now before = before
+  publication_kept e (Some c) (Some v) now before = moves.quiet now (fact.Publish u e v (table rules net u v c)) before refl
+
+  -- so is the table that is due
+  pub publish_kept : (past now : Chronicle) → P now → P (publish rules net u past now)
+  unfolding publish
+  publish_kept past now before = by_due (find (completes u past now) (raised u now))
+    where
+      by_due : (due : Option ℕ) → P (goes_on_with (option_and_then (λ e. publication_of rules net u e now) due) now)
+      by_due None = before
+      by_due (Some e) = publication_kept e (cut u e now) (decision u e now) now before
+
+  -- an input is answered, and then the table that is due is published
+  pub concluded_kept : (past : Chronicle) (s : Step) → Leaves P past s → Leaves P past (concluded rules net u past s)
+  concluded_kept past (Idle why) before = before
+  concluded_kept past (Goes now) before = publish_kept past now before
+
   -- nothing is done where there is a reason
   unless_kept : (past now : Chronicle) (why : Option Reason) → P past → (why ≡ None → P now) → Leaves P past (unless why now)
   unless_kept past now None before goes = goes refl
@@ -173,26 +225,26 @@ module _ (rules : Rules) (net : Net) (u : ℕ) (known : Known) (P : Chronicle �
 
   module _ (past : Chronicle) (before : P past) (carried : Carried) (are : known.Carries carried past) where
     -- a mark that is met
-    mark_kept : (v s : ℕ) (x : Item) (e : ℕ) → known.Comes past v s x → held_with u v past ≡ Some s → mark_of x ≡ Some e → P (meet_mark net carried u e (Took v u s x ∷ past))
+    mark_kept : (v s : ℕ) (x : Item) (e : ℕ) → known.Comes past v s x → held_with u v past ≡ Some s → mark_of x ≡ Some e → P (meet_mark rules net carried u e (Took v u s x ∷ past))
     mark_kept v s x e front holds is =
-        (elim (nat_lt (epoch u past) e) as (λ t. nat_lt (epoch u past) e ≡ t → P (if t then take_cut net carried u e (Took v u s x ∷ past) else Took v u s x ∷ past)) [
-          | true ↦ λ q. moves.meets_higher past v s carried x e before are front holds is (grind (arith, nat_tests))
+        (elim (nat_lt (epoch u past) e) as (λ t. nat_lt (epoch u past) e ≡ t → P (if t then raise rules net carried u e (Took v u s x ∷ past) else Took v u s x ∷ past)) [
+          | true ↦ λ q. raise_kept carried e (Took v u s x ∷ past) (moves.meets_higher past v s carried x e before are front holds is (grind (arith, nat_tests)))
           | false ↦ λ q. moves.meets past v s x e before front holds is (grind (arith, nat_tests))
         ]) refl
 
     -- it changes no log
-    mark_log : (v s : ℕ) (x : Item) (e w : ℕ) → log_of w (meet_mark net carried u e (Took v u s x ∷ past)) ≡ log_of w past
+    mark_log : (v s : ℕ) (x : Item) (e w : ℕ) → log_of w (meet_mark rules net carried u e (Took v u s x ∷ past)) ≡ log_of w past
     mark_log v s x e w =
-        elim (nat_lt (epoch u past) e) as (λ t. log_of w (if t then take_cut net carried u e (Took v u s x ∷ past) else Took v u s x ∷ past) ≡ log_of w past) [
-          | true ↦ log_take_cut net carried u e (Took v u s x ∷ past) w
+        elim (nat_lt (epoch u past) e) as (λ t. log_of w (if t then raise rules net carried u e (Took v u s x ∷ past) else Took v u s x ∷ past) ≡ log_of w past) [
+          | true ↦ log_raise rules net carried u e (Took v u s x ∷ past) w
           | false ↦ refl
         ]
 
     -- nor a link
-    mark_link : (v s : ℕ) (x : Item) (e a b : ℕ) → link a b (meet_mark net carried u e (Took v u s x ∷ past)) ≡ link a b past
+    mark_link : (v s : ℕ) (x : Item) (e a b : ℕ) → link a b (meet_mark rules net carried u e (Took v u s x ∷ past)) ≡ link a b past
     mark_link v s x e a b =
-        elim (nat_lt (epoch u past) e) as (λ t. link a b (if t then take_cut net carried u e (Took v u s x ∷ past) else Took v u s x ∷ past) ≡ link a b past) [
-          | true ↦ link_take_cut net carried u e (Took v u s x ∷ past) a b
+        elim (nat_lt (epoch u past) e) as (λ t. link a b (if t then raise rules net carried u e (Took v u s x ∷ past) else Took v u s x ∷ past) ≡ link a b past) [
+          | true ↦ link_raise rules net carried u e (Took v u s x ∷ past) a b
           | false ↦ refl
         ]
 
@@ -225,7 +277,7 @@ module _ (rules : Rules) (net : Net) (u : ℕ) (known : Known) (P : Chronicle �
             ]) refl q
     item_kept v s (Marker e) front holds turn = mark_kept v s (Marker e) e front holds refl
     item_kept v s (Hello e) front holds turn =
-        greeted_kept v s (meet_mark net carried u e (Took v u s (Hello e) ∷ past)) (ready (reads (log_of u past)) v)
+        greeted_kept v s (meet_mark rules net carried u e (Took v u s (Hello e) ∷ past)) (ready (reads (log_of u past)) v)
         (mark_kept v s (Hello e) e front holds refl) (mark_log v s (Hello e) e) (mark_link v s (Hello e) e) holds refl
 
     -- an item that comes, in the session that is held or another
@@ -260,33 +312,54 @@ module _ (rules : Rules) (net : Net) (u : ℕ) (known : Known) (P : Chronicle �
           | false ↦ λ e. before
         ]) refl
 
-    -- what each move of the node keeps is kept where it gets an input
-    pub give_kept : (i : Input) → KnownOf known u past i → Leaves P past (give rules net carried u past i)
-    unfolding give
-    give_kept (input.Originate p) may =
+    -- what the node does with an input, but for the table that may be due then
+    pub answer_kept : (i : Input) → KnownOf known u past i → Leaves P past (answer rules net carried u past i)
+    unfolding answer proposes hears
+    answer_kept (input.Originate p) may =
         (elim (owns (reads (log_of u past)) p) as (λ t. owns (reads (log_of u past)) p ≡ t → Leaves P past (if t then Idle reason.AlreadyOrigin else Goes (write rules net carried u (local u (log_of u past) (One p) Originate) past))) [
           | true ↦ λ e. before
           | false ↦ λ e. own_kept (local u (log_of u past) (One p) Originate) (record { fits = e; lists = refl; own = tt })
         ]) refl
-    give_kept (input.Withdraw p) may =
+    answer_kept (input.Withdraw p) may =
         (elim (owns (reads (log_of u past)) p) as (λ t. owns (reads (log_of u past)) p ≡ t → Leaves P past (if t then Goes (write rules net carried u (local u (log_of u past) (One p) Withdraw) past) else Idle reason.NotOrigin)) [
           | true ↦ λ e. own_kept (local u (log_of u past) (One p) Withdraw) (record { fits = e; lists = refl; own = tt })
           | false ↦ λ e. before
         ]) refl
-    give_kept (input.Prefer v value) may = own_kept (local u (log_of u past) All (Prefer v value)) (record { fits = tt; lists = refl; own = tt })
-    give_kept (input.Arrive v s x) may = comes_kept v s x (held_with u v past) may refl
-    give_kept (input.Notice v) may = notices_kept v (held_with u v past) refl may
-    give_kept (input.OpenSession v s) may = opens_kept v s (held_with u v past) may refl
-    give_kept input.Snap may = moves.rises past carried (suc (epoch u past)) before are (omega arith)
+    answer_kept (input.Prefer v value) may = own_kept (local u (log_of u past) All (Prefer v value)) (record { fits = tt; lists = refl; own = tt })
+    answer_kept (input.Arrive v s x) may = comes_kept v s x (held_with u v past) may refl
+    answer_kept (input.Notice v) may = notices_kept v (held_with u v past) refl may
+    answer_kept (input.OpenSession v s) may = opens_kept v s (held_with u v past) may refl
+    answer_kept input.Snap may = raise_kept carried (suc (epoch u past)) past (moves.rises past carried (suc (epoch u past)) before are (omega arith))
+    answer_kept (input.Propose e) may =
+        let started = fact.Start u e (ballot_of (control past) u e) in
+        unless_kept past (proposes net u past e) (proposal_refusal net (control past) u e) before
+        (λ none. mails_kept (asks net (control past) u e) (started ∷ past) (moves.quiet past started before refl))
+    answer_kept (input.Control from m) may =
+        unless_kept past (hears net u past from m) (refusal_of net (control past) u from m) before
+        (λ none. mails_kept (replies net (control past) u from m) (fact.Heard u from m ∷ past) (moves.quiet past (fact.Heard u from m) before refl))
+    answer_kept (input.Inject id p) come = injects_keep rules net u past P (λ f of. moves.packets past f before come of) id p
+    answer_kept (input.Hop packet up) come = forwards_keep rules net u past P (λ f of. moves.packets past f before come of) packet up
+
+    -- what each move of the node keeps is kept where it gets an input
+    pub give_kept : (i : Input) → KnownOf known u past i → Leaves P past (give rules net carried u past i)
+    unfolding give
+    give_kept i may = concluded_kept past (answer rules net carried u past i) (answer_kept i may)
 
 -- ---- the events of a run
 
-module _ (rules : Rules) (net : Net) (P : Chronicle → Type 0) (moves : ByNodes rules net P) where
-  module _ (past : Chronicle) (before : P past) (breaks : (a b s : ℕ) → link a b past ≡ state.Up s → P (fact.Fail a b ∷ past)) (mends : (a b s : ℕ) → link a b past ≡ state.Down s → P (fact.Restore a b ∷ past)) (quiet : (f : Fact) → IsQuiet f → P (f ∷ past)) where
+-- the event is of a packet
+abbrev pub IsOfPackets : Event → Type 0
+IsOfPackets (event.Inject k u p) = Unit {0}
+IsOfPackets (event.Hop k) = Unit {0}
+IsOfPackets other = ⊥
+
+module _ (rules : Rules) (net : Net) (P : Chronicle → Type 0) (Packets : Type 0) (moves : (u : ℕ) → NodeMoves rules net u (known_in Packets u) P) where
+  module _ (past : Chronicle) (before : P past) (breaks : (a b s : ℕ) → link a b past ≡ state.Up s → P (fact.Fail a b ∷ past)) (mends : (a b s : ℕ) → link a b past ≡ state.Down s → P (fact.Restore a b ∷ past))
+      (crashes : (u : ℕ) → P (fact.Crash u ∷ past)) (restarts : (u : ℕ) → P (fact.Restart u ∷ past)) where
     -- an input that comes in a run
-    given_kept : (u : ℕ) (i : Input) → KnownOf (known_to u) u past i → Leaves P past (given rules net past u i)
+    given_kept : (u : ℕ) (i : Input) → KnownOf (known_in Packets u) u past i → Leaves P past (given rules net past u i)
     given_kept u i may =
-        give_kept rules net u (known_to u) P (moves u)
+        give_kept rules net u (known_in Packets u) P (moves u)
         (λ was now carried links are w s. are w s ∙ ap (λ l. carries l s) (sym (links u w))) past before (carried_by u past) (λ w s. refl) i may
 
     -- a session that is held is not carried
@@ -316,30 +389,58 @@ module _ (rules : Rules) (net : Net) (P : Chronicle → Type 0) (moves : ByNodes
     restores_kept a b (state.Up s) is = before
     restores_kept a b (state.Down s) is = mends a b s is
 
+    -- a control message that comes
+    handed_kept : (m : Option Letter) → Leaves P past (handed rules net past m)
+    handed_kept None = before
+    handed_kept (Some m) = given_kept m.to (input.Control m.from m.message) tt
+
+    -- a packet that enters
+    injected_kept : (k u p : ℕ) (known : Option Standing) → Packets → Leaves P past (injected (given rules net past u) k p known)
+    injected_kept k u p (Some at) come = before
+    injected_kept k u p None come = given_kept u (input.Inject k p) come
+
+    -- a packet that goes on
+    hopped_kept : (known : Option Standing) (end : Option Ending) → Packets → Leaves P past (hopped rules net past known end)
+    hopped_kept None end come = before
+    hopped_kept (Some at) (Some end) come = before
+    hopped_kept (Some at) None come = given_kept at.node (input.Hop at.packet (up_links net at.node past)) come
+
     -- what an event does where its node runs
-    does_moves : (e : Event) → Leaves P past (does rules net past e)
+    does_moves : (e : Event) → (IsOfPackets e → Packets) → Leaves P past (does rules net past e)
     unfolding does
-    does_moves (event.Originate u p) = given_kept u (input.Originate p) tt
-    does_moves (event.Withdraw u p) = given_kept u (input.Withdraw p) tt
-    does_moves (event.Prefer u v value) = given_kept u (input.Prefer v value) tt
-    does_moves (event.Deliver v u) = delivered_kept v u (link v u past) (channel v u past) refl refl
-    does_moves (event.Fail a b) = fails_kept a b (link a b past) refl
-    does_moves (event.Restore a b) = restores_kept a b (link a b past) refl
-    does_moves (event.Notice u v) =
+    does_moves (event.Originate u p) come = given_kept u (input.Originate p) tt
+    does_moves (event.Withdraw u p) come = given_kept u (input.Withdraw p) tt
+    does_moves (event.Prefer u v value) come = given_kept u (input.Prefer v value) tt
+    does_moves (event.Deliver v u) come = delivered_kept v u (link v u past) (channel v u past) refl refl
+    does_moves (event.Fail a b) come = fails_kept a b (link a b past) refl
+    does_moves (event.Restore a b) come = restores_kept a b (link a b past) refl
+    does_moves (event.Notice u v) come =
         (elim (is_carried (link u v past) (held_with u v past)) as (λ t. is_carried (link u v past) (held_with u v past) ≡ t → Leaves P past (if t then Idle reason.StillUp else given rules net past u (input.Notice v))) [
           | true ↦ λ q. before
           | false ↦ λ q. given_kept u (input.Notice v) (not_carried (link u v past) (held_with u v past) q)
         ]) refl
-    does_moves (event.OpenSession u v) = opened_kept u v (held_with u v past) (link u v past) refl
-    does_moves (event.Snap u) = given_kept u input.Snap tt
-    does_moves (event.Crash u) = quiet (fact.Crash u) (Crashes u)
-    does_moves (event.Restart u) =
-        elim (crashed u past) as (λ t. Leaves P past (if t then Goes (fact.Restart u ∷ past) else Idle reason.NotCrashed)) [ true ↦ quiet (fact.Restart u) (Restarts u) | false ↦ before ]
+    does_moves (event.OpenSession u v) come = opened_kept u v (held_with u v past) (link u v past) refl
+    does_moves (event.Snap u) come = given_kept u input.Snap tt
+    does_moves (event.Propose u e) come = given_kept u (input.Propose e) tt
+    does_moves (event.Control number) come = handed_kept (mail_with number past)
+    does_moves (event.Crash u) come = crashes u
+    does_moves (event.Restart u) come =
+        elim (crashed u past) as (λ t. Leaves P past (if t then Goes (fact.Restart u ∷ past) else Idle reason.NotCrashed)) [ true ↦ restarts u | false ↦ before ]
+    does_moves (event.Inject k u p) come = injected_kept k u p (standing k past) (come tt)
+    does_moves (event.Hop k) come = hopped_kept (standing k past) (ending k past) (come tt)
 
-    -- what the moves of nodes keep, and a change of a link or a crash here, holds after each event
-    pub after_moves : (e : Event) → P (after rules net past e)
+    -- what the moves of nodes keep, and a change of a link or a crash here, holds after each event that is of no packet, and
+    -- after the others where packets come
+    pub after_where : (e : Event) → (IsOfPackets e → Packets) → P (after rules net past e)
     unfolding after step
-    after_moves e = elim (is_stopped past (actor e)) as (λ t. Leaves P past (if t then Idle reason.Crashed else does rules net past e)) [ true ↦ before | false ↦ does_moves e ]
+    after_where e come =
+        elim (is_stopped past (actor net past e)) as (λ t. Leaves P past (if t then Idle reason.Crashed else does rules net past e)) [ true ↦ before | false ↦ does_moves e come ]
+
+module _ (rules : Rules) (net : Net) (P : Chronicle → Type 0) (moves : ByNodes rules net P) where
+  module _ (past : Chronicle) (before : P past) (breaks : (a b s : ℕ) → link a b past ≡ state.Up s → P (fact.Fail a b ∷ past)) (mends : (a b s : ℕ) → link a b past ≡ state.Down s → P (fact.Restore a b ∷ past)) (quiet : (f : Fact) → IsQuiet f → P (f ∷ past)) where
+    -- so after each event of a run
+    pub after_moves : (e : Event) → P (after rules net past e)
+    after_moves e = after_where rules net P (Unit {0}) moves past before breaks mends (λ u. quiet (fact.Crash u) tt) (λ u. quiet (fact.Restart u) tt) e (λ of. tt)
 
 -- ---- all moves
 

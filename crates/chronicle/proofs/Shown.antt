@@ -1,5 +1,5 @@
 -- What an example shows of a run.
-use Rattle.std.specs.Prelude.{ℕ, zero, suc, Bool, List, [], ◌∷◌, ◌++◌, reverse, length, Option, Some, None, map, option_map, filter_map, fold}
+use Rattle.std.specs.Prelude.{ℕ, zero, suc, nat_lt, if◌then◌else◌, Bool, List, [], ◌∷◌, ◌++◌, reverse, length, Option, Some, None, map, option_map, filter_map, fold}
 use Rattle.topology.specs.declared.links.Link.{Link}
 use Rattle.topology.specs.declared.links.Relation.{Relation}
 use Rattle.topology.specs.declared.status.Reason.{Reason}
@@ -14,8 +14,10 @@ use Rattle.trigger_log.specs.Entries.{Entry, reads}
 use Rattle.trigger_log.specs.Sending.{sent_by}
 use Rattle.trigger_log.specs.Going.{Item, News}
 use Rattle.chronicle.specs.declared.events.Event.{Event}
-use Rattle.chronicle.specs.declared.events.Event.TheVariants.{Deliver}
+use Rattle.chronicle.specs.declared.events.Event.TheVariants.{Deliver, Control, Snap, Propose}
 use Rattle.chronicle.specs.Facts.{Chronicle}
+use Rattle.chronicle.specs.Control.{mailed}
+use Rattle.chronicle.specs.Publications.{Publication, published}
 use Rattle.chronicle.specs.Logs.{log_of}
 use Rattle.chronicle.specs.Epochs.{cut}
 use Rattle.chronicle.specs.Recordings.{Recording, recording}
@@ -87,3 +89,33 @@ recordings net u e past = filter_map (λ v. recording u e v past) (neighbours ne
 -- a recording of session 1 with v
 abbrev pub recorded_of : ℕ → List ℕ → Bool → Recording
 recorded_of v numbers done = record { nbr = v; session = 1; recorded = numbers; done = done }
+
+-- node 1 of the network is its consolidator
+abbrev pub by_one : Net → Net
+by_one net = record net { consolidators = 1 ∷ [] }
+
+-- the control messages from number k on, each once, at most n of them
+abbrev pub posted : Net → ℕ → ℕ → Chronicle → Chronicle
+posted net zero k past = past
+posted net (suc n) k past = if nat_lt (length (mailed past)) k then past else posted net n (suc k) (after gao_rexford net past (Control k))
+
+-- node 1 starts a ballot of e, and all that follows is delivered
+abbrev pub proposed : Net → ℕ → Chronicle → Chronicle
+proposed net e past = posted net 100 (suc (length (mailed past))) (after gao_rexford net past (Propose 1 e))
+
+-- node 1 begins a snapshot, all marks and reports come, and node 1 gets the value of e agreed on
+abbrev pub agreed : Net → ℕ → Chronicle → Chronicle
+agreed net e past = proposed net e (posted net 100 (suc (length (mailed past))) (settle net 100 (after gao_rexford net past (Snap 1))))
+
+-- why each of the events does nothing, one after the other
+abbrev pub reasons : Net → Chronicle → List Event → List (Option Reason)
+reasons net past [] = []
+reasons net past (event ∷ later) = reason_of (step gao_rexford net past event) ∷ reasons net (after gao_rexford net past event) later
+
+-- the paths that each node published for e, by node; None where it published none
+abbrev pub tables : Net → ℕ → Chronicle → List (Option (List (Option (List ℕ))))
+tables net e past = map (λ u. option_map (λ (t : Publication). t.paths) (published u e past)) (ascending net.nodes)
+
+-- one prefix, one path
+abbrev pub just : List ℕ → Option (List (Option (List ℕ)))
+just path = Some (Some path ∷ [])

@@ -8,6 +8,9 @@ pub mod Recordings
 pub mod Crashes
 pub mod Inputs
 pub mod Steps
+pub mod Control
+pub mod Publications
+pub mod Walks
 pub mod Giving
 pub mod Run
 pub mod Deliveries

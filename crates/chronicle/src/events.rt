@@ -1,7 +1,7 @@
 //! What may happen.
-use topology::{NodeId, PrefixId};
+use topology::{Epoch, NodeId, PrefixId};
 
-/// One event of a schedule: one atomic action of one node or of one link.
+/// One event of a schedule: one atomic action of one node, of one link or of the control network.
 #[derive(Clone, Copy, Debug, PartialEq, Eq)]
 pub enum Event {
     /// The node begins to originate the prefix.
@@ -49,6 +49,15 @@ pub enum Event {
     Snap {
         node: NodeId,
     },
+    /// The node is to start a ballot for the value of the epoch.
+    Propose {
+        node: NodeId,
+        epoch: Epoch,
+    },
+    /// The control message with this number comes to its addressee, once more or for the first time.
+    Control {
+        number: u32,
+    },
     /// The node stops. Its log, sessions, cuts and reports outlive it.
     Crash {
         node: NodeId,
@@ -56,5 +65,15 @@ pub enum Event {
     /// The node runs again.
     Restart {
         node: NodeId,
+    },
+    /// The packet with this number enters the network at the node, on its way to the prefix.
+    Inject {
+        packet: u32,
+        node: NodeId,
+        prefix: PrefixId,
+    },
+    /// The packet goes on from the node where it stands, or leaves the stable tables there, or ends.
+    Hop {
+        packet: u32,
     },
 }
