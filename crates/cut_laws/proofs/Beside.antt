@@ -1,21 +1,26 @@
 -- What others do changes nothing that is read of one node alone.
-use Rattle.std.proofs.Common.{ℕ, false, ◌==◌, ◌&&◌, Some, List, [], ◌∷◌, ◌++◌, ◌≡◌, refl, ◌∙◌, ap}
+use Rattle.std.proofs.Common.{ℕ, false, ◌==◌, ◌&&◌, Some, List, [], ◌∷◌, ◌++◌, ◌≡◌, refl, sym, ◌∙◌, ap, subst}
 use Rattle.std.specs.Prelude.{if◌then◌else◌}
 use Rattle.topology.specs.Net.{Net}
 use Rattle.path_vector.specs.Rules.{Rules}
-use Rattle.trigger_log.specs.Entries.{Entry}
-use Rattle.trigger_log.specs.Going.{Item, Going, News, going_by}
-use Rattle.chronicle.specs.Facts.{Fact, Chronicle, Log, Sent, Took, Fail, Restore, Raise, Crash, Restart, happen}
+use Rattle.consolidator.specs.Beside as agreeing
+use Rattle.consolidator.specs.Keeping.{Kept}
+use Rattle.consolidator.specs.Standing.{StandsFor}
+use Rattle.consolidator.proofs.Beside.{stands_beside, known_beside}
+use Rattle.epoch_packet.specs.declared.packets.Packet.{Packet}
+use Rattle.chronicle.specs.Facts.{Fact, Chronicle, Log, Sent, Took, Raise, Start, Mail, Heard, Crash, Publish, Visit, End}
 use Rattle.chronicle.specs.Logs.{log_of}
 use Rattle.chronicle.specs.Epochs.{epoch, raised, cut}
 use Rattle.chronicle.specs.Messages.{sent}
+use Rattle.chronicle.specs.Control.{control_by, control, decision}
+use Rattle.chronicle.specs.Publications.{publications}
 use Rattle.chronicle.specs.Inputs.{Input}
-use Rattle.chronicle.specs.Inputs as input
-use Rattle.chronicle.specs.Steps.{Carried, sends, write, open_session, markers, take_cut, heard}
-use Rattle.chronicle.specs.Giving.{give}
+use Rattle.chronicle.specs.Steps.{Carried}
+use Rattle.chronicle.specs.Giving.{injects, forwards, give}
 use Rattle.chronicle.specs.Run.{chronicle_of}
-use Rattle.chronicle.proofs.Blocks.{opening, greeting}
-use Rattle.chronicle.proofs.Moves.{Known, NodeMoves, KnownOf, give_kept}
+use Rattle.chronicle.proofs.Quieting.{IsOfPacket}
+use Rattle.chronicle.proofs.Forwarding.{injects_keep, forwards_keep}
+use Rattle.chronicle.proofs.OwnFacts.{IsOf, given_by_facts}
 use Rattle.cut_laws.specs.Own.{IsBeside, SameNode}
 use Rattle.cut_laws.proofs.Taking.{took_elsewhere}
 
@@ -28,6 +33,7 @@ same_by_fact u (Log node entry) past q = record {
   same_cut = λ e. refl;
   same_sent = λ w s. refl;
   same_took = λ w s. refl;
+  same_publications = refl;
 }
 same_by_fact u (Sent from to session item queued) past q = record {
   same_log = refl;
@@ -36,6 +42,7 @@ same_by_fact u (Sent from to session item queued) past q = record {
   same_cut = λ e. refl;
   same_sent = λ w s. ap (λ b. if b && (to == w && session == s) then sent u w s past ++ item ∷ [] else sent u w s past) q;
   same_took = λ w s. refl;
+  same_publications = refl;
 }
 same_by_fact u (Took from to session item) past q = record {
   same_log = refl;
@@ -44,6 +51,7 @@ same_by_fact u (Took from to session item) past q = record {
   same_cut = λ e. refl;
   same_sent = λ w s. refl;
   same_took = λ w s. took_elsewhere from to session item past u q w s;
+  same_publications = refl;
 }
 same_by_fact u (Raise node d) past q = record {
   same_log = refl;
@@ -52,42 +60,29 @@ same_by_fact u (Raise node d) past q = record {
   same_cut = λ e. ap (λ b. if b && d == e then Some (log_of u past) else cut u e past) q;
   same_sent = λ w s. refl;
   same_took = λ w s. refl;
+  same_publications = refl;
 }
-same_by_fact u (Fail a b) past q = record {
+same_by_fact u (Publish node e value paths) past q = record {
+  same_log = refl;
+  same_epoch = refl;
+  same_raised = refl;
+  same_cut = λ d. refl;
+  same_sent = λ w s. refl;
+  same_took = λ w s. refl;
+  same_publications = ap (λ b. if b then record { epoch = e; value = value; paths = paths } ∷ publications u past else publications u past) q;
+}
+same_by_fact u other past q = record {
   same_log = refl;
   same_epoch = refl;
   same_raised = refl;
   same_cut = λ e. refl;
   same_sent = λ w s. refl;
   same_took = λ w s. refl;
-}
-same_by_fact u (Restore a b) past q = record {
-  same_log = refl;
-  same_epoch = refl;
-  same_raised = refl;
-  same_cut = λ e. refl;
-  same_sent = λ w s. refl;
-  same_took = λ w s. refl;
-}
-same_by_fact u (Crash node) past q = record {
-  same_log = refl;
-  same_epoch = refl;
-  same_raised = refl;
-  same_cut = λ e. refl;
-  same_sent = λ w s. refl;
-  same_took = λ w s. refl;
-}
-same_by_fact u (Restart node) past q = record {
-  same_log = refl;
-  same_epoch = refl;
-  same_raised = refl;
-  same_cut = λ e. refl;
-  same_sent = λ w s. refl;
-  same_took = λ w s. refl;
+  same_publications = refl;
 }
 
 -- one change after the other
-same_on : (u : ℕ) (past now next : Chronicle) → SameNode u past now → SameNode u now next → SameNode u past next
+pub same_on : (u : ℕ) (past now next : Chronicle) → SameNode u past now → SameNode u now next → SameNode u past next
 same_on u past now next first second = record {
   same_log = second.same_log ∙ first.same_log;
   same_epoch = second.same_epoch ∙ first.same_epoch;
@@ -95,72 +90,63 @@ same_on u past now next first second = record {
   same_cut = λ e. second.same_cut e ∙ first.same_cut e;
   same_sent = λ w s. second.same_sent w s ∙ first.same_sent w s;
   same_took = λ w s. second.same_took w s ∙ first.same_took w s;
+  same_publications = second.same_publications ∙ first.same_publications;
 }
 
--- nothing is known of links, sessions and items
-abbrev pub Nothing : Chronicle → ℕ → ℕ → Type 0
-Nothing past v s = Unit {0}
+-- at first nothing has changed
+same_now : (u : ℕ) (past : Chronicle) → SameNode u past past
+same_now u past =
+    record { same_log = refl; same_epoch = refl; same_raised = refl; same_cut = λ e. refl; same_sent = λ w s. refl; same_took = λ w s. refl; same_publications = refl }
 
--- nor of anything that comes
-abbrev pub unknown : Known
-unknown = record { Carries = λ carried past. Unit {0}; Comes = λ past v s x. Unit {0}; Over = Nothing; Opens = Nothing }
+-- the number of another node is another number
+another : (u v node : ℕ) → (v == u) ≡ false → node ≡ v → (node == u) ≡ false
+another u v node off is = subst (λ n. (n == u) ≡ false) (sym is) off
 
--- so each input may come
-pub any_input : (u : ℕ) (past : Chronicle) (i : Input) → KnownOf unknown u past i
-any_input u past (input.Originate p) = tt
-any_input u past (input.Withdraw p) = tt
-any_input u past (input.Prefer v value) = tt
-any_input u past (input.Arrive v s x) = tt
-any_input u past (input.Notice v) = λ s holds. tt
-any_input u past (input.OpenSession v s) = tt
-any_input u past input.Snap = tt
+-- a fact of another node is none of u
+pub of_another : (u v : ℕ) (f : Fact) → (v == u) ≡ false → IsOf v f → IsBeside u f
+of_another u v (Log node entry) off of = another u v node off of
+of_another u v (Sent from to session item queued) off of = another u v from off of
+of_another u v (Took from to session item) off of = another u v to off of
+of_another u v (Raise node e) off of = another u v node off of
+of_another u v (Publish node e value paths) off of = another u v node off of
+of_another u v other off of = tt
+
+-- a fact that tells of a packet is none of any node
+beside_packets : (u : ℕ) (f : Fact) → IsOfPacket f → IsBeside u f
+beside_packets u (Visit node packet) of = tt
+beside_packets u (End packet ending) of = tt
+beside_packets u other of = absurd of
+
+-- a packet that enters anywhere changes nothing that is read of a node, be it the node itself
+pub injection_same : (rules : Rules) (net : Net) (u v : ℕ) (past : Chronicle) (id p : ℕ) → SameNode u past (injects net v past id p)
+injection_same rules net u v past id p = injects_keep rules net v past (SameNode u past) (λ f of. same_by_fact u f past (beside_packets u f of)) id p
+
+-- nor does one that goes on
+pub hop_same : (rules : Rules) (net : Net) (u v : ℕ) (past : Chronicle) (packet : Packet) (up : List ℕ) → SameNode u past (forwards rules net v past packet up)
+hop_same rules net u v past packet up = forwards_keep rules net v past (SameNode u past) (λ f of. same_by_fact u f past (beside_packets u f of)) packet up
+
+-- nor has a fact of another node to do with what u keeps of agreement
+pub control_of_another : (u v : ℕ) (f : Fact) → (v == u) ≡ false → IsOf v f → agreeing.IsBeside u (control_by f)
+control_of_another u v (Start node e b) off of = another u v node off of
+control_of_another u v (Mail from to m) off of = another u v from off of
+control_of_another u v (Heard node from m) off of = another u v node off of
+control_of_another u v (Crash node) off of = absurd of
+control_of_another u v other off of = tt
 
 module _ (rules : Rules) (net : Net) (u v : ℕ) (off : (v == u) ≡ false) (past : Chronicle) where
-  -- one fact more of v
-  more : (f : Fact) (now : Chronicle) → IsBeside u f → SameNode u past now → SameNode u past (f ∷ now)
-  more f now beside before = same_on u past now (f ∷ now) before (same_by_fact u f now beside)
-
-  -- what v sends
-  sends_same : (carried : Carried) (gs : List Going) (now : Chronicle) → SameNode u past now → SameNode u past (happen now (sends carried v gs))
-  sends_same carried [] now before = before
-  sends_same carried (g ∷ gs) now before =
-      let f = Sent v g.to g.session g.item (carried g.to g.session) in
-      sends_same carried gs (f ∷ now) (more f now off before)
-
-  -- an entry of v
-  write_same : (carried : Carried) (k : Entry) (now : Chronicle) → SameNode u past now → SameNode u past (write rules net carried v k now)
-  unfolding write
-  write_same carried k now before = sends_same carried (going_by rules net v (log_of v now) k) (Log v k ∷ now) (more (Log v k) now off before)
-
-  -- an opening of v
-  open_same : (carried : Carried) (w s : ℕ) (now : Chronicle) → SameNode u past now → SameNode u past (open_session carried v w s now)
-  unfolding open_session
-  open_same carried w s now before =
-      let k = opening carried v w s now in
-      sends_same carried (greeting w s (epoch v now)) (Log v k ∷ now) (more (Log v k) now off before)
-
-  -- a cut of v
-  cut_same : (carried : Carried) (e : ℕ) (now : Chronicle) → SameNode u past now → SameNode u past (take_cut net carried v e now)
-  unfolding take_cut
-  cut_same carried e now before = sends_same carried (markers net v e (log_of v now)) (Raise v e ∷ now) (more (Raise v e) now off before)
-
-  -- an item that v takes
-  took_same : (w s : ℕ) (x : Item) (now : Chronicle) → SameNode u past now → SameNode u past (Took w v s x ∷ now)
-  took_same w s x now before = more (Took w v s x) now off before
-
-  -- each move of v
-  moves_same : NodeMoves rules net v unknown (SameNode u past)
-  moves_same = record {
-    writes = λ now carried k before are may. write_same carried k now before;
-    meets_update = λ now w s carried n x before are hears holds turn. write_same carried (heard w s n x) (Took w v s (News n x) ∷ now) (took_same w s (News n x) now before);
-    meets = λ now w s x e before hears holds is low. took_same w s x now before;
-    rises = λ now carried e before are high. cut_same carried e now before;
-    meets_higher = λ now w s carried x e before are hears holds is high. cut_same carried e (Took w v s x ∷ now) (took_same w s x now before);
-    opens = λ now w s carried before are up none higher. open_same carried w s now before;
-  }
-
-  -- so all that v does with an input
+  -- all that v does with an input leaves what is read of u alone
   pub give_same : (carried : Carried) (i : Input) → SameNode u past (chronicle_of past (give rules net carried v past i))
   give_same carried i =
-      give_kept rules net v unknown (SameNode u past) moves_same (λ was now carried links are. tt) past
-      (record { same_log = refl; same_epoch = refl; same_raised = refl; same_cut = λ e. refl; same_sent = λ w s. refl; same_took = λ w s. refl }) carried tt i (any_input v past i)
+      given_by_facts rules net v (SameNode u past) (λ f now of before. same_on u past now (f ∷ now) before (same_by_fact u f now (of_another u v f off of))) carried past i (same_now u past)
+
+  -- it leaves what u keeps of agreement
+  pub give_agreeing : (kept : Kept) (carried : Carried) (i : Input) → StandsFor net kept (control past) u → StandsFor net kept (control (chronicle_of past (give rules net carried v past i))) u
+  give_agreeing kept carried i before =
+      given_by_facts rules net v (λ now. StandsFor net kept (control now) u)
+      (λ f now of stands. stands_beside net kept (control now) u (control_by f) (control_of_another u v f off of) stands) carried past i before
+
+  -- and the decisions that u knows
+  pub give_decision : (carried : Carried) (i : Input) (e : ℕ) → decision u e (chronicle_of past (give rules net carried v past i)) ≡ decision u e past
+  give_decision carried i e =
+      given_by_facts rules net v (λ now. decision u e now ≡ decision u e past)
+      (λ f now of same. known_beside (control now) u e (control_by f) (control_of_another u v f off of) ∙ same) carried past i refl

@@ -18,7 +18,7 @@ use Rattle.trigger_log.specs.Making.{making}
 use Rattle.trigger_log.specs.Sending.{update_of, news, outbox}
 use Rattle.trigger_log.specs.Going.{Item, News, Marker, Hello, numbered}
 use Rattle.chronicle.specs.declared.events.Event.{Event}
-use Rattle.chronicle.specs.Facts.{Fact, Chronicle, Took}
+use Rattle.chronicle.specs.Facts.{Chronicle, Took}
 use Rattle.chronicle.specs.Logs.{log_of}
 use Rattle.chronicle.specs.Links.{link}
 use Rattle.chronicle.specs.Channels.{channel}
@@ -26,7 +26,8 @@ use Rattle.chronicle.specs.Messages.{updates}
 use Rattle.chronicle.specs.Steps.{heard, write, open_session}
 use Rattle.chronicle.specs.Run.{run}
 use Rattle.chronicle.proofs.Blocks.{log_write, opening, log_open, log_take_cut}
-use Rattle.chronicle.proofs.Moves.{IsOwnWhere, IsOver, IsQuiet, Crashes, Restarts, Kept, run_kept}
+use Rattle.chronicle.proofs.Quieting.{log_quiet}
+use Rattle.chronicle.proofs.Moves.{IsOwnWhere, IsOver, Kept, run_kept}
 use Rattle.cut_laws.specs.Received.{IsRouteFrom, Comes, BringsFrom}
 use Rattle.cut_laws.specs.Own.{MayHear}
 use Rattle.cut_laws.proofs.Listing.{all_append}
@@ -156,11 +157,6 @@ entered_brings net past now u k logs new before v =
     subst (λ l. BringsFrom net (reads l)) (sym (logs v))
     (of_grown (λ w l. BringsFrom net (reads l)) u k past (new, before u) (λ w e. before w) v)
 
--- nothing is received where a node crashes, or comes back
-quiet_brings : (net : Net) (past : Chronicle) {f : Fact} → IsQuiet f → ((v : ℕ) → BringsFrom net (reads (log_of v past))) → (v : ℕ) → BringsFrom net (reads (log_of v (f ∷ past)))
-quiet_brings net past (Crashes u) before = before
-quiet_brings net past (Restarts u) before = before
-
 -- they are kept by each move
 pub fed_kept : (rules : Rules) (net : Net) → IsValid net → Kept rules net (Fed rules net)
 fed_kept rules net valid =
@@ -191,7 +187,10 @@ fed_kept rules net valid =
       };
       breaks = λ past a b s before up. record { whole = kept.breaks past a b s before.whole up; paths = before.paths };
       mends = λ past a b s before down. record { whole = kept.mends past a b s before.whole down; paths = before.paths };
-      quiet = λ past f before is. record { whole = kept.quiet past f before.whole is; paths = quiet_brings net past is before.paths };
+      quiet = λ past f before quiet. record {
+        whole = kept.quiet past f before.whole quiet;
+        paths = λ v. subst (λ l. BringsFrom net (reads l)) (sym (log_quiet f past quiet v)) (before.paths v);
+      };
     }
 
 -- so they hold of every run

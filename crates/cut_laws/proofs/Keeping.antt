@@ -17,7 +17,7 @@ use Rattle.trigger_log.specs.Going.{Item, News, Hello, mark_of, Going, numbered,
 use Rattle.trigger_log.specs.Fits.{Fits}
 use Rattle.trigger_log.proofs.Holding.{closed}
 use Rattle.chronicle.specs.declared.events.Event.{Event}
-use Rattle.chronicle.specs.Facts.{Chronicle, Took, Fail, Restore, Fact, Crash, Restart}
+use Rattle.chronicle.specs.Facts.{Chronicle, Took, Fail, Restore, Fact}
 use Rattle.chronicle.specs.Logs.{log_of}
 use Rattle.chronicle.specs.Epochs.{epoch, cut}
 use Rattle.chronicle.specs.Messages.{goes, sent, took, updates, is_at_least, marked, until}
@@ -25,7 +25,8 @@ use Rattle.chronicle.specs.Steps.{Carried, heard, write, open_session, markers, 
 use Rattle.chronicle.specs.Run.{run}
 use Rattle.chronicle.proofs.Blocks.{same_number, log_own, log_other, took_write, epoch_write, cut_write, sent_own, sent_other, entered, log_entered, took_entered, epoch_entered, cut_entered, sent_entered, sent_elsewhere, opening, greeting, log_take_cut, took_take_cut, epoch_take_cut, cut_take_cut, sent_cut, sent_not_cut}
 use Rattle.trigger_log.proofs.Spreading.{in_session}
-use Rattle.chronicle.proofs.Moves.{IsOwnWhere, IsOver, IsQuiet, Crashes, Restarts, Kept, run_kept}
+use Rattle.chronicle.proofs.Quieting.{IsQuiet, log_quiet, sent_quiet, took_quiet, epoch_quiet, cut_quiet}
+use Rattle.chronicle.proofs.Moves.{IsOwnWhere, IsOver, Kept, run_kept}
 use Rattle.cut_laws.specs.Marks.{Marks}
 use Rattle.cut_laws.specs.Cuts.{Consistent, RecordsWhatIsMissing}
 use Rattle.cut_laws.proofs.Marking.{until_marked, marked_lower}
@@ -319,10 +320,10 @@ pub record Whole (rules : Rules) (net : Net) (past : Chronicle) : Type 0 where
   pub sound : Sound rules net past
   pub marks : (u : ℕ) → Marks rules net past u
 
--- the marks are kept where a node crashes, or comes back
-quiet_marks : (rules : Rules) (net : Net) (past : Chronicle) (u : ℕ) {f : Fact} → IsQuiet f → Marks rules net past u → Marks rules net (f ∷ past) u
-quiet_marks rules net past u (Crashes v) before = untouched rules net past (Crash v ∷ past) u refl refl (λ e. refl) (λ w t. refl) (λ w t. refl) before
-quiet_marks rules net past u (Restarts v) before = untouched rules net past (Restart v ∷ past) u refl refl (λ e. refl) (λ w t. refl) (λ w t. refl) before
+-- the marks are kept by a ballot, a control message, a crash or a table
+pub quiet_marks : (rules : Rules) (net : Net) (past : Chronicle) (u : ℕ) (f : Fact) → IsQuiet f → Marks rules net past u → Marks rules net (f ∷ past) u
+quiet_marks rules net past u f quiet before =
+    untouched rules net past (f ∷ past) u (log_quiet f past quiet u) (epoch_quiet f past quiet u) (cut_quiet f past quiet u) (sent_quiet f past quiet u) (λ w t. took_quiet f past quiet w u t) before
 
 -- they are kept by each move
 pub whole_kept : (rules : Rules) (net : Net) → IsValid net → Kept rules net (Whole rules net)
@@ -365,7 +366,7 @@ whole_kept rules net valid =
         sound = kept.mends past a b s before.sound down;
         marks = λ u. untouched rules net past (Restore a b ∷ past) u refl refl (λ e. refl) (λ w t. refl) (λ w t. refl) (before.marks u);
       };
-      quiet = λ past f before is. record { sound = kept.quiet past f before.sound is; marks = λ u. quiet_marks rules net past u is (before.marks u) };
+      quiet = λ past f before quiet. record { sound = kept.quiet past f before.sound quiet; marks = λ u. quiet_marks rules net past u f quiet (before.marks u) };
     }
 
 -- so they hold of every run

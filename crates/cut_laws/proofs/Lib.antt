@@ -23,8 +23,10 @@ pub mod Balance
 pub mod Concluding
 pub mod Earliest
 pub mod Delivering
+pub mod Stray
 pub mod Turns
 pub mod Beside
+pub mod Agreeing
 pub mod Owning
 pub mod Staying
 pub mod OutOfTurn

@@ -126,7 +126,7 @@ sound_kept rules net valid = record {
   opens = λ past u v s carried sound are up none higher. open_sound rules net carried u v s past are sound up none higher;
   breaks = λ past a b s sound up. fail_sound rules net a b past sound;
   mends = λ past a b s sound down. restore_sound rules net a b past sound;
-  quiet = λ past f sound is. quiet_sound rules net past is sound;
+  quiet = λ past f sound quiet. quiet_sound rules net past f quiet sound;
 }
 
 -- so it holds of every run

@@ -52,7 +52,7 @@ heard_from net (k ∷ past) p v s all =
     ]
 
 -- so is what is learnt of v
-learnt_from : (net : Net) (h : History) (p v : ℕ) → BringsFrom net h → IfSome (learnt h p v) (IsRouteFrom net v)
+pub learnt_from : (net : Net) (h : History) (p v : ℕ) → BringsFrom net h → IfSome (learnt h p v) (IsRouteFrom net v)
 learnt_from net h p v all = by (held h v)
   where
     inner : (o : Option (Option (List ℕ))) → HeardOf net v o → IfSome (option_and_then (λ path. path) o) (IsRouteFrom net v)

@@ -59,7 +59,7 @@ answered_is value u (Some q) path e =
     ]) refl e
 
 -- the same of a path in a table
-in_table : (rules : Rules) (net : Net) (u : ℕ) (value : Value) (a : List Entry) (p : ℕ) (path : List ℕ) → table_path rules net u value a p ≡ Some path
+pub in_table : (rules : Rules) (net : Net) (u : ℕ) (value : Value) (a : List Entry) (p : ℕ) (path : List ℕ) → table_path rules net u value a p ≡ Some path
     → (path_of u (best rules net u (reads (complete_in value p a)) p) ≡ Some path) × (all_responded value path ≡ true)
 unfolding table_path
 in_table rules net u value a p path e = answered_is value u (path_of u (best rules net u (reads (complete_in value p a)) p)) path e

@@ -9,3 +9,6 @@ pub mod AtCuts
 pub mod Candidates
 pub mod Continuing
 pub mod EveryRun
+pub mod Placing
+pub mod Publishing
+pub mod Live

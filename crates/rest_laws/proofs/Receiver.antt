@@ -27,7 +27,7 @@ use Rattle.rest_laws.proofs.Sender.{is_ok}
 -- ---- complete entries may be a log
 
 -- each entry of a log that fits may follow those before it
-log_accepted : (h : List Entry) → Fits h → Accepted (reads h)
+pub log_accepted : (h : List Entry) → Fits h → Accepted (reads h)
 log_accepted [] f = tt
 log_accepted (k ∷ h) f = (accepted h k.read.scope k.read.cause f.1 f.0, log_accepted h f.1)
 
@@ -36,7 +36,7 @@ complete_accepted : (blocked : Trigger → Bool) (p : ℕ) (h : List Entry) → 
 complete_accepted blocked p h f = part_accepted (reads (complete blocked p h)) (reads h) (part_complete blocked p h) (log_accepted h f)
 
 -- what may follow has the scope of its cause
-accepted_scoped : (h : History) → Accepted h → Scoped h
+pub accepted_scoped : (h : History) → Accepted h → Scoped h
 accepted_scoped [] a = tt
 accepted_scoped (e ∷ past) a = (a.0.scoped, accepted_scoped past a.1)
 

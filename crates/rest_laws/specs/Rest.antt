@@ -1,5 +1,5 @@
 -- What the cuts of one epoch leave at rest.
-use Rattle.std.specs.Prelude.{ℕ, Bool, true, false, Option, Some, None, List, [], ◌∷◌, ◌≡◌, ◌⊎◌, filter_map, option_map, option_and_then, if◌then◌else◌}
+use Rattle.std.specs.Prelude.{ℕ, Bool, true, false, Option, Some, None, List, [], ◌∷◌, ◌≡◌, ◌≢◌, ◌⊎◌, filter_map, option_map, option_and_then, if◌then◌else◌}
 use Rattle.topology.specs.Lists.{has, Among}
 use Rattle.topology.specs.Net.{Net, neighbours, places}
 use Rattle.path_vector.specs.Rules.{Rules}
@@ -7,13 +7,15 @@ use Rattle.path_vector.specs.History.{held, ready}
 use Rattle.path_vector.specs.Selection.{candidate, usable}
 use Rattle.path_vector.specs.Offers.{offer}
 use Rattle.trigger_log.specs.Entries.{Entry, reads, is_session}
-use Rattle.incomplete_closure.specs.Reports.{Report}
+use Rattle.incomplete_closure.specs.Reports.{Listed, Report, down}
+use Rattle.incomplete_closure.specs.Blocked.{Missing}
 use Rattle.incomplete_closure.specs.declared.values.Value.{Value}
 use Rattle.incomplete_closure.specs.Values.{IsValue}
 use Rattle.epoch_report.specs.Reporting.{report_of}
 use Rattle.stable_table.specs.Tables.{complete_in, table_path}
 use Rattle.chronicle.specs.Facts.{Chronicle}
 use Rattle.chronicle.specs.Epochs.{cut}
+use Rattle.chronicle.specs.Publications.{Publication, published, path_in}
 
 -- there is a session, and the other is the same
 abbrev pub same_session : Option ℕ → Option ℕ → Bool
@@ -38,6 +40,11 @@ Agrees rules net u v mine theirs p = candidate u (reads mine) p v ≡ sees rules
 -- the reports of epoch e of those of the nodes that have a cut of it
 abbrev pub reports : Rules → Net → Chronicle → ℕ → List ℕ → List Report
 reports rules net past e nodes = filter_map (λ u. option_map (report_of rules net u e) (cut u e past)) nodes
+
+-- nothing is open between these reports: the receiver of each missing item has a Down of its session
+abbrev pub NothingOpen : List Report → Type 0
+NothingOpen reports =
+    (from to : Report) (item : Listed) → Missing reports from to item → down to from.node item.session ≢ None
 
 -- over the complete entries of the cuts of these nodes, by the value of their reports, each candidate is what its
 -- neighbour offers
@@ -67,3 +74,10 @@ pub record TablesContinue (rules : Rules) (net : Net) (past : Chronicle) (e : �
       → (u p : ℕ) (a : List Entry) (path : List ℕ) → Among u nodes → has (places net) p ≡ true → cut u e past ≡ Some a
       → table_path rules net u value a p ≡ Some path
       → (path ≡ u ∷ []) ⊎ GoesOn rules net past e nodes value u p path
+
+-- the path is u and then that of its next node in the table that this one published for the epoch, where it published one
+pub record PathGoesOn (past : Chronicle) (e u p : ℕ) (path : List ℕ) : Type 0 where
+  pub next : ℕ
+  pub rest : List ℕ
+  pub is : path ≡ u ∷ next ∷ rest
+  pub there : (t : Publication) → published next e past ≡ Some t → path_in p t ≡ Some (next ∷ rest)
