@@ -1,5 +1,6 @@
 -- What a node admits may come to it.
-use Rattle.std.proofs.Common.{ℕ, ◌<◌, Bool, true, false, ◌&&◌, nat_lt, nat_le, Option, Some, None, List, [], ◌∷◌, ◌≡◌, ◌≢◌, refl, sym, ◌∙◌, ap, subst, arith, length}
+use Rattle.std.proofs.Common.{ℕ, ◌<◌, ◌≤◌, Bool, true, false, ◌&&◌, nat_lt, nat_le, Option, Some, None, List, [], ◌∷◌, ◌≡◌, ◌≢◌, refl, sym, ◌∙◌, ap, subst, arith, length}
+use Rattle.std.proofs.Common.{Box, Global, Vec}
 use Rattle.std.specs.Prelude.{IfSome}
 use Rattle.std.proofs.lemmas.Bool.Decides.{nat_tests}
 use Rattle.topology.specs.declared.names.Trigger.{Trigger}
@@ -10,14 +11,20 @@ use Rattle.topology.proofs.Tests.{and_left, and_right}
 use Rattle.path_vector.specs.Simple.{AreIn}
 use Rattle.trigger_log.specs.Going.{Item, News, Marker, Hello}
 use Rattle.cut_laws.specs.Received.{IsRouteFrom}
-use Rattle.chronicle.specs.Inputs.{Input, Originate, Withdraw, Prefer, Arrive, Notice, OpenSession, Snap}
+use Rattle.chronicle.specs.Inputs.{Input, Originate, Withdraw, Prefer, Arrive, Notice, OpenSession, Snap, Propose, Control, Inject, Hop}
 use Rattle.topology.specs.declared.items.Item.{Item as Message}
+use Rattle.consolidator.specs.declared.messages.Message.{Message as Posted}
+use Rattle.consolidator.specs.Seen.{message_seen}
+use Rattle.epoch_packet.specs.declared.packets.Packet.{Packet}
 use Rattle.trigger_log.specs.Going.{item_of}
 use Rattle.node_core.specs.declared.inputs.Input.{Input as Given}
 use Rattle.node_core.specs.declared.inputs.Input.TheVariants as given
 use Rattle.node_core.specs.Inputs.{input_of}
 use Rattle.node_core.specs.Coming.{MayCome}
-use Rattle.node_core.specs.Fits.{are_nodes, begins_with, path_fits, triggers_fit, item_fits, fits}
+use Rattle.node_core.specs.ControlFits.{epoch_fits, message_fits}
+use Rattle.node_core.specs.Names.{are_nodes, triggers_fit}
+use Rattle.node_core.specs.PacketFits.{carried_fits, packet_fits, are_links}
+use Rattle.node_core.specs.Fits.{begins_with, path_fits, item_fits, fits}
 
 below : (m n : ℕ) → nat_lt m n ≡ true → m < n
 below m n e = grind (arith, nat_tests)
@@ -66,6 +73,14 @@ item net u v s (News n x) near ok =
       ),
     )
 
+-- the prefix of a packet that is admitted
+placed : (net : Net) (packet : Packet) → packet_fits net packet ≡ true → packet.prefix < length net.prefixes
+placed net packet e =
+    let lists = carried_fits net packet.trail && carried_fits net packet.route in
+    let rest = nat_le packet.epoch 32 && lists in
+    below packet.prefix (length net.prefixes)
+    (and_left (nat_lt packet.prefix (length net.prefixes)) rest (and_right (nat_le 1 packet.id) (nat_lt packet.prefix (length net.prefixes) && rest) e))
+
 pub may_come : (net : Net) (u : ℕ) (input : Input) → fits net u input ≡ true → MayCome net u input
 unfolding fits
 may_come net u (Originate p) e = below p (length net.prefixes) e
@@ -77,6 +92,10 @@ may_come net u (Arrive v s x) e =
 may_come net u (Notice v) e = e
 may_come net u (OpenSession v s) e = and_left (has (neighbours net u) v) (nat_le 1 s) e
 may_come net u Snap e = tt
+may_come net u (Propose d) e = tt
+may_come net u (Control from m) e = tt
+may_come net u (Inject id p) e = below p (length net.prefixes) (and_right (nat_le 1 id) (nat_lt p (length net.prefixes)) e)
+may_come net u (Hop packet up) e = placed net packet (and_left (packet_fits net packet) (are_links net u up) e)
 
 -- ---- the tests of a node
 
@@ -130,6 +149,39 @@ module _ (net : Net) (u : ℕ) (input : Given) where
   pub fits_snap : input ≡ given.Snap → true ≡ fits net u (input_of input)
   unfolding fits
   fits_snap is = fits_as true given.Snap is refl
+
+  pub fits_propose : (e : ℕ) (r : Bool) → input ≡ given.Propose e → r ≡ epoch_fits e → r ≡ fits net u (input_of input)
+  unfolding fits
+  fits_propose e r is so = fits_as r (given.Propose e) is so
+
+  pub fits_control : (from : ℕ) (m : Posted) (r : Bool) (n : Net) → input ≡ given.Control from m → r ≡ message_fits n from (message_seen m) → n ≡ net → r ≡ fits net u (input_of input)
+  unfolding fits
+  fits_control from m r n is so same = fits_as r (given.Control from m) is (so ∙ ap (λ k. message_fits k from (message_seen m)) same)
+
+  pub fits_inject : (id p place count : ℕ) (n : Net) → input ≡ given.Inject id p → place ≡ p → count ≡ length n.prefixes → n ≡ net → 1 ≤ id → nat_lt place count ≡ fits net u (input_of input)
+  unfolding fits
+  fits_inject id p place count n is at many same one =
+      fits_as (nat_lt place count) (given.Inject id p) is (below_as p place count n at many same ∙ both_yes (nat_le 1 id) (nat_lt p (length net.prefixes)) (grind (arith, nat_tests, one)))
+
+  pub fits_inject_zero : (id p : ℕ) → input ≡ given.Inject id p → id < 1 → nat_le 1 id ≡ fits net u (input_of input)
+  unfolding fits
+  fits_inject_zero id p is below_one =
+      let zero : nat_le 1 id ≡ false = grind (arith, nat_tests, below_one) in
+      fits_as (nat_le 1 id) (given.Inject id p) is (both_no (nat_le 1 id) (nat_lt p (length net.prefixes)) (nat_le 1 id) zero zero)
+
+  module _ (packet : Box Packet Global) (up : Vec ℕ Global) (is : input ≡ given.Hop packet up) (k : Packet) (inner : k ≡ packet.value) where
+    pub fits_hop : (r test : Bool) (n m : Net) (me : ℕ) (links : List ℕ) → test ≡ packet_fits n k → n ≡ net → test ≡ true → r ≡ are_links m me links → m ≡ net → me ≡ u → links ≡ up.items → r ≡ fits net u (input_of input)
+    unfolding fits
+    fits_hop r test n m me links of here so on there at same =
+        fits_as r (given.Hop packet up) is
+        ((on ∙ rw (there, at, same) refl)
+        ∙ both_yes (packet_fits net packet.value) (are_links net u up.items) (subst (λ j. packet_fits net j ≡ true) inner (subst (λ j. packet_fits j k ≡ true) here (sym of ∙ so))))
+
+    pub fits_hop_not : (test : Bool) (n : Net) → test ≡ packet_fits n k → n ≡ net → test ≡ false → test ≡ fits net u (input_of input)
+    unfolding fits
+    fits_hop_not test n of here off =
+        fits_as test (given.Hop packet up) is
+        (both_no (packet_fits net packet.value) (are_links net u up.items) test (subst (λ j. packet_fits net j ≡ false) inner (subst (λ j. packet_fits j k ≡ false) here (sym of ∙ off))) off)
 
   module _ (v s : ℕ) (x : Message) (near : Bool) (is : input ≡ given.Arrive v s x) (of : near ≡ has (neighbours net u) v) where
     pub fits_arrive : (n : ℕ) (r : Bool) (m : Net) → n ≡ s → near ≡ true → nat_le 1 n ≡ true → r ≡ item_fits m v (item_of x) → m ≡ net → r ≡ fits net u (input_of input)

@@ -15,8 +15,8 @@ use Rattle.chronicle.specs.Logs.{log_of}
 use Rattle.chronicle.specs.Epochs.{epoch, cut}
 use Rattle.chronicle.specs.Messages.{goes, took, updates, is_at_least, marked, until}
 use Rattle.chronicle.specs.Recordings.{numbers}
-use Rattle.chronicle.specs.Steps.{Carried, take_cut}
-use Rattle.chronicle.proofs.Blocks.{same_number, epoch_take_cut, cut_take_cut, took_take_cut}
+use Rattle.chronicle.specs.Steps.{Carried, raise}
+use Rattle.chronicle.proofs.Blocks.{same_number, epoch_raise, cut_raise, took_raise}
 use Rattle.cut_laws.specs.Own.{Own}
 use Rattle.cut_laws.proofs.Updates.{updates_append}
 use Rattle.cut_laws.proofs.Marking.{until_more, until_marked}
@@ -176,8 +176,8 @@ module _ (rules : Rules) (net : Net) (u : ℕ) (carried : Carried) (e : ℕ) (pa
   none_yet v s = unmarked_higher (suc (epoch u past)) e (took v u s past) (omega (arith, high)) (own.marks.took_below v s)
 
   -- the cut of each epoch then
-  then_cut : (d : ℕ) → cut u d (take_cut net carried u e past) ≡ (if e == d then Some (log_of u past) else cut u d past)
-  then_cut d = cut_take_cut net carried u e past u d ∙ ap (λ b. if b && e == d then Some (log_of u past) else cut u d past) (same_number u)
+  then_cut : (d : ℕ) → cut u d (raise rules net carried u e past) ≡ (if e == d then Some (log_of u past) else cut u d past)
+  then_cut d = cut_raise rules net carried u e past u d ∙ ap (λ b. if b && e == d then Some (log_of u past) else cut u d past) (same_number u)
 
   -- all that was heard is in the cut
   none_recorded : (v s : ℕ) → numbers (drop (length (inbox (log_of u past) v s)) (updates (until e (took v u s past)))) ≡ []
@@ -203,15 +203,15 @@ module _ (rules : Rules) (net : Net) (u : ℕ) (carried : Carried) (e : ℕ) (pa
   recorded_then d v s c false same is holds = was.same_recorded d v s c is holds
 
   -- the epoch rises
-  pub rise_alike : Alike (Takes e (log_of u past) ∷ acts) u (take_cut net carried u e past)
+  pub rise_alike : Alike (Takes e (log_of u past) ∷ acts) u (raise rules net carried u e past)
   rise_alike = record {
-    same_epoch = sym (epoch_take_cut net carried u e past u ∙ ap (λ b. if b then e else epoch u past) (same_number u));
+    same_epoch = sym (epoch_raise rules net carried u e past u ∙ ap (λ b. if b then e else epoch u past) (same_number u));
     same_cut = λ d. ap (λ z. if e == d then Some (log_of u past) else z) (was.same_cut d) ∙ sym (then_cut d);
     same_done = λ d v s c is holds.
-        done_then d v s c (e == d) refl (sym (then_cut d) ∙ is) holds ∙ ap (marked d) (sym (took_take_cut net carried u e past v u s));
+        done_then d v s c (e == d) refl (sym (then_cut d) ∙ is) holds ∙ ap (marked d) (sym (took_raise rules net carried u e past v u s));
     same_recorded = λ d v s c is holds.
         recorded_then d v s c (e == d) refl (sym (then_cut d) ∙ is) holds
-        ∙ ap (λ r. numbers (drop (length (inbox c v s)) (updates (until d r)))) (sym (took_take_cut net carried u e past v u s));
+        ∙ ap (λ r. numbers (drop (length (inbox c v s)) (updates (until d r)))) (sym (took_raise rules net carried u e past v u s));
   }
 
 -- ---- an update continues the recordings

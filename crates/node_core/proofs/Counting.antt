@@ -5,7 +5,7 @@ use Rattle.std.proofs.lemmas.Bool.Decides.{nat_tests}
 use Rattle.topology.specs.declared.names.Trigger.{Trigger}
 use Rattle.topology.specs.declared.names.Scope.{Scope}
 use Rattle.topology.specs.declared.names.Scope.TheVariants.{One, All}
-use Rattle.topology.specs.declared.status.LimitKind.TheVariants.{Epochs, Entries, Updates}
+use Rattle.topology.specs.declared.status.LimitKind.TheVariants.{Epochs, Triggers, Entries, Updates}
 use Rattle.topology.specs.Net.{Net}
 use Rattle.path_vector.specs.declared.causes.Cause.{Cause}
 use Rattle.path_vector.specs.declared.causes.Cause.TheVariants.{Originate, Withdraw, Recv, Down, Up, Ready, Prefer}
@@ -15,7 +15,8 @@ use Rattle.trigger_log.specs.Sending.{sent_of}
 use Rattle.chronicle.specs.Facts.{Chronicle}
 use Rattle.chronicle.specs.Logs.{log_of}
 use Rattle.chronicle.specs.Epochs.{epoch}
-use Rattle.node_core.specs.NodeLimits.{first_of_node, node_above}
+use Rattle.node_core.specs.declared.limits.TheConstants.{MOST_TRIGGERS}
+use Rattle.node_core.specs.NodeLimits.{has_large_value, first_of_node, node_above}
 
 above : (n m : ℕ) → n < m → nat_lt n m ≡ true
 above n m less = grind (arith, nat_tests)
@@ -26,26 +27,27 @@ not_above n m most = grind (arith, nat_tests)
 within : (n m : ℕ) → nat_lt n m ≡ false → m ≤ n
 within n m is = grind (arith, nat_tests)
 
-first_epochs : (a b c : Bool) → a ≡ true → first_of_node a b c ≡ Some (record { kind = Epochs; number = 32 })
-first_epochs a b c is = rw is refl
+first_epochs : (a b c d : Bool) → a ≡ true → first_of_node a b c d ≡ Some (record { kind = Epochs; number = 32 })
+first_epochs a b c d is = rw is refl
 
-first_entries : (a b c : Bool) → a ≡ false → b ≡ true → first_of_node a b c ≡ Some (record { kind = Entries; number = 2048 })
-first_entries a b c e is = rw (e, is) refl
+first_triggers : (a b c d : Bool) → a ≡ false → b ≡ true → first_of_node a b c d ≡ Some (record { kind = Triggers; number = MOST_TRIGGERS })
+first_triggers a b c d e is = rw (e, is) refl
 
-first_updates : (a b c : Bool) → a ≡ false → b ≡ false → c ≡ true → first_of_node a b c ≡ Some (record { kind = Updates; number = 16384 })
-first_updates a b c e n is = rw (e, n, is) refl
+first_entries : (a b c d : Bool) → a ≡ false → b ≡ false → c ≡ true → first_of_node a b c d ≡ Some (record { kind = Entries; number = 2048 })
+first_entries a b c d e t is = rw (e, t, is) refl
 
-first_none : (a b c : Bool) → a ≡ false → b ≡ false → c ≡ false → first_of_node a b c ≡ None
-first_none a b c e n is = rw (e, n, is) refl
+first_updates : (a b c d : Bool) → a ≡ false → b ≡ false → c ≡ false → d ≡ true → first_of_node a b c d ≡ Some (record { kind = Updates; number = 16384 })
+first_updates a b c d e t n is = rw (e, t, n, is) refl
 
-none_epochs : (a b c : Bool) → first_of_node a b c ≡ None → a ≡ false
-none_epochs true b c e = absurd (cc e)
-none_epochs false b c e = refl
+first_none : (a b c d : Bool) → a ≡ false → b ≡ false → c ≡ false → d ≡ false → first_of_node a b c d ≡ None
+first_none a b c d e t n is = rw (e, t, n, is) refl
 
-none_entries : (a b c : Bool) → first_of_node a b c ≡ None → b ≡ false
-none_entries true b c e = absurd (cc e)
-none_entries false true c e = absurd (cc e)
-none_entries false false c e = refl
+-- where none is above, each is within
+none_above_of : (a b c d : Bool) → first_of_node a b c d ≡ None → (a ≡ false) × (b ≡ false) × (c ≡ false)
+none_above_of true b c d e = absurd (cc e)
+none_above_of false true c d e = absurd (cc e)
+none_above_of false false true d e = absurd (cc e)
+none_above_of false false false d e = (refl, refl, refl)
 
 one_at_most : (b : Bool) (x : Update) → length (if b then x ∷ [] else []) ≤ 1
 one_at_most true x = omega arith
@@ -73,46 +75,57 @@ inbox_few (k ∷ h) v s =
     omega (arith, before, one, both)
 
 module _ (rules : Rules) (net : Net) (u : ℕ) (past : Chronicle) where
+  -- too large a value comes before entries and their items
+  pub triggers_above : epoch u past ≤ 32 → has_large_value u past ≡ true → node_above rules net u past ≡ Some (record { kind = Triggers; number = MOST_TRIGGERS })
+  unfolding node_above
+  triggers_above low large =
+      first_triggers (nat_lt 32 (epoch u past)) (has_large_value u past) (nat_lt 2048 (length (log_of u past))) (nat_lt 16384 (length (sent_of rules net u (log_of u past))))
+      (not_above 32 (epoch u past) low) large
+
   module _ (e : ℕ) (is : e ≡ epoch u past) where
     pub epochs_above : 32 < e → node_above rules net u past ≡ Some (record { kind = Epochs; number = 32 })
     unfolding node_above
     epochs_above more =
-        first_epochs (nat_lt 32 (epoch u past)) (nat_lt 2048 (length (log_of u past))) (nat_lt 16384 (length (sent_of rules net u (log_of u past))))
+        first_epochs (nat_lt 32 (epoch u past)) (has_large_value u past) (nat_lt 2048 (length (log_of u past))) (nat_lt 16384 (length (sent_of rules net u (log_of u past))))
         (ap (nat_lt 32) (sym is) ∙ above 32 e more)
 
-    module _ (n : ℕ) (made : n ≡ length (log_of u past)) (low : e ≤ 32) where
+    module _ (small : has_large_value u past ≡ false) (n : ℕ) (made : n ≡ length (log_of u past)) (low : e ≤ 32) where
       pub entries_above : 2048 < n → node_above rules net u past ≡ Some (record { kind = Entries; number = 2048 })
       unfolding node_above
       entries_above more =
-          first_entries (nat_lt 32 (epoch u past)) (nat_lt 2048 (length (log_of u past))) (nat_lt 16384 (length (sent_of rules net u (log_of u past))))
-          (ap (nat_lt 32) (sym is) ∙ not_above 32 e low) (ap (nat_lt 2048) (sym made) ∙ above 2048 n more)
+          first_entries (nat_lt 32 (epoch u past)) (has_large_value u past) (nat_lt 2048 (length (log_of u past))) (nat_lt 16384 (length (sent_of rules net u (log_of u past))))
+          (ap (nat_lt 32) (sym is) ∙ not_above 32 e low) small (ap (nat_lt 2048) (sym made) ∙ above 2048 n more)
 
       module _ (m : ℕ) (listed : m ≡ length (sent_of rules net u (log_of u past))) (few : n ≤ 2048) where
         pub updates_above : 16384 < m → node_above rules net u past ≡ Some (record { kind = Updates; number = 16384 })
         unfolding node_above
         updates_above more =
-            first_updates (nat_lt 32 (epoch u past)) (nat_lt 2048 (length (log_of u past))) (nat_lt 16384 (length (sent_of rules net u (log_of u past))))
-            (ap (nat_lt 32) (sym is) ∙ not_above 32 e low) (ap (nat_lt 2048) (sym made) ∙ not_above 2048 n few) (ap (nat_lt 16384) (sym listed) ∙ above 16384 m more)
+            first_updates (nat_lt 32 (epoch u past)) (has_large_value u past) (nat_lt 2048 (length (log_of u past))) (nat_lt 16384 (length (sent_of rules net u (log_of u past))))
+            (ap (nat_lt 32) (sym is) ∙ not_above 32 e low) small (ap (nat_lt 2048) (sym made) ∙ not_above 2048 n few) (ap (nat_lt 16384) (sym listed) ∙ above 16384 m more)
 
         pub none_above : m ≤ 16384 → node_above rules net u past ≡ None
         unfolding node_above
         none_above most =
-            first_none (nat_lt 32 (epoch u past)) (nat_lt 2048 (length (log_of u past))) (nat_lt 16384 (length (sent_of rules net u (log_of u past))))
-            (ap (nat_lt 32) (sym is) ∙ not_above 32 e low) (ap (nat_lt 2048) (sym made) ∙ not_above 2048 n few) (ap (nat_lt 16384) (sym listed) ∙ not_above 16384 m most)
+            first_none (nat_lt 32 (epoch u past)) (has_large_value u past) (nat_lt 2048 (length (log_of u past))) (nat_lt 16384 (length (sent_of rules net u (log_of u past))))
+            (ap (nat_lt 32) (sym is) ∙ not_above 32 e low) small (ap (nat_lt 2048) (sym made) ∙ not_above 2048 n few) (ap (nat_lt 16384) (sym listed) ∙ not_above 16384 m most)
 
   module _ (none : node_above rules net u past ≡ None) where
+    within_all : (nat_lt 32 (epoch u past) ≡ false) × (has_large_value u past ≡ false) × (nat_lt 2048 (length (log_of u past)) ≡ false)
+    unfolding node_above
+    within_all =
+        none_above_of (nat_lt 32 (epoch u past)) (has_large_value u past) (nat_lt 2048 (length (log_of u past))) (nat_lt 16384 (length (sent_of rules net u (log_of u past)))) none
+
     -- the epoch is not above its number
     pub epoch_low : epoch u past ≤ 32
-    unfolding node_above
-    epoch_low =
-        within 32 (epoch u past)
-        (none_epochs (nat_lt 32 (epoch u past)) (nat_lt 2048 (length (log_of u past))) (nat_lt 16384 (length (sent_of rules net u (log_of u past)))) none)
+    epoch_low = within 32 (epoch u past) within_all.0
+
+    -- no value that was proposed is too large
+    pub values_small : has_large_value u past ≡ false
+    values_small = within_all.1
 
     -- what was received in a session is no more than the entries may be
     pub received_low : (v s : ℕ) → length (inbox (log_of u past) v s) ≤ 2048
-    unfolding node_above
     received_low v s =
-        let entries = within 2048 (length (log_of u past))
-        (none_entries (nat_lt 32 (epoch u past)) (nat_lt 2048 (length (log_of u past))) (nat_lt 16384 (length (sent_of rules net u (log_of u past)))) none) in
+        let entries = within 2048 (length (log_of u past)) within_all.2 in
         let few = inbox_few (log_of u past) v s in
         omega (arith, entries, few)

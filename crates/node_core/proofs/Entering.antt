@@ -64,7 +64,7 @@ pub same_keeps : {P : Type 0} (policy : P) (rules : Rules) (net : Net) (u : ℕ)
 same_keeps policy rules net u node past now logs epochs cuts items was = record {
   same_net = was.same_net;
   same_id = was.same_id;
-  log = subst (LogStandsFor policy rules net u node.log) (sym logs) was.log;
+  log = subst (LogStandsFor policy rules net u node.log.value) (sym logs) was.log;
   listed = was.listed ∙ ap (λ h. length (sent_of rules net u h)) (sym logs);
   acts = was.acts;
   snapshots = was.snapshots;
@@ -72,20 +72,34 @@ same_keeps policy rules net u node past now logs epochs cuts items was = record 
   reports = was.reports;
 }
 
+-- the part in the agreements and the tables are not read
+pub keeps_as : {P : Type 0} (policy : P) (rules : Rules) (net : Net) (u : ℕ) (old new : Node P) (past : Chronicle) → new.topology.value ≡ old.topology.value → new.id ≡ old.id → new.log ≡ old.log
+    → new.updates ≡ old.updates → new.snapshots ≡ old.snapshots → new.agreement.value.reports ≡ old.agreement.value.reports → Keeps policy rules net u old past → Keeps policy rules net u new past
+keeps_as policy rules net u old new past nets ids logs updates snapshots reports was = record {
+  same_net = nets ∙ was.same_net;
+  same_id = ids ∙ was.same_id;
+  log = subst (λ l. LogStandsFor policy rules net u l.value (log_of u past)) (sym logs) was.log;
+  listed = updates ∙ was.listed;
+  acts = was.acts;
+  snapshots = subst (λ k. SnapshotsStandFor net u k.value was.acts) (sym snapshots) was.snapshots;
+  alike = was.alike;
+  reports = subst (AreReports rules net u was.acts) (sym reports) was.reports;
+}
+
 -- an entry is made
 pub entered : {P : Type 0} (policy : P) (rules : Rules) (net : Net) (u : ℕ) (carried : Carried) (past : Chronicle) (k : Entry) (old new : Node P)
-    → Keeps policy rules net u old past → new.topology.value ≡ old.topology.value → new.id ≡ old.id → new.snapshots ≡ old.snapshots → new.reports ≡ old.reports
-    → LogStandsFor policy rules net u new.log (k ∷ log_of u past) → new.updates ≡ length (sent_of rules net u (k ∷ log_of u past))
+    → Keeps policy rules net u old past → new.topology.value ≡ old.topology.value → new.id ≡ old.id → new.snapshots ≡ old.snapshots → new.agreement.value.reports ≡ old.agreement.value.reports
+    → LogStandsFor policy rules net u new.log.value (k ∷ log_of u past) → new.updates ≡ length (sent_of rules net u (k ∷ log_of u past))
     → Keeps policy rules net u new (write rules net carried u k past)
 entered policy rules net u carried past k old new was nets ids snapshots reports log updates =
     let same = sym (log_own rules net carried u k past) in
     record {
       same_net = nets ∙ was.same_net;
       same_id = ids ∙ was.same_id;
-      log = subst (LogStandsFor policy rules net u new.log) same log;
+      log = subst (LogStandsFor policy rules net u new.log.value) same log;
       listed = updates ∙ ap (λ h. length (sent_of rules net u h)) same;
       acts = was.acts;
-      snapshots = subst (λ kept. SnapshotsStandFor net u kept was.acts) (sym snapshots) was.snapshots;
+      snapshots = subst (λ kept. SnapshotsStandFor net u kept.value was.acts) (sym snapshots) was.snapshots;
       alike = same_alike was.acts u past (write rules net carried u k past) (epoch_write rules net carried u k past u) (cut_write rules net carried u k past u)
           (λ v s. took_write rules net carried u k past v u s) was.alike;
       reports = subst (AreReports rules net u was.acts) (sym reports) was.reports;
@@ -98,7 +112,7 @@ pub entered_hands : (rules : Rules) (net : Net) (u : ℕ) (carried : Carried) (p
 entered_hands rules net u carried past first k old new index gs place out list was =
     hands_more first past (write rules net carried u k past) old new (Logged (suc (length (log_of u past))) ∷ map Send (going_by rules net u (log_of u past) k))
     (list ∙ (ap (λ n. map output_of old ++ Logged n ∷ map Send gs) place ∙ ap (λ l. map output_of old ++ Logged (suc (length (log_of u past))) ∷ map Send l) out))
-    (outputs_write net carried u past rules k) was
+    (outputs_write rules net u carried past k) was
 
 -- the trigger of an own entry is the next one
 pub with_next : (Q : Entry → Type 0) (u : ℕ) (h : List Entry) (t : Trigger) (scope : Scope) (cause : Cause) → t ≡ next_trigger u h → Q (entry (t ∷ []) scope cause) → Q (local u h scope cause)

@@ -3,6 +3,7 @@ use Rattle.std.proofs.Common.{ℕ, ◌+◌, ◌<◌, ◌≤◌, Bool, true, fals
 use Rattle.std.specs.Prelude.{if◌then◌else◌}
 use Rattle.std.proofs.lemmas.Bool.Decides.{nat_tests}
 use Rattle.std.proofs.lemmas.List.{append-nil, map-append, take_more, flat_map_more}
+use Rattle.topology.specs.Lists.{ascending}
 use Rattle.topology.specs.Net.{Net, neighbours}
 use Rattle.path_vector.specs.Rules.{Rules}
 use Rattle.path_vector.specs.History.{held}
@@ -19,20 +20,23 @@ use Rattle.chronicle.specs.Facts.{Chronicle, Took}
 use Rattle.chronicle.specs.Logs.{log_of}
 use Rattle.chronicle.specs.Epochs.{epoch}
 use Rattle.chronicle.specs.Messages.{took_by}
-use Rattle.chronicle.specs.Steps.{Carried, markers, meet_mark, take_cut}
-use Rattle.chronicle.proofs.Blocks.{log_take_cut, epoch_take_cut, cut_take_cut, took_take_cut}
+use Rattle.chronicle.specs.Steps.{Carried, markers, meet_mark, raise, reporting}
+use Rattle.chronicle.proofs.Blocks.{log_raise, epoch_raise, cut_raise, took_raise}
 use Rattle.cut_laws.specs.Own.{Own}
 use Rattle.epoch_report.specs.Reporting.{report_of}
 use Rattle.node_core.specs.declared.node.Node.{Node}
 use Rattle.node_core.specs.declared.outputs.Output.{Output as Given}
 use Rattle.node_core.specs.Alike.{Alike}
 use Rattle.node_core.specs.Keeping.{Keeps, KeepsAllBut}
-use Rattle.node_core.specs.Outputs.{Cut, Send, output_of, outputs, Hands}
+use Rattle.incomplete_closure.specs.Reports.{Report}
+use Rattle.consolidator.specs.Messages.{Reports}
+use Rattle.node_core.specs.Outputs.{Cut, Send, Mail, output_of, outputs, Hands}
 use Rattle.node_core.proofs.Alike.{mark_alike, rise_alike}
 use Rattle.node_core.specs.Reports.{AreReports}
 use Rattle.node_core.proofs.Entering.{same_keeps}
 use Rattle.node_core.proofs.Reporting.{one_report_more}
-use Rattle.node_core.proofs.Handing.{hands_more, outputs_cut}
+use Rattle.node_core.specs.Answering.{posts}
+use Rattle.node_core.proofs.Handing.{hands_more, outputs_raise}
 
 -- ---- the markers, one by one
 
@@ -71,12 +75,12 @@ taken_at policy rules topo net u log h old new acts e same taken =
 
 -- its snapshots were told more, its reports are those of its cuts, and the log is as it was
 pub told_keeps : {P : Type 0} (policy : P) (rules : Rules) (net : Net) (u : ℕ) (past now : Chronicle) (old new : Node P) (acts : Acts)
-    → Keeps policy rules net u old past → KeepsAllBut old new → log_of u now ≡ log_of u past → SnapshotsStandFor net u new.snapshots acts → Alike acts u now → AreReports rules net u acts new.reports
+    → Keeps policy rules net u old past → KeepsAllBut old new → log_of u now ≡ log_of u past → SnapshotsStandFor net u new.snapshots.value acts → Alike acts u now → AreReports rules net u acts new.agreement.value.reports
     → Keeps policy rules net u new now
 told_keeps policy rules net u past now old new acts was rest logs snapshots alike reports = record {
   same_net = (λ k. (rest.topology k).value) ∙ was.same_net;
   same_id = rest.id ∙ was.same_id;
-  log = subst (LogStandsFor policy rules net u new.log) (sym logs) (subst (λ l. LogStandsFor policy rules net u l (log_of u past)) (sym rest.log) was.log);
+  log = subst (LogStandsFor policy rules net u new.log.value) (sym logs) (subst (λ l. LogStandsFor policy rules net u l.value (log_of u past)) (sym rest.log) was.log);
   listed = rest.updates ∙ (was.listed ∙ ap (λ h. length (sent_of rules net u h)) (sym logs));
   acts = acts;
   snapshots = snapshots;
@@ -87,43 +91,55 @@ told_keeps policy rules net u past now old new acts was rest logs snapshots alik
 -- the epoch rises
 pub risen : {P : Type 0} (policy : P) (rules : Rules) (net : Net) (u : ℕ) (carried : Carried) (past : Chronicle) (e : ℕ) (old new : Node P)
     → Own rules net past u → Keeps policy rules net u old past → epoch u past < e → KeepsAllBut old new
-    → ((acts : Acts) → SnapshotsStandFor net u old.snapshots acts → epoch_of acts < e → SnapshotsStandFor net u new.snapshots (Takes e (log_of u past) ∷ acts))
-    → new.reports ≡ old.reports ++ report_of rules net u e (log_of u past) ∷ []
-    → Keeps policy rules net u new (take_cut net carried u e past)
+    → ((acts : Acts) → SnapshotsStandFor net u old.snapshots.value acts → epoch_of acts < e → SnapshotsStandFor net u new.snapshots.value (Takes e (log_of u past) ∷ acts))
+    → new.agreement.value.reports ≡ old.agreement.value.reports ++ report_of rules net u e (log_of u past) ∷ []
+    → Keeps policy rules net u new (raise rules net carried u e past)
 risen policy rules net u carried past e old new own was high rest taken kept =
     let above : epoch_of was.acts < e = subst (λ n. n < e) (sym was.alike.same_epoch) high in
-    told_keeps policy rules net u past (take_cut net carried u e past) old new (Takes e (log_of u past) ∷ was.acts) was rest (log_take_cut net carried u e past u)
+    told_keeps policy rules net u past (raise rules net carried u e past) old new (Takes e (log_of u past) ∷ was.acts) was rest (log_raise rules net carried u e past u)
     (taken was.acts was.snapshots above) (rise_alike rules net u carried e past was.acts own was.alike high)
-    (one_report_more rules net u was.acts old.reports new.reports e (log_of u past) was.reports (was.snapshots.newest e above) kept)
+    (one_report_more rules net u was.acts old.agreement.value.reports new.agreement.value.reports e (log_of u past) was.reports (was.snapshots.newest e above) kept)
+
+-- the report to each consolidator
+pub mailed_reports : (rules : Rules) (topo net : Net) (u e : ℕ) (h : List Entry) (nodes : List ℕ) (r : Report) → nodes ≡ ascending topo.consolidators → topo ≡ net → r ≡ report_of rules net u e h
+    → map (λ to. Mail to (Reports r)) nodes ≡ posts (reporting rules net u e h)
+mailed_reports rules topo net u e h nodes r are same is =
+    ap (λ x. map (λ to. Mail to (Reports x)) nodes) is ∙ (each nodes ∙ ap (λ ns. posts (map (λ c. (c, Reports (report_of rules net u e h))) ns)) (are ∙ ap (λ (n : Net). ascending n.consolidators) same))
+  where
+    each : (ns : List ℕ) → map (λ to. Mail to (Reports (report_of rules net u e h))) ns ≡ posts (map (λ c. (c, Reports (report_of rules net u e h))) ns)
+    each [] = refl
+    each (n ∷ ns) = ap (λ l. Mail n (Reports (report_of rules net u e h)) ∷ l) (each ns)
 
 -- what was taken is not handed out
 pub hands_took : (first past : Chronicle) (list : List Given) (v u s : ℕ) (x : Item) → Hands first list past → Hands first list (Took v u s x ∷ past)
 hands_took first past list v u s x was = was ∙ sym (append-nil (outputs past))
 
--- a cut and its markers are handed out
-pub risen_hands : (net : Net) (u : ℕ) (carried : Carried) (first past : Chronicle) (e : ℕ) (old new : List Given) → map output_of new ≡ map output_of old ++ Cut e ∷ map Send (markers net u e (log_of u past))
-    → Hands first old past → Hands first new (take_cut net carried u e past)
-risen_hands net u carried first past e old new list was =
-    hands_more first past (take_cut net carried u e past) old new (Cut e ∷ map Send (markers net u e (log_of u past))) list (outputs_cut net carried u past e) was
+-- a cut, its markers and its reports are handed out
+pub risen_hands : (rules : Rules) (net : Net) (u : ℕ) (carried : Carried) (first past : Chronicle) (e : ℕ) (old new : List Given)
+    → map output_of new ≡ map output_of old ++ Cut e ∷ (map Send (markers net u e (log_of u past)) ++ posts (reporting rules net u e (log_of u past)))
+    → Hands first old past → Hands first new (raise rules net carried u e past)
+risen_hands rules net u carried first past e old new list was =
+    hands_more first past (raise rules net carried u e past) old new (Cut e ∷ (map Send (markers net u e (log_of u past)) ++ posts (reporting rules net u e (log_of u past)))) list
+    (outputs_raise rules net u carried past e) was
 
-module _ (net : Net) (u : ℕ) (carried : Carried) (past : Chronicle) (v s e : ℕ) (x : Item) (Q : Chronicle → Type 0) where
+module _ (rules : Rules) (net : Net) (u : ℕ) (carried : Carried) (past : Chronicle) (v s e : ℕ) (x : Item) (Q : Chronicle → Type 0) where
   -- a mark that is higher raises the epoch
-  pub meets_above : epoch u past < e → Q (take_cut net carried u e (Took v u s x ∷ past)) → Q (meet_mark net carried u e (Took v u s x ∷ past))
+  pub meets_above : epoch u past < e → Q (raise rules net carried u e (Took v u s x ∷ past)) → Q (meet_mark rules net carried u e (Took v u s x ∷ past))
   meets_above high made =
       let test : nat_lt (epoch u past) e ≡ true = grind (arith, nat_tests) in
-      subst (λ b. Q (if b then take_cut net carried u e (Took v u s x ∷ past) else Took v u s x ∷ past)) (sym test) made
+      subst (λ b. Q (if b then raise rules net carried u e (Took v u s x ∷ past) else Took v u s x ∷ past)) (sym test) made
 
   -- another one does not
-  pub meets_below : e ≤ epoch u past → Q (Took v u s x ∷ past) → Q (meet_mark net carried u e (Took v u s x ∷ past))
+  pub meets_below : e ≤ epoch u past → Q (Took v u s x ∷ past) → Q (meet_mark rules net carried u e (Took v u s x ∷ past))
   meets_below low made =
       let test : nat_lt (epoch u past) e ≡ false = grind (arith, nat_tests) in
-      subst (λ b. Q (if b then take_cut net carried u e (Took v u s x ∷ past) else Took v u s x ∷ past)) (sym test) made
+      subst (λ b. Q (if b then raise rules net carried u e (Took v u s x ∷ past) else Took v u s x ∷ past)) (sym test) made
 
 -- no log changes where a mark is met
-pub log_meet : (net : Net) (u : ℕ) (carried : Carried) (past : Chronicle) (e : ℕ) → log_of u (meet_mark net carried u e past) ≡ log_of u past
-log_meet net u carried past e =
-    elim (nat_lt (epoch u past) e) as (λ t. log_of u (if t then take_cut net carried u e past else past) ≡ log_of u past) [
-      | true ↦ log_take_cut net carried u e past u
+pub log_meet : (rules : Rules) (net : Net) (u : ℕ) (carried : Carried) (past : Chronicle) (e : ℕ) → log_of u (meet_mark rules net carried u e past) ≡ log_of u past
+log_meet rules net u carried past e =
+    elim (nat_lt (epoch u past) e) as (λ t. log_of u (if t then raise rules net carried u e past else past) ≡ log_of u past) [
+      | true ↦ log_raise rules net carried u e past u
       | false ↦ refl
     ]
 
@@ -137,7 +153,7 @@ is_below a b c t test off same = let so : is_lt (nat_cmp a b) ≡ false = sym te
 
 module _ {P : Type 0} (policy : P) (rules : Rules) (net : Net) (u : ℕ) (carried : Carried) (past : Chronicle) (v s e : ℕ) (x : Item) (old mid new : Node P)
     (own : Own rules net past u) (was : Keeps policy rules net u old past) (is : mark_of x ≡ Some e)
-    (meets : (acts : Acts) → SnapshotsStandFor net u mid.snapshots acts → SnapshotsStandFor net u new.snapshots (Meets v s e ∷ acts)) (rest : KeepsAllBut mid new) (same_reports : new.reports ≡ mid.reports) where
+    (meets : (acts : Acts) → SnapshotsStandFor net u mid.snapshots.value acts → SnapshotsStandFor net u new.snapshots.value (Meets v s e ∷ acts)) (rest : KeepsAllBut mid new) (same_reports : new.agreement.value.reports ≡ mid.agreement.value.reports) where
   -- a mark is met
   marked_keeps : (now : Chronicle) → Keeps policy rules net u mid now → Keeps policy rules net u new (Took v u s x ∷ now)
   marked_keeps now then' =
@@ -146,22 +162,22 @@ module _ {P : Type 0} (policy : P) (rules : Rules) (net : Net) (u : ℕ) (carrie
 
   -- a higher one is met after the cut that it asks for
   pub met_above : (raised : Node P) → mid ≡ raised → epoch u past < e → KeepsAllBut old raised
-      → ((acts : Acts) → SnapshotsStandFor net u old.snapshots acts → epoch_of acts < e → SnapshotsStandFor net u raised.snapshots (Takes e (log_of u past) ∷ acts))
-      → raised.reports ≡ old.reports ++ report_of rules net u e (log_of u past) ∷ []
-      → Keeps policy rules net u new (meet_mark net carried u e (Took v u s x ∷ past))
+      → ((acts : Acts) → SnapshotsStandFor net u old.snapshots.value acts → epoch_of acts < e → SnapshotsStandFor net u raised.snapshots.value (Takes e (log_of u past) ∷ acts))
+      → raised.agreement.value.reports ≡ old.agreement.value.reports ++ report_of rules net u e (log_of u past) ∷ []
+      → Keeps policy rules net u new (meet_mark rules net carried u e (Took v u s x ∷ past))
   met_above raised same high others taken kept =
-      let keeps : Keeps policy rules net u mid (take_cut net carried u e past) =
-      subst (λ n. Keeps policy rules net u n (take_cut net carried u e past)) (sym same) (risen policy rules net u carried past e old raised own was high others taken kept) in
-      meets_above net u carried past v s e x (Keeps policy rules net u new) high
-      (same_keeps policy rules net u new (Took v u s x ∷ take_cut net carried u e past) (take_cut net carried u e (Took v u s x ∷ past))
-      (log_take_cut net carried u e (Took v u s x ∷ past) u ∙ sym (log_take_cut net carried u e past u))
-      (epoch_take_cut net carried u e (Took v u s x ∷ past) u ∙ sym (epoch_take_cut net carried u e past u))
-      (λ d. cut_take_cut net carried u e (Took v u s x ∷ past) u d ∙ sym (cut_take_cut net carried u e past u d))
-      (λ w t. took_take_cut net carried u e (Took v u s x ∷ past) w u t ∙ ap (took_by w u t (Took v u s x)) (sym (took_take_cut net carried u e past w u t)))
-      (marked_keeps (take_cut net carried u e past) keeps))
+      let keeps : Keeps policy rules net u mid (raise rules net carried u e past) =
+      subst (λ n. Keeps policy rules net u n (raise rules net carried u e past)) (sym same) (risen policy rules net u carried past e old raised own was high others taken kept) in
+      meets_above rules net u carried past v s e x (Keeps policy rules net u new) high
+      (same_keeps policy rules net u new (Took v u s x ∷ raise rules net carried u e past) (raise rules net carried u e (Took v u s x ∷ past))
+      (log_raise rules net carried u e (Took v u s x ∷ past) u ∙ sym (log_raise rules net carried u e past u))
+      (epoch_raise rules net carried u e (Took v u s x ∷ past) u ∙ sym (epoch_raise rules net carried u e past u))
+      (λ d. cut_raise rules net carried u e (Took v u s x ∷ past) u d ∙ sym (cut_raise rules net carried u e past u d))
+      (λ w t. took_raise rules net carried u e (Took v u s x ∷ past) w u t ∙ ap (took_by w u t (Took v u s x)) (sym (took_raise rules net carried u e past w u t)))
+      (marked_keeps (raise rules net carried u e past) keeps))
 
   -- another one is only met
-  pub met_below : mid ≡ old → e ≤ epoch u past → Keeps policy rules net u new (meet_mark net carried u e (Took v u s x ∷ past))
+  pub met_below : mid ≡ old → e ≤ epoch u past → Keeps policy rules net u new (meet_mark rules net carried u e (Took v u s x ∷ past))
   met_below same low =
-      meets_below net u carried past v s e x (Keeps policy rules net u new) low
+      meets_below rules net u carried past v s e x (Keeps policy rules net u new) low
       (marked_keeps past (subst (λ n. Keeps policy rules net u n past) (sym same) was))

@@ -27,19 +27,19 @@ use Rattle.node_core.proofs.Raising.{told_keeps, log_meet}
 
 module _ (rules : Rules) (net : Net) (u : ℕ) (carried : Carried) (past : Chronicle) (v s : ℕ) (Q : Chronicle → Type 0) where
   -- a marker is met
-  pub marker_taken : (item : Message) (e : ℕ) → item ≡ message.Marker e → Q (meet_mark net carried u e (Took v u s (Marker e) ∷ past)) → Q (take_item rules net carried u (arrival v s (item_of item)) past)
+  pub marker_taken : (item : Message) (e : ℕ) → item ≡ message.Marker e → Q (meet_mark rules net carried u e (Took v u s (Marker e) ∷ past)) → Q (take_item rules net carried u (arrival v s (item_of item)) past)
   unfolding take_item
   marker_taken item e is made = subst (λ i. Q (take_item rules net carried u (arrival v s (item_of i)) past)) (sym is) made
 
   -- a greeting is met, and then greets
   pub hello_taken : (item : Message) (e : ℕ) → item ≡ message.Hello e
-      → (let now = meet_mark net carried u e (Took v u s (Hello e) ∷ past) in Q (unless_ready (ready (reads (log_of u now)) v) now (write rules net carried u (local u (log_of u now) All (Ready v s)) now)))
+      → (let now = meet_mark rules net carried u e (Took v u s (Hello e) ∷ past) in Q (unless_ready (ready (reads (log_of u now)) v) now (write rules net carried u (local u (log_of u now) All (Ready v s)) now)))
       → Q (take_item rules net carried u (arrival v s (item_of item)) past)
   unfolding take_item
   hello_taken item e is made =
-      let now = meet_mark net carried u e (Took v u s (Hello e) ∷ past) in
+      let now = meet_mark rules net carried u e (Took v u s (Hello e) ∷ past) in
       subst (λ i. Q (take_item rules net carried u (arrival v s (item_of i)) past)) (sym is)
-      (subst (λ h. Q (unless_ready (ready (reads h) v) now (write rules net carried u (local u (log_of u now) All (Ready v s)) now))) (log_meet net u carried (Took v u s (Hello e) ∷ past) e) made)
+      (subst (λ h. Q (unless_ready (ready (reads h) v) now (write rules net carried u (local u (log_of u now) All (Ready v s)) now))) (log_meet rules net u carried (Took v u s (Hello e) ∷ past) e) made)
 
   -- an update is entered
   pub news_taken : (item : Message) (p n : ℕ) (t : Trigger) (path : Option (List ℕ)) → item ≡ message.Update p n t path
@@ -59,8 +59,8 @@ module _ {P : Type 0} (policy : P) (rules : Rules) (net : Net) (u : ℕ) (past :
   may_enter = record { near = may_so.near; placed = may_so.placed; fits = (may_so.held, may_so.in_turn) }
 
   -- the snapshots were told of it
-  pub heard_keeps : (old new : Node P) → Own rules net past u → Keeps policy rules net u old past → KeepsAllBut old new → new.reports ≡ old.reports
-      → ((acts : Acts) → SnapshotsStandFor net u old.snapshots acts → Continues acts v s n → SnapshotsStandFor net u new.snapshots (Hears v s n ∷ acts))
+  pub heard_keeps : (old new : Node P) → Own rules net past u → Keeps policy rules net u old past → KeepsAllBut old new → new.agreement.value.reports ≡ old.agreement.value.reports
+      → ((acts : Acts) → SnapshotsStandFor net u old.snapshots.value acts → Continues acts v s n → SnapshotsStandFor net u new.snapshots.value (Hears v s n ∷ acts))
       → Keeps policy rules net u new (Took v u s (News n (record { prefix = p; triggers = t ∷ []; path = path })) ∷ past)
   heard_keeps old new own was rest same hears =
       let x : Update = record { prefix = p; triggers = t ∷ []; path = path } in

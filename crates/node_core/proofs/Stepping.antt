@@ -1,34 +1,44 @@
 -- What an act comes to.
-use Rattle.std.proofs.Common.{ℕ, ◌<◌, None, [], ◌≡◌, refl, sym, ap, subst}
-use Rattle.std.specs.Prelude.{Result, Ok, Err, IfOk, List}
+use Rattle.std.proofs.Common.{ℕ, ◌<◌, Bool, true, false, Option, None, [], ◌≡◌, refl, sym, ap, subst}
+use Rattle.std.specs.Prelude.{Result, Ok, Err, IfOk, IfErr, List}
+use Rattle.topology.specs.declared.status.Reason.{Reason}
 use Rattle.topology.specs.Net.{Net}
 use Rattle.path_vector.specs.Rules.{Rules}
 use Rattle.trigger_log.specs.Sending.{sent_of}
 use Rattle.chronicle.specs.Facts.{Chronicle}
 use Rattle.chronicle.specs.Epochs.{epoch}
-use Rattle.chronicle.specs.Giving.{give}
-use Rattle.chronicle.specs.Inputs.{Input, Originate, Withdraw, Prefer, Arrive, Notice, OpenSession, Snap}
+use Rattle.chronicle.specs.Publications.{publish}
+use Rattle.chronicle.specs.Giving.{answer, concluded, give}
+use Rattle.chronicle.specs.Inputs.{Input, Originate, Withdraw, Prefer, Arrive, Notice, OpenSession, Snap, Propose, Control, Inject, Hop}
 use Rattle.chronicle.specs.Run.{chronicle_of}
-use Rattle.chronicle.specs.Steps.{Carried, Goes, take_cut}
+use Rattle.chronicle.proofs.Publishing.{epoch_publish, log_publish}
+use Rattle.chronicle.specs.Steps.{Step, Carried, Goes, Idle, raise}
 use Rattle.cut_laws.specs.Own.{Own, MayReach}
 use Rattle.cut_laws.proofs.Owning.{own_given}
 use Rattle.node_core.specs.declared.deciding.Act.{Act}
 use Rattle.node_core.specs.declared.deciding.Act.TheVariants.{Rise}
+use Rattle.node_core.specs.declared.answers.Answer.{Answer}
+use Rattle.node_core.specs.declared.answers.Answer.TheVariants as told
 use Rattle.node_core.specs.declared.node.Node.{Node}
 use Rattle.node_core.specs.declared.outputs.Output.{Output as Given}
-use Rattle.node_core.specs.declared.outputs.Outputs.TheVariants.{Did}
+use Rattle.node_core.specs.declared.outputs.Outputs.TheVariants.{Did, Idle as Declines}
 use Rattle.node_core.specs.declared.outputs.Stop.{Stop}
 use Rattle.node_core.specs.Coming.{MayCome}
 use Rattle.node_core.specs.Deciding.{MayDo, acted}
-use Rattle.node_core.specs.Keeping.{Keeps}
+use Rattle.node_core.specs.Answering.{MayComplete, Says}
 use Rattle.node_core.specs.NodeLimits.{node_above, node_limit, StopsAt}
 use Rattle.node_core.specs.Outputs.{Hands, Answers}
-use Rattle.node_core.specs.Standing.{StandsFor}
+use Rattle.node_core.specs.Standing.{Follows, StandsFor}
+use Rattle.node_core.proofs.Proposing.{large_publish}
 
 -- a node that has done nothing has no count above its number
 pub start_within : (rules : Rules) (net : Net) (u : ℕ) → node_above rules net u [] ≡ None
 unfolding node_above sent_of
 start_within rules net u = refl
+
+-- an error that is handed on
+pub handed_on : {T E : Type 0} (r : Result T E) (Q : E → Type 0) (why : E) → r ≡ Err why → Q why → IfErr r Q
+handed_on r Q why is q = rw is q
 
 -- three things that hold where all is well
 pub ok_all : {X Y : Type 0} (r : Result X Y) (A B C D : X → Type 0) → ((x : X) → A x → B x → C x → D x) → IfOk r A → IfOk r B → IfOk r C → IfOk r D
@@ -37,7 +47,7 @@ ok_all (Err y) A B C D f a b c = tt
 
 -- the epoch rises
 pub rises : (rules : Rules) (net : Net) (carried : Carried) (u : ℕ) (past : Chronicle) (act : Act) (e : ℕ) → act ≡ Rise e → MayDo net u past act
-    → (epoch u past < e) × (acted rules net carried u past act ≡ take_cut net carried u e past)
+    → (epoch u past < e) × (acted rules net carried u past act ≡ raise rules net carried u e past)
 rises rules net carried u past act e is may = (subst (MayDo net u past) is may, ap (acted rules net carried u past) is)
 
 -- what may come may reach the node
@@ -49,24 +59,110 @@ may_reach net u (Prefer v value) may = tt
 may_reach net u (Notice v) may = tt
 may_reach net u (OpenSession v s) may = tt
 may_reach net u Snap may = tt
+may_reach net u (Propose e) may = tt
+may_reach net u (Control from m) may = tt
+may_reach net u (Inject id p) may = tt
+may_reach net u (Hop packet up) may = tt
 
-module _ {P : Type 0} (policy : P) (rules : Rules) (net : Net) (u : ℕ) (carried : Carried) (past : Chronicle) (input : Input) (new : Node P) (act : Act)
-    (goes : give rules net carried u past input ≡ Goes (acted rules net carried u past act)) (keeps : Keeps policy rules net u new (acted rules net carried u past act)) where
-  -- the chronicle after the act
-  abbrev went : Chronicle
-  went = acted rules net carried u past act
+-- what is said of a step that goes on
+pub record Went (u : ℕ) (past : Chronicle) (step : Step) (outputs : List Given) (due : Option ℕ) : Type 0 where
+  pub now : Chronicle
+  pub goes : step ≡ Goes now
+  pub hands : Hands past outputs now
+  pub completes : MayComplete u past now due
 
-  -- the node stands for the chronicle after it
-  pub then_stands : (old : Node P) → StandsFor policy rules net u old past → MayCome net u input → ((now : Chronicle) → Keeps policy rules net u new now → node_above rules net u now ≡ None)
-      → StandsFor policy rules net u new (chronicle_of past (give rules net carried u past input))
-  then_stands old was may within =
-      let own : Own rules net went u = subst (λ s. Own rules net (chronicle_of past s) u) goes (own_given rules net u carried past input was.keeps.log.routes.valid was.own (may_reach net u input may)) in
-      subst (λ s. StandsFor policy rules net u new (chronicle_of past s)) (sym goes) (record { own = own; keeps = keeps; within = within went keeps })
+-- the outputs of an answer
+abbrev pub outputs_of : Answer → List Given
+outputs_of (told.Did outputs due) = outputs.items
+outputs_of (told.Idle why) = []
 
-  -- it answers what was done
-  pub then_answers : (list : List Given) → Hands past list went → Answers past (give rules net carried u past input) (Did list)
-  then_answers list hands = subst (λ s. Answers past s (Did list)) (sym goes) hands
+-- the epoch that may be complete
+abbrev pub due_of : Answer → Option ℕ
+due_of (told.Did outputs due) = due
+due_of (told.Idle why) = None
 
-  -- it stops where a count is above its number
-  pub then_stops : (stop : Stop) → ((now : Chronicle) → Keeps policy rules net u new now → StopsAt (node_above rules net u now) stop) → StopsAt (node_limit rules net u (give rules net carried u past input)) stop
-  then_stops stop stops = subst (λ s. StopsAt (node_limit rules net u s) stop) (sym goes) (stops went keeps)
+-- it is no reason
+abbrev pub is_did : Answer → Bool
+is_did (told.Did outputs due) = true
+is_did (told.Idle why) = false
+
+-- the step goes on where the answer is no reason
+pub said : (u : ℕ) (past : Chronicle) (step : Step) (a : Answer) → is_did a ≡ true → Says u past step a → Went u past step (outputs_of a) (due_of a)
+said u past (Goes now) (told.Did list due) is says = record { now = now; goes = refl; hands = says.0; completes = says.1 }
+said u past (Goes now) (told.Idle why) is says = absurd says
+said u past (Idle why) (told.Did list due) is says = absurd says
+said u past (Idle why) (told.Idle reason) is says = absurd (cc is)
+
+-- the same for its parts
+pub said_parts : (u : ℕ) (past : Chronicle) (step : Step) (a : Answer) (outputs : List Given) (due : Option ℕ) → is_did a ≡ true → outputs_of a ≡ outputs → due_of a ≡ due → Says u past step a
+    → Went u past step outputs due
+said_parts u past step a outputs due is list epoch says =
+    subst (λ d. Went u past step outputs d) epoch (subst (λ l. Went u past step l (due_of a)) list (said u past step a is says))
+
+-- the reason why nothing is done
+pub said_why : (u : ℕ) (past : Chronicle) (step : Step) (a : Answer) (why : Reason) → a ≡ told.Idle why → Says u past step a → step ≡ Idle why
+said_why u past step a why is says = by step (subst (Says u past step) is says)
+  where
+    by : (step : Step) → Says u past step (told.Idle why) → step ≡ Idle why
+    by (Idle reason) same = ap (λ r. Idle r) (sym same)
+    by (Goes now) same = absurd same
+
+-- a node that follows the step follows the chronicle that it leaves
+pub follows_now : {P : Type 0} (policy : P) (rules : Rules) (net : Net) (u : ℕ) (past : Chronicle) (step : Step) (now : Chronicle) (node : Node P) → step ≡ Goes now
+    → Follows policy rules net u node (chronicle_of past step) → Follows policy rules net u node now
+follows_now policy rules net u past step now node goes follows = subst (λ s. Follows policy rules net u node (chronicle_of past s)) goes follows
+
+-- the counts after a table is published
+above_publish : (rules : Rules) (net : Net) (u : ℕ) (past now : Chronicle) → node_above rules net u (publish rules net u past now) ≡ node_above rules net u now
+unfolding node_above
+above_publish rules net u past now = rw (epoch_publish rules net u past now u, large_publish rules net u u past now, log_publish rules net u past now u) refl
+
+module _ {P : Type 0} (policy : P) (rules : Rules) (net : Net) (u : ℕ) (carried : Carried) (past : Chronicle) (input : Input) where
+  -- the step with the table that is due
+  given_goes : (now : Chronicle) → answer rules net carried u past input ≡ Goes now → give rules net carried u past input ≡ Goes (publish rules net u past now)
+  unfolding give
+  given_goes now is = ap (concluded rules net u past) is
+
+  -- nothing is published where nothing is done
+  given_idle : (why : Reason) → answer rules net carried u past input ≡ Idle why → give rules net carried u past input ≡ Idle why
+  unfolding give
+  given_idle why is = ap (concluded rules net u past) is
+
+  -- a table that is published takes no count above its number
+  same_limit : (s : Step) → node_limit rules net u (concluded rules net u past s) ≡ node_limit rules net u s
+  same_limit (Idle why) = refl
+  same_limit (Goes now) = above_publish rules net u past now
+
+  -- so the node stops where the step does without it
+  pub stops_before : (stop : Stop) → StopsAt (node_limit rules net u (answer rules net carried u past input)) stop → StopsAt (node_limit rules net u (give rules net carried u past input)) stop
+  unfolding give
+  stops_before stop stops = subst (λ limit. StopsAt limit stop) (sym (same_limit (answer rules net carried u past input))) stops
+
+  module _ (now : Chronicle) (goes : answer rules net carried u past input ≡ Goes now) where
+    -- the node stands for the chronicle after it
+    pub then_stands : (old new : Node P) → StandsFor policy rules net u old past → MayCome net u input → Follows policy rules net u new (publish rules net u past now) → node_above rules net u (publish rules net u past now) ≡ None
+        → StandsFor policy rules net u new (chronicle_of past (give rules net carried u past input))
+    then_stands old new was may follows within =
+        let went = given_goes now goes in
+        let own = subst (λ s. Own rules net (chronicle_of past s) u) went (own_given rules net u carried past input was.keeps.log.routes.valid was.own (may_reach net u input may)) in
+        subst (λ s. StandsFor policy rules net u new (chronicle_of past s)) (sym went) (record { own = own; keeps = follows.keeps; agrees = follows.agrees; within = within })
+
+    -- it answers what was done
+    pub then_answers : (list : List Given) → Hands past list (publish rules net u past now) → Answers past (give rules net carried u past input) (Did list)
+    then_answers list hands = subst (λ s. Answers past s (Did list)) (sym (given_goes now goes)) hands
+
+    -- it stops where a count is above its number
+    pub then_stops : (stop : Stop) → StopsAt (node_above rules net u (publish rules net u past now)) stop → StopsAt (node_limit rules net u (give rules net carried u past input)) stop
+    then_stops stop stops = subst (λ s. StopsAt (node_limit rules net u s) stop) (sym (given_goes now goes)) stops
+
+  module _ (why : Reason) (idle : answer rules net carried u past input ≡ Idle why) where
+    -- the node stands for what it stood for
+    pub still_stands : (old new : Node P) → StandsFor policy rules net u old past → Follows policy rules net u new (chronicle_of past (answer rules net carried u past input)) → StandsFor policy rules net u new (chronicle_of past (give rules net carried u past input))
+    still_stands old new was follows =
+        let then' = subst (λ s. Follows policy rules net u new (chronicle_of past s)) idle follows in
+        subst (λ s. StandsFor policy rules net u new (chronicle_of past s)) (sym (given_idle why idle))
+        (record { own = was.own; keeps = then'.keeps; agrees = then'.agrees; within = was.within })
+
+    -- it answers the reason
+    pub then_declines : Answers past (give rules net carried u past input) (Declines why)
+    then_declines = subst (λ s. Answers past s (Declines why)) (sym (given_idle why idle)) refl

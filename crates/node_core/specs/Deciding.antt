@@ -7,15 +7,23 @@ use Rattle.path_vector.specs.declared.causes.Cause.TheVariants.{Up}
 use Rattle.path_vector.specs.Rules.{Rules}
 use Rattle.trigger_log.specs.Entries.{inbox, local}
 use Rattle.trigger_log.specs.Going.{Item, News, Marker, Hello, item_of}
+use Rattle.consolidator.specs.Seen.{message_seen}
 use Rattle.cut_laws.specs.Own.{MayHear}
 use Rattle.chronicle.specs.Epochs.{epoch}
 use Rattle.chronicle.specs.Facts.{Chronicle}
-use Rattle.chronicle.specs.Inputs.{arrival}
+use Rattle.chronicle.specs.Inputs.{Input, Propose, Control, Inject, Hop, arrival}
 use Rattle.chronicle.specs.Logs.{log_of}
 use Rattle.chronicle.specs.Run.{held_with}
-use Rattle.chronicle.specs.Steps.{Carried, open_session, take_cut, take_item, write}
+use Rattle.chronicle.specs.Giving.{answer}
+use Rattle.chronicle.specs.Steps.{Carried, Goes, open_session, raise, take_item, write}
 use Rattle.node_core.specs.declared.deciding.Act.{Act}
 use Rattle.node_core.specs.declared.deciding.Act.TheVariants.{Enter, Open, Take, Rise}
+use Rattle.node_core.specs.declared.deciding.Asked.{Asked}
+use Rattle.node_core.specs.declared.deciding.Asked.TheVariants as asked
+use Rattle.node_core.specs.declared.deciding.Passing.{Passing}
+use Rattle.node_core.specs.declared.deciding.Passing.TheVariants.{Enter as Enters, GoOn}
+use Rattle.node_core.specs.declared.deciding.Task.{Task}
+use Rattle.node_core.specs.declared.deciding.Task.TheVariants.{Perform, Ask, Pass}
 use Rattle.node_core.specs.Coming.{IsPlaced}
 use Rattle.node_core.specs.Keeping.{MayEnter}
 
@@ -46,4 +54,22 @@ abbrev pub acted : Rules → Net → Carried → ℕ → Chronicle → Act → C
 acted rules net carried u past (Enter scope cause) = write rules net carried u (local u (log_of u past) scope cause) past
 acted rules net carried u past (Open v s) = open_session carried u v s past
 acted rules net carried u past (Take v s item) = take_item rules net carried u (arrival v s (item_of item)) past
-acted rules net carried u past (Rise e) = take_cut net carried u e past
+acted rules net carried u past (Rise e) = raise rules net carried u e past
+
+-- the input that its part in the agreements is asked about
+abbrev pub asked_of : Asked → Input
+asked_of (asked.Propose epoch) = Propose epoch
+asked_of (asked.Hear from message) = Control from (message_seen message)
+
+-- the input that brings the packet
+abbrev pub passing_of : Passing → Input
+passing_of (Enters id prefix) = Inject id prefix
+passing_of (GoOn packet up) = Hop packet.value up.items
+
+-- this is what the input asks for: an act that u may do, by which the chronicle goes on; or its part in the agreements
+-- is asked about the input; or a packet goes on by it
+abbrev pub IsTask : Rules → Net → ℕ → Chronicle → Task → Input → Type 0
+IsTask rules net u past (Perform act) input =
+    MayDo net u past act × ((carried : Carried) → answer rules net carried u past input ≡ Goes (acted rules net carried u past act))
+IsTask rules net u past (Ask asked) input = input ≡ asked_of asked
+IsTask rules net u past (Pass passing) input = input ≡ passing_of passing

@@ -1,17 +1,14 @@
 -- Which inputs a node admits.
 use Rattle.std.specs.Prelude.{ℕ, Bool, true, false, ◌&&◌, ◌==◌, nat_lt, nat_le, Option, Some, None, List, [], ◌∷◌, length}
-use Rattle.topology.specs.declared.names.Trigger.{Trigger}
 use Rattle.topology.specs.Lists.{has}
 use Rattle.topology.specs.Paths.{differ}
 use Rattle.topology.specs.Net.{Net, neighbours}
 use Rattle.trigger_log.specs.Going.{Item, News, Marker, Hello}
-use Rattle.chronicle.specs.Inputs.{Input, Originate, Withdraw, Prefer, Arrive, Notice, OpenSession, Snap}
+use Rattle.chronicle.specs.Inputs.{Input, Originate, Withdraw, Prefer, Arrive, Notice, OpenSession, Snap, Propose, Control, Inject, Hop}
+use Rattle.node_core.specs.ControlFits.{epoch_fits, message_fits}
+use Rattle.node_core.specs.Names.{are_nodes, triggers_fit}
+use Rattle.node_core.specs.PacketFits.{packet_fits, are_links}
 use Rattle.node_core.specs.declared.limits.TheConstants.{MOST_EPOCHS, MOST_PREFERENCE}
-
--- all of them are nodes of the network
-abbrev pub are_nodes : Net → List ℕ → Bool
-are_nodes net [] = true
-are_nodes net (n ∷ ns) = has net.nodes n && are_nodes net ns
 
 -- the first of them is v
 abbrev pub begins_with : ℕ → List ℕ → Bool
@@ -23,16 +20,6 @@ abbrev pub path_fits : Net → ℕ → Option (List ℕ) → Bool
 path_fits net v None = true
 path_fits net v (Some path) = begins_with v path && (differ path && are_nodes net path)
 
--- a trigger is one of a node of the network, counted from 1
-abbrev pub trigger_fits : Net → Trigger → Bool
-trigger_fits net t = has net.nodes t.node && nat_le 1 t.count
-
--- some triggers, and each such a one
-abbrev pub triggers_fit : Net → List Trigger → Bool
-triggers_fit net [] = false
-triggers_fit net (t ∷ []) = trigger_fits net t
-triggers_fit net (t ∷ s ∷ ts) = trigger_fits net t && triggers_fit net (s ∷ ts)
-
 -- an update of v: numbered from 1, of a prefix of the network, with triggers and a path that fit; a mark of
 -- an epoch that there may be, where a greeting may also come before the first epoch
 abbrev pub item_fits : Net → ℕ → Item → Bool
@@ -42,7 +29,8 @@ item_fits net v (Marker e) = nat_le 1 e && nat_le e MOST_EPOCHS
 item_fits net v (Hello e) = nat_le e MOST_EPOCHS
 
 -- the names of the input are in the network, the other node is a neighbour of u, and each number is in its
--- range: sessions from 1, preferences up to a million
+-- range: sessions and packets from 1, preferences up to a million; a ballot is for an epoch that a cut may be of, a
+-- control message is one that its sender may send, and links that are up are given by their other ends, ascending
 unfoldable pub fits : Net → ℕ → Input → Bool
 fits net u (Originate p) = nat_lt p (length net.prefixes)
 fits net u (Withdraw p) = nat_lt p (length net.prefixes)
@@ -51,3 +39,7 @@ fits net u (Arrive v s item) = has (neighbours net u) v && (nat_le 1 s && item_f
 fits net u (Notice v) = has (neighbours net u) v
 fits net u (OpenSession v s) = has (neighbours net u) v && nat_le 1 s
 fits net u Snap = true
+fits net u (Propose e) = epoch_fits e
+fits net u (Control from m) = message_fits net from m
+fits net u (Inject id p) = nat_le 1 id && nat_lt p (length net.prefixes)
+fits net u (Hop packet up) = packet_fits net packet && are_links net u up

@@ -15,6 +15,7 @@ use Rattle.marker_snapshot.specs.Standing.{StandsFor as SnapshotsStandFor}
 use Rattle.chronicle.specs.Facts.{Chronicle}
 use Rattle.chronicle.specs.Logs.{log_of}
 use Rattle.node_core.specs.declared.node.Node.{Node}
+use Rattle.node_core.specs.Agreeing.{AgreesAs}
 use Rattle.node_core.specs.Alike.{Alike}
 use Rattle.node_core.specs.Reports.{AreReports}
 
@@ -29,12 +30,12 @@ pub record MayEnter (net : Net) (u : ℕ) (h : List Entry) (scope : Scope) (caus
 pub record Keeps {P : Type 0} (policy : P) (rules : Rules) (net : Net) (u : ℕ) (node : Node P) (past : Chronicle) : Type 0 where
   pub same_net : node.topology.value ≡ net
   pub same_id : node.id ≡ u
-  pub log : LogStandsFor policy rules net u node.log (log_of u past)
+  pub log : LogStandsFor policy rules net u node.log.value (log_of u past)
   pub listed : node.updates ≡ length (sent_of rules net u (log_of u past))
   pub acts : Acts
-  pub snapshots : SnapshotsStandFor net u node.snapshots acts
+  pub snapshots : SnapshotsStandFor net u node.snapshots.value acts
   pub alike : Alike acts u past
-  pub reports : AreReports rules net u acts node.reports
+  pub reports : AreReports rules net u acts node.agreement.value.reports
 
 -- the second is as the first but for its snapshots and its reports
 pub record KeepsAllBut {P : Type 0} (old new : Node P) : Type 0 where
@@ -42,3 +43,4 @@ pub record KeepsAllBut {P : Type 0} (old new : Node P) : Type 0 where
   pub id : new.id ≡ old.id
   pub log : new.log ≡ old.log
   pub updates : new.updates ≡ old.updates
+  pub agreement : AgreesAs old.agreement.value new.agreement.value

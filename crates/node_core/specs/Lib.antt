@@ -1,10 +1,17 @@
 pub mod Inputs
 pub mod Coming
+pub mod Names
+pub mod ControlFits
+pub mod PacketFits
 pub mod Fits
 pub mod Outputs
 pub mod Alike
 pub mod Reports
+pub mod Views
+pub mod Agreeing
 pub mod Keeping
 pub mod Deciding
 pub mod Standing
+pub mod Answering
+pub mod Beside
 pub mod NodeLimits

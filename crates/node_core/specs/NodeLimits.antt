@@ -1,15 +1,23 @@
 -- How much one node may have.
-use Rattle.std.specs.Prelude.{ℕ, ◌≡◌, Bool, Option, Some, None, nat_lt, length, if◌then◌else◌}
+use Rattle.std.specs.Prelude.{ℕ, ◌≡◌, Bool, false, ◌==◌, ◌&&◌, Option, Some, None, nat_lt, length, if◌then◌else◌}
+use Rattle.std.specs.List.{list_any}
 use Rattle.topology.specs.declared.status.LimitKind.{LimitKind}
-use Rattle.topology.specs.declared.status.LimitKind.TheVariants.{Epochs, Entries, Updates}
+use Rattle.topology.specs.declared.status.LimitKind.TheVariants.{Epochs, Triggers, Entries, Updates}
 use Rattle.topology.specs.Net.{Net}
 use Rattle.path_vector.specs.Rules.{Rules}
 use Rattle.trigger_log.specs.Sending.{sent_of}
-use Rattle.chronicle.specs.Facts.{Chronicle}
+use Rattle.incomplete_closure.specs.declared.values.Value.{Value}
+use Rattle.paxos_core.specs.Facts.{Message as Ballots, Accept}
+use Rattle.consolidator.specs.declared.messages.Mail.{Mail as ItsMail}
+use Rattle.consolidator.specs.declared.messages.Reply.{Reply}
+use Rattle.consolidator.specs.declared.messages.Reply.TheVariants as reply
+use Rattle.consolidator.specs.Messages.{Message, Reports, Agrees}
+use Rattle.consolidator.specs.Seen.{message_seen}
+use Rattle.chronicle.specs.Facts.{Fact, Chronicle, Mail}
 use Rattle.chronicle.specs.Logs.{log_of}
 use Rattle.chronicle.specs.Epochs.{epoch}
 use Rattle.chronicle.specs.Steps.{Step, Idle, Goes}
-use Rattle.node_core.specs.declared.limits.TheConstants.{MOST_EPOCHS, MOST_ENTRIES, MOST_UPDATES}
+use Rattle.node_core.specs.declared.limits.TheConstants.{MOST_EPOCHS, MOST_TRIGGERS, MOST_ENTRIES, MOST_UPDATES}
 use Rattle.node_core.specs.declared.outputs.Stop.{Stop}
 use Rattle.node_core.specs.declared.outputs.Stop.TheVariants as stop
 
@@ -18,10 +26,35 @@ pub record Reached : Type 0 where
   pub kind : LimitKind
   pub number : ℕ
 
--- the first of the three counts that is above its number, in this order
-abbrev pub first_of_node : (epochs entries updates : Bool) → Option Reached
-first_of_node epochs entries updates =
+-- an Accept whose value has more incomplete triggers than a value may have
+abbrev pub proposes_more : Ballots Value → Bool
+proposes_more (Accept b v) = nat_lt MOST_TRIGGERS (length v.incomplete)
+proposes_more other = false
+
+-- the message proposes such a value
+abbrev pub is_large : Message → Bool
+is_large (Reports report) = false
+is_large (Agrees e m) = proposes_more m
+
+-- one of the messages of the reply does
+abbrev pub proposes_large : Reply → Bool
+proposes_large (reply.Idle reason) = false
+proposes_large (reply.Sent mails) = list_any (λ (mail : ItsMail). is_large (message_seen mail.message)) mails
+
+-- u mailed such a message
+abbrev pub is_too_large : ℕ → Fact → Bool
+is_too_large u (Mail from to m) = from == u && is_large m
+is_too_large u other = false
+
+-- u mailed an Accept with more triggers than a value may have; what others mailed is not read
+abbrev pub has_large_value : ℕ → Chronicle → Bool
+has_large_value u now = list_any (is_too_large u) now
+
+-- the first of the four counts that is above its number, in this order
+abbrev pub first_of_node : (epochs triggers entries updates : Bool) → Option Reached
+first_of_node epochs triggers entries updates =
     if epochs then Some (record { kind = Epochs; number = MOST_EPOCHS })
+    else if triggers then Some (record { kind = Triggers; number = MOST_TRIGGERS })
     else if entries then Some (record { kind = Entries; number = MOST_ENTRIES })
     else if updates then Some (record { kind = Updates; number = MOST_UPDATES })
     else None
@@ -29,7 +62,7 @@ first_of_node epochs entries updates =
 -- the first count of node u that is above its number
 unfoldable pub node_above : Rules → Net → ℕ → Chronicle → Option Reached
 node_above rules net u now =
-    first_of_node (nat_lt MOST_EPOCHS (epoch u now)) (nat_lt MOST_ENTRIES (length (log_of u now)))
+    first_of_node (nat_lt MOST_EPOCHS (epoch u now)) (has_large_value u now) (nat_lt MOST_ENTRIES (length (log_of u now)))
     (nat_lt MOST_UPDATES (length (sent_of rules net u (log_of u now))))
 
 -- the same of what an input comes to: an idle one takes no count above its number

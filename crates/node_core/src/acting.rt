@@ -14,6 +14,7 @@ ghost use Rattle.chronicle.specs.Inputs.{arrival};
 ghost use Rattle.chronicle.specs.Logs.{log_of};
 ghost use Rattle.chronicle.specs.Run.{held_with};
 ghost use Rattle.chronicle.specs.Steps.{Carried, open_session, take_item, unless_ready, write};
+ghost use Rattle.node_core.specs.Agreeing.{AgreesAs};
 ghost use Rattle.node_core.specs.Deciding.{MayDo, MayTake, acted};
 ghost use Rattle.node_core.specs.Keeping.{Keeps, MayEnter};
 ghost use Rattle.node_core.specs.Outputs.{Hands, Send, output_of};
@@ -80,6 +81,7 @@ impl<P: Policy + Copy> Node<P> {
         cause: Cause,
         outputs: &mut Vec<Output>,
     ) -> Result<Node<P>, NoMemory>
+        ensures agreement { IfOk result (λ node. AgreesAs self.agreement.value node.agreement.value) }
         ensures node { IfOk result (λ node. (policy : P) (net : Net) (u : ℕ) (carried : Carried) (past : Chronicle) →
             Keeps policy (P.rules policy) net u self past → MayEnter net u (log_of u past) scope cause →
             Keeps policy (P.rules policy) net u node
@@ -96,9 +98,9 @@ impl<P: Policy + Copy> Node<P> {
             log,
             updates,
             snapshots,
-            reports,
+            agreement,
         } = self;
-        let (log, outgoing) = log.append(&topology, trigger, scope, cause)?;
+        let (log, outgoing) = NodeLog::append_boxed(log, &topology, trigger, scope, cause)?;
         let updates = more(updates, &log)?;
         make_room(outputs, &outgoing)?;
         outputs.push(Output::Logged { index: log.len() })?;
@@ -110,7 +112,7 @@ impl<P: Policy + Copy> Node<P> {
             log,
             updates,
             snapshots,
-            reports,
+            agreement,
         })
     }
 
@@ -122,6 +124,7 @@ impl<P: Policy + Copy> Node<P> {
         cause: Cause,
         outputs: &mut Vec<Output>,
     ) -> Result<Node<P>, NoMemory>
+        ensures agreement { IfOk result (λ node. AgreesAs self.agreement.value node.agreement.value) }
         ensures node { IfOk result (λ node. (policy : P) (net : Net) (u : ℕ) (carried : Carried) (past : Chronicle) →
             Keeps policy (P.rules policy) net u self past → MayEnter net u (log_of u past) scope cause →
             Keeps policy (P.rules policy) net u node
@@ -143,6 +146,7 @@ impl<P: Policy + Copy> Node<P> {
         session: Session,
         outputs: &mut Vec<Output>,
     ) -> Result<Node<P>, NoMemory>
+        ensures agreement { IfOk result (λ node. AgreesAs self.agreement.value node.agreement.value) }
         ensures node { IfOk result (λ node. (policy : P) (net : Net) (u : ℕ) (carried : Carried) (past : Chronicle) →
             StandsFor policy (P.rules policy) net u self past → MayEnter net u (log_of u past) All (Up nbr session) →
             Keeps policy (P.rules policy) net u node (open_session carried u nbr session past)) }
@@ -172,6 +176,7 @@ impl<P: Policy + Copy> Node<P> {
         session: Session,
         outputs: &mut Vec<Output>,
     ) -> Result<Node<P>, NoMemory>
+        ensures agreement { IfOk result (λ node. AgreesAs self.agreement.value node.agreement.value) }
         ensures node { IfOk result (λ node. (policy : P) (net : Net) (u : ℕ) (carried : Carried) (past : Chronicle) →
             Keeps policy (P.rules policy) net u self past → has (neighbours net u) nbr ≡ true →
             held_with u nbr past ≡ Some session →
@@ -202,6 +207,7 @@ impl<P: Policy + Copy> Node<P> {
         item: Item,
         outputs: &mut Vec<Output>,
     ) -> Result<Node<P>, NoMemory>
+        ensures agreement { IfOk result (λ node. AgreesAs self.agreement.value node.agreement.value) }
         ensures node { IfOk result (λ node. (policy : P) (net : Net) (u : ℕ) (carried : Carried) (past : Chronicle) →
             StandsFor policy (P.rules policy) net u self past → MayTake net u past from session (item_of item) →
             Keeps policy (P.rules policy) net u node
@@ -240,6 +246,7 @@ impl<P: Policy + Copy> Node<P> {
     /// Does what the node is to do, and hands out what comes of it.
     #[inline(always)]
     pub(crate) fn act(self, act: Act, outputs: &mut Vec<Output>) -> Result<Node<P>, NoMemory>
+        ensures agreement { IfOk result (λ node. AgreesAs self.agreement.value node.agreement.value) }
         ensures node { IfOk result (λ node. (policy : P) (net : Net) (u : ℕ) (carried : Carried) (past : Chronicle) →
             StandsFor policy (P.rules policy) net u self past → MayDo net u past act →
             Keeps policy (P.rules policy) net u node (acted (P.rules policy) net carried u past act)) }

@@ -6,23 +6,25 @@ ghost use Rattle.trigger_log.specs.Entries.{inbox, is_session};
 ghost use Rattle.trigger_log.specs.Going.{item_of};
 ghost use Rattle.chronicle.specs.Epochs.{epoch};
 ghost use Rattle.chronicle.specs.Facts.{Chronicle};
-ghost use Rattle.chronicle.specs.Giving.{give, out_of_turn};
+ghost use Rattle.chronicle.specs.Giving.{answer, out_of_turn};
 ghost use Rattle.chronicle.specs.Inputs.{Arrive, Notice, OpenSession};
 ghost use Rattle.chronicle.specs.Logs.{log_of};
 ghost use Rattle.chronicle.specs.Run.{held_with};
 ghost use Rattle.chronicle.specs.Steps.{Carried, Goes, Idle};
 ghost use Rattle.node_core.specs.Coming.{MayCome};
-ghost use Rattle.node_core.specs.Deciding.{MayDo, acted};
+ghost use Rattle.node_core.specs.Deciding.{IsTask, MayDo, acted};
 ghost use Rattle.node_core.specs.Inputs.{input_of};
 ghost use Rattle.node_core.specs.Standing.{StandsFor};
 
 use crate::inputs::Input;
 use crate::node::Node;
+use consolidator::Message;
+use epoch_packet::Packet;
 use path_vector::{Cause, Policy};
-use topology::{Epoch, Item, NodeId, Reason, Scope, Session};
+use topology::{Epoch, Item, NodeId, PrefixId, Reason, Scope, Session};
 
 /// What a node is to do.
-#[derive(Debug, Drop)]
+#[derive(Drop)]
 pub enum Act {
     /// To make an entry of its own accord.
     Enter {
@@ -46,15 +48,47 @@ pub enum Act {
     },
 }
 
+/// What the node's part in the agreements is asked about.
+#[derive(Drop)]
+pub enum Asked {
+    /// To start a ballot for the value of the epoch.
+    Propose(Epoch),
+    /// To hear a control message.
+    Hear { from: NodeId, message: Message },
+}
+
+/// What is to be done with a packet.
+#[derive(Drop)]
+pub enum Passing {
+    /// It enters the network here.
+    Enter {
+        id: u32,
+        prefix: PrefixId,
+    },
+    /// It goes on from here, where the links to these neighbours are up.
+    GoOn {
+        packet: Box<Packet>,
+        up: Vec<NodeId>,
+    },
+}
+
+/// What an input asks for.
+#[derive(Drop)]
+pub enum Task {
+    Perform(Act),
+    Ask(Asked),
+    Pass(Passing),
+}
+
 impl<P: Policy + Copy> Node<P> {
-    /// What the node is to do with an input, or why it does nothing.
-    pub(crate) fn decide(&self, input: Input) -> Result<Act, Reason>
-        ensures act { IfOk result (λ act. (policy : P) (net : Net) (u : ℕ) (carried : Carried) (past : Chronicle) →
+    /// What an input asks for, or why the node does nothing with it.
+    pub(crate) fn decide(&self, input: Input) -> Result<Task, Reason>
+        ensures task { IfOk result (λ task. (policy : P) (net : Net) (u : ℕ) (past : Chronicle) →
             StandsFor policy (P.rules policy) net u self.now past → MayCome net u (input_of input) →
-            MayDo net u past act × (give (P.rules policy) net carried u past (input_of input) ≡ Goes (acted (P.rules policy) net carried u past act))) }
+            IsTask (P.rules policy) net u past task (input_of input)) }
         ensures reason { IfErr result (λ reason. (policy : P) (net : Net) (u : ℕ) (carried : Carried) (past : Chronicle) →
             StandsFor policy (P.rules policy) net u self.now past → MayCome net u (input_of input) →
-            give (P.rules policy) net carried u past (input_of input) ≡ Idle reason) }
+            answer (P.rules policy) net carried u past (input_of input) ≡ Idle reason) }
     {
         match input {
             Input::Originate(prefix) => {
@@ -63,7 +97,7 @@ impl<P: Policy + Copy> Node<P> {
                 }
                 let scope = Scope::One(prefix);
                 let cause = Cause::Originate;
-                Ok(Act::Enter { scope, cause })
+                Ok(Task::Perform(Act::Enter { scope, cause }))
             }
             Input::Withdraw(prefix) => {
                 if !self.log.live().owns(prefix) {
@@ -71,23 +105,29 @@ impl<P: Policy + Copy> Node<P> {
                 }
                 let scope = Scope::One(prefix);
                 let cause = Cause::Withdraw;
-                Ok(Act::Enter { scope, cause })
+                Ok(Task::Perform(Act::Enter { scope, cause }))
             }
             Input::Prefer { nbr, value } => {
                 let scope = Scope::All;
                 let cause = Cause::Prefer { nbr, value };
-                Ok(Act::Enter { scope, cause })
+                Ok(Task::Perform(Act::Enter { scope, cause }))
             }
             Input::Arrive {
                 from,
                 session,
                 item,
-            } => self.decide_item(from, session, item),
-            Input::Notice(nbr) => self.decide_closing(nbr),
-            Input::OpenSession { nbr, session } => self.decide_opening(nbr, session),
-            Input::Snap => Ok(Act::Rise {
+            } => Ok(Task::Perform(self.decide_item(from, session, item)?)),
+            Input::Notice(nbr) => Ok(Task::Perform(self.decide_closing(nbr)?)),
+            Input::OpenSession { nbr, session } => {
+                Ok(Task::Perform(self.decide_opening(nbr, session)?))
+            }
+            Input::Snap => Ok(Task::Perform(Act::Rise {
                 epoch: self.next_epoch(),
-            }),
+            })),
+            Input::Propose(epoch) => Ok(Task::Ask(Asked::Propose(epoch))),
+            Input::Control { from, message } => Ok(Task::Ask(Asked::Hear { from, message })),
+            Input::Inject { id, prefix } => Ok(Task::Pass(Passing::Enter { id, prefix })),
+            Input::Hop { packet, up } => Ok(Task::Pass(Passing::GoOn { packet, up })),
         }
     }
 
@@ -95,10 +135,10 @@ impl<P: Policy + Copy> Node<P> {
     fn decide_item(&self, from: NodeId, session: Session, item: Item) -> Result<Act, Reason>
         ensures act { IfOk result (λ act. (policy : P) (net : Net) (u : ℕ) (carried : Carried) (past : Chronicle) →
             StandsFor policy (P.rules policy) net u self.now past → MayCome net u (Arrive from session (item_of item)) →
-            MayDo net u past act × (give (P.rules policy) net carried u past (Arrive from session (item_of item)) ≡ Goes (acted (P.rules policy) net carried u past act))) }
+            MayDo net u past act × (answer (P.rules policy) net carried u past (Arrive from session (item_of item)) ≡ Goes (acted (P.rules policy) net carried u past act))) }
         ensures reason { IfErr result (λ reason. (policy : P) (net : Net) (u : ℕ) (carried : Carried) (past : Chronicle) →
             StandsFor policy (P.rules policy) net u self.now past → MayCome net u (Arrive from session (item_of item)) →
-            give (P.rules policy) net carried u past (Arrive from session (item_of item)) ≡ Idle reason) }
+            answer (P.rules policy) net carried u past (Arrive from session (item_of item)) ≡ Idle reason) }
     {
         if !self.holds(from, session) {
             return Err(Reason::WrongSession);
@@ -156,10 +196,10 @@ impl<P: Policy + Copy> Node<P> {
     fn decide_closing(&self, nbr: NodeId) -> Result<Act, Reason>
         ensures act { IfOk result (λ act. (policy : P) (net : Net) (u : ℕ) (carried : Carried) (past : Chronicle) →
             StandsFor policy (P.rules policy) net u self.now past → MayCome net u (Notice nbr) →
-            MayDo net u past act × (give (P.rules policy) net carried u past (Notice nbr) ≡ Goes (acted (P.rules policy) net carried u past act))) }
+            MayDo net u past act × (answer (P.rules policy) net carried u past (Notice nbr) ≡ Goes (acted (P.rules policy) net carried u past act))) }
         ensures reason { IfErr result (λ reason. (policy : P) (net : Net) (u : ℕ) (carried : Carried) (past : Chronicle) →
             StandsFor policy (P.rules policy) net u self.now past → MayCome net u (Notice nbr) →
-            give (P.rules policy) net carried u past (Notice nbr) ≡ Idle reason) }
+            answer (P.rules policy) net carried u past (Notice nbr) ≡ Idle reason) }
     {
         let Some(session) = self.log.held(nbr) else {
             return Err(Reason::NotOpen);
@@ -173,10 +213,10 @@ impl<P: Policy + Copy> Node<P> {
     fn decide_opening(&self, nbr: NodeId, session: Session) -> Result<Act, Reason>
         ensures act { IfOk result (λ act. (policy : P) (net : Net) (u : ℕ) (carried : Carried) (past : Chronicle) →
             StandsFor policy (P.rules policy) net u self.now past → MayCome net u (OpenSession nbr session) →
-            MayDo net u past act × (give (P.rules policy) net carried u past (OpenSession nbr session) ≡ Goes (acted (P.rules policy) net carried u past act))) }
+            MayDo net u past act × (answer (P.rules policy) net carried u past (OpenSession nbr session) ≡ Goes (acted (P.rules policy) net carried u past act))) }
         ensures reason { IfErr result (λ reason. (policy : P) (net : Net) (u : ℕ) (carried : Carried) (past : Chronicle) →
             StandsFor policy (P.rules policy) net u self.now past → MayCome net u (OpenSession nbr session) →
-            give (P.rules policy) net carried u past (OpenSession nbr session) ≡ Idle reason) }
+            answer (P.rules policy) net carried u past (OpenSession nbr session) ≡ Idle reason) }
     {
         if self.log.held(nbr).is_some() {
             return Err(Reason::AlreadyOpen);

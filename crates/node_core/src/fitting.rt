@@ -4,31 +4,34 @@ ghost use Rattle.topology.specs.Lists.{has};
 ghost use Rattle.topology.specs.Net.{Net, neighbours};
 ghost use Rattle.trigger_log.specs.Going.{item_of};
 ghost use Rattle.chronicle.specs.Facts.{Chronicle};
-ghost use Rattle.node_core.specs.Fits.{are_nodes, fits, item_fits, path_fits, trigger_fits};
+ghost use Rattle.node_core.specs.Fits.{fits, item_fits, path_fits};
 ghost use Rattle.node_core.specs.Inputs.{input_of};
+ghost use Rattle.node_core.specs.Names.{are_nodes, trigger_fits};
 ghost use Rattle.node_core.specs.Standing.{StandsFor};
 
+use crate::control_fitting::{epoch_fits, message_fits};
 use crate::inputs::Input;
 use crate::limits::{MOST_EPOCHS, MOST_PREFERENCE};
 use crate::node::Node;
+use crate::packet_fitting::{are_links, packet_fits};
 use path_vector::Policy;
 use topology::{Item, NodeId, Path, Topology, Trigger};
 
-fn is_among(nodes: &[NodeId], node: NodeId) -> bool
+pub(crate) fn is_among(nodes: &[NodeId], node: NodeId) -> bool
     ensures { result ≡ has nodes.now node }
 {
     nodes.contains(&node)
 }
 
 // Whether it is a node of the network.
-fn is_node(topology: &Topology, node: NodeId) -> bool
+pub(crate) fn is_node(topology: &Topology, node: NodeId) -> bool
     ensures { result ≡ has topology.now.nodes node }
 {
     topology.rank_of(node).is_some()
 }
 
 // Whether all of them are nodes of the network.
-fn are_nodes(topology: &Topology, nodes: &[NodeId]) -> bool
+pub(crate) fn are_nodes(topology: &Topology, nodes: &[NodeId]) -> bool
     ensures { result ≡ are_nodes topology.now nodes.now }
 {
     match nodes {
@@ -47,7 +50,7 @@ fn path_fits(topology: &Topology, from: NodeId, path: &Option<Path>) -> bool
     path.nodes().first() == Some(&from) && are_nodes(topology, path.nodes())
 }
 
-fn trigger_fits(topology: &Topology, trigger: &Trigger) -> bool
+pub(crate) fn trigger_fits(topology: &Topology, trigger: &Trigger) -> bool
     ensures { result ≡ trigger_fits topology.now trigger.now }
 {
     is_node(topology, trigger.node) && trigger.count >= 1
@@ -75,10 +78,10 @@ fn item_fits(topology: &Topology, from: NodeId, item: &Item) -> bool
 }
 
 impl<P: Policy + Copy> Node<P> {
-    /// Whether the names of the input are in the network, its other node is a neighbour, the path of
-    /// an update begins with its sender, and each number is in its range: sessions and numbers of
-    /// updates from 1, preferences up to a million, epochs from 1 to 32, in a greeting from 0. Takes no
-    /// memory.
+    /// Whether the names of the input are in the network, its other node and those at the ends of the links that are
+    /// up are neighbours, these ascending, the path of an update begins with its sender, and each number is in its
+    /// range: sessions, numbers of updates and of packets from 1, preferences up to a million, epochs from 1 to 32, in
+    /// a greeting and on a packet from 0; a packet carries lists of 64 nodes at most. Takes no memory.
     pub fn fits(&self, input: &Input) -> bool
         ensures fits { (policy : P) (net : Net) (u : ℕ) (past : Chronicle) →
             StandsFor policy (P.rules policy) net u self.now past → result ≡ fits net u (input_of input.now) }
@@ -99,6 +102,14 @@ impl<P: Policy + Copy> Node<P> {
             Input::Notice(nbr) => self.is_near(*nbr),
             Input::OpenSession { nbr, session } => self.is_near(*nbr) && session.number() >= 1,
             Input::Snap => true,
+            Input::Propose(epoch) => epoch_fits(*epoch),
+            Input::Control { from, message } => message_fits(&self.topology, *from, message),
+            Input::Inject { id, prefix } => {
+                *id >= 1 && prefix.place() < self.topology.prefix_count()
+            }
+            Input::Hop { packet, up } => {
+                packet_fits(&self.topology, packet) && are_links(&self.topology, self.id, up)
+            }
         }
     }
 

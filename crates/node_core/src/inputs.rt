@@ -1,7 +1,10 @@
 //! What comes to a node.
-use topology::{Item, NodeId, PrefixId, Session};
+use consolidator::Message;
+use epoch_packet::Packet;
+use topology::{Epoch, Item, NodeId, PrefixId, Session};
 
-/// Something that comes to a node: from its user, over a link, or from the layer that knows the links.
+/// Something that comes to a node: from its user, over a link, from the layer that knows the links, over the
+/// control network, or with a packet.
 #[derive(Debug, Drop)]
 pub enum Input {
     /// The node is to originate the prefix.
@@ -28,4 +31,21 @@ pub enum Input {
     },
     /// The node is to begin a snapshot.
     Snap,
+    /// The node is to start a ballot for the value of the epoch.
+    Propose(Epoch),
+    /// A control message of a node, which may be the node itself.
+    Control {
+        from: NodeId,
+        message: Message,
+    },
+    /// A packet with this number enters the network here, on its way to the prefix.
+    Inject {
+        id: u32,
+        prefix: PrefixId,
+    },
+    /// A packet stands here; the links to these neighbours are up, ascending.
+    Hop {
+        packet: Box<Packet>,
+        up: Vec<NodeId>,
+    },
 }

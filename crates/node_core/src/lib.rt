@@ -2,16 +2,24 @@
 #![tactic(auto)]
 
 mod acting;
+pub mod agreement;
+pub mod answers;
+mod control_fitting;
 mod deciding;
 mod fitting;
+mod forwarding;
 pub mod inputs;
 pub mod laws;
 pub mod limits;
 mod marks;
 pub mod node;
 pub mod outputs;
+mod packet_fitting;
+mod publishing;
 mod reports;
 
+#[doc(hidden)]
+pub use agreement::Agreement;
 pub use inputs::Input;
 pub use node::Node;
 pub use outputs::{Output, OutputList, Outputs, Stop};

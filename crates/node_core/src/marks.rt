@@ -8,28 +8,51 @@ ghost use Rattle.trigger_log.specs.Standing.{StandsFor as LogStandsFor};
 ghost use Rattle.marker_snapshot.specs.Acts.{Acts, Takes};
 ghost use Rattle.marker_snapshot.specs.Cuts.{epoch_of};
 ghost use Rattle.marker_snapshot.specs.Standing.{StandsFor as SnapshotsStandFor};
+ghost use Rattle.incomplete_closure.specs.Seen.{report_seen};
 ghost use Rattle.epoch_report.specs.Reporting.{report_of};
+ghost use Rattle.consolidator.specs.Messages.{Reports};
 ghost use Rattle.chronicle.specs.Facts.{Chronicle, Took};
 ghost use Rattle.chronicle.specs.Logs.{log_of};
 ghost use Rattle.chronicle.specs.Run.{held_with};
-ghost use Rattle.chronicle.specs.Steps.{Carried, markers, meet_mark, take_cut};
+ghost use Rattle.chronicle.specs.Steps.{Carried, markers, meet_mark, raise};
+ghost use Rattle.node_core.specs.Agreeing.{AgreesAs};
 ghost use Rattle.node_core.specs.Keeping.{Keeps, KeepsAllBut};
-ghost use Rattle.node_core.specs.Outputs.{Hands, Send, output_of};
+ghost use Rattle.node_core.specs.Outputs.{Hands, Mail as Mailed, Send, output_of};
 ghost use Rattle.node_core.specs.Standing.{StandsFor};
 
 use crate::node::Node;
 use crate::outputs::Output;
+use consolidator::{Mail, Message};
 use epoch_report::report_of;
+use incomplete_closure::Report;
 use path_vector::Policy;
+use std::rc::Rc;
 use topology::{Epoch, Item, NoMemory, NodeId, Session};
 use trigger_log::Outgoing;
+
+// The report goes to each consolidator.
+fn mail_report(
+    consolidators: &[NodeId],
+    report: &Rc<Report>,
+    outputs: &mut Vec<Output>,
+) -> Result<(), NoMemory>
+    ensures { OnOk result (map output_of outputs.new.items ≡ map output_of outputs.old.items
+        ++ map (λ to. Mailed to (Reports (report_seen report.now.value))) consolidators.now) }
+{
+    for to in consolidators {
+        let message = Message::Report(report.clone()?);
+        let mail = Mail { to: *to, message };
+        outputs.push(Output::Mail(mail))?;
+    }
+    Ok(())
+}
 
 impl<P: Policy + Copy> Node<P> {
     // A marker goes out in each session that the node holds, ready or not, by neighbour, ascending.
     fn send_markers(&self, epoch: Epoch, outputs: &mut Vec<Output>) -> Result<(), NoMemory>
         ensures { OnOk result ((policy : P) (net : Net) (u : ℕ) (h : List Entry) →
             self.now.topology.value ≡ net → self.now.id ≡ u →
-            LogStandsFor policy (P.rules policy) net u self.now.log h →
+            LogStandsFor policy (P.rules policy) net u self.now.log.value h →
             map output_of outputs.new.items ≡ map output_of outputs.old.items ++ map Send (markers net u epoch h)) }
     {
         for nbr in self.topology.neighbours(self.id) {
@@ -45,24 +68,26 @@ impl<P: Policy + Copy> Node<P> {
         Ok(())
     }
 
-    /// The epoch rises: the node takes its cut, sends its markers, and keeps its report of the cut.
+    /// The epoch rises: the node takes its cut, sends its markers, and mails its report of the cut, which it keeps.
     #[inline(always)]
     pub(crate) fn raise(self, epoch: Epoch, outputs: &mut Vec<Output>) -> Result<Node<P>, NoMemory>
         ensures others { IfOk result (λ node. KeepsAllBut self node) }
         ensures snapshots { IfOk result (λ node. (policy : P) (net : Net) (u : ℕ) (h : List Entry) (acts : Acts) →
-            self.topology.value ≡ net → LogStandsFor policy (P.rules policy) net u self.log h →
-            SnapshotsStandFor net u self.snapshots acts → epoch_of acts < epoch →
-            SnapshotsStandFor net u node.snapshots (Takes epoch h ∷ acts)) }
+            self.topology.value ≡ net → LogStandsFor policy (P.rules policy) net u self.log.value h →
+            SnapshotsStandFor net u self.snapshots.value acts → epoch_of acts < epoch →
+            SnapshotsStandFor net u node.snapshots.value (Takes epoch h ∷ acts)) }
         ensures reports { IfOk result (λ node. (policy : P) (net : Net) (u : ℕ) (h : List Entry) →
-            LogStandsFor policy (P.rules policy) net u self.log h →
-            node.reports ≡ self.reports ++ report_of (P.rules policy) net u epoch h ∷ []) }
+            LogStandsFor policy (P.rules policy) net u self.log.value h →
+            node.agreement.value.reports ≡ self.agreement.value.reports ++ report_of (P.rules policy) net u epoch h ∷ []) }
         ensures outputs { OnOk result ((policy : P) (net : Net) (u : ℕ) (carried : Carried) (first past : Chronicle) →
             self.topology.value ≡ net → self.id ≡ u →
-            LogStandsFor policy (P.rules policy) net u self.log (log_of u past) →
-            Hands first outputs.old.items past → Hands first outputs.new.items (take_cut net carried u epoch past)) }
+            LogStandsFor policy (P.rules policy) net u self.log.value (log_of u past) →
+            Hands first outputs.old.items past → Hands first outputs.new.items (raise (P.rules policy) net carried u epoch past)) }
     {
         outputs.push(Output::Cut { epoch })?;
         self.send_markers(epoch, outputs)?;
+        let report = Rc::new(self.alloc, report_of(self.alloc, &self.log, epoch)?)?;
+        mail_report(self.topology.consolidators(), &report, outputs)?;
         let Node {
             alloc,
             topology,
@@ -70,10 +95,11 @@ impl<P: Policy + Copy> Node<P> {
             log,
             updates,
             snapshots,
-            mut reports,
+            mut agreement,
         } = self;
-        let snapshots = snapshots.take(epoch, &log, &topology)?;
-        reports.keep(report_of(alloc, &log, epoch)?)?;
+        let taken = Box::into_inner(snapshots).take(epoch, &log, &topology)?;
+        let snapshots = Box::new(alloc, taken)?;
+        agreement.reports.keep(report)?;
         Ok(Node {
             alloc,
             topology,
@@ -81,7 +107,7 @@ impl<P: Policy + Copy> Node<P> {
             log,
             updates,
             snapshots,
-            reports,
+            agreement,
         })
     }
 
@@ -95,13 +121,14 @@ impl<P: Policy + Copy> Node<P> {
         mark: Epoch,
         outputs: &mut Vec<Output>,
     ) -> Result<Node<P>, NoMemory>
+        ensures agreement { IfOk result (λ node. AgreesAs self.agreement.value node.agreement.value) }
         ensures node { IfOk result (λ node. (policy : P) (net : Net) (u : ℕ) (carried : Carried) (past : Chronicle) (item : Gone) →
             StandsFor policy (P.rules policy) net u self past → has (neighbours net u) nbr ≡ true →
             held_with u nbr past ≡ Some session → mark_of item ≡ Some mark →
-            Keeps policy (P.rules policy) net u node (meet_mark net carried u mark (Took nbr u session item ∷ past))) }
+            Keeps policy (P.rules policy) net u node (meet_mark (P.rules policy) net carried u mark (Took nbr u session item ∷ past))) }
         ensures outputs { OnOk result ((policy : P) (net : Net) (u : ℕ) (carried : Carried) (past : Chronicle) (item : Gone) (first : Chronicle) →
             StandsFor policy (P.rules policy) net u self past → Hands first outputs.old.items past →
-            Hands first outputs.new.items (meet_mark net carried u mark (Took nbr u session item ∷ past))) }
+            Hands first outputs.new.items (meet_mark (P.rules policy) net carried u mark (Took nbr u session item ∷ past))) }
     {
         let mut node = self;
         if node.snapshots.epoch() < mark {

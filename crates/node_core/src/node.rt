@@ -1,11 +1,13 @@
-//! A node: its log, its snapshots and its reports.
-ghost use Rattle.std.specs.Prelude.{◌≡◌, ℕ, [], option_map, IfOk, IfErr};
+//! A node: its log, its snapshots, and what it keeps of epochs.
+ghost use Rattle.std.specs.Prelude.{◌≡◌, ◌∷◌, ℕ, [], option_copied, option_map, IfOk, IfErr};
 ghost use Rattle.topology.specs.Net.{Net};
 ghost use Rattle.trigger_log.specs.Standing.{StandsFor as LogStandsFor};
 ghost use Rattle.incomplete_closure.specs.Seen.{report_seen};
 ghost use Rattle.epoch_report.specs.Reporting.{report_of};
+ghost use Rattle.stable_table.specs.TwoTables.{StandsFor as TablesStandFor};
+ghost use Rattle.chronicle.specs.Control.{decision};
 ghost use Rattle.chronicle.specs.Epochs.{cut};
-ghost use Rattle.chronicle.specs.Facts.{Chronicle};
+ghost use Rattle.chronicle.specs.Facts.{Chronicle, Crash};
 ghost use Rattle.chronicle.specs.Giving.{give};
 ghost use Rattle.chronicle.specs.Logs.{log_of};
 ghost use Rattle.chronicle.specs.Run.{chronicle_of};
@@ -15,30 +17,37 @@ ghost use Rattle.node_core.specs.Inputs.{input_of};
 ghost use Rattle.node_core.specs.NodeLimits.{node_limit, StopsAt};
 ghost use Rattle.node_core.specs.Outputs.{Answers};
 ghost use Rattle.node_core.specs.Standing.{HasSnapshots, StandsFor};
+ghost use Rattle.node_core.specs.Views.{views};
 
+use crate::agreement::Agreement;
+use crate::answers::Answer;
 use crate::inputs::Input;
 use crate::outputs::{OutputList, Outputs, Stop};
 use crate::reports::Reports;
-use incomplete_closure::Report;
+use consolidator::Consolidator;
+use incomplete_closure::{Report, Value};
 use marker_snapshot::Snapshots;
 use path_vector::Policy;
+use stable_table::TwoTables;
 use std::alloc::Global;
 use std::rc::Rc;
 use topology::{Epoch, NoMemory, NodeId, Topology};
 use trigger_log::NodeLog;
 
-/// One node of a network: its log, its snapshots and its reports. It knows its neighbours by the network, and
-/// nothing of its links: whether an item that it sends arrives is not its affair.
+/// One node of a network: its log, its snapshots, its part in the agreement on the value of each epoch, and its
+/// tables. It knows its neighbours by the network, and nothing of its links but what it is told with a packet: whether
+/// an item that it sends arrives is not its affair. It keeps nothing of packets. What it keeps stands behind boxes, so
+/// that a node that moves carries a few words.
 #[derive(Drop)]
 pub struct Node<P: Policy + Copy> {
     pub(crate) alloc: Global,
     pub(crate) topology: Rc<Topology>,
     pub(crate) id: NodeId,
-    pub(crate) log: NodeLog<P>,
+    pub(crate) log: Box<NodeLog<P>>,
     // How many items the entries of the log list.
     pub(crate) updates: usize,
-    pub(crate) snapshots: Snapshots,
-    pub(crate) reports: Reports,
+    pub(crate) snapshots: Box<Snapshots>,
+    pub(crate) agreement: Box<Agreement>,
 }
 
 impl<P: Policy + Copy> Node<P> {
@@ -52,20 +61,29 @@ impl<P: Policy + Copy> Node<P> {
         ensures { IfOk result (λ node. StandsFor policy (P.rules policy) topology.value id node []) }
     {
         let log = NodeLog::new(alloc, &topology, id, policy)?;
+        let log = Box::new(alloc, log)?;
+        let snapshots = Box::new(alloc, Snapshots::new(alloc))?;
+        let kept = Agreement {
+            reports: Reports::new(alloc),
+            consolidator: Consolidator::new(alloc, &topology, id)?,
+            tables: TwoTables::new(),
+        };
+        let agreement = Box::new(alloc, kept)?;
         Ok(Node {
             alloc,
             topology,
             id,
             log,
             updates: 0,
-            snapshots: Snapshots::new(alloc),
-            reports: Reports::new(alloc),
+            snapshots,
+            agreement,
         })
     }
 
     /// What the node does with an input. Where it does nothing it answers the reason, and is as it
-    /// was. It stops at a limit exactly where the input would take a count of its own above its
-    /// number, unless memory is wanted first. Which links are up changes nothing of what it answers.
+    /// was. A table that the input completes is published last. It stops at a limit exactly where the input would take
+    /// a count of its own above its number, or have it propose a value with more triggers than one may have, unless
+    /// memory is wanted first. Which links carry what it sends changes nothing of what it answers.
     #[inline(always)]
     pub fn handle(self, input: Input) -> Result<(Node<P>, Outputs), Stop>
         ensures node { IfOk result (λ r. (policy : P) (net : Net) (u : ℕ) (carried : Carried) (past : Chronicle) →
@@ -78,12 +96,13 @@ impl<P: Policy + Copy> Node<P> {
             StandsFor policy (P.rules policy) net u self past → MayCome net u (input_of input) →
             StopsAt (node_limit (P.rules policy) net u (give (P.rules policy) net carried u past (input_of input))) stop) }
     {
-        let act = match self.decide(input) {
-            Ok(act) => act,
-            Err(reason) => return Ok((self, Outputs::Idle(reason))),
+        let (node, answer) = self.answer(input)?;
+        let (mut outputs, due) = match answer {
+            Answer::Did(outputs, due) => (outputs, due),
+            Answer::Idle(reason) => return Ok((node, Outputs::Idle(reason))),
         };
-        let mut outputs = Vec::new(self.alloc);
-        let node = self.act(act, &mut outputs)?;
+        let mut node = node;
+        node.conclude(due, &mut outputs)?;
         if let Some(stop) = node.limit() {
             return Err(stop);
         }
@@ -122,6 +141,34 @@ impl<P: Policy + Copy> Node<P> {
             option_map (λ report. report_seen report.now.value) result
             ≡ option_map (report_of (P.rules policy) net u epoch) (cut u epoch past) }
     {
-        self.reports.of(epoch)
+        self.agreement.reports.of(epoch)
+    }
+
+    /// A crash of the node: the reports that it holds as a consolidator and its tallies are lost, all else stays. Takes
+    /// no memory.
+    pub fn forget(&mut self)
+        ensures { (policy : P) (net : Net) (u : ℕ) (past : Chronicle) →
+            StandsFor policy (P.rules policy) net u self.old past →
+            StandsFor policy (P.rules policy) net u self.new (Crash u ∷ past) }
+    {
+        self.agreement.forget();
+    }
+
+    /// The decision of the epoch, where the node knows it. Takes no memory.
+    pub fn decision(&self, epoch: Epoch) -> Option<&Value>
+        ensures { (policy : P) (net : Net) (u : ℕ) (past : Chronicle) →
+            StandsFor policy (P.rules policy) net u self.now past →
+            option_copied result ≡ decision u epoch past }
+    {
+        self.agreement.consolidator.decision(epoch)
+    }
+
+    /// The tables that the node published and keeps.
+    pub fn tables(&self) -> &TwoTables
+        ensures { (policy : P) (net : Net) (u : ℕ) (past : Chronicle) →
+            StandsFor policy (P.rules policy) net u self.now past →
+            TablesStandFor result.now (views (P.rules policy) net u past) }
+    {
+        &self.agreement.tables
     }
 }

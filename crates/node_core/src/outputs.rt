@@ -2,8 +2,12 @@
 ghost use Rattle.std.specs.Prelude.{◌≡◌};
 ghost use Rattle.node_core.specs.declared.outputs.Stop.TheVariants.{NoMemory};
 
+use consolidator::Mail;
+use epoch_packet::{End, Packet};
+use stable_table::Table;
 use std::marker::Model;
-use topology::{Epoch, LimitKind, NoMemory, Reason};
+use std::rc::Rc;
+use topology::{Epoch, LimitKind, NoMemory, NodeId, Reason};
 use trigger_log::Outgoing;
 
 /// Something that a node did, in the order in which it did it.
@@ -15,6 +19,15 @@ pub enum Output {
     Cut { epoch: Epoch },
     /// An item for a neighbour, in a session.
     Send(Outgoing),
+    /// A control message for a node, which may be the node itself.
+    Mail(Mail),
+    /// The node published this table. It is the last output of its input.
+    Published(Rc<Table>),
+    /// A packet, as it is from here on, for a neighbour; for the node itself where the packet enters the network or
+    /// leaves the stable tables.
+    Forward { next: NodeId, packet: Box<Packet> },
+    /// The walk of the packet with this number ended here.
+    Ended { id: u32, end: End },
 }
 
 /// The outputs of one input, the oldest first.

@@ -13,7 +13,6 @@ use topology::{Epoch, NoMemory};
 /// The reports that a node made, the oldest first. They are shared, not copied.
 #[derive(Drop)]
 pub struct Reports {
-    alloc: Global,
     list: Vec<Rc<Report>>,
 }
 
@@ -47,18 +46,16 @@ impl Reports {
         ensures { result ≡ [] }
     {
         Reports {
-            alloc,
             list: Vec::new(alloc),
         }
     }
 
     /// Keeps one more report.
-    pub fn keep(&mut self, report: Report) -> Result<(), NoMemory>
-        ensures kept { OnOk result (self.new ≡ self.old ++ report_seen report ∷ []) }
+    pub fn keep(&mut self, report: Rc<Report>) -> Result<(), NoMemory>
+        ensures kept { OnOk result (self.new ≡ self.old ++ report_seen report.value ∷ []) }
         ensures err { OnErr result (self.new ≡ self.old) }
     {
-        let shared = Rc::new(self.alloc, report)?;
-        self.list.push(shared)?;
+        self.list.push(report)?;
         Ok(())
     }
 

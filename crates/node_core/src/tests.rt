@@ -1,3 +1,6 @@
+mod agreements;
+mod packets;
+
 use crate::{Input, Node, Output, Outputs, Stop, laws};
 use marker_snapshot::Recording;
 use path_vector::ShortestAll;
@@ -24,6 +27,9 @@ enum Comes {
     Notice(u16),
     Open(u16, u32),
     Snap,
+    Propose(u32),
+    // a decision on the epoch, of a value that only node 2 responded to
+    Decide(u32),
 }
 
 // What it hands out: a neighbour, a session and a number, where it has them.
@@ -34,6 +40,10 @@ enum Shown {
     Update(u16, u32, u32),
     Marker(u16, u32, u32),
     Hello(u16, u32, u32),
+    Mail(u16),
+    Published(u32),
+    Forward(u16),
+    Ended(u32),
 }
 
 enum Answer {
@@ -42,7 +52,7 @@ enum Answer {
 }
 
 // What is done at node 2, between the nodes 1 and 3, with two prefixes. By hand.
-const CASES: [(Comes, Answer); 25] = [
+const CASES: [(Comes, Answer); 30] = [
     (
         Comes::Originate(1),
         Answer::Did(&[
@@ -89,6 +99,11 @@ const CASES: [(Comes, Answer); 25] = [
             Shown::Marker(3, 1, 1),
         ]),
     ),
+    // no consolidator, but each node hears decisions; it publishes its table of an epoch of which it has a cut
+    (Comes::Propose(1), Answer::Idle(Reason::NotConsolidator)),
+    (Comes::Decide(3), Answer::Did(&[])),
+    (Comes::Decide(1), Answer::Did(&[Shown::Published(1)])),
+    (Comes::Decide(1), Answer::Idle(Reason::Decided)),
     // the path of the higher neighbour is no better
     (
         Comes::Update(3, 1, 1, &[3]),
@@ -128,6 +143,8 @@ const CASES: [(Comes, Answer); 25] = [
             Shown::Update(1, 2, 2),
         ]),
     ),
+    // epoch 3 was skipped: there is no cut of it, and never a table
+    (Comes::Decide(4), Answer::Did(&[Shown::Published(4)])),
     // a mark that is not higher, and a second greeting: nothing to hand out
     (Comes::Marker(3, 1, 3), Answer::Did(&[])),
     (Comes::Hello(1, 2, 4), Answer::Did(&[])),
@@ -161,7 +178,7 @@ const CASES: [(Comes, Answer); 25] = [
 ];
 
 // What node 2 admits, and what it does not.
-const FITTING: [(Comes, bool); 26] = [
+const FITTING: [(Comes, bool); 32] = [
     (Comes::Originate(1), true),
     (Comes::Originate(2), false),
     (Comes::Withdraw(0), true),
@@ -188,6 +205,12 @@ const FITTING: [(Comes, bool); 26] = [
     (Comes::Open(3, 1), true),
     (Comes::Open(3, 0), false),
     (Comes::Snap, true),
+    (Comes::Propose(1), true),
+    (Comes::Propose(32), true),
+    (Comes::Propose(0), false),
+    (Comes::Propose(33), false),
+    (Comes::Decide(1), true),
+    (Comes::Decide(33), false),
 ];
 
 fn path_of(alloc: Global, nodes: &[u16]) -> Result<Option<Path>, Fail> {
@@ -242,6 +265,8 @@ fn input_of(alloc: Global, comes: Comes) -> Result<Input, Fail> {
             session: Session::new(session),
         },
         Comes::Snap => Input::Snap,
+        Comes::Propose(epoch) => Input::Propose(Epoch::new(epoch)),
+        Comes::Decide(epoch) => agreements::decided(alloc, 3, 2, epoch)?,
     })
 }
 
@@ -260,6 +285,10 @@ fn shown_output(output: &Output) -> Shown {
         Output::Logged { index } => Shown::Logged(*index),
         Output::Cut { epoch } => Shown::Cut(epoch.number()),
         Output::Send(out) => shown_item(out),
+        Output::Mail(mail) => Shown::Mail(mail.to.number()),
+        Output::Published(table) => Shown::Published(table.epoch().number()),
+        Output::Forward { next, .. } => Shown::Forward(next.number()),
+        Output::Ended { id, .. } => Shown::Ended(*id),
     }
 }
 

@@ -13,10 +13,10 @@ returns-clause-node g c policy net u carried past was may =
     let rules = g.P.Policy.rules policy in
     let h = log_of u past in
     let k = entry (c.args.trigger ∷ []) c.args.scope c.args.cause in
-    let made = appended policy rules c.deref.result.now net u h k c.args.self.log c.in_ok-log.log c.in_ok-log.outgoing.items (c.deref.ensures ∙ was.same_net) was.log may
+    let made = appended policy rules c.deref.result.now net u h k c.args.self.log.value c.in_ok-log.log.value c.in_ok-log.outgoing.items (c.deref.ensures ∙ was.same_net) was.log may
     (λ stands near placed fits. c.in_ok-log.ensures.log policy u h stands near placed fits)
     (λ stands near placed fits. c.in_ok-log.ensures.outgoing policy u h stands near placed fits) in
-    entered policy rules net u carried past k c.args.self _ was refl refl refl refl made.log (c.in_ok-updates.ensures policy net u k h made.log was.listed)
+    entered policy rules net u carried past k c.args.self _ was refl refl refl refl made.log ((rw c.deref-2.ensures at c.in_ok-updates.ensures) policy net u k h made.log was.listed)
 
 pub returns-clause-outputs : goal.returns-clause-outputs
 returns-clause-outputs g c policy net u carried past first was may hands =
@@ -24,11 +24,11 @@ returns-clause-outputs g c policy net u carried past first was may hands =
     let h = log_of u past in
     let k = entry (c.args.trigger ∷ []) c.args.scope c.args.cause in
     let gs = map going_of c.in_ok-log.outgoing.items in
-    let made = appended policy rules c.deref.result.now net u h k c.args.self.log c.in_ok-log.log c.in_ok-log.outgoing.items (c.deref.ensures ∙ was.same_net) was.log may
+    let made = appended policy rules c.deref.result.now net u h k c.args.self.log.value c.in_ok-log.log.value c.in_ok-log.outgoing.items (c.deref.ensures ∙ was.same_net) was.log may
     (λ stands near placed fits. c.in_ok-log.ensures.log policy u h stands near placed fits)
     (λ stands near placed fits. c.in_ok-log.ensures.outgoing policy u h stands near placed fits) in
     entered_hands rules net u carried past first k c.args.outputs.now.items c.send_all.new.outputs.items c.len.result gs
-    (c.len.ensures policy net u (k ∷ h) made.log) made.outgoing_is
+    ((rw c.deref-4.ensures at c.len.ensures) policy net u (k ∷ h) made.log) made.outgoing_is
     (two_lists c.args.outputs.now.items c.push.new.self.items c.send_all.new.outputs.items (Logged c.len.result) (map Send gs)
     (one_more c.args.outputs.now.items c.push.new.self.items (given.Logged c.len.result) (c.in_ok-push.ensures.items ∙ ap (λ l. l ++ given.Logged c.len.result ∷ []) c.make_room.ensures)) c.in_ok-send_all.ensures)
     hands

@@ -10,7 +10,7 @@ pub returns-clause-node : goal.returns-clause-node
 returns-clause-node g c = IfOk-weaker c.enter.result _ _
     (λ node h policy net u carried past was may.
     with_next (λ k. Keeps policy (g.P.Policy.rules policy) net u node (write (g.P.Policy.rules policy) net carried u k past)) u (log_of u past)
-    c.next_trigger-trigger.result c.args.scope c.args.cause (c.next_trigger-trigger.ensures policy net u (log_of u past) was.log)
+    c.next_trigger-trigger.result c.args.scope c.args.cause ((rw c.deref.ensures at c.next_trigger-trigger.ensures) policy net u (log_of u past) was.log)
     (h policy net u carried past was may))
     c.enter.ensures.node
 
@@ -18,6 +18,6 @@ pub returns-clause-outputs : goal.returns-clause-outputs
 returns-clause-outputs g c = on_ok_weaker c.enter.result
     (λ h policy net u carried past first was may hands.
     with_next (λ k. Hands first c.enter.new.outputs.items (write (g.P.Policy.rules policy) net carried u k past)) u (log_of u past)
-    c.next_trigger-trigger.result c.args.scope c.args.cause (c.next_trigger-trigger.ensures policy net u (log_of u past) was.log)
+    c.next_trigger-trigger.result c.args.scope c.args.cause ((rw c.deref.ensures at c.next_trigger-trigger.ensures) policy net u (log_of u past) was.log)
     (h policy net u carried past first was may hands))
     c.enter.ensures.outputs

@@ -1,5 +1,5 @@
 use Rattle.std.proofs.Common.{◌∙◌, sym, true≢false}
-use Rattle.node_core.proofs.Admitting.{fits_originate, fits_withdraw, fits_prefer, fits_prefer_far, fits_notice, fits_opening, fits_opening_far, fits_snap, fits_arrive, fits_arrive_zero, fits_arrive_far}
+use Rattle.node_core.proofs.Admitting.{fits_originate, fits_withdraw, fits_prefer, fits_prefer_far, fits_notice, fits_opening, fits_opening_far, fits_snap, fits_propose, fits_control, fits_inject, fits_inject_zero, fits_hop, fits_hop_not, fits_arrive, fits_arrive_zero, fits_arrive_far}
 use Rattle.node_core.proofs.node.Node.fits.Goals as goal
 use Rattle.node_core.proofs.node.Node.fits.Goals.{then-is_near-2, else-is_near-2}
 
@@ -76,3 +76,40 @@ returns-else-is_near-3 g c = record {
 
 pub returns-in-Snap : goal.returns-in-Snap
 returns-in-Snap g c = record { fits = λ policy net u past was. fits_snap net u c.args.input.now c.in-Snap.is }
+
+pub returns-in-Propose : goal.returns-in-Propose
+returns-in-Propose g c = record {
+  fits = λ policy net u past was. fits_propose net u c.args.input.now c.in-Propose.epoch c.epoch_fits.result c.in-Propose.is c.epoch_fits.ensures;
+}
+
+pub returns-in-Control : goal.returns-in-Control
+returns-in-Control g c = record {
+  fits = λ policy net u past was.
+      fits_control net u c.args.input.now c.in-Control.from c.in-Control.message c.message_fits.result c.deref-in-Control.result.now c.in-Control.is c.message_fits.ensures
+      (c.deref-in-Control.ensures ∙ was.keeps.same_net);
+}
+
+pub returns-then-id-ge1 : goal.returns-then-id-ge1
+returns-then-id-ge1 g c = record {
+  fits = λ policy net u past was.
+      fits_inject net u c.args.input.now c.in-Inject.id c.in-Inject.prefix c.place-then-id-ge1.result c.prefix_count-then-id-ge1.result c.deref-then-id-ge1.result.now c.in-Inject.is
+      c.place-then-id-ge1.ensures c.prefix_count-then-id-ge1.ensures.count (c.deref-then-id-ge1.ensures ∙ was.keeps.same_net) c.if-id-ge1.true;
+}
+
+pub returns-else-id-ge1 : goal.returns-else-id-ge1
+returns-else-id-ge1 g c = record { fits = λ policy net u past was. fits_inject_zero net u c.args.input.now c.in-Inject.id c.in-Inject.prefix c.in-Inject.is c.if-id-ge1.false }
+
+pub returns-then-packet_fits : goal.returns-then-packet_fits
+returns-then-packet_fits g c = record {
+  fits = λ policy net u past was.
+      fits_hop net u c.args.input.now c.in-Hop.packet c.in-Hop.up c.in-Hop.is c.deref-in-Hop-2.result.now c.deref-in-Hop-2.ensures c.are_links.result c.packet_fits.result c.deref-in-Hop.result.now
+      c.deref-then-packet_fits.result.now c.args.self.now.id c.deref-then-packet_fits-2.result.now c.packet_fits.ensures (c.deref-in-Hop.ensures ∙ was.keeps.same_net) c.if-packet_fits.true c.are_links.ensures
+      (c.deref-then-packet_fits.ensures ∙ was.keeps.same_net) was.keeps.same_id c.deref-then-packet_fits-2.ensures.value;
+}
+
+pub returns-else-packet_fits : goal.returns-else-packet_fits
+returns-else-packet_fits g c = record {
+  fits = λ policy net u past was.
+      fits_hop_not net u c.args.input.now c.in-Hop.packet c.in-Hop.up c.in-Hop.is c.deref-in-Hop-2.result.now c.deref-in-Hop-2.ensures c.packet_fits.result c.deref-in-Hop.result.now c.packet_fits.ensures
+      (c.deref-in-Hop.ensures ∙ was.keeps.same_net) c.if-packet_fits.false;
+}

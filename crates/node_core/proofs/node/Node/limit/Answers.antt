@@ -4,23 +4,27 @@ use Rattle.node_core.proofs.Counting.{epochs_above, entries_above, updates_above
 use Rattle.node_core.proofs.node.Node.limit.Goals as goal
 
 pub returns-then-number-gt-MOST_EPOCHS-clause-some : goal.returns-then-number-gt-MOST_EPOCHS-clause-some
-returns-then-number-gt-MOST_EPOCHS-clause-some g c policy net u past keeps =
-    epochs_above (g.P.Policy.rules policy) net u past c.number.result (c.number.ensures ∙ (c.epoch.ensures net u keeps.acts keeps.snapshots ∙ keeps.alike.same_epoch))
+returns-then-number-gt-MOST_EPOCHS-clause-some g c policy net u past follows =
+    let keeps = follows.keeps in
+    epochs_above (g.P.Policy.rules policy) net u past c.number.result (c.number.ensures ∙ ((rw c.deref.ensures at c.epoch.ensures) net u keeps.acts keeps.snapshots ∙ keeps.alike.same_epoch))
     c.if-number-gt-MOST_EPOCHS.true
 
 pub returns-then-len-gt-MOST_ENTRIES-clause-some : goal.returns-then-len-gt-MOST_ENTRIES-clause-some
-returns-then-len-gt-MOST_ENTRIES-clause-some g c policy net u past keeps =
-    entries_above (g.P.Policy.rules policy) net u past c.number.result (c.number.ensures ∙ (c.epoch.ensures net u keeps.acts keeps.snapshots ∙ keeps.alike.same_epoch))
-    c.len.result (c.len.ensures policy net u (log_of u past) keeps.log) c.if-number-gt-MOST_EPOCHS.false c.if-len-gt-MOST_ENTRIES.true
+returns-then-len-gt-MOST_ENTRIES-clause-some g c policy net u past follows =
+    let keeps = follows.keeps in
+    entries_above (g.P.Policy.rules policy) net u past c.number.result (c.number.ensures ∙ ((rw c.deref.ensures at c.epoch.ensures) net u keeps.acts keeps.snapshots ∙ keeps.alike.same_epoch))
+    follows.small c.len.result ((rw c.deref-2.ensures at c.len.ensures) policy net u (log_of u past) keeps.log) c.if-number-gt-MOST_EPOCHS.false c.if-len-gt-MOST_ENTRIES.true
 
 pub returns-then-self-clause-some : goal.returns-then-self-clause-some
-returns-then-self-clause-some g c policy net u past keeps =
-    updates_above (g.P.Policy.rules policy) net u past c.number.result (c.number.ensures ∙ (c.epoch.ensures net u keeps.acts keeps.snapshots ∙ keeps.alike.same_epoch))
-    c.len.result (c.len.ensures policy net u (log_of u past) keeps.log) c.if-number-gt-MOST_EPOCHS.false
+returns-then-self-clause-some g c policy net u past follows =
+    let keeps = follows.keeps in
+    updates_above (g.P.Policy.rules policy) net u past c.number.result (c.number.ensures ∙ ((rw c.deref.ensures at c.epoch.ensures) net u keeps.acts keeps.snapshots ∙ keeps.alike.same_epoch))
+    follows.small c.len.result ((rw c.deref-2.ensures at c.len.ensures) policy net u (log_of u past) keeps.log) c.if-number-gt-MOST_EPOCHS.false
     c.args.self.now.updates keeps.listed c.if-len-gt-MOST_ENTRIES.false c.if-self.true
 
 pub returns-clause-none : goal.returns-clause-none
-returns-clause-none g c policy net u past keeps =
-    none_above (g.P.Policy.rules policy) net u past c.number.result (c.number.ensures ∙ (c.epoch.ensures net u keeps.acts keeps.snapshots ∙ keeps.alike.same_epoch))
-    c.len.result (c.len.ensures policy net u (log_of u past) keeps.log) c.if-number-gt-MOST_EPOCHS.false
+returns-clause-none g c policy net u past follows =
+    let keeps = follows.keeps in
+    none_above (g.P.Policy.rules policy) net u past c.number.result (c.number.ensures ∙ ((rw c.deref.ensures at c.epoch.ensures) net u keeps.acts keeps.snapshots ∙ keeps.alike.same_epoch))
+    follows.small c.len.result ((rw c.deref-2.ensures at c.len.ensures) policy net u (log_of u past) keeps.log) c.if-number-gt-MOST_EPOCHS.false
     c.args.self.now.updates keeps.listed c.if-len-gt-MOST_ENTRIES.false c.if-self.false

@@ -19,7 +19,7 @@ loop-nbr-preserved-in_default g c = λ policy net u h same_net same_id log.
     let near = c.neighbours-nbr-items.ensures.neighbours ∙ (ap (λ n. neighbours n c.args.self.now.id) (c.deref.ensures ∙ same_net) ∙ ap (neighbours net) same_id) in
     let inside : i < length nodes = omega arith in
     let here : has (neighbours net u) w ≡ true = subst (λ ns. has ns w ≡ true) near (has_at nodes w i inside (get_or_default nodes i 0 w inside ∙ sym c.nbr-item.is)) in
-    let none = sym c.in_default.is ∙ c.held.ensures policy net u h log here in
+    let none = sym c.in_default.is ∙ (rw c.deref-in-loop-nbr.ensures at c.held.ensures) policy net u h log here in
     marker_more h c.args.epoch nodes i w None c.args.outputs.now.items old old inside c.nbr-item.is none
     (c.loop-nbr.invariant policy net u h same_net same_id log) (sym (append-nil (map output_of old)))
 
@@ -33,7 +33,7 @@ loop-nbr-preserved g c = λ policy net u h same_net same_id log.
     let near = c.neighbours-nbr-items.ensures.neighbours ∙ (ap (λ n. neighbours n c.args.self.now.id) (c.deref.ensures ∙ same_net) ∙ ap (neighbours net) same_id) in
     let inside : i < length nodes = omega arith in
     let here : has (neighbours net u) w ≡ true = subst (λ ns. has ns w ≡ true) near (has_at nodes w i inside (get_or_default nodes i 0 w inside ∙ sym c.nbr-item.is)) in
-    let some = sym c.in-Some.is ∙ c.held.ensures policy net u h log here in
+    let some = sym c.in-Some.is ∙ (rw c.deref-in-loop-nbr.ensures at c.held.ensures) policy net u h log here in
     marker_more h c.args.epoch nodes i w (Some s) c.args.outputs.now.items old c.push.new.self.items inside c.nbr-item.is some
     (c.loop-nbr.invariant policy net u h same_net same_id log)
     (one_more old c.push.new.self.items (given.Send (record { to = w; session = s; item = message.Marker c.args.epoch })) c.in_ok-push.ensures.items)

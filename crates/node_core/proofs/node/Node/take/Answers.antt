@@ -24,8 +24,8 @@ returns-in-Update-clause-node g c = IfOk-weaker c.enter.result _ _
     let path = c.in-Update.path in
     news_taken rules net u carried past v s (Keeps policy rules net u node) c.args.item p n t path c.in-Update.is
     (h policy net u carried (Took v u s (News n (record { prefix = p; triggers = t ∷ []; path = path })) ∷ past)
-    (heard_keeps policy rules net u past v s c.args.item p n t path c.in-Update.is may c.args.self _ was.own was.keeps (record { topology = refl; id = refl; log = refl; updates = refl }) refl
-    (λ acts stands next. c.on_update.ensures net u acts stands next))
+    (heard_keeps policy rules net u past v s c.args.item p n t path c.in-Update.is may c.args.self _ was.own was.keeps (record { topology = refl; id = refl; log = refl; updates = refl; agreement = record { part = refl; tables = refl } }) refl
+    (rw c.deref_mut.ensures.value at c.on_update.ensures net u))
     (may_enter policy rules net u past v s c.args.item p n t path c.in-Update.is may)))
     c.enter.ensures.node
 
@@ -41,8 +41,8 @@ returns-in-Update-clause-outputs g c = on_ok_weaker c.enter.result
     let path = c.in-Update.path in
     news_taken rules net u carried past v s (Hands first c.enter.new.outputs.items) c.args.item p n t path c.in-Update.is
     (h policy net u carried (Took v u s (News n (record { prefix = p; triggers = t ∷ []; path = path })) ∷ past) first
-    (heard_keeps policy rules net u past v s c.args.item p n t path c.in-Update.is may c.args.self _ was.own was.keeps (record { topology = refl; id = refl; log = refl; updates = refl }) refl
-    (λ acts stands next. c.on_update.ensures net u acts stands next))
+    (heard_keeps policy rules net u past v s c.args.item p n t path c.in-Update.is may c.args.self _ was.own was.keeps (record { topology = refl; id = refl; log = refl; updates = refl; agreement = record { part = refl; tables = refl } }) refl
+    (rw c.deref_mut.ensures.value at c.on_update.ensures net u))
     (may_enter policy rules net u past v s c.args.item p n t path c.in-Update.is may)
     (hands_took first past c.args.outputs.now.items v u s (News n (record { prefix = p; triggers = t ∷ []; path = path })) hands)))
     c.enter.ensures.outputs
@@ -70,8 +70,8 @@ returns-in_ok-node-in-Hello-clause-node g c = IfOk-weaker c.greet.result _ _
     let v = c.args.from in
     let s = c.args.session in
     let e = c.in-Hello.epoch in
-    let now = meet_mark net carried u e (Took v u s (Hello e) ∷ past) in
-    let holds : held (reads (log_of u now)) v ≡ Some s = subst (λ l. held (reads l) v ≡ Some s) (sym (log_meet net u carried (Took v u s (Hello e) ∷ past) e)) may.held in
+    let now = meet_mark rules net carried u e (Took v u s (Hello e) ∷ past) in
+    let holds : held (reads (log_of u now)) v ≡ Some s = subst (λ l. held (reads l) v ≡ Some s) (sym (log_meet rules net u carried (Took v u s (Hello e) ∷ past) e)) may.held in
     hello_taken rules net u carried past v s (Keeps policy rules net u node) c.args.item e c.in-Hello.is
     (h policy net u carried now (c.in_ok-node-in-Hello.ensures.node policy net u carried past (Hello e) was may.near may.held refl) may.near holds))
     c.greet.ensures.node
@@ -83,8 +83,8 @@ returns-in_ok-node-in-Hello-clause-outputs g c = on_ok_weaker c.greet.result
     let v = c.args.from in
     let s = c.args.session in
     let e = c.in-Hello.epoch in
-    let now = meet_mark net carried u e (Took v u s (Hello e) ∷ past) in
-    let holds : held (reads (log_of u now)) v ≡ Some s = subst (λ l. held (reads l) v ≡ Some s) (sym (log_meet net u carried (Took v u s (Hello e) ∷ past) e)) may.held in
+    let now = meet_mark rules net carried u e (Took v u s (Hello e) ∷ past) in
+    let holds : held (reads (log_of u now)) v ≡ Some s = subst (λ l. held (reads l) v ≡ Some s) (sym (log_meet rules net u carried (Took v u s (Hello e) ∷ past) e)) may.held in
     hello_taken rules net u carried past v s (Hands first c.greet.new.outputs.items) c.args.item e c.in-Hello.is
     (h policy net u carried now first (c.in_ok-node-in-Hello.ensures.node policy net u carried past (Hello e) was may.near may.held refl) may.near holds
     (c.in_ok-node-in-Hello.ensures.outputs policy net u carried past (Hello e) first was hands)))

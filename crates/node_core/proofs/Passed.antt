@@ -1,0 +1,115 @@
+-- What comes of a packet at a node: one fact, which tells of the packet, and nothing that the node keeps is read of it.
+use Rattle.std.proofs.Common.{ℕ, Option, None, List, [], ◌∷◌, ◌++◌, ◌≡◌, refl, ◌∙◌, sym, ap, ap₂, subst, arith}
+use Rattle.std.proofs.Common.{Box, Global, Vec}
+use Rattle.topology.specs.Net.{Net}
+use Rattle.path_vector.specs.Rules.{Rules}
+use Rattle.consolidator.specs.Facts as consolidator
+use Rattle.consolidator.proofs.Beside.{stands_beside}
+use Rattle.epoch_packet.specs.declared.packets.Packet.{Packet}
+use Rattle.epoch_packet.specs.declared.walks.Mode.{Mode}
+use Rattle.epoch_packet.specs.Packets.{stamped}
+use Rattle.transient_mode.specs.declared.moves.Move.{Move}
+use Rattle.transient_mode.specs.TransientHops.{Hop, Next, Ended as Over, answered}
+use Rattle.chronicle.specs.Facts.{Fact, Chronicle, Visit, End}
+use Rattle.chronicle.specs.Control.{control}
+use Rattle.chronicle.specs.Publications.{newest_epoch, has_both}
+use Rattle.chronicle.specs.Steps.{Carried}
+use Rattle.chronicle.specs.Giving.{answer, hops, injects, forwards, off_tables}
+use Rattle.chronicle.specs.Run.{chronicle_of}
+use Rattle.chronicle.proofs.Quieting.{IsOfPacket}
+use Rattle.chronicle.proofs.Forwarding.{injects_keep, forwards_keep}
+use Rattle.node_core.specs.declared.answers.Answer.TheVariants.{Did}
+use Rattle.node_core.specs.declared.deciding.Passing.{Passing}
+use Rattle.node_core.specs.declared.deciding.Passing.TheVariants.{Enter, GoOn}
+use Rattle.node_core.specs.declared.node.Node.{Node}
+use Rattle.node_core.specs.declared.outputs.Output.{Output as Given}
+use Rattle.node_core.specs.Answering.{Says}
+use Rattle.node_core.specs.Deciding.{passing_of}
+use Rattle.node_core.specs.Outputs.{Forward, Hands, outputs, output_by, output_of, shown_of}
+use Rattle.node_core.specs.Standing.{Follows}
+use Rattle.node_core.proofs.Agreements.{agrees_on}
+use Rattle.node_core.proofs.Entering.{same_keeps}
+
+-- ---- what is handed out
+
+-- one output, which shows the new fact
+pub one_shown : (past : Chronicle) (f : Fact) (o : Given) → output_of o ∷ [] ≡ output_by f past → Hands past (o ∷ []) (f ∷ past)
+one_shown past f o is = ap (λ l. outputs past ++ l) is
+
+-- a packet for a node
+pub visit_shown : (past : Chronicle) (w v : ℕ) (packet made : Packet) (o : Given) → output_of o ≡ Forward v made → v ≡ w → made ≡ packet → Hands past (o ∷ []) (Visit w packet ∷ past)
+visit_shown past w v packet made o shown to is = one_shown past (Visit w packet) o (ap (λ x. x ∷ []) (shown ∙ ap₂ (λ n k. Forward n k) to is))
+
+-- the packet that enters
+pub injection_shown : (net topo : Net) (u me id p : ℕ) (past : Chronicle) (newest : Option ℕ) (packet : Packet) (o : Given) → topo ≡ net → me ≡ u → newest ≡ newest_epoch u past
+    → packet ≡ stamped topo id p me newest → output_of o ≡ Forward me packet → Hands past (o ∷ []) (injects net u past id p)
+unfolding injects
+injection_shown net topo u me id p past newest packet o same at is stamp shown =
+    visit_shown past u me (stamped net id p u (newest_epoch u past)) packet o shown at (stamp ∙ rw (same, at, is) refl)
+
+-- a packet off the tables, by what the hop is
+pub hop_shown : (past : Chronicle) (packet made : Packet) (gone : Move) (h : Hop) (o : Given) → (made, gone) ≡ answered packet h → output_of o ≡ shown_of made gone → Hands past (o ∷ []) (off_tables past packet h)
+hop_shown past packet made gone (Next w moved) o is shown =
+    one_shown past (Visit w moved) o (ap (λ x. x ∷ []) (shown ∙ ap (λ (pair : Packet × Move). shown_of pair.0 pair.1) is))
+hop_shown past packet made gone (Over ending) o is shown =
+    one_shown past (End packet.id ending) o (ap (λ x. x ∷ []) (shown ∙ ap (λ (pair : Packet × Move). shown_of pair.0 pair.1) is))
+
+module _ (rules : Rules) (net : Net) (u : ℕ) (past : Chronicle) (list : List Given) where
+  -- in the mode of the packet
+  pub mode_shown : (packet : Packet) (up : List ℕ) (m : Mode) → packet.mode ≡ m → Hands past list (hops rules net u past packet up m) → Hands past list (forwards rules net u past packet up)
+  unfolding forwards
+  mode_shown packet up m is hands = subst (λ k. Hands past list (hops rules net u past packet up k)) (sym is) hands
+
+  module _ (carried : Carried) (passing : Passing) where
+    -- where it enters
+    pub enter_shown : (id p : ℕ) → passing ≡ Enter id p → Hands past list (injects net u past id p) → Hands past list (chronicle_of past (answer rules net carried u past (passing_of passing)))
+    unfolding answer
+    enter_shown id p is hands = subst (λ x. Hands past list (chronicle_of past (answer rules net carried u past (passing_of x)))) (sym is) hands
+
+    -- where it goes on
+    pub on_shown : (box : Box Packet Global) (up : Vec ℕ Global) (packet : Packet) (links : List ℕ) → passing ≡ GoOn box up → packet ≡ box.value → links ≡ up.items → Hands past list (forwards rules net u past packet links)
+        → Hands past list (chronicle_of past (answer rules net carried u past (passing_of passing)))
+    unfolding answer
+    on_shown box up packet links is inner same hands =
+        subst (λ x. Hands past list (chronicle_of past (answer rules net carried u past (passing_of x)))) (sym is)
+        (subst (λ k. Hands past list (forwards rules net u past k up.items)) inner (subst (λ l. Hands past list (forwards rules net u past packet l)) same hands))
+
+-- ---- what the node keeps, and what it may complete
+
+-- no epoch is complete by it
+packet_completes : (u : ℕ) (past : Chronicle) (f : Fact) → IsOfPacket f → (e : ℕ) → has_both u e (f ∷ past) ≡ has_both u e past
+packet_completes u past (Visit w packet) of = λ e. refl
+packet_completes u past (End k ending) of = λ e. refl
+packet_completes u past other of = absurd of
+
+module _ {P : Type 0} (policy : P) (rules : Rules) (net : Net) (u : ℕ) (past : Chronicle) (node : Node P) (was : Follows policy rules net u node past) where
+  -- the node keeps what it kept
+  packet_follows : (f : Fact) → IsOfPacket f → Follows policy rules net u node (f ∷ past)
+  packet_follows (Visit w packet) of = record {
+    keeps = same_keeps policy rules net u node past (Visit w packet ∷ past) refl refl (λ e. refl) (λ v s. refl) was.keeps;
+    agrees = agrees_on rules net u past (Visit w packet ∷ past) node.agreement.value node.agreement.value refl
+        (stands_beside net node.agreement.value.consolidator (control past) u consolidator.Other tt was.agrees.part) refl (omega arith) (λ e low. refl) was.agrees;
+    small = was.small;
+  }
+  packet_follows (End k ending) of = record {
+    keeps = same_keeps policy rules net u node past (End k ending ∷ past) refl refl (λ e. refl) (λ v s. refl) was.keeps;
+    agrees = agrees_on rules net u past (End k ending ∷ past) node.agreement.value node.agreement.value refl
+        (stands_beside net node.agreement.value.consolidator (control past) u consolidator.Other tt was.agrees.part) refl (omega arith) (λ e low. refl) was.agrees;
+    small = was.small;
+  }
+  packet_follows other of = absurd of
+
+  -- whatever is to be done with a packet
+  pub passed_follows : (carried : Carried) (passing : Passing) → Follows policy rules net u node (chronicle_of past (answer rules net carried u past (passing_of passing)))
+  unfolding answer
+  passed_follows carried (Enter id p) = injects_keep rules net u past (λ now. Follows policy rules net u node now) packet_follows id p
+  passed_follows carried (GoOn packet up) = forwards_keep rules net u past (λ now. Follows policy rules net u node now) packet_follows packet.value up.items
+
+-- what is handed out is what the node says
+pub passed_says : (rules : Rules) (net : Net) (u : ℕ) (past : Chronicle) (carried : Carried) (passing : Passing) (list : Vec Given Global) → Hands past list.items (chronicle_of past (answer rules net carried u past (passing_of passing)))
+    → Says u past (answer rules net carried u past (passing_of passing)) (Did list None)
+unfolding answer
+passed_says rules net u past carried (Enter id p) list hands =
+    (hands, injects_keep rules net u past (λ now. (e : ℕ) → has_both u e now ≡ has_both u e past) (packet_completes u past) id p)
+passed_says rules net u past carried (GoOn packet up) list hands =
+    (hands, forwards_keep rules net u past (λ now. (e : ℕ) → has_both u e now ≡ has_both u e past) (packet_completes u past) packet.value up.items)

@@ -1,0 +1,64 @@
+-- What a node answers before the table is published that may be due.
+use Rattle.std.specs.Prelude.{ℕ, ◌==◌, ◌≡◌, false, Option, Some, None, List, map, if◌then◌else◌}
+use Rattle.topology.specs.Net.{Net}
+use Rattle.path_vector.specs.Rules.{Rules}
+use Rattle.trigger_log.specs.Entries.{Entry}
+use Rattle.incomplete_closure.specs.declared.values.Value.{Value}
+use Rattle.stable_table.specs.Tables.{View, table_of}
+use Rattle.consolidator.specs.declared.messages.Reply.{Reply}
+use Rattle.consolidator.specs.Answers.{is_for_all}
+use Rattle.consolidator.specs.Facts as consolidator
+use Rattle.consolidator.specs.Keeping.{Kept}
+use Rattle.consolidator.specs.Messages.{Message, epoch_of}
+use Rattle.consolidator.specs.Standing.{Handles, Proposes}
+use Rattle.chronicle.specs.Facts.{Chronicle}
+use Rattle.chronicle.specs.Epochs.{cut}
+use Rattle.chronicle.specs.Control.{decision}
+use Rattle.chronicle.specs.Inputs.{Input, Propose, Control}
+use Rattle.chronicle.specs.Publications.{has_both}
+use Rattle.chronicle.specs.Steps.{Step, Idle, Goes}
+use Rattle.node_core.specs.declared.answers.Answer.{Answer}
+use Rattle.node_core.specs.declared.answers.Answer.TheVariants.{Did, Idle as Declines}
+use Rattle.node_core.specs.Outputs.{Output, Mail, Hands}
+
+-- of no epoch did u get both its cut and its decision on the way from the one chronicle to the other, but for this one,
+-- if there is one, of which it had not both before
+abbrev pub MayComplete : ℕ → Chronicle → Chronicle → Option ℕ → Type 0
+MayComplete u before now None = (e : ℕ) → has_both u e now ≡ has_both u e before
+MayComplete u before now (Some d) =
+    (has_both u d before ≡ false) × ((e : ℕ) → (d == e) ≡ false → has_both u e now ≡ has_both u e before)
+
+-- the answer is that of the step: a reason, or the outputs that are new, and the epoch that may be complete now
+abbrev pub Says : ℕ → Chronicle → Step → Answer → Type 0
+Says u past (Idle reason) (Declines told) = told ≡ reason
+Says u past (Idle reason) (Did outputs due) = ⊥
+Says u past (Goes now) (Declines told) = ⊥
+Says u past (Goes now) (Did outputs due) = Hands past outputs.items now × MayComplete u past now due
+
+-- the table of e by u's cut and the decision that it knows
+pub record Tabled (rules : Rules) (net : Net) (u e : ℕ) (now : Chronicle) (table : View) : Type 0 where
+  pub entries : List Entry
+  pub value : Value
+  pub has_cut : cut u e now ≡ Some entries
+  pub knows : decision u e now ≡ Some value
+  pub is : table ≡ table_of rules net u e value entries
+
+-- the same, where u has both; else nothing
+abbrev pub IsTableOf : Rules → Net → ℕ → ℕ → Chronicle → Option View → Type 0
+IsTableOf rules net u e now None = has_both u e now ≡ false
+IsTableOf rules net u e now (Some table) = Tabled rules net u e now table
+
+-- control messages, as outputs
+abbrev pub posts : List (ℕ × Message) → List Output
+posts ms = map (λ (m : ℕ × Message). Mail m.0 m.1) ms
+
+-- the epoch whose decision the input brings, if it brings one
+abbrev pub decided_by : Input → Option ℕ
+decided_by (Control from m) = if is_for_all m then Some (epoch_of m) else None
+decided_by other = None
+
+-- u's part in the agreements was asked about the input: the reply is that of the rules, and the part goes on
+abbrev pub Consults : Net → Reply → Kept → consolidator.Chronicle → ℕ → Input → Type 0
+Consults net reply kept past u (Propose e) = Proposes net reply kept past u e
+Consults net reply kept past u (Control from m) = Handles net reply kept past u from m
+Consults net reply kept past u other = ⊥

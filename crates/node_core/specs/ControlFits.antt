@@ -1,0 +1,125 @@
+-- Which ballots and control messages a node admits.
+use Rattle.std.specs.Prelude.{ℕ, Bool, true, ◌&&◌, ◌||◌, ◌==◌, nat_lt, nat_le, Option, Some, None, List, [], ◌∷◌, length}
+use Rattle.std.specs.List.{list_all, flat_map}
+use Rattle.topology.specs.declared.ballots.Ballot.{Ballot}
+use Rattle.topology.specs.declared.names.Scope.{Scope}
+use Rattle.topology.specs.declared.names.Scope.TheVariants.{One, All}
+use Rattle.topology.specs.declared.names.Trigger.{Trigger}
+use Rattle.topology.specs.Lists.{has}
+use Rattle.topology.specs.Triggers.{earlier}
+use Rattle.topology.specs.Net.{Net}
+use Rattle.incomplete_closure.specs.Reports.{Listed, Row, SessionRow}
+use Rattle.incomplete_closure.specs.declared.values.Value.{Value}
+use Rattle.paxos_core.specs.Facts.{Message as Ballots, Prepare, Promise, Accept, Accepted, Decision}
+use Rattle.consolidator.specs.Messages.{Message, Reports, Agrees, epoch_of}
+use Rattle.node_core.specs.declared.limits.TheConstants.{MOST_EPOCHS, MOST_TRIGGERS, MOST_ENTRIES, MOST_UPDATES, MOST_SESSIONS}
+use Rattle.node_core.specs.Names.{are_nodes, trigger_fits, triggers_fit}
+
+-- an epoch that a cut may be of
+abbrev pub epoch_fits : ℕ → Bool
+epoch_fits e = nat_le 1 e && nat_le e MOST_EPOCHS
+
+-- ---- values and ballots
+
+-- x stands before the first of the list
+abbrev pub leads : {A : Type 0} → (A → A → Bool) → A → List A → Bool
+leads before x [] = true
+leads before x (y ∷ ys) = before x y
+
+-- each stands before the next one
+abbrev pub in_order : {A : Type 0} → (A → A → Bool) → List A → Bool
+in_order before [] = true
+in_order before (x ∷ xs) = leads before x xs && in_order before xs
+
+-- nodes of the network, ascending
+abbrev pub nodes_fit : Net → List ℕ → Bool
+nodes_fit net nodes = are_nodes net nodes && in_order nat_lt nodes
+
+-- triggers of nodes of the network, ascending
+abbrev pub all_fit : Net → List Trigger → Bool
+all_fit net triggers = list_all (trigger_fits net) triggers && in_order earlier triggers
+
+-- the same, and no more than there may be
+abbrev pub incomplete_fits : Net → List Trigger → Bool
+incomplete_fits net triggers = all_fit net triggers && nat_le (length triggers) MOST_TRIGGERS
+
+abbrev pub value_fits : Net → Value → Bool
+value_fits net v = nodes_fit net v.responding && incomplete_fits net v.incomplete
+
+-- a ballot of a node of the network, with a round from 1
+abbrev pub ballot_fits : Net → Ballot → Bool
+ballot_fits net b = nat_le 1 b.round && has net.nodes b.node
+
+-- what a promise names, if it names something
+abbrev pub named_fits : Net → Option (Ballot × Value) → Bool
+named_fits net None = true
+named_fits net (Some named) = ballot_fits net named.0 && value_fits net named.1
+
+-- a consolidator may send something of the ballot
+abbrev pub sender_fits : Net → ℕ → Ballot → Bool
+sender_fits net from b = has net.consolidators from && ballot_fits net b
+
+-- a decision may come of any node, all else of consolidators alone
+abbrev pub ballots_fit : Net → ℕ → Ballots Value → Bool
+ballots_fit net from (Prepare b) = sender_fits net from b
+ballots_fit net from (Promise b named) = sender_fits net from b && named_fits net named
+ballots_fit net from (Accept b v) = sender_fits net from b && value_fits net v
+ballots_fit net from (Accepted b) = sender_fits net from b
+ballots_fit net from (Decision v) = value_fits net v
+
+-- ---- reports
+
+-- a prefix of the network, or all
+abbrev pub scope_fits : Net → Scope → Bool
+scope_fits net (One p) = nat_lt p (length net.prefixes)
+scope_fits net All = true
+
+-- an item for a node of the network, in a session and with a number from 1
+abbrev pub listed_fits : Net → Listed → Bool
+listed_fits net item = has net.nodes item.to && (nat_le 1 item.session && nat_le 1 item.seq)
+
+-- the row of an entry: its triggers, its scope and its items name what the network has
+abbrev pub row_fits : Net → Row → Bool
+row_fits net row = triggers_fit net row.triggers && (scope_fits net row.scope && list_all (listed_fits net) row.sent)
+
+-- all items of the rows
+abbrev pub items_of : List Row → List Listed
+items_of rows = flat_map (λ (row : Row). row.sent) rows
+
+-- the rows and their items are no more than a node may have
+abbrev pub rows_are_few : List Row → Bool
+rows_are_few rows = nat_le (length rows) MOST_ENTRIES && nat_le (length (items_of rows)) MOST_UPDATES
+
+abbrev pub rows_fit : Net → List Row → Bool
+rows_fit net rows = list_all (row_fits net) rows && rows_are_few rows
+
+-- there are triggers, or there is no Down
+abbrev pub down_fits : Net → Option (List Trigger) → Bool
+down_fits net None = true
+down_fits net (Some triggers) = triggers_fit net triggers
+
+-- the row of a session with a node of the network, from 1
+abbrev pub session_fits : Net → SessionRow → Bool
+session_fits net row = has net.nodes row.nbr && (nat_le 1 row.session && down_fits net row.down)
+
+-- by neighbour, then by session
+abbrev pub sooner : SessionRow → SessionRow → Bool
+sooner a b = nat_lt a.nbr b.nbr || (a.nbr == b.nbr && nat_lt a.session b.session)
+
+-- the rows ascend, and are no more than there may be
+abbrev pub sessions_ascend : List SessionRow → Bool
+sessions_ascend rows = in_order sooner rows && nat_le (length rows) MOST_SESSIONS
+
+abbrev pub sessions_fit : Net → List SessionRow → Bool
+sessions_fit net rows = list_all (session_fits net) rows && sessions_ascend rows
+
+-- ---- messages
+
+-- a report is one of its sender
+abbrev pub body_fits : Net → ℕ → Message → Bool
+body_fits net from (Reports r) = r.node == from && (rows_fit net r.rows && sessions_fit net r.sessions)
+body_fits net from (Agrees e m) = ballots_fit net from m
+
+-- a message of a node of the network, about an epoch that a cut may be of
+abbrev pub message_fits : Net → ℕ → Message → Bool
+message_fits net from m = has net.nodes from && (epoch_fits (epoch_of m) && body_fits net from m)

@@ -1,0 +1,342 @@
+//! Which ballots and control messages a node admits.
+ghost use Rattle.std.specs.Prelude.{◌≡◌, ◌&&◌, nat_lt, nat_le, List, length, map};
+ghost use Rattle.std.specs.List.{list_all};
+ghost use Rattle.topology.specs.Lists.{has};
+ghost use Rattle.topology.specs.Triggers.{earlier};
+ghost use Rattle.topology.specs.declared.names.Trigger.{Trigger as AnyTrigger};
+ghost use Rattle.incomplete_closure.specs.Seen.{item_seen, report_seen, row_seen, session_seen};
+ghost use Rattle.consolidator.specs.Messages.{Reports, epoch_of};
+ghost use Rattle.consolidator.specs.Seen.{message_seen};
+ghost use Rattle.node_core.specs.ControlFits.{all_fit, ballot_fits, body_fits, down_fits, epoch_fits, in_order, incomplete_fits, items_of, listed_fits, message_fits, named_fits, nodes_fit, row_fits, rows_are_few, rows_fit, scope_fits, sender_fits, session_fits, sessions_ascend, sessions_fit, sooner, value_fits};
+ghost use Rattle.node_core.specs.Names.{trigger_fits};
+
+use crate::fitting::{are_nodes, is_among, is_node, trigger_fits};
+use crate::limits::{MOST_ENTRIES, MOST_EPOCHS, MOST_SESSIONS, MOST_TRIGGERS, MOST_UPDATES};
+use consolidator::Message;
+use incomplete_closure::{Report, Row, SessionRow, Value};
+use topology::{Ballot, Epoch, NodeId, Scope, Sent, Topology, Trigger};
+
+/// Whether a cut may be of the epoch.
+pub(crate) fn epoch_fits(epoch: Epoch) -> bool
+    ensures { result ≡ epoch_fits epoch }
+{
+    epoch.number() >= 1 && epoch.number() <= MOST_EPOCHS
+}
+
+fn is_lower(a: &NodeId, b: &NodeId) -> bool
+    ensures { result ≡ nat_lt a.now b.now }
+{
+    a < b
+}
+
+// Whether the nodes ascend.
+pub(crate) fn nodes_ascend(nodes: &[NodeId]) -> bool
+    ensures { result ≡ in_order nat_lt nodes.now }
+{
+    for place in 1..nodes.len() {
+        if !is_lower(&nodes[place - 1], &nodes[place]) {
+            return false;
+        }
+    }
+    true
+}
+
+fn nodes_fit(topology: &Topology, nodes: &[NodeId]) -> bool
+    ensures { result ≡ nodes_fit topology.now nodes.now }
+{
+    are_nodes(topology, nodes) && nodes_ascend(nodes)
+}
+
+fn is_earlier(a: &Trigger, b: &Trigger) -> bool
+    ensures { result ≡ earlier a.now b.now }
+{
+    a.node < b.node || (a.node == b.node && a.count < b.count)
+}
+
+// Whether the triggers ascend.
+fn triggers_ascend(triggers: &[Trigger]) -> bool
+    ensures { result ≡ in_order earlier triggers.now }
+{
+    for place in 1..triggers.len() {
+        if !is_earlier(&triggers[place - 1], &triggers[place]) {
+            return false;
+        }
+    }
+    true
+}
+
+// Whether each is a trigger of the network.
+fn are_triggers(topology: &Topology, triggers: &[Trigger]) -> bool
+    ensures { result ≡ list_all (trigger_fits topology.now) triggers.now }
+{
+    triggers
+        .iter()
+        .all(|trigger| trigger_fits(topology, trigger))
+}
+
+fn all_fit(topology: &Topology, triggers: &[Trigger]) -> bool
+    ensures { result ≡ all_fit topology.now triggers.now }
+{
+    are_triggers(topology, triggers) && triggers_ascend(triggers)
+}
+
+fn incomplete_fits(topology: &Topology, triggers: &[Trigger]) -> bool
+    ensures { result ≡ incomplete_fits topology.now triggers.now }
+{
+    all_fit(topology, triggers) && triggers.len() <= MOST_TRIGGERS as usize
+}
+
+// Whether a value names what the network has, in order.
+fn value_fits(topology: &Topology, value: &Value) -> bool
+    ensures { result ≡ value_fits topology.now value.now }
+{
+    nodes_fit(topology, value.responding.as_slice())
+        && incomplete_fits(topology, value.incomplete.as_slice())
+}
+
+// Whether it is a ballot of a node of the network.
+fn ballot_fits(topology: &Topology, ballot: Ballot) -> bool
+    ensures { result ≡ ballot_fits topology.now ballot }
+{
+    ballot.round >= 1 && is_node(topology, ballot.node)
+}
+
+// Whether what a promise names fits.
+fn named_fits(topology: &Topology, named: &Option<(Ballot, Value)>) -> bool
+    ensures { result ≡ named_fits topology.now named.now }
+{
+    match named {
+        None => true,
+        Some((ballot, value)) => ballot_fits(topology, *ballot) && value_fits(topology, value),
+    }
+}
+
+// Whether the node is a consolidator.
+fn is_consolidator(topology: &Topology, node: NodeId) -> bool
+    ensures { result ≡ has topology.now.consolidators node }
+{
+    is_among(topology.consolidators(), node)
+}
+
+// Whether the node may send something of the ballot.
+fn sender_fits(topology: &Topology, from: NodeId, ballot: Ballot) -> bool
+    ensures { result ≡ sender_fits topology.now from ballot }
+{
+    is_consolidator(topology, from) && ballot_fits(topology, ballot)
+}
+
+// Whether it is a prefix of the network, or all.
+fn scope_fits(topology: &Topology, scope: &Scope) -> bool
+    ensures { result ≡ scope_fits topology.now scope.now }
+{
+    match scope {
+        Scope::One(prefix) => prefix.place() < topology.prefix_count(),
+        Scope::All => true,
+    }
+}
+
+fn is_numbered(item: &Sent) -> bool
+    ensures { result ≡ (nat_le 1 item.now.session && nat_le 1 item.now.seq) }
+{
+    item.session.number() >= 1 && item.seq >= 1
+}
+
+// Whether an item is for a node of the network, and numbered from 1.
+fn sent_fits(topology: &Topology, item: &Sent) -> bool
+    ensures { (triggers : List AnyTrigger) → result ≡ listed_fits topology.now (item_seen triggers item.now) }
+{
+    is_node(topology, item.to) && is_numbered(item)
+}
+
+// Whether all items do.
+fn all_sent_fit(topology: &Topology, sent: &[Sent]) -> bool
+    ensures { (triggers : List AnyTrigger) →
+        result ≡ list_all (listed_fits topology.now) (map (item_seen triggers) sent.now) }
+{
+    for item in sent {
+        if !sent_fits(topology, item) {
+            return false;
+        }
+    }
+    true
+}
+
+// Whether the scope and the items of a row name what the network has.
+fn entry_fits(topology: &Topology, row: &Row) -> bool
+    ensures { (triggers : List AnyTrigger) → result ≡ (scope_fits topology.now row.now.scope
+        && list_all (listed_fits topology.now) (map (item_seen triggers) row.now.sent)) }
+{
+    scope_fits(topology, &row.scope) && all_sent_fit(topology, row.sent.as_slice())
+}
+
+// Whether the row of an entry names what the network has.
+fn row_fits(topology: &Topology, row: &Row) -> bool
+    ensures { result ≡ row_fits topology.now (row_seen row.now) }
+{
+    trigger_fits(topology, &row.trigger) && entry_fits(topology, row)
+}
+
+// Whether all rows do.
+fn all_rows_fit(topology: &Topology, rows: &[Row]) -> bool
+    ensures { result ≡ list_all (row_fits topology.now) (map row_seen rows.now) }
+{
+    for row in rows {
+        if !row_fits(topology, row) {
+            return false;
+        }
+    }
+    true
+}
+
+// Whether the items of the rows are no more than a node may have.
+fn items_are_few(rows: &[Row]) -> bool
+    ensures { result ≡ nat_le (length (items_of (map row_seen rows.now))) MOST_UPDATES }
+{
+    let mut left = MOST_UPDATES as usize;
+    for row in rows {
+        let count = row.sent.as_slice().len();
+        if count > left {
+            return false;
+        }
+        left -= count;
+    }
+    true
+}
+
+fn rows_are_few(rows: &[Row]) -> bool
+    ensures { result ≡ rows_are_few (map row_seen rows.now) }
+{
+    rows.len() <= MOST_ENTRIES as usize && items_are_few(rows)
+}
+
+// Whether the rows of entries fit, and are no more than a node may have.
+fn rows_fit(topology: &Topology, rows: &[Row]) -> bool
+    ensures { result ≡ rows_fit topology.now (map row_seen rows.now) }
+{
+    all_rows_fit(topology, rows) && rows_are_few(rows)
+}
+
+fn down_fits(topology: &Topology, row: &SessionRow) -> bool
+    ensures { result ≡ down_fits topology.now (session_seen row.now).down }
+{
+    match &row.down {
+        None => true,
+        Some(trigger) => trigger_fits(topology, trigger),
+    }
+}
+
+fn ending_fits(topology: &Topology, row: &SessionRow) -> bool
+    ensures { result ≡ (nat_le 1 row.now.session && down_fits topology.now (session_seen row.now).down) }
+{
+    row.session.number() >= 1 && down_fits(topology, row)
+}
+
+// Whether the row of a session names what the network has.
+fn session_fits(topology: &Topology, row: &SessionRow) -> bool
+    ensures { result ≡ session_fits topology.now (session_seen row.now) }
+{
+    is_node(topology, row.nbr) && ending_fits(topology, row)
+}
+
+// Whether all rows of sessions do.
+fn all_sessions_fit(topology: &Topology, rows: &[SessionRow]) -> bool
+    ensures { result ≡ list_all (session_fits topology.now) (map session_seen rows.now) }
+{
+    for row in rows {
+        if !session_fits(topology, row) {
+            return false;
+        }
+    }
+    true
+}
+
+// Whether the one row stands before the other.
+fn is_sooner(a: &SessionRow, b: &SessionRow) -> bool
+    ensures { result ≡ sooner (session_seen a.now) (session_seen b.now) }
+{
+    a.nbr < b.nbr || (a.nbr == b.nbr && a.session < b.session)
+}
+
+// Whether the rows of sessions stand in order.
+fn are_in_order(rows: &[SessionRow]) -> bool
+    ensures { result ≡ in_order sooner (map session_seen rows.now) }
+{
+    for place in 1..rows.len() {
+        if !is_sooner(&rows[place - 1], &rows[place]) {
+            return false;
+        }
+    }
+    true
+}
+
+fn sessions_ascend(rows: &[SessionRow]) -> bool
+    ensures { result ≡ sessions_ascend (map session_seen rows.now) }
+{
+    are_in_order(rows) && rows.len() <= MOST_SESSIONS as usize
+}
+
+// Whether the rows of sessions fit, and ascend.
+fn sessions_fit(topology: &Topology, rows: &[SessionRow]) -> bool
+    ensures { result ≡ sessions_fit topology.now (map session_seen rows.now) }
+{
+    all_sessions_fit(topology, rows) && sessions_ascend(rows)
+}
+
+fn parts_fit(topology: &Topology, report: &Report) -> bool
+    ensures { result ≡ (rows_fit topology.now (report_seen report.now).rows
+        && sessions_fit topology.now (report_seen report.now).sessions) }
+{
+    rows_fit(topology, report.rows.as_slice()) && sessions_fit(topology, report.sessions.as_slice())
+}
+
+// Whether it is a report of its sender.
+fn report_fits(topology: &Topology, from: NodeId, report: &Report) -> bool
+    ensures { result ≡ body_fits topology.now from (Reports (report_seen report.now)) }
+{
+    report.node == from && parts_fit(topology, report)
+}
+
+fn promise_fits(
+    topology: &Topology,
+    from: NodeId,
+    ballot: Ballot,
+    named: &Option<(Ballot, Value)>,
+) -> bool
+    ensures { result ≡ (sender_fits topology.now from ballot && named_fits topology.now named.now) }
+{
+    sender_fits(topology, from, ballot) && named_fits(topology, named)
+}
+
+fn accept_fits(topology: &Topology, from: NodeId, ballot: Ballot, value: &Value) -> bool
+    ensures { result ≡ (sender_fits topology.now from ballot && value_fits topology.now value.now) }
+{
+    sender_fits(topology, from, ballot) && value_fits(topology, value)
+}
+
+// Whether the node may send what the message says.
+fn body_fits(topology: &Topology, from: NodeId, message: &Message) -> bool
+    ensures { result ≡ body_fits topology.now from (message_seen message.now) }
+{
+    match message {
+        Message::Report(report) => report_fits(topology, from, report),
+        Message::Prepare { ballot, .. } => sender_fits(topology, from, *ballot),
+        Message::Promise { ballot, named, .. } => promise_fits(topology, from, *ballot, named),
+        Message::Accept { ballot, value, .. } => accept_fits(topology, from, *ballot, value),
+        Message::Accepted { ballot, .. } => sender_fits(topology, from, *ballot),
+        Message::Decision { value, .. } => value_fits(topology, value),
+    }
+}
+
+fn content_fits(topology: &Topology, from: NodeId, message: &Message) -> bool
+    ensures { result ≡ (epoch_fits (epoch_of (message_seen message.now))
+        && body_fits topology.now from (message_seen message.now)) }
+{
+    epoch_fits(message.epoch()) && body_fits(topology, from, message)
+}
+
+/// Whether it is a message that the node may send.
+pub(crate) fn message_fits(topology: &Topology, from: NodeId, message: &Message) -> bool
+    ensures { result ≡ message_fits topology.now from (message_seen message.now) }
+{
+    is_node(topology, from) && content_fits(topology, from, message)
+}

@@ -1,0 +1,210 @@
+//! Packets that enter the network at a node, or go on from it.
+ghost use Rattle.std.specs.Prelude.{◌≡◌, ◌<◌, ◌∷◌, [], ℕ, length, map, option_map, IfOk};
+ghost use Rattle.topology.specs.Net.{Net};
+ghost use Rattle.chronicle.specs.Facts.{Chronicle};
+ghost use Rattle.path_vector.specs.Ranking.{order as order_of};
+ghost use Rattle.trigger_log.specs.Entries.{reads};
+ghost use Rattle.chronicle.specs.Giving.{answer, forwards, hops, injects, on_tables, sight};
+ghost use Rattle.chronicle.specs.Logs.{log_of};
+ghost use Rattle.chronicle.specs.Publications.{kept_path, newest_backups, newest_epoch, newest_path};
+ghost use Rattle.chronicle.specs.Run.{chronicle_of};
+ghost use Rattle.chronicle.specs.Steps.{Carried};
+ghost use Rattle.epoch_packet.specs.declared.walks.Mode.TheVariants.{Stable, Transient};
+ghost use Rattle.node_core.specs.Answering.{Says};
+ghost use Rattle.node_core.specs.Coming.{MayCome};
+ghost use Rattle.node_core.specs.Deciding.{passing_of};
+ghost use Rattle.node_core.specs.Outputs.{Forward, Hands, output_of, shown_of};
+ghost use Rattle.node_core.specs.Standing.{Follows, StandsFor};
+
+use crate::answers::Answer;
+use crate::deciding::Passing;
+use crate::node::Node;
+use crate::outputs::Output;
+use epoch_packet::{End, Mode, Packet, StableStep, stable_hop, stamp};
+use path_vector::Policy;
+use std::alloc::Global;
+use topology::{Epoch, NoMemory, NodeId, Path, PrefixId};
+use transient_mode::{Move, View, transient_hop};
+
+// A packet, as it is from here on, for a node.
+fn forward(alloc: Global, next: NodeId, packet: Packet) -> Result<Output, NoMemory>
+    ensures { IfOk result (λ output. output_of output ≡ Forward next packet) }
+{
+    Ok(Output::Forward {
+        next,
+        packet: Box::new(alloc, packet)?,
+    })
+}
+
+// A packet off the tables, after the move that it made, or as it was where its walk ended.
+fn gone_on(alloc: Global, packet: Packet, gone: Move) -> Result<Output, NoMemory>
+    ensures { IfOk result (λ output. output_of output ≡ shown_of packet gone) }
+{
+    match gone {
+        Move::Next(next) => forward(alloc, next, packet),
+        Move::Ended(end) => Ok(Output::Ended { id: packet.id, end }),
+    }
+}
+
+impl<P: Policy + Copy> Node<P> {
+    // The epoch of the newest table.
+    fn newest_epoch(&self) -> Option<Epoch>
+        ensures { (policy : P) (net : Net) (u : ℕ) (past : Chronicle) →
+            StandsFor policy (P.rules policy) net u self.now past → result ≡ newest_epoch u past }
+    {
+        Some(self.agreement.tables.newest()?.epoch())
+    }
+
+    // A packet enters the network here, stamped with the epoch of the newest table.
+    fn inject(&self, id: u32, prefix: PrefixId) -> Result<Output, NoMemory>
+        ensures { IfOk result (λ output. (policy : P) (net : Net) (u : ℕ) (past : Chronicle) →
+            StandsFor policy (P.rules policy) net u self.now past →
+            Hands past (output ∷ []) (injects net u past id prefix)) }
+    {
+        let newest = self.newest_epoch();
+        let packet = stamp(self.alloc, &self.topology, id, prefix, self.id, newest);
+        forward(self.alloc, self.id, packet)
+    }
+
+    // The path of the prefix in the table of the epoch, where that is kept.
+    fn kept_path(&self, epoch: Epoch, prefix: PrefixId) -> Option<&[NodeId]>
+        ensures { (policy : P) (net : Net) (u : ℕ) (past : Chronicle) →
+            StandsFor policy (P.rules policy) net u self.now past →
+            option_map (λ nodes. nodes.now) result ≡ kept_path u epoch prefix past }
+    {
+        self.agreement.tables.of(epoch)?.path(prefix)
+    }
+
+    // A packet on the tables ends, moves, or leaves them here.
+    fn step_on_tables(&self, packet: Packet, step: StableStep) -> Result<Output, NoMemory>
+        ensures { IfOk result (λ output. (policy : P) (net : Net) (u : ℕ) (past : Chronicle) →
+            StandsFor policy (P.rules policy) net u self.now past →
+            Hands past (output ∷ []) (on_tables net u past packet step)) }
+    {
+        match step {
+            StableStep::Arrived => Ok(Output::Ended {
+                id: packet.id,
+                end: End::Delivered,
+            }),
+            StableStep::Next(next) => {
+                forward(self.alloc, next, packet.moved_to(&self.topology, next))
+            }
+            StableStep::Turn => forward(
+                self.alloc,
+                self.id,
+                packet.turned(&self.topology, self.id),
+            ),
+        }
+    }
+
+    // A packet goes on along the table of its epoch, or leaves the tables here.
+    fn hop_on_tables(&self, packet: Packet, up: &[NodeId]) -> Result<Output, NoMemory>
+        ensures { IfOk result (λ output. (policy : P) (net : Net) (u : ℕ) (past : Chronicle) →
+            StandsFor policy (P.rules policy) net u self.now past →
+            Hands past (output ∷ []) (hops (P.rules policy) net u past packet up.now Stable)) }
+    {
+        let path = self.kept_path(packet.epoch, packet.prefix);
+        let step = stable_hop(path, up);
+        self.step_on_tables(packet, step)
+    }
+
+    // The path of the prefix in the newest table.
+    fn newest_path(&self, prefix: PrefixId) -> Option<&[NodeId]>
+        ensures { (policy : P) (net : Net) (u : ℕ) (past : Chronicle) →
+            StandsFor policy (P.rules policy) net u self.now past →
+            option_map (λ nodes. nodes.now) result ≡ newest_path u prefix past }
+    {
+        self.agreement.tables.newest()?.path(prefix)
+    }
+
+    // The backups of the prefix in the newest table.
+    fn newest_backups(&self, prefix: PrefixId) -> &[Path]
+        ensures { (policy : P) (net : Net) (u : ℕ) (past : Chronicle) →
+            StandsFor policy (P.rules policy) net u self.now past → prefix < length net.prefixes →
+            result.now ≡ newest_backups (P.rules policy) net u prefix past }
+    {
+        match self.agreement.tables.newest() {
+            None => &[],
+            Some(table) => table.backups(prefix),
+        }
+    }
+
+    // The neighbours in the order in which they are tried for the prefix.
+    fn order(&self, prefix: PrefixId) -> Result<Vec<NodeId>, NoMemory>
+        ensures { IfOk result (λ list. (policy : P) (net : Net) (u : ℕ) (past : Chronicle) →
+            StandsFor policy (P.rules policy) net u self.now past → prefix < length net.prefixes →
+            list.items ≡ order_of (P.rules policy) net u (reads (log_of u past)) prefix) }
+    {
+        self.log.live().order(prefix)
+    }
+
+    // What the node knows for a packet of the prefix, where these links are up.
+    fn view<'a>(&'a self, prefix: PrefixId, order: &'a [NodeId], up: &'a [NodeId]) -> View<'a>
+        ensures { (policy : P) (net : Net) (u : ℕ) (past : Chronicle) →
+            StandsFor policy (P.rules policy) net u self.now past → prefix < length net.prefixes →
+            order.now ≡ order_of (P.rules policy) net u (reads (log_of u past)) prefix →
+            result ≡ sight (P.rules policy) net u past prefix up.now }
+    {
+        View {
+            at: self.id,
+            owns: self.log.live().owns(prefix),
+            order,
+            up,
+            stable: self.newest_path(prefix),
+            backups: self.newest_backups(prefix),
+        }
+    }
+
+    // A packet that has left the tables goes on, or its walk ends.
+    fn hop_off_tables(&self, packet: Packet, up: &[NodeId]) -> Result<Output, NoMemory>
+        ensures { IfOk result (λ output. (policy : P) (net : Net) (u : ℕ) (past : Chronicle) →
+            StandsFor policy (P.rules policy) net u self.now past → packet.prefix < length net.prefixes →
+            Hands past (output ∷ []) (hops (P.rules policy) net u past packet up.now Transient)) }
+    {
+        let prefix = packet.prefix;
+        let order = self.order(prefix)?;
+        let view = self.view(prefix, &order, up);
+        let (packet, gone) = transient_hop(&self.topology, packet, view)?;
+        gone_on(self.alloc, packet, gone)
+    }
+
+    // A packet that stands here goes on.
+    fn hop(&self, packet: Packet, up: &[NodeId]) -> Result<Output, NoMemory>
+        ensures { IfOk result (λ output. (policy : P) (net : Net) (u : ℕ) (past : Chronicle) →
+            StandsFor policy (P.rules policy) net u self.now past → packet.prefix < length net.prefixes →
+            Hands past (output ∷ []) (forwards (P.rules policy) net u past packet up.now)) }
+    {
+        match packet.mode {
+            Mode::Stable => self.hop_on_tables(packet, up),
+            Mode::Transient => self.hop_off_tables(packet, up),
+        }
+    }
+
+    // What comes of a packet here.
+    fn passed(&self, passing: Passing) -> Result<Output, NoMemory>
+        ensures { IfOk result (λ output. (policy : P) (net : Net) (u : ℕ) (carried : Carried) (past : Chronicle) →
+            StandsFor policy (P.rules policy) net u self.now past → MayCome net u (passing_of passing) →
+            Hands past (output ∷ []) (chronicle_of past (answer (P.rules policy) net carried u past (passing_of passing)))) }
+    {
+        match passing {
+            Passing::Enter { id, prefix } => self.inject(id, prefix),
+            Passing::GoOn { packet, up } => self.hop(Box::into_inner(packet), &up),
+        }
+    }
+
+    /// Passes a packet on. The node is as it was: it keeps nothing of packets.
+    pub(crate) fn pass(self, passing: Passing) -> Result<(Node<P>, Answer), NoMemory>
+        ensures node { IfOk result (λ r. (policy : P) (net : Net) (u : ℕ) (carried : Carried) (past : Chronicle) →
+            StandsFor policy (P.rules policy) net u self past →
+            Follows policy (P.rules policy) net u r.0
+            (chronicle_of past (answer (P.rules policy) net carried u past (passing_of passing)))) }
+        ensures says { IfOk result (λ r. (policy : P) (net : Net) (u : ℕ) (carried : Carried) (past : Chronicle) →
+            StandsFor policy (P.rules policy) net u self past → MayCome net u (passing_of passing) →
+            Says u past (answer (P.rules policy) net carried u past (passing_of passing)) r.1) }
+    {
+        let output = self.passed(passing)?;
+        let mut outputs = Vec::new(self.alloc);
+        outputs.push(output)?;
+        Ok((self, Answer::Did(outputs, None)))
+    }
+}
