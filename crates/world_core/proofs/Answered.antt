@@ -1,5 +1,5 @@
 -- A node of a network is given an input.
-use Rattle.std.proofs.Common.{ℕ, suc, Bool, true, false, ◌==◌, ◌+◌, ◌-◌, ◌≤◌, Some, List, [], ◌++◌, ◌≡◌, refl, sym, ◌∙◌, ap, subst, arith, map, set, slice_get}
+use Rattle.std.proofs.Common.{ℕ, suc, Bool, true, false, ◌==◌, ◌+◌, ◌-◌, ◌≤◌, Some, List, [], ◌++◌, ◌≡◌, refl, sym, ◌∙◌, ap, subst, arith, map, set, slice_get, length}
 use Rattle.std.proofs.lemmas.List.{append-nil}
 use Rattle.topology.specs.Lists.{has, ascending}
 use Rattle.topology.specs.Net.{Net, IsValid}
@@ -7,12 +7,18 @@ use Rattle.topology.specs.declared.status.Reason.{Reason}
 use Rattle.path_vector.specs.Rules.{Rules}
 use Rattle.trigger_log.specs.Entries.{locals}
 use Rattle.link_model.specs.declared.links.Links.{Links}
-use Rattle.chronicle.specs.Facts.{Fact, Chronicle, happen}
+use Rattle.consolidator.specs.Answers.{ballot_of}
+use Rattle.chronicle.specs.Control.{control, mailed}
+use Rattle.chronicle.specs.Crashes.{crashed}
+use Rattle.chronicle.specs.Facts.{Fact, Chronicle, Took, Start, Heard, happen}
 use Rattle.chronicle.specs.Inputs.{Input}
 use Rattle.chronicle.specs.Inputs as input
 use Rattle.chronicle.specs.Logs.{log_of}
 use Rattle.chronicle.specs.Run.{carried_by, chronicle_of, given}
-use Rattle.chronicle.specs.Steps.{Step, Idle, Goes}
+use Rattle.chronicle.specs.Giving.{give}
+use Rattle.chronicle.specs.Steps.{Step, Idle, Goes, Carried}
+use Rattle.chronicle.specs.Walks.{packets}
+use Rattle.chronicle.proofs.Visiting.{SameWalks, same_now, same_more}
 use Rattle.cut_laws.specs.Own.{SameNode}
 use Rattle.cut_laws.proofs.Beside.{give_same}
 use Rattle.node_core.specs.Coming.{MayCome}
@@ -25,58 +31,144 @@ use Rattle.node_core.specs.declared.outputs.Output.{Output}
 use Rattle.node_core.specs.declared.outputs.OutputList.{OutputList}
 use Rattle.node_core.specs.declared.outputs.Outputs.{Outputs}
 use Rattle.node_core.specs.declared.outputs.Outputs.TheVariants.{Did, Idle as Declines}
+use Rattle.control_mail.specs.Seen.{Office}
+use Rattle.world_core.specs.declared.network.Network.{Network}
 use Rattle.world_core.specs.declared.outcomes.Effect.{Effect}
 use Rattle.world_core.specs.declared.outcomes.Outcome.TheVariants as outcome
 use Rattle.world_core.specs.Effects.{effects, Tells}
-use Rattle.world_core.specs.Happening.{AreSending, GoesWhere, Since, handed}
+use Rattle.world_core.specs.Happening.{AreSending, GoesWhere, KeepsNodes, Since, handed}
+use Rattle.world_core.specs.Publications.{PublicationView, all_published}
 use Rattle.world_core.specs.Limits.{triggers_of, makes_local}
-use Rattle.world_core.specs.Matching.{AreLinks, AreNodes, IsCounted}
+use Rattle.world_core.specs.Matching.{AreCrashed, AreLinks, AreMails, AreNodes, Counts, IsCounted, Stands}
+use Rattle.world_core.specs.declared.bounds.TheConstants.{MOST_TRIGGERS, MOST_CONTROL, MOST_PACKETS}
 use Rattle.world_core.specs.Telling.{AreTold}
 use Rattle.world_core.specs.Turning.{Handles}
+use Rattle.world_core.specs.Walks.{AreWalks, JourneyView}
 use Rattle.world_core.proofs.Counts.{LogsBy, give_logs, not_fewer, total_now}
 use Rattle.world_core.proofs.Nodes.{nodes_at}
-use Rattle.world_core.proofs.Telling.{AddsBy}
+use Rattle.world_core.proofs.Mailing.{same_mails}
+use Rattle.world_core.proofs.Telling.{AddsBy, begun}
+use Rattle.world_core.proofs.Walking.{walks_stay}
 
 -- ---- what the node handed out
 
--- an item that is taken shows nothing
-outputs_handed : (u : ℕ) (i : Input) (past : Chronicle) → outputs (handed u i past) ≡ outputs past
-outputs_handed u (input.Arrive v s x) past = append-nil (outputs past)
-outputs_handed u (input.Originate p) past = refl
-outputs_handed u (input.Withdraw p) past = refl
-outputs_handed u (input.Prefer v value) past = refl
-outputs_handed u (input.Notice v) past = refl
-outputs_handed u (input.OpenSession v s) past = refl
-outputs_handed u input.Snap past = refl
+-- the beginning of an input shows nothing
+outputs_begun : (u : ℕ) (i : Input) (past : Chronicle) → outputs (begun u i past) ≡ outputs past
+outputs_begun u (input.Arrive v s x) past = append-nil (outputs past)
+outputs_begun u (input.Propose e) past = append-nil (outputs past)
+outputs_begun u (input.Control from m) past = append-nil (outputs past)
+outputs_begun u (input.Originate p) past = refl
+outputs_begun u (input.Withdraw p) past = refl
+outputs_begun u (input.Prefer v value) past = refl
+outputs_begun u (input.Notice v) past = refl
+outputs_begun u (input.OpenSession v s) past = refl
+outputs_begun u input.Snap past = refl
+outputs_begun u (input.Inject id p) past = refl
+outputs_begun u (input.Hop packet up) past = refl
 
 -- nor to a user
-effects_handed : (u : ℕ) (i : Input) (past : Chronicle) → effects (handed u i past) ≡ effects past
-effects_handed u (input.Arrive v s x) past = append-nil (effects past)
-effects_handed u (input.Originate p) past = refl
-effects_handed u (input.Withdraw p) past = refl
-effects_handed u (input.Prefer v value) past = refl
-effects_handed u (input.Notice v) past = refl
-effects_handed u (input.OpenSession v s) past = refl
-effects_handed u input.Snap past = refl
+effects_begun : (u : ℕ) (i : Input) (past : Chronicle) → effects (begun u i past) ≡ effects past
+effects_begun u (input.Arrive v s x) past = append-nil (effects past)
+effects_begun u (input.Propose e) past = append-nil (effects past)
+effects_begun u (input.Control from m) past = append-nil (effects past)
+effects_begun u (input.Originate p) past = refl
+effects_begun u (input.Withdraw p) past = refl
+effects_begun u (input.Prefer v value) past = refl
+effects_begun u (input.Notice v) past = refl
+effects_begun u (input.OpenSession v s) past = refl
+effects_begun u input.Snap past = refl
+effects_begun u (input.Inject id p) past = refl
+effects_begun u (input.Hop packet up) past = refl
 
--- all that the node handed out went over the links, or was lost there
-pub given_sent : (net : Net) (past : Chronicle) (u : ℕ) (i : Input) (s : Step) (list : OutputList) (items : List Output) (old new : Links) (told : List Effect) → list ≡ items
-    → AddsBy net u (handed u i past) s → Answers past s (Did list) → AreLinks net (handed u i past) old
-    → ((first mid : Chronicle) (facts : List Fact) → AreTold net u mid facts → Hands mid items (happen mid facts) → AreSending net first mid old [] → AreSending net first (happen mid facts) new told)
-    → AreSending net (handed u i past) (chronicle_of past s) new told
-given_sent net past u i (Idle why) list items old new told is adds answers links hand = absurd answers
-given_sent net past u i (Goes now) list items old new told is adds answers links hand =
-    let first = handed u i past in
+-- it changes no link but by the item that is taken
+links_begun : (net : Net) (u : ℕ) (i : Input) (past : Chronicle) (links : Links) → AreLinks net (handed u i past) links → AreLinks net (begun u i past) links
+links_begun net u (input.Arrive v s x) past links was = was
+links_begun net u (input.Propose e) past links was = record { acts = was.acts; stands = was.stands; states = was.states; items = was.items }
+links_begun net u (input.Control from m) past links was = record { acts = was.acts; stands = was.stands; states = was.states; items = was.items }
+links_begun net u (input.Originate p) past links was = was
+links_begun net u (input.Withdraw p) past links was = was
+links_begun net u (input.Prefer v value) past links was = was
+links_begun net u (input.Notice v) past links was = was
+links_begun net u (input.OpenSession v s) past links was = was
+links_begun net u input.Snap past links was = was
+links_begun net u (input.Inject id p) past links was = was
+links_begun net u (input.Hop packet up) past links was = was
+
+-- it sends no control message, stops no node and publishes nothing
+quiet_begun : (u : ℕ) (i : Input) (past : Chronicle) → (mailed (begun u i past) ≡ mailed past) × ((v : ℕ) → crashed v (begun u i past) ≡ crashed v past) × (all_published (begun u i past) ≡ all_published past)
+quiet_begun u (input.Arrive v s x) past = (refl, λ w. refl, refl)
+quiet_begun u (input.Propose e) past = (refl, λ w. refl, refl)
+quiet_begun u (input.Control from m) past = (refl, λ w. refl, refl)
+quiet_begun u (input.Originate p) past = (refl, λ w. refl, refl)
+quiet_begun u (input.Withdraw p) past = (refl, λ w. refl, refl)
+quiet_begun u (input.Prefer v value) past = (refl, λ w. refl, refl)
+quiet_begun u (input.Notice v) past = (refl, λ w. refl, refl)
+quiet_begun u (input.OpenSession v s) past = (refl, λ w. refl, refl)
+quiet_begun u input.Snap past = (refl, λ w. refl, refl)
+quiet_begun u (input.Inject id p) past = (refl, λ w. refl, refl)
+quiet_begun u (input.Hop packet up) past = (refl, λ w. refl, refl)
+
+-- it tells of no packet
+packets_begun : (u : ℕ) (i : Input) (past : Chronicle) → SameWalks past (begun u i past)
+packets_begun u (input.Arrive v s x) past = same_more (Took v u s x) past past (λ t. t) (same_now past)
+packets_begun u (input.Propose e) past = same_more (Start u e (ballot_of (control past) u e)) past past (λ t. t) (same_now past)
+packets_begun u (input.Control from m) past = same_more (Heard u from m) past past (λ t. t) (same_now past)
+packets_begun u (input.Originate p) past = same_now past
+packets_begun u (input.Withdraw p) past = same_now past
+packets_begun u (input.Prefer v value) past = same_now past
+packets_begun u (input.Notice v) past = same_now past
+packets_begun u (input.OpenSession v s) past = same_now past
+packets_begun u input.Snap past = same_now past
+packets_begun u (input.Inject id p) past = same_now past
+packets_begun u (input.Hop packet up) past = same_now past
+
+-- so nothing was handed on yet
+pub sending_begun : {P : Type 0} (past : Chronicle) (counts : Counts) (u : ℕ) (i : Input) (network : Network P) → AreLinks network.topology.value (handed u i past) network.links
+    → AreMails network.topology.value past counts network.mails → network.publications.items ≡ all_published past → AreWalks network.topology.value past network.walks
+    → AreSending (begun u i past) (begun u i past) counts network []
+sending_begun past counts u i network links mails published walks =
+    let net = network.topology.value in
+    let quiet = quiet_begun u i past in
+    record {
+      are_links = links_begun net u i past network.links links;
+      are_mails = same_mails net past (begun u i past) counts network.mails quiet.0 quiet.1 mails;
+      are_published = published ∙ sym quiet.2;
+      are_walks = walks_stay net past (begun u i past) network.walks (packets_begun u i past) walks;
+      since = append-nil (effects (begun u i past));
+    }
+
+-- all that the node handed out was handed on
+pub given_sent : {P : Type 0} (net : Net) (past : Chronicle) (counts : Counts) (u : ℕ) (i : Input) (s : Step) (list : OutputList) (items : List Output) (old new : Network P) (told : List Effect) → list ≡ items
+    → AddsBy net u (begun u i past) s → Answers past s (Did list) → AreSending (begun u i past) (begun u i past) counts old []
+    → ((first mid : Chronicle) (facts : List Fact) → AreTold net u mid facts → Hands mid items (happen mid facts) → AreSending first mid counts old [] → AreSending first (happen mid facts) counts new told)
+    → AreSending (begun u i past) (chronicle_of past s) counts new told
+given_sent net past counts u i (Idle why) list items old new told is adds answers sending hand = absurd answers
+given_sent net past counts u i (Goes now) list items old new told is adds answers sending hand =
+    let first = begun u i past in
     let hands : Hands first items (happen first adds.facts) =
-    ap (λ o. o ++ map output_of items) (outputs_handed u i past) ∙ (subst (λ l. Hands past l now) is answers ∙ ap outputs adds.same) in
-    subst (λ c. AreSending net first c new told) (sym adds.same)
-    (hand first first adds.facts adds.told hands (record { are_links = links; since = append-nil (effects first) }))
+    ap (λ o. o ++ map output_of items) (outputs_begun u i past) ∙ (subst (λ l. Hands past l now) is answers ∙ ap outputs adds.same) in
+    subst (λ c. AreSending first c counts new told) (sym adds.same) (hand first first adds.facts adds.told hands sending)
+
+-- where all was handed on, the network is as the run has it
+pub sent_stands : {P : Type 0} (rules : Rules) (past : Chronicle) (s : Step) (counts : Counts) (old new : Network P) (told : List Effect) (first : Chronicle) → KeepsNodes old new
+    → AreNodes old.policy rules old.topology.value (chronicle_of past s) old.nodes.items → AreCrashed old.topology.value (chronicle_of past s) old.crashed.items
+    → old.triggers ≡ triggers_of old.topology.value (chronicle_of past s) → old.triggers ≤ MOST_TRIGGERS → length (mailed (chronicle_of past s)) ≤ MOST_CONTROL
+    → packets (chronicle_of past s) ≤ MOST_PACKETS → AreSending first (chronicle_of past s) counts new told → Stands rules (chronicle_of past s) counts new
+sent_stands rules past s counts old new told first kept nodes flags total few few_mails few_packets sent = record {
+  are_nodes = rw (kept.policy, kept.topology, kept.nodes) nodes;
+  are_crashed = rw (kept.topology, kept.crashed) flags;
+  are_links = sent.are_links;
+  are_mails = sent.are_mails;
+  are_published = sent.are_published;
+  are_walks = sent.are_walks;
+  counted = rw (kept.topology, kept.triggers) (record { total = total; few = few; few_mails = few_mails; few_packets = few_packets });
+}
 
 -- the effects are those of the step
-pub given_tells : (past : Chronicle) (u : ℕ) (i : Input) (s : Step) (list : OutputList) (told : List Effect) → Answers past s (Did list) → Since (handed u i past) told (chronicle_of past s)
+pub given_tells : (past : Chronicle) (u : ℕ) (i : Input) (s : Step) (list : OutputList) (told : List Effect) → Answers past s (Did list) → Since (begun u i past) told (chronicle_of past s)
     → Tells past s (outcome.Did told)
 given_tells past u i (Idle why) list told answers since = absurd answers
-given_tells past u i (Goes now) list told answers since = ap (λ l. l ++ told) (sym (effects_handed u i past)) ∙ since
+given_tells past u i (Goes now) list told answers since = ap (λ l. l ++ told) (sym (effects_begun u i past)) ∙ since
 
 -- a node that declined did nothing
 pub declined : (past : Chronicle) (s : Step) (why : Reason) → Answers past s (Declines why) → s ≡ Idle why
@@ -92,6 +184,10 @@ links_declined net past u (input.Prefer v value) why links goes was = was
 links_declined net past u (input.Notice v) why links goes was = was
 links_declined net past u (input.OpenSession v s) why links goes was = was
 links_declined net past u input.Snap why links goes was = was
+links_declined net past u (input.Propose e) why links goes was = was
+links_declined net past u (input.Control from m) why links goes was = was
+links_declined net past u (input.Inject id p) why links goes was = was
+links_declined net past u (input.Hop packet up) why links goes was = was
 
 -- so the links are as the run has them
 pub idle_links : (net : Net) (past : Chronicle) (u : ℕ) (i : Input) (s : Step) (why : Reason) (links : Links) → Answers past s (Declines why) → GoesWhere i s → AreLinks net (handed u i past) links
@@ -103,6 +199,18 @@ idle_links net past u i s why links answers goes was =
 -- so is the count of triggers
 pub idle_counted : (net : Net) (past : Chronicle) (s : Step) (why : Reason) (triggers : ℕ) → Answers past s (Declines why) → IsCounted net past triggers → IsCounted net (chronicle_of past s) triggers
 idle_counted net past s why triggers answers was = subst (λ c. IsCounted net c triggers) (sym (ap (chronicle_of past) (declined past s why answers))) was
+
+-- of the control messages
+pub idle_mails : (net : Net) (past : Chronicle) (counts : Counts) (s : Step) (why : Reason) (mails : Office) → Answers past s (Declines why) → AreMails net past counts mails → AreMails net (chronicle_of past s) counts mails
+idle_mails net past counts s why mails answers was = subst (λ c. AreMails net c counts mails) (sym (ap (chronicle_of past) (declined past s why answers))) was
+
+-- of the packets
+pub idle_walks : (net : Net) (past : Chronicle) (s : Step) (why : Reason) (walks : List JourneyView) → Answers past s (Declines why) → AreWalks net past walks → AreWalks net (chronicle_of past s) walks
+idle_walks net past s why walks answers was = subst (λ c. AreWalks net c walks) (sym (ap (chronicle_of past) (declined past s why answers))) was
+
+-- and of what was published
+pub idle_published : (past : Chronicle) (s : Step) (why : Reason) (list : List PublicationView) → Answers past s (Declines why) → list ≡ all_published past → list ≡ all_published (chronicle_of past s)
+idle_published past s why list answers was = subst (λ c. list ≡ all_published c) (sym (ap (chronicle_of past) (declined past s why answers))) was
 
 -- the reason is that of the step
 pub idle_tells : (past : Chronicle) (s : Step) (why : Reason) → Answers past s (Declines why) → Tells past s (outcome.Idle why)
@@ -119,6 +227,12 @@ module _ {P : Type 0} (policy : P) (rules : P → Rules) (net : Net) (past : Chr
   pub others_same : (v : ℕ) → (u == v) ≡ false → SameNode v past (chronicle_of past what)
   others_same v off = give_same (rules policy) net v u off past (carried_by u past) (input_of i)
 
+  -- they keep what they stand for, where the law says so
+  pub stay : ((policy : P) (net : Net) (u v : ℕ) (node : Node P) (carried : Carried) (past : Chronicle) (input : Input) → (v == u) ≡ false
+      → StandsFor policy (rules policy) net u node past → StandsFor policy (rules policy) net u node (chronicle_of past (give (rules policy) net carried v past input)))
+      → (v : ℕ) (node : Node P) → (u == v) ≡ false → StandsFor policy (rules policy) net v node past → StandsFor policy (rules policy) net v node (chronicle_of past what)
+  stay law v node off stands = law policy net v u node (carried_by u past) past (input_of i) off stands
+
   -- what the node does to its log
   pub logs : LogsBy u (makes_local (input_of i)) past what
   logs = give_logs (rules policy) net (carried_by u past) u past (input_of i)
@@ -134,10 +248,11 @@ module _ {P : Type 0} (policy : P) (rules : P → Rules) (net : Net) (past : Chr
     new_answers = handles.answers policy net u (carried_by u past) past (was.each rank u old at here) may
 
     -- all nodes
-    pub nodes_given : after ≡ set nodes rank new → AreNodes policy (rules policy) net (chronicle_of past what) after
-    nodes_given is =
+    pub nodes_given : ((v : ℕ) (node : Node P) → (u == v) ≡ false → StandsFor policy (rules policy) net v node past → StandsFor policy (rules policy) net v node (chronicle_of past what))
+        → after ≡ set nodes rank new → AreNodes policy (rules policy) net (chronicle_of past what) after
+    nodes_given stay is =
         subst (AreNodes policy (rules policy) net (chronicle_of past what)) (sym is)
-        (nodes_at policy (rules policy) net past nodes was (chronicle_of past what) rank u new at new_stands others_same)
+        (nodes_at policy (rules policy) net past nodes was (chronicle_of past what) rank u new at new_stands stay)
 
 -- the local entries are never fewer, whatever the step
 not_fewer_by : (u : ℕ) (own : Bool) (past : Chronicle) (s : Step) → LogsBy u own past s → locals (log_of u past) ≤ locals (log_of u (chronicle_of past s))

@@ -4,6 +4,8 @@ use Rattle.std.specs.Prelude.{if◌then◌else◌}
 use Rattle.std.specs.List.{list_any, AllByRecursion}
 use Rattle.std.proofs.lemmas.Bool.Decides.{nat_tests}
 use Rattle.std.proofs.lemmas.List.{append-nil, append_cancel_left}
+use Rattle.topology.specs.declared.ballots.Ballot.{Ballot}
+use Rattle.incomplete_closure.specs.declared.values.Value.{Value}
 use Rattle.topology.specs.declared.links.LinkState.{LinkState}
 use Rattle.topology.specs.declared.links.LinkState.TheVariants.{Up, Down}
 use Rattle.topology.specs.declared.names.Scope.TheVariants.{One, All}
@@ -16,21 +18,29 @@ use Rattle.path_vector.specs.Rules.{Rules}
 use Rattle.path_vector.specs.History.{held, held_by, last, owns, ready}
 use Rattle.trigger_log.specs.Entries.{Entry, inbox, local, reads, is_session}
 use Rattle.trigger_log.specs.Going.{Going, Item, News, Marker, Hello, going_by}
+use Rattle.control_mail.specs.Readings.{Letter}
+use Rattle.epoch_packet.specs.declared.walks.End.{End as Ending}
+use Rattle.consolidator.specs.Answers.{refusal_of, proposal_refusal, ballot_of, asks, replies}
+use Rattle.consolidator.specs.Messages.{Message}
 use Rattle.chronicle.specs.declared.events.Event.{Event}
-use Rattle.chronicle.specs.declared.events.Event.TheVariants.{Originate, Withdraw, Prefer, Deliver, Fail, Restore, Notice, OpenSession, Snap, Crash, Restart}
+use Rattle.chronicle.specs.declared.events.Event.TheVariants.{Originate, Withdraw, Prefer, Deliver, Fail, Restore, Notice, OpenSession, Snap, Propose, Control, Crash, Restart, Inject, Hop}
 use Rattle.chronicle.specs.declared.ways.Way.{Way}
-use Rattle.chronicle.specs.Facts.{Chronicle, Log, Raise, Sent, Took, happen}
+use Rattle.chronicle.specs.Facts.{Fact, Chronicle, Log, Raise, Sent, Took, Start, Heard, Mail, Publish, Visit, End, happen}
 use Rattle.chronicle.specs.Facts as fact
 use Rattle.chronicle.specs.Channels.{channel}
 use Rattle.chronicle.specs.Crashes.{crashed}
 use Rattle.chronicle.specs.Deliveries.{arrives, may_arrive}
+use Rattle.chronicle.specs.Control.{control, mailed, mail_with}
 use Rattle.chronicle.specs.Epochs.{epoch}
-use Rattle.chronicle.specs.Giving.{unless, out_of_turn, closes, opens, give}
+use Rattle.chronicle.specs.Giving.{unless, out_of_turn, closes, opens, proposes, hears, answer, concluded, give}
 use Rattle.chronicle.specs.Links.{link}
 use Rattle.chronicle.specs.Logs.{log_of}
-use Rattle.chronicle.specs.Steps.{Step, Idle, Goes, Carried, unless_ready, heard, markers, meet_mark, open_session, sends, take_cut, take_item, write}
-use Rattle.chronicle.specs.Run.{held_with, carried_by, given, delivered, is_carried, opened_by_link, fails, restores, actor, is_stopped, does, step, after, chronicle_of}
-use Rattle.chronicle.specs.Inputs.{arrival}
+use Rattle.chronicle.specs.Steps.{Step, Idle, Goes, Carried, unless_ready, heard, mails, markers, meet_mark, open_session, raise, reporting, sends, take_cut, take_item, write}
+use Rattle.chronicle.specs.Run.{held_with, carried_by, given, delivered, is_carried, opened_by_link, fails, restores, handed, injected, hopped, actor, is_stopped, does, step, after, chronicle_of, up_links}
+use Rattle.chronicle.specs.Walks.{Standing, standing, ending, visit_of}
+use Rattle.chronicle.proofs.Forwarding.{forwards_keep, injects_keep}
+use Rattle.chronicle.proofs.Quieting.{IsOfPacket}
+use Rattle.chronicle.specs.Inputs.{Input, arrival}
 use Rattle.chronicle.specs.Inputs as input
 use Rattle.topology.specs.declared.status.Reason.{Reason}
 use Rattle.topology.specs.declared.status.Reason.TheVariants.{AlreadyOrigin, NotOrigin, StillUp, WrongSession, OldSession, Crashed, NotCrashed}
@@ -38,10 +48,11 @@ use Rattle.world_core.specs.declared.outcomes.Outcome.TheVariants as outcome
 use Rattle.world_core.specs.Fits.{fits}
 use Rattle.world_core.specs.Waiting.{AreWaiting, waits}
 use Rattle.world_core.specs.declared.outcomes.Effect.{Effect}
-use Rattle.world_core.specs.declared.outcomes.Effect.TheVariants.{Logged, Queued, Lost, Cut}
+use Rattle.world_core.specs.declared.outcomes.Effect.TheVariants.{Logged, Queued, Lost, Mailed, Cut, Published, Visited, Ended}
 use Rattle.world_core.specs.Effects.{effects, Tells}
 use Rattle.world_core.specs.Refreshing.{AreLinked, AreWaitingBut, link_ways, node_ways, queued_ways, way, ways_of, ways_to}
 use Rattle.world_core.specs.WaySets.{same_way}
+use Rattle.world_core.proofs.Due.{after_table}
 use Rattle.world_core.proofs.Telling.{AllNear, filter_passes, going_near, markers_near}
 
 -- the way is none of these
@@ -67,7 +78,11 @@ ways_append [] ys = refl
 ways_append (Logged node index ∷ xs) ys = ways_append xs ys
 ways_append (Queued from to ∷ xs) ys = ap (λ l. way from to ∷ l) (ways_append xs ys)
 ways_append (Lost from to ∷ xs) ys = ways_append xs ys
+ways_append (Mailed number ∷ xs) ys = ways_append xs ys
 ways_append (Cut node epoch ∷ xs) ys = ways_append xs ys
+ways_append (Published node epoch ∷ xs) ys = ways_append xs ys
+ways_append (Visited packet visit ∷ xs) ys = ways_append xs ys
+ways_append (Ended packet ending ∷ xs) ys = ways_append xs ys
 
 -- two lists of ways over links
 pub linked_append : (net : Net) (ws vs : List Way) → AreLinked net ws → AreLinked net vs → AreLinked net (ws ++ vs)
@@ -195,6 +210,38 @@ log_change net past u k ways keeps = record {
 raise_change : (net : Net) (past : Chronicle) (u e : ℕ) (ways : List Way) → Changed net past (Raise u e ∷ past) ways
 raise_change net past u e ways = record { tail = Cut u e ∷ []; shown = refl; near = tt; kept = λ one joined misses queued. refl }
 
+-- ---- ballots, control messages and tables
+
+module _ (net : Net) (past : Chronicle) (ways : List Way) where
+  -- a ballot that starts changes no delivery
+  start_change : (u e : ℕ) (b : Ballot) → Changed net past (Start u e b ∷ past) ways
+  start_change u e b = record { tail = []; shown = refl; near = tt; kept = λ one joined misses queued. refl }
+
+  -- nor does a control message that is heard
+  heard_change : (u from : ℕ) (m : Message) → Changed net past (Heard u from m ∷ past) ways
+  heard_change u from m = record { tail = []; shown = refl; near = tt; kept = λ one joined misses queued. refl }
+
+  -- one that is sent
+  mail_change : (u to : ℕ) (m : Message) → Changed net past (Mail u to m ∷ past) ways
+  mail_change u to m = record { tail = Mailed (suc (length (mailed past))) ∷ []; shown = refl; near = tt; kept = λ one joined misses queued. refl }
+
+  -- or a table
+  table_change : (u e : ℕ) (value : Value) (paths : List (Option (List ℕ))) → Changed net past (Publish u e value paths ∷ past) ways
+  table_change u e value paths = record { tail = Published u e ∷ []; shown = refl; near = tt; kept = λ one joined misses queued. refl }
+
+-- nor does a packet that comes to a node, or whose walk ends
+packet_change : (net : Net) (past : Chronicle) (ways : List Way) (f : Fact) → IsOfPacket f → Changed net past (f ∷ past) ways
+packet_change net past ways (Visit w packet) of = record { tail = Visited packet.id (visit_of w packet) ∷ []; shown = refl; near = tt; kept = λ one joined misses queued. refl }
+packet_change net past ways (End packet ending) of = record { tail = Ended packet ending ∷ []; shown = refl; near = tt; kept = λ one joined misses queued. refl }
+packet_change net past ways other of = absurd of
+
+-- all control messages that a node sends
+mails_change : (net : Net) (ways : List Way) (u : ℕ) (ms : List (ℕ × Message)) (past : Chronicle) → Changed net past (happen past (mails u ms)) ways
+mails_change net ways u [] past = unchanged net past ways
+mails_change net ways u (m ∷ ms) past =
+    let next : Chronicle = Mail u m.0 m.1 ∷ past in
+    both net past next (happen next (mails u ms)) ways (mail_change net past ways u m.0 m.1) (mails_change net ways u ms next)
+
 module _ (rules : Rules) (net : Net) (carried : Carried) (u : ℕ) (ways : List Way) where
   -- what an entry changes with the items that it sends
   write_change : (past : Chronicle) (k : Entry) → KeepsHeld u k ways → Changed net past (write rules net carried u k past) ways
@@ -214,11 +261,19 @@ module _ (rules : Rules) (net : Net) (carried : Carried) (u : ℕ) (ways : List 
       (raise_change net past u e ways)
       (sends_change net carried u (Raise u e ∷ past) gs ways (markers_near net u e (log_of u past)))
 
-  -- so does a mark that is met
-  meet_change : (past : Chronicle) (e : ℕ) → Changed net past (meet_mark net carried u e past) ways
+  -- so does an epoch that rises
+  risen_change : (past : Chronicle) (e : ℕ) → Changed net past (raise rules net carried u e past) ways
+  unfolding raise
+  risen_change past e =
+      let cut = take_cut net carried u e past in
+      let ms = reporting rules net u e (log_of u past) in
+      both net past cut (happen cut (mails u ms)) ways (cut_change past e) (mails_change net ways u ms cut)
+
+  -- and a mark that is met
+  meet_change : (past : Chronicle) (e : ℕ) → Changed net past (meet_mark rules net carried u e past) ways
   meet_change past e =
-      elim (nat_lt (epoch u past) e) as (λ t. Changed net past (if t then take_cut net carried u e past else past) ways) [
-        | true ↦ cut_change past e
+      elim (nat_lt (epoch u past) e) as (λ t. Changed net past (if t then raise rules net carried u e past else past) ways) [
+        | true ↦ risen_change past e
         | false ↦ unchanged net past ways
       ]
 
@@ -323,10 +378,10 @@ take_change rules net carried past v u s (News n x) =
     (write_change rules net carried u (way v u ∷ []) mid (heard v s n x) (λ one session misses at. refl))
 take_change rules net carried past v u s (Marker e) =
     let mid : Chronicle = Took v u s (Marker e) ∷ past in
-    both net past mid (meet_mark net carried u e mid) (way v u ∷ []) (took_change net past v u s (Marker e)) (meet_change rules net carried u (way v u ∷ []) mid e)
+    both net past mid (meet_mark rules net carried u e mid) (way v u ∷ []) (took_change net past v u s (Marker e)) (meet_change rules net carried u (way v u ∷ []) mid e)
 take_change rules net carried past v u s (Hello e) =
     let mid : Chronicle = Took v u s (Hello e) ∷ past in
-    let met = meet_mark net carried u e mid in
+    let met = meet_mark rules net carried u e mid in
     let known = ready (reads (log_of u past)) v in
     both net past mid (unless_ready known met (write rules net carried u (local u (log_of u met) All (cause.Ready v s)) met)) (way v u ∷ []) (took_change net past v u s (Hello e))
     (both net mid met (unless_ready known met (write rules net carried u (local u (log_of u met) All (cause.Ready v s)) met)) (way v u ∷ []) (meet_change rules net carried u (way v u ∷ []) mid e)
@@ -383,24 +438,78 @@ module _ (rules : Rules) (net : Net) (carried : Carried) (past : Chronicle) wher
       ]
 
 module _ (rules : Rules) (net : Net) (past : Chronicle) where
+  -- the table that is due changes no delivery
+  concluded_change : (u : ℕ) (ways : List Way) (s : Step) → ChangedBy net past ways s → ChangedBy net past ways (concluded rules net u past s)
+  concluded_change u ways (Idle why) change = tt
+  concluded_change u ways (Goes now) change =
+      after_table rules net u past now (λ after. Changed net past after ways) change
+      (λ e value paths. both net past now (Publish u e value paths ∷ now) ways change (table_change net now ways u e value paths))
+
+  -- so an input changes what the answer to it does
+  given_change : (u : ℕ) (i : Input) (ways : List Way) → ChangedBy net past ways (answer rules net (carried_by u past) u past i) → ChangedBy net past ways (given rules net past u i)
+  unfolding give
+  given_change u i ways change = concluded_change u ways (answer rules net (carried_by u past) u past i) change
+
   -- a delivery
   delivery_change : (v u : ℕ) (l : LinkState) (items : List Item) → ChangedBy net past (way v u ∷ []) (delivered (given rules net past u) v l items)
-  unfolding give
+  unfolding answer
   delivery_change v u (Down s) items = tt
   delivery_change v u (Up s) [] = tt
-  delivery_change v u (Up s) (x ∷ rest) = comes_change rules net (carried_by u past) past v u s x (held (reads (log_of u past)) v)
+  delivery_change v u (Up s) (x ∷ rest) =
+      given_change u (input.Arrive v s x) (way v u ∷ []) (comes_change rules net (carried_by u past) past v u s x (held (reads (log_of u past)) v))
 
   -- a notice, in a run
   notice_change : (u v : ℕ) → ChangedBy net past (way v u ∷ []) (given rules net past u (input.Notice v))
-  unfolding give
-  notice_change u v = notices_change rules net (carried_by u past) past u v (held (reads (log_of u past)) v)
+  unfolding answer
+  notice_change u v = given_change u (input.Notice v) (way v u ∷ []) (notices_change rules net (carried_by u past) past u v (held (reads (log_of u past)) v))
 
   -- an opening, in a run
   opening_change : (u v : ℕ) (session : Option ℕ) (l : LinkState) → linked net u v ≡ true → ChangedBy net past (way v u ∷ []) (opened_by_link (given rules net past u) v session l)
-  unfolding give
+  unfolding answer
   opening_change u v (Some s) l near = tt
   opening_change u v None (Down s) near = tt
-  opening_change u v None (Up s) near = opens_change rules net (carried_by u past) past u v s (held (reads (log_of u past)) v) near
+  opening_change u v None (Up s) near =
+      given_change u (input.OpenSession v s) (way v u ∷ []) (opens_change rules net (carried_by u past) past u v s (held (reads (log_of u past)) v) near)
+
+  -- a ballot
+  proposal_change : (u e : ℕ) → ChangedBy net past [] (unless (proposal_refusal net (control past) u e) (proposes net u past e))
+  unfolding proposes
+  proposal_change u e =
+      let first : Chronicle = Start u e (ballot_of (control past) u e) ∷ past in
+      let ms = asks net (control past) u e in
+      unless_change net past (happen first (mails u ms)) [] (proposal_refusal net (control past) u e)
+      (both net past first (happen first (mails u ms)) [] (start_change net past [] u e (ballot_of (control past) u e)) (mails_change net [] u ms first))
+
+  -- a control message
+  hearing_change : (u from : ℕ) (m : Message) → ChangedBy net past [] (unless (refusal_of net (control past) u from m) (hears net u past from m))
+  unfolding hears
+  hearing_change u from m =
+      let first : Chronicle = Heard u from m ∷ past in
+      let ms = replies net (control past) u from m in
+      unless_change net past (happen first (mails u ms)) [] (refusal_of net (control past) u from m)
+      (both net past first (happen first (mails u ms)) [] (heard_change net past [] u from m) (mails_change net [] u ms first))
+
+  -- a control message that is handed over, where there is one
+  handed_change : (o : Option Letter) → ChangedBy net past [] (handed rules net past o)
+  unfolding answer
+  handed_change None = tt
+  handed_change (Some m) = given_change m.to (input.Control m.from m.message) [] (hearing_change m.to m.from m.message)
+
+  -- a packet that enters, where it is not known
+  injection_change : (k u p : ℕ) (known : Option Standing) → ChangedBy net past [] (injected (given rules net past u) k p known)
+  unfolding answer
+  injection_change k u p (Some at) = tt
+  injection_change k u p None =
+      given_change u (input.Inject k p) [] (injects_keep rules net u past (λ now. Changed net past now []) (packet_change net past []) k p)
+
+  -- one that goes on, where its walk has not ended
+  hop_change : (known : Option Standing) (end : Option Ending) → ChangedBy net past [] (hopped rules net past known end)
+  unfolding answer
+  hop_change None end = tt
+  hop_change (Some at) (Some end) = tt
+  hop_change (Some at) None =
+      let up = up_links net at.node past in
+      given_change at.node (input.Hop at.packet up) [] (forwards_keep rules net at.node past (λ now. Changed net past now []) (packet_change net past []) at.packet up)
 
   -- a failure, where the link is up
   failing_change : (a b : ℕ) (l : LinkState) → ChangedBy net past (way a b ∷ way b a ∷ []) (fails past a b l)
@@ -414,20 +523,24 @@ module _ (rules : Rules) (net : Net) (past : Chronicle) where
 
   -- each event whose node runs
   does_change : (event : Event) → IsValid net → IsTrue (fits net event) → ChangedBy net past (ways_of net event) (does rules net past event)
-  unfolding does give
+  unfolding does answer
   does_change (Originate u p) valid fit =
       let k = local u (log_of u past) (One p) cause.Originate in
-      elim (owns (reads (log_of u past)) p) as (λ t. ChangedBy net past [] (if t then Idle AlreadyOrigin else Goes (write rules net (carried_by u past) u k past))) [
+      given_change u (input.Originate p) []
+      (elim (owns (reads (log_of u past)) p) as (λ t. ChangedBy net past [] (if t then Idle AlreadyOrigin else Goes (write rules net (carried_by u past) u k past))) [
         | true ↦ tt
         | false ↦ write_change rules net (carried_by u past) u [] past k (λ one session misses at. refl)
-      ]
+      ])
   does_change (Withdraw u p) valid fit =
       let k = local u (log_of u past) (One p) cause.Withdraw in
-      elim (owns (reads (log_of u past)) p) as (λ t. ChangedBy net past [] (if t then Goes (write rules net (carried_by u past) u k past) else Idle NotOrigin)) [
+      given_change u (input.Withdraw p) []
+      (elim (owns (reads (log_of u past)) p) as (λ t. ChangedBy net past [] (if t then Goes (write rules net (carried_by u past) u k past) else Idle NotOrigin)) [
         | true ↦ write_change rules net (carried_by u past) u [] past k (λ one session misses at. refl)
         | false ↦ tt
-      ]
-  does_change (Prefer u v value) valid fit = write_change rules net (carried_by u past) u [] past (local u (log_of u past) All (cause.Prefer v value)) (λ one session misses at. refl)
+      ])
+  does_change (Prefer u v value) valid fit =
+      given_change u (input.Prefer v value) []
+      (write_change rules net (carried_by u past) u [] past (local u (log_of u past) All (cause.Prefer v value)) (λ one session misses at. refl))
   does_change (Deliver v u) valid fit = delivery_change v u (link v u past) (channel v u past)
   does_change (Fail a b) valid fit = failing_change a b (link a b past)
   does_change (Restore a b) valid fit = restoring_change a b (link a b past)
@@ -437,18 +550,22 @@ module _ (rules : Rules) (net : Net) (past : Chronicle) where
         | false ↦ notice_change u v
       ]
   does_change (OpenSession u v) valid fit = opening_change u v (held_with u v past) (link u v past) fit
-  does_change (Snap u) valid fit = cut_change rules net (carried_by u past) u [] past (suc (epoch u past))
+  does_change (Snap u) valid fit = given_change u input.Snap [] (risen_change rules net (carried_by u past) u [] past (suc (epoch u past)))
+  does_change (Propose u e) valid fit = given_change u (input.Propose e) [] (proposal_change u e)
+  does_change (Control number) valid fit = handed_change (mail_with number past)
   does_change (Crash u) valid fit = more_ways net past (fact.Crash u ∷ past) (ways_to net u) (crash_change net past u valid)
   does_change (Restart u) valid fit =
       elim (crashed u past) as (λ t. ChangedBy net past (ways_to net u ++ []) (if t then Goes (fact.Restart u ∷ past) else Idle NotCrashed)) [
         | true ↦ more_ways net past (fact.Restart u ∷ past) (ways_to net u) (restart_change net past u valid)
         | false ↦ tt
       ]
+  does_change (Inject k u p) valid fit = injection_change k u p (standing k past)
+  does_change (Hop k) valid fit = hop_change (standing k past) (ending k past)
 
   -- each event
   event_change : (event : Event) → IsValid net → IsTrue (fits net event) → ChangedBy net past (ways_of net event) (step rules net past event)
   unfolding step
-  event_change event valid fit = elim (is_stopped past (actor event)) as (λ t. ChangedBy net past (ways_of net event) (if t then Idle Crashed else does rules net past event)) [
+  event_change event valid fit = elim (is_stopped past (actor net past event)) as (λ t. ChangedBy net past (ways_of net event) (if t then Idle Crashed else does rules net past event)) [
     | true ↦ tt
     | false ↦ does_change event valid fit
   ]
@@ -478,8 +595,12 @@ ways_linked net (Restore a b) fit = two_linked net a b fit
 ways_linked net (Notice u v) fit = (linked_sym net v u ∙ fit, tt)
 ways_linked net (OpenSession u v) fit = (linked_sym net v u ∙ fit, tt)
 ways_linked net (Snap u) fit = tt
+ways_linked net (Propose u e) fit = tt
+ways_linked net (Control number) fit = tt
 ways_linked net (Crash u) fit = node_linked net u
 ways_linked net (Restart u) fit = node_linked net u
+ways_linked net (Inject k u p) fit = tt
+ways_linked net (Hop k) fit = tt
 
 -- two tests behind one that decides
 and_same : (b c d : Bool) → (b ≡ true → c ≡ d) → (b && c) ≡ (b && d)

@@ -18,7 +18,7 @@ use Rattle.chronicle.specs.Crashes.{crashed}
 use Rattle.chronicle.specs.Deliveries.{may_arrive}
 use Rattle.chronicle.specs.Facts.{Chronicle}
 use Rattle.chronicle.specs.Facts as fact
-use Rattle.chronicle.specs.Giving.{give, out_of_turn, unless}
+use Rattle.chronicle.specs.Giving.{answer, concluded, give, out_of_turn, unless}
 use Rattle.chronicle.specs.Inputs.{arrival}
 use Rattle.chronicle.specs.Inputs as input
 use Rattle.chronicle.specs.Links.{link}
@@ -38,39 +38,39 @@ use Rattle.world_core.specs.declared.outcomes.Effect.{Effect}
 use Rattle.world_core.specs.Effects.{effects}
 use Rattle.world_core.specs.Limits.{triggers_of}
 use Rattle.link_model.specs.declared.links.Links.{Links}
-use Rattle.world_core.specs.Matching.{AreLinks, IsCounted, Stands}
+use Rattle.world_core.specs.Matching.{AreLinks, Counts, IsCounted, Stands}
 
 -- the same step
-pub comes_so : {P : Type 0} (rules : Rules) (past : Chronicle) (s t : Step) (network : Network P) (outcome : Outcome) → s ≡ t → Comes rules past t network outcome → Comes rules past s network outcome
-comes_so rules past s t network outcome same comes = subst (λ s. Comes rules past s network outcome) (sym same) comes
+pub comes_so : {P : Type 0} (rules : Rules) (past : Chronicle) (counts : Counts) (s t : Step) (network : Network P) (outcome : Outcome) → s ≡ t → Comes rules past counts t network outcome → Comes rules past counts s network outcome
+comes_so rules past counts s t network outcome same comes = subst (λ s. Comes rules past counts s network outcome) (sym same) comes
 
 -- an idle one leaves all as it was
-pub idle : {P : Type 0} (rules : Rules) (past : Chronicle) (s : Step) (network : Network P) (why : Reason) → s ≡ Idle why → Stands rules past network → Comes rules past s network (outcome.Idle why)
-idle rules past s network why is was = comes_so rules past s (Idle why) network (outcome.Idle why) is (record { stands = was; tells = refl })
+pub idle : {P : Type 0} (rules : Rules) (past : Chronicle) (counts : Counts) (s : Step) (network : Network P) (why : Reason) → s ≡ Idle why → Stands rules past counts network → Comes rules past counts s network (outcome.Idle why)
+idle rules past counts s network why is was = comes_so rules past counts s (Idle why) network (outcome.Idle why) is (record { stands = was; tells = refl })
 
 -- one that goes on
-pub did : {P : Type 0} (rules : Rules) (past : Chronicle) (s : Step) (now : Chronicle) (network : Network P) (list : List Effect) → s ≡ Goes now → Stands rules now network
-    → effects past ++ list ≡ effects now → Comes rules past s network (outcome.Did list)
-did rules past s now network list is stands tells = comes_so rules past s (Goes now) network (outcome.Did list) is (record { stands = stands; tells = tells })
+pub did : {P : Type 0} (rules : Rules) (past : Chronicle) (counts : Counts) (s : Step) (now : Chronicle) (network : Network P) (list : List Effect) → s ≡ Goes now → Stands rules now counts network
+    → effects past ++ list ≡ effects now → Comes rules past counts s network (outcome.Did list)
+did rules past counts s now network list is stands tells = comes_so rules past counts s (Goes now) network (outcome.Did list) is (record { stands = stands; tells = tells })
 
 -- a link that changes gives no trigger
 pub fail_counted : (net : Net) (past : Chronicle) (a b triggers : ℕ) → IsCounted net past triggers → IsCounted net (fact.Fail a b ∷ past) triggers
 unfolding triggers_of
-fail_counted net past a b triggers was = record { total = was.total; few = was.few }
+fail_counted net past a b triggers was = record { total = was.total; few = was.few; few_mails = was.few_mails; few_packets = was.few_packets }
 
 -- nor does one that comes up
 pub restore_counted : (net : Net) (past : Chronicle) (a b triggers : ℕ) → IsCounted net past triggers → IsCounted net (fact.Restore a b ∷ past) triggers
 unfolding triggers_of
-restore_counted net past a b triggers was = record { total = was.total; few = was.few }
+restore_counted net past a b triggers was = record { total = was.total; few = was.few; few_mails = was.few_mails; few_packets = was.few_packets }
 
 -- nor a node that crashes, or comes back
 pub crash_counted : (net : Net) (past : Chronicle) (u triggers : ℕ) → IsCounted net past triggers → IsCounted net (fact.Crash u ∷ past) triggers
 unfolding triggers_of
-crash_counted net past u triggers was = record { total = was.total; few = was.few }
+crash_counted net past u triggers was = record { total = was.total; few = was.few; few_mails = was.few_mails; few_packets = was.few_packets }
 
 pub restart_counted : (net : Net) (past : Chronicle) (u triggers : ℕ) → IsCounted net past triggers → IsCounted net (fact.Restart u ∷ past) triggers
 unfolding triggers_of
-restart_counted net past u triggers was = record { total = was.total; few = was.few }
+restart_counted net past u triggers was = record { total = was.total; few = was.few; few_mails = was.few_mails; few_packets = was.few_packets }
 
 -- no link and no channel changes by it
 pub crash_links : (net : Net) (past : Chronicle) (u : ℕ) (links : Links) → AreLinks net past links → AreLinks net (fact.Crash u ∷ past) links
@@ -159,13 +159,13 @@ module _ (rules : Rules) (net : Net) (past : Chronicle) (v u : ℕ) where
 
   -- an item of another session is declined
   wrong_session : (s : ℕ) (x : Item) → is_session (held_with u v past) s ≡ false → given rules net past u (input.Arrive v s x) ≡ Idle WrongSession
-  unfolding give
+  unfolding give answer
   wrong_session s x wrong =
-      ap (λ t. if not t then Idle WrongSession else unless (out_of_turn (suc (length (inbox (log_of u past) v s))) x) (take_item rules net (carried_by u past) u (arrival v s x) past)) wrong
+      ap (λ t. concluded rules net u past (if not t then Idle WrongSession else unless (out_of_turn (suc (length (inbox (log_of u past) v s))) x) (take_item rules net (carried_by u past) u (arrival v s x) past))) wrong
 
   -- an item in its turn is not
   right_session : (s : ℕ) (x : Item) → is_session (held_with u v past) s ≡ true → out_of_turn (suc (length (inbox (log_of u past) v s))) x ≡ None → Did (given rules net past u (input.Arrive v s x))
-  unfolding give
+  unfolding give answer
   right_session s x right turn = rw (right, turn) tt
 
   -- why a delivery does nothing, and that the way does not wait

@@ -1,5 +1,5 @@
 -- What an input of one node changes of the counts of all.
-use Rattle.std.proofs.Common.{ℕ, suc, Bool, true, false, not, ◌+◌, ◌-◌, ◌==◌, ◌&&◌, nat_lt, Option, Some, None, List, [], ◌∷◌, ◌≡◌, ◌≤◌, ◌⊎◌, inl, inr, refl, sym, ◌∙◌, ap, ap₂, subst, arith, length}
+use Rattle.std.proofs.Common.{ℕ, suc, Bool, true, false, not, ◌+◌, ◌-◌, ◌==◌, ◌&&◌, nat_lt, Option, Some, None, List, [], ◌∷◌, ◌≡◌, ◌<◌, ◌≤◌, ◌⊎◌, inl, inr, refl, sym, ◌∙◌, ap, ap₂, subst, arith, length}
 use Rattle.std.specs.Prelude.{if◌then◌else◌}
 use Rattle.std.specs.List.{list_any, sum_by}
 use Rattle.std.proofs.lemmas.Bool.Decides.{nat_tests}
@@ -7,6 +7,7 @@ use Rattle.std.proofs.lemmas.List.Sums.{sum_by-cons}
 use Rattle.topology.specs.declared.names.Scope.TheVariants.{One, All}
 use Rattle.topology.specs.declared.status.Reason.{Reason}
 use Rattle.topology.specs.declared.status.Reason.TheVariants as reason
+use Rattle.topology.specs.declared.status.LimitKind.TheVariants as LimitKind
 use Rattle.topology.specs.Lists.{has}
 use Rattle.topology.specs.Paths.{differ}
 use Rattle.topology.specs.Net.{Net, IsValid}
@@ -17,18 +18,25 @@ use Rattle.trigger_log.specs.Entries.{Entry, inbox, local, reads, is_local, is_s
 use Rattle.trigger_log.specs.Sending.{sent_of}
 use Rattle.trigger_log.specs.Going.{Item, News, Marker, Hello}
 use Rattle.chronicle.specs.Epochs.{epoch}
-use Rattle.chronicle.specs.Facts.{Chronicle, Took}
-use Rattle.chronicle.specs.Giving.{unless, out_of_turn, closes, opens, give}
+use Rattle.chronicle.specs.Facts.{Chronicle, Took, Start, Heard}
+use Rattle.consolidator.specs.Answers.{refusal_of, proposal_refusal, ballot_of, asks, replies}
+use Rattle.consolidator.specs.Messages.{Message}
+use Rattle.chronicle.specs.Control.{control, mailed}
+use Rattle.chronicle.specs.Giving.{unless, out_of_turn, closes, opens, proposes, hears, answer, concluded, give}
 use Rattle.chronicle.specs.Inputs.{Input, arrival}
 use Rattle.chronicle.specs.Inputs as input
 use Rattle.chronicle.specs.Logs.{log_of}
-use Rattle.chronicle.specs.Steps.{Step, Idle, Goes, Carried, write, open_session, take_cut, meet_mark, unless_ready, heard, take_item}
-use Rattle.chronicle.proofs.Blocks.{log_own, log_open, log_take_cut, opening, same_number}
+use Rattle.chronicle.specs.Steps.{Step, Idle, Goes, Carried, write, open_session, raise, meet_mark, unless_ready, heard, take_item}
+use Rattle.chronicle.proofs.Blocks.{log_own, log_open, log_raise, opening, same_number}
+use Rattle.chronicle.proofs.Publishing.{log_publish}
+use Rattle.chronicle.specs.Walks.{packets}
+use Rattle.chronicle.proofs.Forwarding.{forwards_keep, injects_keep}
+use Rattle.chronicle.proofs.Quieting.{log_mails, log_quiet, quiet_packet}
 use Rattle.cut_laws.specs.Own.{SameNode}
 use Rattle.node_core.specs.declared.limits.TheConstants.{MOST_EPOCHS, MOST_ENTRIES, MOST_UPDATES}
-use Rattle.node_core.specs.NodeLimits.{node_above, first_of_node}
-use Rattle.world_core.specs.declared.bounds.TheConstants.{MOST_TRIGGERS}
-use Rattle.world_core.specs.Limits.{triggers_of, has_more_epochs, has_more_entries, has_more_updates, first_above, above, makes_local}
+use Rattle.node_core.specs.NodeLimits.{has_large_value, node_above, first_of_node}
+use Rattle.world_core.specs.declared.bounds.TheConstants.{MOST_TRIGGERS, MOST_CONTROL, MOST_PACKETS}
+use Rattle.world_core.specs.Limits.{triggers_of, has_more_epochs, has_more_entries, has_more_updates, has_more_control, has_more_packets, first_above, above, makes_local}
 
 -- ---- sums and tests over all nodes, where what is read of one has changed
 
@@ -99,9 +107,9 @@ module _ (rules : Rules) (net : Net) (carried : Carried) (u : ℕ) (own : Bool) 
   write_logs k past mid same is = inr (k, log_own rules net carried u k mid ∙ ap (λ h. k ∷ h) same, is)
 
   -- a mark that is met makes no entry
-  log_meet : (e : ℕ) (now : Chronicle) → log_of u (meet_mark net carried u e now) ≡ log_of u now
-  log_meet e now = elim (nat_lt (epoch u now) e) as (λ t. log_of u (if t then take_cut net carried u e now else now) ≡ log_of u now) [
-    | true ↦ log_take_cut net carried u e now u
+  log_meet : (e : ℕ) (now : Chronicle) → log_of u (meet_mark rules net carried u e now) ≡ log_of u now
+  log_meet e now = elim (nat_lt (epoch u now) e) as (λ t. log_of u (if t then raise rules net carried u e now else now) ≡ log_of u now) [
+    | true ↦ log_raise rules net carried u e now u
     | false ↦ refl
   ]
 
@@ -133,7 +141,7 @@ module _ (rules : Rules) (net : Net) (carried : Carried) (u : ℕ) (past : Chron
   take_logs v s (Marker e) = inl (log_meet rules net carried u true e (Took v u s (Marker e) ∷ past))
   take_logs v s (Hello e) =
       let taken : Chronicle = Took v u s (Hello e) ∷ past in
-      greet_logs rules net carried u true v s (ready (reads (log_of u past)) v) past (meet_mark net carried u e taken) (log_meet rules net carried u true e taken) refl
+      greet_logs rules net carried u true v s (ready (reads (log_of u past)) v) past (meet_mark rules net carried u e taken) (log_meet rules net carried u true e taken) refl
 
   -- a notice
   notices_logs : (v : ℕ) (session : Option ℕ) → LogsBy u true past (closes session (λ s. write rules net carried u (local u (log_of u past) All (cause.Down v s)) past))
@@ -155,26 +163,53 @@ module _ (rules : Rules) (net : Net) (carried : Carried) (u : ℕ) (past : Chron
         | false ↦ tt
       ]
 
-  -- an input makes one entry at most
-  pub give_logs : (i : Input) → LogsBy u (makes_local i) past (give rules net carried u past i)
-  unfolding give
-  give_logs (input.Originate p) =
+  -- a ballot that starts makes none
+  proposal_logs : (e : ℕ) → log_of u (proposes net u past e) ≡ log_of u past
+  unfolding proposes
+  proposal_logs e = log_mails u (asks net (control past) u e) (Start u e (ballot_of (control past) u e) ∷ past) u
+
+  -- nor does a control message
+  hearing_logs : (from : ℕ) (m : Message) → log_of u (hears net u past from m) ≡ log_of u past
+  unfolding hears
+  hearing_logs from m = log_mails u (replies net (control past) u from m) (Heard u from m ∷ past) u
+
+  -- an answer makes one entry at most
+  answer_logs : (i : Input) → LogsBy u (makes_local i) past (answer rules net carried u past i)
+  unfolding answer
+  answer_logs (input.Originate p) =
       let k = local u (log_of u past) (One p) cause.Originate in
       elim (owns (reads (log_of u past)) p) as (λ t. LogsBy u true past (if t then Idle reason.AlreadyOrigin else Goes (write rules net carried u k past))) [
         | true ↦ tt
         | false ↦ write_logs rules net carried u true k past past refl refl
       ]
-  give_logs (input.Withdraw p) =
+  answer_logs (input.Withdraw p) =
       let k = local u (log_of u past) (One p) cause.Withdraw in
       elim (owns (reads (log_of u past)) p) as (λ t. LogsBy u true past (if t then Goes (write rules net carried u k past) else Idle reason.NotOrigin)) [
         | true ↦ write_logs rules net carried u true k past past refl refl
         | false ↦ tt
       ]
-  give_logs (input.Prefer v value) = write_logs rules net carried u true (local u (log_of u past) All (cause.Prefer v value)) past past refl refl
-  give_logs (input.Arrive v s x) = comes_logs rules net carried u (makes_local (input.Arrive v s x)) v s x (held (reads (log_of u past)) v) past (take_logs v s x)
-  give_logs (input.Notice v) = notices_logs v (held (reads (log_of u past)) v)
-  give_logs (input.OpenSession v s) = opens_logs v s (held (reads (log_of u past)) v)
-  give_logs input.Snap = inl (log_take_cut net carried u (suc (epoch u past)) past u)
+  answer_logs (input.Prefer v value) = write_logs rules net carried u true (local u (log_of u past) All (cause.Prefer v value)) past past refl refl
+  answer_logs (input.Arrive v s x) = comes_logs rules net carried u (makes_local (input.Arrive v s x)) v s x (held (reads (log_of u past)) v) past (take_logs v s x)
+  answer_logs (input.Notice v) = notices_logs v (held (reads (log_of u past)) v)
+  answer_logs (input.OpenSession v s) = opens_logs v s (held (reads (log_of u past)) v)
+  answer_logs input.Snap = inl (log_raise rules net carried u (suc (epoch u past)) past u)
+  answer_logs (input.Propose e) =
+      unless_logs rules net carried u true past (proposes net u past e) (proposal_refusal net (control past) u e) (inl (proposal_logs e))
+  answer_logs (input.Control from m) =
+      unless_logs rules net carried u true past (hears net u past from m) (refusal_of net (control past) u from m) (inl (hearing_logs from m))
+  answer_logs (input.Inject id p) = inl (injects_keep rules net u past (λ now. log_of u now ≡ log_of u past) (λ f of. log_quiet f past (quiet_packet f of) u) id p)
+  answer_logs (input.Hop packet up) = inl (forwards_keep rules net u past (λ now. log_of u now ≡ log_of u past) (λ f of. log_quiet f past (quiet_packet f of) u) packet up)
+
+  -- a table that is published makes none
+  concluded_logs : (own : Bool) (s : Step) → LogsBy u own past s → LogsBy u own past (concluded rules net u past s)
+  concluded_logs own (Idle why) logs = tt
+  concluded_logs own (Goes now) logs =
+      subst (λ h. (h ≡ log_of u past) ⊎ ((k : Entry) × (h ≡ k ∷ log_of u past) × (is_local k.read.cause ≡ own))) (sym (log_publish rules net u past now u)) logs
+
+  -- so an input makes one entry at most
+  pub give_logs : (i : Input) → LogsBy u (makes_local i) past (give rules net carried u past i)
+  unfolding give
+  give_logs i = concluded_logs (makes_local i) (answer rules net carried u past i) (answer_logs i)
 
 -- one more, or none
 one_more : (own : Bool) (n : ℕ) → (if own then suc n else n) ≡ n + (if own then 1 else 0)
@@ -211,18 +246,19 @@ module _ (net : Net) (past now : Chronicle) (u : ℕ) (valid : IsValid net) (nod
       net.nodes valid.nodes_differ node (omega (arith, more))
 
 -- what is above no number
-pub none_of_node : (a b c : Bool) → first_of_node a b c ≡ None → (a ≡ false) × (b ≡ false) × (c ≡ false)
-none_of_node true b c e = absurd (cc e)
-none_of_node false true c e = absurd (cc e)
-none_of_node false false true e = absurd (cc e)
-none_of_node false false false e = (refl, refl, refl)
+pub none_of_node : (a b c d : Bool) → first_of_node a b c d ≡ None → (a ≡ false) × (b ≡ false) × (c ≡ false) × (d ≡ false)
+none_of_node true b c d e = absurd (cc e)
+none_of_node false true c d e = absurd (cc e)
+none_of_node false false true d e = absurd (cc e)
+none_of_node false false false true e = absurd (cc e)
+none_of_node false false false false e = (refl, refl, refl, refl)
 
 -- a node that is within its counts
 pub within_counts : (rules : Rules) (net : Net) (u : ℕ) (past : Chronicle) → node_above rules net u past ≡ None
-    → (nat_lt MOST_EPOCHS (epoch u past) ≡ false) × (nat_lt MOST_ENTRIES (length (log_of u past)) ≡ false) × (nat_lt MOST_UPDATES (length (sent_of rules net u (log_of u past))) ≡ false)
+    → (nat_lt MOST_EPOCHS (epoch u past) ≡ false) × (has_large_value u past ≡ false) × (nat_lt MOST_ENTRIES (length (log_of u past)) ≡ false) × (nat_lt MOST_UPDATES (length (sent_of rules net u (log_of u past))) ≡ false)
 unfolding node_above
 within_counts rules net u past within =
-    none_of_node (nat_lt MOST_EPOCHS (epoch u past)) (nat_lt MOST_ENTRIES (length (log_of u past))) (nat_lt MOST_UPDATES (length (sent_of rules net u (log_of u past)))) within
+    none_of_node (nat_lt MOST_EPOCHS (epoch u past)) (has_large_value u past) (nat_lt MOST_ENTRIES (length (log_of u past))) (nat_lt MOST_UPDATES (length (sent_of rules net u (log_of u past)))) within
 
 module _ (rules : Rules) (net : Net) (past : Chronicle) (within : (u : ℕ) → has net.nodes u ≡ true → node_above rules net u past ≡ None) where
   -- no epoch is too high
@@ -233,24 +269,43 @@ module _ (rules : Rules) (net : Net) (past : Chronicle) (within : (u : ℕ) → 
   -- no node has too many entries
   no_entries : has_more_entries net past ≡ false
   unfolding has_more_entries
-  no_entries = any_none (λ u. nat_lt MOST_ENTRIES (length (log_of u past))) net.nodes (λ u node. (within_counts rules net u past (within u node)).1)
+  no_entries = any_none (λ u. nat_lt MOST_ENTRIES (length (log_of u past))) net.nodes (λ u node. (within_counts rules net u past (within u node)).2)
 
   -- no node lists too many items
   no_updates : has_more_updates rules net past ≡ false
   unfolding has_more_updates
-  no_updates = any_none (λ u. nat_lt MOST_UPDATES (length (sent_of rules net u (log_of u past)))) net.nodes (λ u node. (within_counts rules net u past (within u node)).2)
+  no_updates = any_none (λ u. nat_lt MOST_UPDATES (length (sent_of rules net u (log_of u past)))) net.nodes (λ u node. (within_counts rules net u past (within u node)).3)
 
   -- where all nodes are within their counts, and the triggers are not too many, nothing is above its number
-  pub above_none : triggers_of net past ≤ MOST_TRIGGERS → above rules net past ≡ None
-  unfolding above
-  above_none few =
+  pub above_none : triggers_of net past ≤ MOST_TRIGGERS → length (mailed past) ≤ MOST_CONTROL → packets past ≤ MOST_PACKETS → above rules net past ≡ None
+  unfolding above has_more_control has_more_packets
+  above_none few few_mails few_packets =
       let low : nat_lt MOST_TRIGGERS (triggers_of net past) ≡ false = grind (arith, nat_tests, few) in
-      rw (no_epochs, low, no_entries, no_updates) refl
+      let least : nat_lt MOST_CONTROL (length (mailed past)) ≡ false = grind (arith, nat_tests, few_mails) in
+      let last : nat_lt MOST_PACKETS (packets past) ≡ false = grind (arith, nat_tests, few_packets) in
+      rw (no_epochs, low, no_entries, no_updates, least, last) refl
+
+  -- where they are so but for the control messages, these are
+  pub above_control : triggers_of net past ≤ MOST_TRIGGERS → MOST_CONTROL < length (mailed past) → above rules net past ≡ Some (record { kind = LimitKind.Control; number = MOST_CONTROL })
+  unfolding above has_more_control
+  above_control few many =
+      let low : nat_lt MOST_TRIGGERS (triggers_of net past) ≡ false = grind (arith, nat_tests, few) in
+      let high : nat_lt MOST_CONTROL (length (mailed past)) ≡ true = grind (arith, nat_tests, many) in
+      rw (no_epochs, low, no_entries, no_updates, high) refl
+
+  -- where they are so but for the packets, these are
+  pub above_packets : triggers_of net past ≤ MOST_TRIGGERS → length (mailed past) ≤ MOST_CONTROL → MOST_PACKETS < packets past → above rules net past ≡ Some (record { kind = LimitKind.Packets; number = MOST_PACKETS })
+  unfolding above has_more_control has_more_packets
+  above_packets few few_mails many =
+      let low : nat_lt MOST_TRIGGERS (triggers_of net past) ≡ false = grind (arith, nat_tests, few) in
+      let least : nat_lt MOST_CONTROL (length (mailed past)) ≡ false = grind (arith, nat_tests, few_mails) in
+      let high : nat_lt MOST_PACKETS (packets past) ≡ true = grind (arith, nat_tests, many) in
+      rw (no_epochs, low, no_entries, no_updates, least, high) refl
 
   -- where one node has changed, its own counts decide
   pub above_own : (now : Chronicle) (u : ℕ) → has net.nodes u ≡ true → ((v : ℕ) → (u == v) ≡ false → SameNode v past now)
       → above rules net now ≡ first_above (nat_lt MOST_EPOCHS (epoch u now)) (nat_lt MOST_TRIGGERS (triggers_of net now)) (nat_lt MOST_ENTRIES (length (log_of u now)))
-      (nat_lt MOST_UPDATES (length (sent_of rules net u (log_of u now))))
+      (nat_lt MOST_UPDATES (length (sent_of rules net u (log_of u now)))) (has_more_control now) (has_more_packets now)
   unfolding above has_more_epochs has_more_entries has_more_updates
   above_own now u node others =
       let epochs = any_at (λ v. nat_lt MOST_EPOCHS (epoch v past)) (λ v. nat_lt MOST_EPOCHS (epoch v now)) u

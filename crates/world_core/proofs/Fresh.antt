@@ -54,7 +54,7 @@ no_sum (x ∷ xs) =
 -- the count at the start
 pub fresh_counted : (net : Net) → IsCounted net [] 0
 unfolding triggers_of
-fresh_counted net = record { total = sym (no_sum net.nodes); few = omega arith }
+fresh_counted net = record { total = sym (no_sum net.nodes); few = omega arith; few_mails = omega arith; few_packets = omega arith }
 
 -- no way waits
 no_wait : (b : Bool) → false ≡ (b && false)

@@ -1,152 +1,319 @@
 -- Which input an event hands to a node.
-use Rattle.std.proofs.Common.{ℕ, Bool, true, false, ◌&&◌, nat_lt, None, List, ◌∷◌, ◌≡◌, ◌<◌, IsTrue, refl, sym, ◌∙◌, subst, arith, length}
+use Rattle.std.proofs.Common.{ℕ, Bool, true, false, cond, ◌==◌, ◌&&◌, nat_lt, is_some, Option, Some, None, List, [], ◌∷◌, ◌≡◌, ◌<◌, IsTrue, refl, sym, ◌∙◌, ap, ap₂, subst, arith, filter, find, length}
 use Rattle.std.proofs.lemmas.Bool.Decides.{nat_tests}
 use Rattle.topology.specs.declared.links.LinkState.TheVariants.{Up}
 use Rattle.topology.specs.Lists.{has}
 use Rattle.topology.specs.Net.{Net, IsValid, linked, neighbours}
-use Rattle.topology.proofs.Neighbours.{linked_sym, neighbours_linked}
+use Rattle.topology.specs.LinkStates.{is_up}
+use Rattle.topology.proofs.Neighbours.{has-neighbours, linked_sym, neighbours_linked}
 use Rattle.path_vector.specs.Rules.{Rules}
 use Rattle.trigger_log.specs.Going.{Item}
 use Rattle.chronicle.specs.declared.events.Event.{Event}
 use Rattle.chronicle.specs.declared.events.Event.TheVariants as event
 use Rattle.chronicle.specs.Channels.{channel}
 use Rattle.chronicle.specs.Facts.{Chronicle, Took}
-use Rattle.chronicle.specs.Inputs.{Input, Originate, Withdraw, Prefer, Arrive, Notice, OpenSession, Snap}
+use Rattle.chronicle.specs.Inputs.{Input, Originate, Withdraw, Prefer, Arrive, Notice, OpenSession, Snap, Propose, Control, Inject, Hop}
 use Rattle.chronicle.specs.Links.{link}
-use Rattle.chronicle.specs.Run.{does, given, held_with, is_carried}
+use Rattle.chronicle.specs.Run.{does, given, handed, held_with, hopped, injected, is_carried, up_links}
+use Rattle.chronicle.specs.Walks.{Standing, standing, ending}
+use Rattle.chronicle.specs.Steps.{Idle}
+use Rattle.chronicle.specs.Control.{mail_with}
+use Rattle.control_mail.specs.Readings.{Letter}
+use Rattle.consolidator.specs.Messages.{Message}
+use Rattle.epoch_packet.specs.declared.packets.Packet.{Packet}
+use Rattle.epoch_packet.specs.declared.walks.End.{End as Ending}
+use Rattle.topology.specs.declared.status.Reason.TheVariants.{NoSuchMessage, NoSuchPacket, PacketEnded, PacketKnown}
 use Rattle.world_core.specs.declared.network.Network.{Network}
 use Rattle.world_core.specs.declared.outcomes.Outcome.{Outcome}
 use Rattle.world_core.specs.declared.outcomes.Stop.{Stop}
 use Rattle.world_core.specs.Fits.{fits}
-use Rattle.world_core.specs.Happening.{Comes, IsRegular, MayArrive, MayHand}
-use Rattle.world_core.specs.Limits.{above_by, StopsAt}
-use Rattle.world_core.specs.Matching.{AreCrashed, AreLinks, AreNodes, IsCounted, Stands}
+use Rattle.world_core.specs.Happening.{Comes, IsRegular, MayArrive, MayHand, Stops}
+use Rattle.world_core.specs.Matching.{AreCrashed, AreLinks, AreMails, AreNodes, Counts, IsCounted, Stands}
+use Rattle.world_core.specs.Publications.{all_published}
+use Rattle.world_core.specs.Walks.{AreWalks, JourneyView, is_of}
+use Rattle.world_core.proofs.Mailing.{letter_inside}
+use Rattle.world_core.proofs.Walking.{journey_is, known_found, not_found, stands_by, stands_nowhere}
 use Rattle.world_core.proofs.Comes.{arrival_goes, comes_so, deliver_front, front_placed, notice_over, open_step}
 
 -- u may be handed the input, and what it then does is what the event does
-pub record Hands {P : Type 0} (rules : Rules) (past : Chronicle) (event : Event) (u : ℕ) (i : Input) (network : Network P) : Type 0 where
-  pub may : MayHand rules past u i network
+pub record Hands {P : Type 0} (rules : Rules) (past : Chronicle) (counts : Counts) (event : Event) (u : ℕ) (i : Input) (network : Network P) : Type 0 where
+  pub may : MayHand rules past counts u i network
   pub same : does rules network.topology.value past event ≡ given rules network.topology.value past u i
 
 -- so what comes of the one comes of the other
-pub comes_by : {P : Type 0} (rules : Rules) (past : Chronicle) (event : Event) (u : ℕ) (i : Input) (network new : Network P) (outcome : Outcome) → Hands rules past event u i network
-    → (MayHand rules past u i network → Comes rules past (given rules network.topology.value past u i) new outcome) → Comes rules past (does rules network.topology.value past event) new outcome
-comes_by rules past event u i network new outcome hands comes =
-    comes_so rules past (does rules network.topology.value past event) (given rules network.topology.value past u i) new outcome hands.same (comes hands.may)
+pub comes_by : {P : Type 0} (rules : Rules) (past : Chronicle) (counts : Counts) (event : Event) (u : ℕ) (i : Input) (network new : Network P) (outcome : Outcome) → Hands rules past counts event u i network
+    → (MayHand rules past counts u i network → Comes rules past counts (given rules network.topology.value past u i) new outcome) → Comes rules past counts (does rules network.topology.value past event) new outcome
+comes_by rules past counts event u i network new outcome hands comes =
+    comes_so rules past counts (does rules network.topology.value past event) (given rules network.topology.value past u i) new outcome hands.same (comes hands.may)
 
 -- so of a stop
-pub stops_by : {P : Type 0} (rules : Rules) (past : Chronicle) (event : Event) (u : ℕ) (i : Input) (network : Network P) (why : Stop) → Hands rules past event u i network
-    → (MayHand rules past u i network → StopsAt (above_by rules network.topology.value (given rules network.topology.value past u i)) why)
-    → StopsAt (above_by rules network.topology.value (does rules network.topology.value past event)) why
-stops_by rules past event u i network why hands stops =
-    subst (λ s. StopsAt (above_by rules network.topology.value s) why) (sym hands.same) (stops hands.may)
+pub stops_by : {P : Type 0} (rules : Rules) (past : Chronicle) (counts : Counts) (event : Event) (u : ℕ) (i : Input) (network : Network P) (why : Stop) → Hands rules past counts event u i network
+    → (MayHand rules past counts u i network → Stops rules network.topology.value past (given rules network.topology.value past u i) why)
+    → Stops rules network.topology.value past (does rules network.topology.value past event) why
+stops_by rules past counts event u i network why hands stops =
+    subst (λ s. Stops rules network.topology.value past s why) (sym hands.same) (stops hands.may)
 
 -- each of the two
 pub both_of : (a b : Bool) → (a && b) ≡ true → (a ≡ true) × (b ≡ true)
 both_of a b e = (grind (arith, nat_tests), grind (arith, nat_tests))
 
 -- the test for below
-is_below : (a b : ℕ) → nat_lt a b ≡ true → a < b
+pub is_below : (a b : ℕ) → nat_lt a b ≡ true → a < b
 is_below a b e = grind (arith, nat_tests)
+
+-- what a filter keeps was there
+kept_in : (p : ℕ → Bool) (xs : List ℕ) (n : ℕ) → has (filter p xs) n ≡ true → has xs n ≡ true
+kept_in p [] n e = absurd (cc e)
+kept_in p (x ∷ xs) n e =
+    (elim (x == n) as (λ t. (x == n) ≡ t → has (x ∷ xs) n ≡ true) [
+      | true ↦ λ here. grind (arith, nat_tests)
+      | false ↦ λ off.
+          let later : has (filter p xs) n ≡ true = (elim (p x) as (λ t. has (cond t (x ∷ filter p xs) (filter p xs)) n ≡ true → has (filter p xs) n ≡ true) [
+            | true ↦ λ h. grind (arith, nat_tests)
+            | false ↦ λ h. h
+          ]) e in
+          let rest = kept_in p xs n later in
+          grind (arith, nat_tests)
+    ]) refl
 
 -- an end of a link has the other as a neighbour
 pub near_of : (net : Net) (u v : ℕ) → IsValid net → linked net u v ≡ true → has (neighbours net u) v ≡ true
 near_of net u v valid e = neighbours_linked net u v valid ∙ e
 
-module _ {P : Type 0} (rules : Rules) (past : Chronicle) (network : Network P) (was : Stands rules past network) where
+module _ {P : Type 0} (rules : Rules) (past : Chronicle) (counts : Counts) (network : Network P) (was : Stands rules past counts network) where
   -- an origination
-  pub originates : (u p : ℕ) → IsTrue (fits network.topology.value (event.Originate u p)) → Hands rules past (event.Originate u p) u (Originate p) network
+  pub originates : (u p : ℕ) → IsTrue (fits network.topology.value (event.Originate u p)) → Hands rules past counts (event.Originate u p) u (Originate p) network
   unfolding does
   originates u p fit = record {
     may = record {
       are_nodes = was.are_nodes;
       are_crashed = was.are_crashed;
       are_links = was.are_links;
+      are_mails = was.are_mails;
+      are_published = was.are_published;
+      are_walks = was.are_walks;
       counted = was.counted;
       may_come = is_below p (length network.topology.value.prefixes) (both_of (has network.topology.value.nodes u) (nat_lt p (length network.topology.value.prefixes)) fit).1;
+      sender = tt;
+      passing = tt;
       goes = tt;
     };
     same = refl;
   }
 
   -- a withdrawal
-  pub withdraws : (u p : ℕ) → IsTrue (fits network.topology.value (event.Withdraw u p)) → Hands rules past (event.Withdraw u p) u (Withdraw p) network
+  pub withdraws : (u p : ℕ) → IsTrue (fits network.topology.value (event.Withdraw u p)) → Hands rules past counts (event.Withdraw u p) u (Withdraw p) network
   unfolding does
   withdraws u p fit = record {
     may = record {
       are_nodes = was.are_nodes;
       are_crashed = was.are_crashed;
       are_links = was.are_links;
+      are_mails = was.are_mails;
+      are_published = was.are_published;
+      are_walks = was.are_walks;
       counted = was.counted;
       may_come = is_below p (length network.topology.value.prefixes) (both_of (has network.topology.value.nodes u) (nat_lt p (length network.topology.value.prefixes)) fit).1;
+      sender = tt;
+      passing = tt;
       goes = tt;
     };
     same = refl;
   }
 
   -- a preference
-  pub prefers : (u v value : ℕ) → linked network.topology.value u v ≡ true → Hands rules past (event.Prefer u v value) u (Prefer v value) network
+  pub prefers : (u v value : ℕ) → linked network.topology.value u v ≡ true → Hands rules past counts (event.Prefer u v value) u (Prefer v value) network
   unfolding does
   prefers u v value near = record {
     may = record {
       are_nodes = was.are_nodes;
       are_crashed = was.are_crashed;
       are_links = was.are_links;
+      are_mails = was.are_mails;
+      are_published = was.are_published;
+      are_walks = was.are_walks;
       counted = was.counted;
       may_come = near_of network.topology.value u v was.are_nodes.valid near;
+      sender = tt;
+      passing = tt;
       goes = tt;
     };
     same = refl;
   }
 
   -- a snapshot
-  pub snaps : (u : ℕ) → Hands rules past (event.Snap u) u Snap network
+  pub snaps : (u : ℕ) → Hands rules past counts (event.Snap u) u Snap network
   unfolding does
   snaps u = record {
-    may = record { are_nodes = was.are_nodes; are_crashed = was.are_crashed; are_links = was.are_links; counted = was.counted; may_come = tt; goes = tt };
+    may = record { are_nodes = was.are_nodes; are_crashed = was.are_crashed; are_links = was.are_links; are_mails = was.are_mails; are_published = was.are_published; are_walks = was.are_walks; counted = was.counted; may_come = tt; sender = tt; passing = tt; goes = tt };
     same = refl;
   }
 
   -- a notice of a session that the link does not carry
-  pub notices : (u v : ℕ) → linked network.topology.value u v ≡ true → is_carried (link u v past) (held_with u v past) ≡ false → Hands rules past (event.Notice u v) u (Notice v) network
+  pub notices : (u v : ℕ) → linked network.topology.value u v ≡ true → is_carried (link u v past) (held_with u v past) ≡ false → Hands rules past counts (event.Notice u v) u (Notice v) network
   notices u v near over = record {
     may = record {
       are_nodes = was.are_nodes;
       are_crashed = was.are_crashed;
       are_links = was.are_links;
+      are_mails = was.are_mails;
+      are_published = was.are_published;
+      are_walks = was.are_walks;
       counted = was.counted;
       may_come = near_of network.topology.value u v was.are_nodes.valid near;
+      sender = tt;
+      passing = tt;
       goes = tt;
     };
     same = notice_over rules network.topology.value past u v over;
   }
 
   -- an opening of the session that the link carries
-  pub opens : (u v s : ℕ) → linked network.topology.value u v ≡ true → held_with u v past ≡ None → link u v past ≡ Up s → Hands rules past (event.OpenSession u v) u (OpenSession v s) network
+  pub opens : (u v s : ℕ) → linked network.topology.value u v ≡ true → held_with u v past ≡ None → link u v past ≡ Up s → Hands rules past counts (event.OpenSession u v) u (OpenSession v s) network
   opens u v s near none is = record {
     may = record {
       are_nodes = was.are_nodes;
       are_crashed = was.are_crashed;
       are_links = was.are_links;
+      are_mails = was.are_mails;
+      are_published = was.are_published;
+      are_walks = was.are_walks;
       counted = was.counted;
       may_come = near_of network.topology.value u v was.are_nodes.valid near;
+      sender = tt;
+      passing = tt;
       goes = tt;
     };
     same = open_step rules network.topology.value past u v None (Up s) none is;
   }
 
+  -- a ballot
+  pub proposes : (u e : ℕ) → Hands rules past counts (event.Propose u e) u (Propose e) network
+  unfolding does
+  proposes u e = record {
+    may = record { are_nodes = was.are_nodes; are_crashed = was.are_crashed; are_links = was.are_links; are_mails = was.are_mails; are_published = was.are_published; are_walks = was.are_walks; counted = was.counted; may_come = tt; sender = tt; passing = tt; goes = tt };
+    same = refl;
+  }
+
+  -- a control message that is there
+  hears : (number : ℕ) (m : Letter) → mail_with number past ≡ Some m → Hands rules past counts (event.Control number) m.to (Control m.from m.message) network
+  unfolding does
+  hears number m is = record {
+    may = record { are_nodes = was.are_nodes; are_crashed = was.are_crashed; are_links = was.are_links; are_mails = was.are_mails; are_published = was.are_published; are_walks = was.are_walks; counted = was.counted; may_come = tt; sender = (letter_inside network.topology.value past counts network.mails was.are_mails number m is).0; passing = tt; goes = tt };
+    same = ap (handed rules network.topology.value past) is;
+  }
+
+  -- so of an equal one
+  pub hears_copy : (number : ℕ) (m : Letter) (copy : Message) → mail_with number past ≡ Some m → copy ≡ m.message → Hands rules past counts (event.Control number) m.to (Control m.from copy) network
+  hears_copy number m copy is same = subst (λ x. Hands rules past counts (event.Control number) m.to (Control m.from x) network) (sym same) (hears number m is)
+
+  -- a packet that is not known enters
+  pub enters : (k u p : ℕ) → p < length network.topology.value.prefixes → standing k past ≡ None → Hands rules past counts (event.Inject k u p) u (Inject k p) network
+  unfolding does
+  enters k u p named new = record {
+    may = record { are_nodes = was.are_nodes; are_crashed = was.are_crashed; are_links = was.are_links; are_mails = was.are_mails; are_published = was.are_published; are_walks = was.are_walks; counted = was.counted; may_come = named; sender = tt; passing = tt; goes = tt };
+    same = ap (injected (given rules network.topology.value past u) k p) new;
+  }
+
+  -- the links that are up lead to nodes of the network
+  up_inside : (u w : ℕ) → has (up_links network.topology.value u past) w ≡ true → has network.topology.value.nodes w ≡ true
+  unfolding up_links
+  up_inside u w there =
+      let net = network.topology.value in
+      let near = kept_in (λ w. is_up (link u w past)) (neighbours net u) w there in
+      (both_of (linked net u w) (has net.nodes w) (sym (has-neighbours net u w) ∙ near)).1
+
+  -- a packet whose walk has not ended goes on
+  goes_on : (k : ℕ) (at : Standing) → standing k past ≡ Some at → ending k past ≡ None
+      → Hands rules past counts (event.Hop k) at.node (Hop at.packet (up_links network.topology.value at.node past)) network
+  unfolding does
+  goes_on k at stands on =
+      let net = network.topology.value in
+      record {
+        may = record {
+          are_nodes = was.are_nodes;
+          are_crashed = was.are_crashed;
+          are_links = was.are_links;
+          are_mails = was.are_mails;
+          are_published = was.are_published;
+          are_walks = was.are_walks;
+          counted = was.counted;
+          may_come = (was.are_walks.inside k at stands).prefix_is_in;
+          sender = tt;
+          passing = (ap (λ n. is_some (standing n past)) (stands_by k past at stands) ∙ ap is_some stands, up_inside at.node);
+          goes = tt;
+        };
+        same = ap₂ (hopped rules net past) stands on;
+      }
+
+  -- so of an equal one, over equal links
+  pub goes_on_as : (k : ℕ) (x : JourneyView) (packet : Packet) (up : List ℕ) → find (is_of k) network.walks ≡ Some x → is_some x.ending ≡ false → packet ≡ x.packet → up ≡ up_links network.topology.value x.node past
+      → Hands rules past counts (event.Hop k) x.node (Hop packet up) network
+  goes_on_as k x packet up found on same links = by_standing (standing k past) refl
+    where
+      no_end : (o : Option Ending) → is_some o ≡ false → o ≡ None
+      no_end None e = refl
+      no_end (Some end) e = absurd (cc e)
+
+      by_standing : (o : Option Standing) → standing k past ≡ o → Hands rules past counts (event.Hop k) x.node (Hop packet up) network
+      by_standing None is = absurd (known_found network.topology.value past network.walks was.are_walks k x is found)
+      by_standing (Some at) is =
+          let read = journey_is network.topology.value past network.walks was.are_walks k x at is found in
+          subst (λ (j : JourneyView). j.ending ≡ None → packet ≡ j.packet → up ≡ up_links network.topology.value j.node past → Hands rules past counts (event.Hop k) j.node (Hop packet up) network) (sym read)
+          (λ end copy are.
+          subst (λ (q : Packet). Hands rules past counts (event.Hop k) at.node (Hop q up) network) (sym copy)
+          (subst (λ l. Hands rules past counts (event.Hop k) at.node (Hop at.packet l) network) (sym are) (goes_on k at is end)))
+          (no_end x.ending on) same links
+
+  -- nor does one that is known enter
+  pub known_stays : (k u p : ℕ) → is_some (find (is_of k) network.walks) ≡ true → does rules network.topology.value past (event.Inject k u p) ≡ Idle PacketKnown
+  unfolding does
+  known_stays k u p found = by_standing (standing k past) refl
+    where
+      by_standing : (o : Option Standing) → standing k past ≡ o → injected (given rules network.topology.value past u) k p (standing k past) ≡ Idle PacketKnown
+      by_standing None is = absurd (cc (sym (ap is_some (stands_nowhere network.topology.value past network.walks was.are_walks k is)) ∙ found))
+      by_standing (Some at) is = ap (injected (given rules network.topology.value past u) k p) is
+
+  -- one that never entered does not go on
+  pub nowhere_stays : (k : ℕ) → find (is_of k) network.walks ≡ None → does rules network.topology.value past (event.Hop k) ≡ Idle NoSuchPacket
+  unfolding does
+  nowhere_stays k none =
+      ap (λ o. hopped rules network.topology.value past o (ending k past)) (not_found network.topology.value past network.walks was.are_walks k none)
+
+  -- nor one whose walk has ended
+  pub ended_stays : (k : ℕ) (x : JourneyView) → find (is_of k) network.walks ≡ Some x → is_some x.ending ≡ true → does rules network.topology.value past (event.Hop k) ≡ Idle PacketEnded
+  unfolding does
+  ended_stays k x found over = by_both (standing k past) (ending k past) refl refl
+    where
+      by_both : (o : Option Standing) (end : Option Ending) → standing k past ≡ o → ending k past ≡ end → hopped rules network.topology.value past (standing k past) (ending k past) ≡ Idle PacketEnded
+      by_both None end is ends = absurd (known_found network.topology.value past network.walks was.are_walks k x is found)
+      by_both (Some at) None is ends =
+          let read = journey_is network.topology.value past network.walks was.are_walks k x at is found in
+          absurd (cc (sym (ap is_some (ap (λ (j : JourneyView). j.ending) read ∙ ends)) ∙ over))
+      by_both (Some at) (Some end) is ends = ap₂ (hopped rules network.topology.value past) is ends
+
+-- one that is not there does nothing
+pub no_letter : (rules : Rules) (net : Net) (past : Chronicle) (number : ℕ) → mail_with number past ≡ None → does rules net past (event.Control number) ≡ Idle NoSuchMessage
+unfolding does
+no_letter rules net past number none = ap (handed rules net past) none
+
 -- an item that is taken from its way arrives
-pub delivers : {P : Type 0} (rules : Rules) (past : Chronicle) (network : Network P) (v u s : ℕ) (x : Item) (rest : List Item) → AreNodes network.policy rules network.topology.value past network.nodes.items
-    → AreCrashed network.topology.value past network.crashed.items → IsCounted network.topology.value past network.triggers → IsRegular network.topology.value past → linked network.topology.value v u ≡ true → MayArrive past v u s → channel v u past ≡ x ∷ rest
-    → AreLinks network.topology.value (Took v u s x ∷ past) network.links → Hands rules past (event.Deliver v u) u (Arrive v s x) network
-delivers rules past network v u s x rest nodes flags counted regular near arrives front links =
+pub delivers : {P : Type 0} (rules : Rules) (past : Chronicle) (counts : Counts) (network : Network P) (v u s : ℕ) (x : Item) (rest : List Item) → AreNodes network.policy rules network.topology.value past network.nodes.items
+    → AreCrashed network.topology.value past network.crashed.items → AreMails network.topology.value past counts network.mails → network.publications.items ≡ all_published past → AreWalks network.topology.value past network.walks → IsCounted network.topology.value past network.triggers → IsRegular network.topology.value past → linked network.topology.value v u ≡ true → MayArrive past v u s → channel v u past ≡ x ∷ rest
+    → AreLinks network.topology.value (Took v u s x ∷ past) network.links → Hands rules past counts (event.Deliver v u) u (Arrive v s x) network
+delivers rules past counts network v u s x rest nodes flags mails published walks counted regular near arrives front links =
     let net = network.topology.value in
     record {
       may = record {
         are_nodes = nodes;
         are_crashed = flags;
         are_links = links;
+        are_mails = mails;
+        are_published = published;
+        are_walks = walks;
         counted = counted;
+        sender = tt;
+        passing = tt;
         may_come = (near_of net u v nodes.valid (linked_sym net u v ∙ near), front_placed net past v u x rest (regular.fronts v u) front, regular.heard v u s x rest arrives.up front);
         goes = arrival_goes rules net past v u s x rest (regular.fronts v u) arrives.up front arrives.held;
       };

@@ -1,7 +1,9 @@
 -- What the laws of runs give an event.
 use Rattle.std.proofs.Common.{ℕ, suc, ◌<◌, ◌≤◌, ◌-◌, ◌^◌, ◌≡◌, ◌≢◌, ◌∙◌, List, ◌∷◌, ap, sym, arith}
+use Rattle.topology.specs.declared.ballots.Ballot.{Ballot}
 use Rattle.topology.specs.declared.links.LinkState.TheVariants.{Up}
-use Rattle.topology.specs.declared.status.Reason.TheVariants.{WrongSeq, OldSession}
+use Rattle.consolidator.specs.Answers.{last_round}
+use Rattle.topology.specs.declared.status.Reason.TheVariants.{WrongSeq, OldSession, NoRound}
 use Rattle.topology.specs.LinkStates.{number_of}
 use Rattle.topology.specs.Net.{Net}
 use Rattle.chronicle.specs.Facts.{Chronicle}
@@ -31,10 +33,14 @@ regular_of net past n short fronts heard joined most = record {
   few = λ a b. few_sessions (number_of (link a b past)) n (most a b) short;
 }
 
--- a step that is not idle for one of two reasons answers neither
-pub no_stray : (past : Chronicle) (s : Step) (what : Outcome) → Tells past s what → (s ≢ Idle OldSession) → ((expected got : ℕ) → s ≢ Idle (WrongSeq expected got)) → IsNoStray what
-no_stray past (Idle why) (outcome.Idle told) tells not_old not_wrong =
-    (λ same. not_old (ap Idle (sym tells ∙ same)), λ expected got same. not_wrong expected got (ap Idle (sym tells ∙ same)))
-no_stray past (Idle why) (outcome.Did list) tells not_old not_wrong = tt
-no_stray past (Goes now) (outcome.Idle told) tells not_old not_wrong = absurd tells
-no_stray past (Goes now) (outcome.Did list) tells not_old not_wrong = tt
+-- there are more rounds than events
+pub rounds_left : (n : ℕ) → n < MOST_EVENTS → n < last_round
+rounds_left n short = omega (arith, short)
+
+-- a step that is not idle for one of three reasons answers none of them
+pub no_stray : (past : Chronicle) (s : Step) (what : Outcome) → Tells past s what → (s ≢ Idle OldSession) → ((expected got : ℕ) → s ≢ Idle (WrongSeq expected got)) → ((b : Ballot) → s ≢ Idle (NoRound b)) → IsNoStray what
+no_stray past (Idle why) (outcome.Idle told) tells not_old not_wrong not_last =
+    (λ same. not_old (ap Idle (sym tells ∙ same)), λ expected got same. not_wrong expected got (ap Idle (sym tells ∙ same)), λ b same. not_last b (ap Idle (sym tells ∙ same)))
+no_stray past (Idle why) (outcome.Did list) tells not_old not_wrong not_last = tt
+no_stray past (Goes now) (outcome.Idle told) tells not_old not_wrong not_last = absurd tells
+no_stray past (Goes now) (outcome.Did list) tells not_old not_wrong not_last = tt

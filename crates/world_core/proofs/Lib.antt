@@ -1,4 +1,10 @@
 pub mod Places
+pub mod Walking
+pub mod Due
+pub mod Counted
+pub mod Inside
+pub mod Mailing
+pub mod Delivered
 pub mod Near
 pub mod Carried
 mod Bits
@@ -7,8 +13,10 @@ pub mod Telling
 pub mod Nodes
 pub mod Turned
 pub mod Handing
+pub mod Shown
 pub mod Counts
 pub mod Fresh
+pub mod Proposing
 pub mod Stopping
 pub mod Answered
 pub mod Comes

@@ -1,5 +1,5 @@
 -- The node that acts, and those that keep what they have.
-use Rattle.std.proofs.Common.{ℕ, zero, suc, ◌<◌, true, false, ◌==◌, is_some, nat_lt, Option, Some, None, List, [], ◌∷◌, ◌≡◌, ◌≢◌, refl, sym, ◌∙◌, ap, subst, arith, length, length-set, drop, get_or, set, slice_get, ⊎_elim}
+use Rattle.std.proofs.Common.{ℕ, zero, suc, ◌<◌, true, false, ◌==◌, is_some, nat_lt, Option, Some, None, List, [], ◌∷◌, ◌≡◌, ◌≢◌, refl, sym, ◌∙◌, ap, arith, length, length-set, get_or, set, slice_get, ⊎_elim}
 use Rattle.std.proofs.lemmas.Bool.{cases_eq}
 use Rattle.std.proofs.lemmas.Bool.Decides.{nat_tests}
 use Rattle.std.proofs.lemmas.Option.{slice_get_within, slice_get_read}
@@ -9,58 +9,13 @@ use Rattle.topology.specs.Net.{Net}
 use Rattle.topology.proofs.Ascending.{differ-ascending, has-ascending}
 use Rattle.topology.proofs.Places.{has_placed}
 use Rattle.path_vector.specs.Rules.{Rules}
-use Rattle.trigger_log.specs.Entries.{inbox}
-use Rattle.trigger_log.specs.Sending.{sent_of}
-use Rattle.trigger_log.specs.Standing.{StandsFor as LogStandsFor}
-use Rattle.marker_snapshot.specs.Acts.{Acts}
 use Rattle.chronicle.specs.Facts.{Chronicle}
-use Rattle.chronicle.specs.Messages.{updates, marked, until}
-use Rattle.chronicle.specs.Recordings.{numbers}
-use Rattle.cut_laws.specs.Own.{SameNode}
-use Rattle.cut_laws.proofs.Owning.{own_same}
 use Rattle.node_core.specs.declared.node.Node.{Node}
-use Rattle.node_core.specs.Alike.{Alike}
 use Rattle.node_core.specs.NodeLimits.{node_above}
 use Rattle.node_core.specs.Standing.{StandsFor}
 use Rattle.world_core.specs.Matching.{AreNodes}
 use Rattle.world_core.specs.Places.{HasPlaces}
 use Rattle.world_core.proofs.Places.{slice_get-set_same, slice_get-set_other, same_some, some_at}
-
--- ---- what is read of one node alone
-
--- the acts of the snapshots
-alike_same : (acts : Acts) (u : ℕ) (past now : Chronicle) → SameNode u past now → Alike acts u past → Alike acts u now
-alike_same acts u past now same was = record {
-  same_epoch = was.same_epoch ∙ sym same.same_epoch;
-  same_cut = λ e. was.same_cut e ∙ sym (same.same_cut e);
-  same_done = λ e v s c is holds. was.same_done e v s c (sym (same.same_cut e) ∙ is) holds ∙ ap (marked e) (sym (same.same_took v s));
-  same_recorded = λ e v s c is holds.
-      was.same_recorded e v s c (sym (same.same_cut e) ∙ is) holds
-      ∙ ap (λ t. numbers (drop (length (inbox c v s)) (updates (until e t)))) (sym (same.same_took v s));
-}
-
--- the counts
-pub same_above : (rules : Rules) (net : Net) (u : ℕ) (past now : Chronicle) → SameNode u past now → node_above rules net u now ≡ node_above rules net u past
-unfolding node_above
-same_above rules net u past now same = rw (same.same_epoch, same.same_log) refl
-
--- a node keeps what it has where all that is read of it stays as it was
-pub same_stands : {P : Type 0} (policy : P) (rules : Rules) (net : Net) (u : ℕ) (node : Node P) (past now : Chronicle) → SameNode u past now → StandsFor policy rules net u node past
-    → StandsFor policy rules net u node now
-same_stands policy rules net u node past now same was = record {
-  own = own_same rules net past now u was.own same;
-  keeps = record {
-    same_net = was.keeps.same_net;
-    same_id = was.keeps.same_id;
-    log = subst (LogStandsFor policy rules net u node.log) (sym same.same_log) was.keeps.log;
-    listed = was.keeps.listed ∙ ap (λ h. length (sent_of rules net u h)) (sym same.same_log);
-    acts = was.keeps.acts;
-    snapshots = was.keeps.snapshots;
-    alike = alike_same was.keeps.acts u past now same was.keeps.alike;
-    reports = was.keeps.reports;
-  };
-  within = same_above rules net u past now same ∙ was.within;
-}
 
 -- ---- their places
 
@@ -117,7 +72,8 @@ module _ {P : Type 0} (policy : P) (rules : Rules) (net : Net) (past : Chronicle
 
   -- one node has changed as the run has, and the run has left the others as they were
   pub nodes_at : (now : Chronicle) (i u : ℕ) (new : Node P) → slice_get (ascending net.nodes) i ≡ Some u → StandsFor policy rules net u new now
-      → ((v : ℕ) → (u == v) ≡ false → SameNode v past now) → AreNodes policy rules net now (set nodes i new)
+      → ((v : ℕ) (node : Node P) → (u == v) ≡ false → StandsFor policy rules net v node past → StandsFor policy rules net v node now)
+      → AreNodes policy rules net now (set nodes i new)
   nodes_at now i u new at changed others = record {
     valid = was.valid;
     count = length-set nodes i new ∙ was.count;
@@ -126,18 +82,19 @@ module _ {P : Type 0} (policy : P) (rules : Rules) (net : Net) (past : Chronicle
         let is_new : node ≡ new = same_some node new (sym here ∙ (ap (slice_get (set nodes i new)) e ∙ slice_get-set_same nodes i new (rw was.count (slice_get_within (ascending net.nodes) i u at)))) in
         let is_u : v ≡ u = same_some v u (sym at_v ∙ (ap (slice_get (ascending net.nodes)) e ∙ at)) in
         rw (is_new, is_u) changed)
-        (λ (ne : j ≢ i). same_stands policy rules net v node past now
-        (others v (other_place (ascending net.nodes) i j u v (differ-ascending net.nodes was.valid.nodes_differ) at at_v ne))
+        (λ (ne : j ≢ i). others v node
+        (other_place (ascending net.nodes) i j u v (differ-ascending net.nodes was.valid.nodes_differ) at at_v ne)
         (was.each j v node at_v (sym (slice_get-set_other nodes i j new (λ e. ne (sym e))) ∙ here)))
         (cases_eq j i);
   }
 
   -- all stay as they were
-  pub same_nodes : (now : Chronicle) → ((v : ℕ) → SameNode v past now) → AreNodes policy rules net now nodes
+  pub same_nodes : (now : Chronicle) → ((v : ℕ) (node : Node P) → StandsFor policy rules net v node past → StandsFor policy rules net v node now)
+      → AreNodes policy rules net now nodes
   same_nodes now same = record {
     valid = was.valid;
     count = was.count;
-    each = λ i u node at here. same_stands policy rules net u node past now (same u) (was.each i u node at here);
+    each = λ i u node at here. same u node (was.each i u node at here);
   }
 
 -- a number that is there has a place in the list

@@ -1,18 +1,32 @@
 -- A world after one more event.
-use Rattle.std.proofs.Common.{Bool, List, [], ◌∷◌, ◌++◌, ◌≡◌, sym, ◌∙◌, ap, subst}
+use Rattle.std.proofs.Common.{ℕ, Bool, List, [], ◌∷◌, ◌++◌, ◌≡◌, sym, ◌∙◌, ap, subst}
 use Rattle.topology.specs.Net.{Net}
 use Rattle.path_vector.specs.Rules.{Rules}
 use Rattle.chronicle.specs.declared.events.Event.{Event}
 use Rattle.chronicle.specs.declared.ways.Way.{Way}
+use Rattle.chronicle.specs.Deliveries.{deliveries}
 use Rattle.chronicle.specs.Facts.{Chronicle}
 use Rattle.chronicle.specs.Run.{after, run, step}
 use Rattle.world_core.specs.declared.network.Network.{Network}
 use Rattle.world_core.specs.declared.outcomes.Outcome.{Outcome}
 use Rattle.world_core.specs.Happening.{Comes, IsAsWas}
-use Rattle.world_core.specs.Matching.{Stands}
+use Rattle.world_core.specs.Matching.{Counts, Stands}
 use Rattle.world_core.specs.View.{WorldView}
 use Rattle.world_core.specs.Waiting.{AreWaiting}
 use Rattle.world_core.proofs.Comes.{run-push}
+use Rattle.world_core.proofs.Mailing.{same_counts}
+
+-- where all is as the run has it, it is so by counts that agree
+pub counts_so : {P : Type 0} (rules : Rules) (past : Chronicle) (counts others : Counts) (network : Network P) → ((k : ℕ) → others k ≡ counts k) → Stands rules past counts network → Stands rules past others network
+counts_so rules past counts others network same was = record {
+  are_nodes = was.are_nodes;
+  are_crashed = was.are_crashed;
+  are_links = was.are_links;
+  are_mails = same_counts network.topology.value past counts others network.mails same was.are_mails;
+  are_published = was.are_published;
+  are_walks = was.are_walks;
+  counted = was.counted;
+}
 
 module _ {P : Type 0} (rules : P → Rules) (old new : Network P) (events : List Event) (event : Event) (same : IsAsWas old new) where
   -- the chronicle before the event
@@ -23,12 +37,16 @@ module _ {P : Type 0} (rules : P → Rules) (old new : Network P) (events : List
   same_net : old.topology.value ≡ new.topology.value
   same_net = sym (ap (λ t. t.value) same.topology)
 
+  -- so is the policy
+  same_policy : new.policy ≡ old.policy
+  same_policy = same.policy
+
   -- what came of the event, read of the new network
-  pub comes_new : (what : Outcome) → Comes (rules old.policy) (before old.policy old.topology.value) (step (rules old.policy) old.topology.value (before old.policy old.topology.value) event) new what
-      → Comes (rules new.policy) (before new.policy new.topology.value) (step (rules new.policy) new.topology.value (before new.policy new.topology.value) event) new what
-  comes_new what comes =
-      subst (λ net. Comes (rules new.policy) (before new.policy net) (step (rules new.policy) net (before new.policy net) event) new what) same_net
-      (subst (λ policy. Comes (rules policy) (before policy old.topology.value) (step (rules policy) old.topology.value (before policy old.topology.value) event) new what) (sym same.policy) comes)
+  pub comes_new : (counts : Counts) (what : Outcome) → Comes (rules old.policy) (before old.policy old.topology.value) counts (step (rules old.policy) old.topology.value (before old.policy old.topology.value) event) new what
+      → Comes (rules new.policy) (before new.policy new.topology.value) counts (step (rules new.policy) new.topology.value (before new.policy new.topology.value) event) new what
+  comes_new counts what comes =
+      subst (λ net. Comes (rules new.policy) (before new.policy net) counts (step (rules new.policy) net (before new.policy net) event) new what) same_net
+      (subst (λ policy. Comes (rules policy) (before policy old.topology.value) counts (step (rules policy) old.topology.value (before policy old.topology.value) event) new what) (sym same.policy) comes)
 
   -- so of the ways that waited
   pub waiting_new : (has : Way → Bool) → AreWaiting old.topology.value (before old.policy old.topology.value) has → AreWaiting new.topology.value (before new.policy new.topology.value) has
@@ -37,12 +55,17 @@ module _ {P : Type 0} (rules : P → Rules) (old new : Network P) (events : List
       (subst (λ policy. AreWaiting old.topology.value (before policy old.topology.value) has) (sym same.policy) was)
 
   -- the new network stands for the longer run
-  pub stands_new : (list : List Event) (what : Outcome) → list ≡ events ++ event ∷ []
-      → Comes (rules old.policy) (before old.policy old.topology.value) (step (rules old.policy) old.topology.value (before old.policy old.topology.value) event) new what
-      → Stands (rules new.policy) (run (rules new.policy) new.topology.value list) new
+  pub stands_new : (list : List Event) (counts : Counts) (what : Outcome) → list ≡ events ++ event ∷ [] → ((k : ℕ) → deliveries (rules old.policy) old.topology.value (events ++ event ∷ []) k ≡ counts k)
+      → Comes (rules old.policy) (before old.policy old.topology.value) counts (step (rules old.policy) old.topology.value (before old.policy old.topology.value) event) new what
+      → Stands (rules new.policy) (run (rules new.policy) new.topology.value list) (deliveries (rules new.policy) new.topology.value list) new
   unfolding after
-  stands_new list what is comes =
-      subst (λ past. Stands (rules new.policy) past new) (sym (ap (run (rules new.policy) new.topology.value) is ∙ run-push (rules new.policy) new.topology.value events event)) (comes_new what comes).stands
+  stands_new list counts what is counted comes =
+      let same : (k : ℕ) → deliveries (rules new.policy) new.topology.value list k ≡ counts k = λ k.
+      ap (λ l. deliveries (rules new.policy) new.topology.value l k) is
+      ∙ (ap (λ policy. deliveries (rules policy) new.topology.value (events ++ event ∷ []) k) same_policy
+      ∙ (ap (λ net. deliveries (rules old.policy) net (events ++ event ∷ []) k) (sym same_net) ∙ counted k)) in
+      counts_so (rules new.policy) (run (rules new.policy) new.topology.value list) counts (deliveries (rules new.policy) new.topology.value list) new same
+      (subst (λ past. Stands (rules new.policy) past counts new) (sym (ap (run (rules new.policy) new.topology.value) is ∙ run-push (rules new.policy) new.topology.value events event)) (comes_new counts what comes).stands)
 
   -- and so do the ways that wait
   pub waits_new : (list : List Event) (has : Way → Bool) → list ≡ events ++ event ∷ [] → AreWaiting new.topology.value (after (rules new.policy) new.topology.value (before new.policy new.topology.value) event) has

@@ -1,12 +1,16 @@
 -- What an event leaves of a network, and what came of it.
-use Rattle.std.specs.Prelude.{ℕ, ◌≡◌, ◌<◌, ◌-◌, ◌^◌, ◌==◌, Bool, Some, List, ◌∷◌, ◌++◌, if◌then◌else◌}
+use Rattle.std.specs.Prelude.{ℕ, ◌≡◌, ◌<◌, ◌≤◌, ◌-◌, ◌^◌, ◌==◌, Bool, true, is_some, Some, List, ◌∷◌, ◌++◌, length, if◌then◌else◌}
+use Rattle.topology.specs.declared.ballots.Ballot.{Ballot}
 use Rattle.topology.specs.declared.links.LinkState.TheVariants.{Up}
 use Rattle.topology.specs.LinkStates.{number_of}
+use Rattle.topology.specs.Lists.{has, Among}
 use Rattle.topology.specs.Net.{Net}
 use Rattle.path_vector.specs.Rules.{Rules}
 use Rattle.trigger_log.specs.Going.{Item}
-use Rattle.link_model.specs.declared.links.Links.{Links}
-use Rattle.chronicle.specs.Facts.{Chronicle, Took}
+use Rattle.incomplete_closure.specs.declared.values.Value.{Value}
+use Rattle.paxos_core.specs.Facts.{Accept}
+use Rattle.consolidator.specs.Messages.{Agrees}
+use Rattle.chronicle.specs.Facts.{Chronicle, Took, Mail}
 use Rattle.chronicle.specs.Links.{link}
 use Rattle.chronicle.specs.Channels.{channel}
 use Rattle.chronicle.specs.Crashes.{crashed}
@@ -14,6 +18,7 @@ use Rattle.chronicle.specs.Inputs.{Input}
 use Rattle.chronicle.specs.Inputs as input
 use Rattle.chronicle.specs.Run.{given, chronicle_of, held_with}
 use Rattle.chronicle.specs.Steps.{Step}
+use Rattle.chronicle.specs.Walks.{standing}
 use Rattle.cut_laws.specs.Delivered.{Did}
 use Rattle.cut_laws.specs.Joined.{Joined, FrontFits}
 use Rattle.cut_laws.specs.Own.{MayHear}
@@ -21,8 +26,12 @@ use Rattle.node_core.specs.Coming.{MayCome}
 use Rattle.world_core.specs.declared.outcomes.Effect.{Effect}
 use Rattle.world_core.specs.declared.network.Network.{Network}
 use Rattle.world_core.specs.declared.outcomes.Outcome.{Outcome}
+use Rattle.world_core.specs.declared.outcomes.Stop.{Stop}
 use Rattle.world_core.specs.Effects.{effects, Tells}
-use Rattle.world_core.specs.Matching.{AreCrashed, AreLinks, AreNodes, IsCounted, Stands}
+use Rattle.world_core.specs.Limits.{triggers_of, above_by, StopsAt}
+use Rattle.world_core.specs.Matching.{AreCrashed, AreLinks, AreMails, AreNodes, Counts, IsCounted, Stands}
+use Rattle.world_core.specs.Publications.{all_published}
+use Rattle.world_core.specs.Walks.{AreWalks}
 
 -- what holds after every list of events: each node may enter what is in front of each way to it, and may
 -- hear it; each way is joined; and no link has used up the numbers of its sessions
@@ -31,6 +40,16 @@ pub record IsRegular (net : Net) (past : Chronicle) : Type 0 where
   pub heard : (v u s : ℕ) (x : Item) (rest : List Item) → link v u past ≡ Up s → channel v u past ≡ x ∷ rest → MayHear net v x
   pub joined : (v u : ℕ) → Joined past v u
   pub few : (a b : ℕ) → number_of (link a b past) < 2 ^ 32 - 1
+
+-- no value that was proposed has more incomplete triggers than all nodes gave together
+abbrev pub ValuesAreSmall : Net → Chronicle → Type 0
+ValuesAreSmall net now =
+    (from to e : ℕ) (b : Ballot) (value : Value) → Among (Mail from to (Agrees e (Accept b value))) now
+    → length value.incomplete ≤ triggers_of net now
+
+-- the stop is at the limit that the step reaches, where that is so after it
+abbrev pub Stops : Rules → Net → Chronicle → Step → Stop → Type 0
+Stops rules net past step stop = ValuesAreSmall net (chronicle_of past step) → StopsAt (above_by rules net step) stop
 
 -- an item stands in front of the way from v to u, and would arrive in session s
 pub record MayArrive (past : Chronicle) (v u s : ℕ) : Type 0 where
@@ -42,9 +61,13 @@ pub record MayArrive (past : Chronicle) (v u s : ℕ) : Type 0 where
 abbrev pub Since : Chronicle → List Effect → Chronicle → Type 0
 Since first list now = effects first ++ list ≡ effects now
 
--- in the midst of an event: the links are as the run has them now, and the list tells what it did since
-pub record AreSending (net : Net) (first now : Chronicle) (links : Links) (list : List Effect) : Type 0 where
-  pub are_links : AreLinks net now links
+-- in the midst of an event: links, control messages, publications and packets are as the run has them now, and the list
+-- tells what it did since
+pub record AreSending {P : Type 0} (first now : Chronicle) (counts : Counts) (network : Network P) (list : List Effect) : Type 0 where
+  pub are_links : AreLinks network.topology.value now network.links
+  pub are_mails : AreMails network.topology.value now counts network.mails
+  pub are_published : network.publications.items ≡ all_published now
+  pub are_walks : AreWalks network.topology.value now network.walks
   pub since : Since first list now
 
 -- what is known when a node is handed an input: the item of an arrival is taken from its way already
@@ -56,31 +79,80 @@ handed u (input.Prefer v value) past = past
 handed u (input.Notice v) past = past
 handed u (input.OpenSession v s) past = past
 handed u input.Snap past = past
+handed u (input.Propose e) past = past
+handed u (input.Control from m) past = past
+handed u (input.Inject id p) past = past
+handed u (input.Hop packet up) past = past
+
+-- the sender of a control message is a node of the network
+abbrev pub SenderIsIn : Net → Input → Type 0
+SenderIsIn net (input.Control from m) = has net.nodes from ≡ true
+SenderIsIn net other = Unit {0}
+
+-- a packet that goes on entered the network before, and the links that are up lead to nodes of the network
+abbrev pub PacketIsIn : Net → Chronicle → Input → Type 0
+PacketIsIn net past (input.Hop packet up) =
+    (is_some (standing packet.id past) ≡ true) × ((w : ℕ) → has up w ≡ true → has net.nodes w ≡ true)
+PacketIsIn net past other = Unit {0}
 
 -- an item that was taken from its way is not declined
 abbrev pub GoesWhere : Input → Step → Type 0
 GoesWhere (input.Arrive v s item) step = Did step
 GoesWhere other step = Unit {0}
 
--- node u may be handed the input: nodes, links and counts are as the run has them, but that the item of an
--- arrival is taken; its names are those of the network; and such an item is not declined
-pub record MayHand {P : Type 0} (rules : Rules) (past : Chronicle) (u : ℕ) (input : Input) (network : Network P) : Type 0 where
+-- node u may be handed the input: all is as the run has it, but that the item of an arrival is taken; its names are
+-- those of the network; and such an item is not declined
+pub record MayHand {P : Type 0} (rules : Rules) (past : Chronicle) (counts : Counts) (u : ℕ) (input : Input) (network : Network P) : Type 0 where
   pub are_nodes : AreNodes network.policy rules network.topology.value past network.nodes.items
   pub are_crashed : AreCrashed network.topology.value past network.crashed.items
   pub are_links : AreLinks network.topology.value (handed u input past) network.links
+  pub are_mails : AreMails network.topology.value past counts network.mails
+  pub are_published : network.publications.items ≡ all_published past
+  pub are_walks : AreWalks network.topology.value past network.walks
   pub counted : IsCounted network.topology.value past network.triggers
   pub may_come : MayCome network.topology.value u input
+  pub sender : SenderIsIn network.topology.value input
+  pub passing : PacketIsIn network.topology.value past input
   pub goes : GoesWhere input (given rules network.topology.value past u input)
 
 -- the network is as the run has it after the step, and the outcome tells what that did
-pub record Comes {P : Type 0} (rules : Rules) (past : Chronicle) (step : Step) (network : Network P) (outcome : Outcome) : Type 0 where
-  pub stands : Stands rules (chronicle_of past step) network
+pub record Comes {P : Type 0} (rules : Rules) (past : Chronicle) (counts : Counts) (step : Step) (network : Network P) (outcome : Outcome) : Type 0 where
+  pub stands : Stands rules (chronicle_of past step) counts network
   pub tells : Tells past step outcome
 
--- nodes, links and the count of triggers are as they were
-pub record KeepsParts {P : Type 0} (old new : Network P) : Type 0 where
+-- all but the flags of crashed nodes is as it was
+pub record KeepsAllButFlags {P : Type 0} (old new : Network P) : Type 0 where
   pub nodes : new.nodes ≡ old.nodes
   pub links : new.links ≡ old.links
+  pub mails : new.mails ≡ old.mails
+  pub walks : new.walks ≡ old.walks
+  pub publications : new.publications ≡ old.publications
+  pub triggers : new.triggers ≡ old.triggers
+
+-- all but the nodes is as it was
+pub record KeepsAllButNodes {P : Type 0} (old new : Network P) : Type 0 where
+  pub crashed : new.crashed ≡ old.crashed
+  pub links : new.links ≡ old.links
+  pub mails : new.mails ≡ old.mails
+  pub walks : new.walks ≡ old.walks
+  pub publications : new.publications ≡ old.publications
+  pub triggers : new.triggers ≡ old.triggers
+
+-- all but the control messages is as it was
+pub record KeepsAllButMails {P : Type 0} (old new : Network P) : Type 0 where
+  pub nodes : new.nodes ≡ old.nodes
+  pub crashed : new.crashed ≡ old.crashed
+  pub links : new.links ≡ old.links
+  pub walks : new.walks ≡ old.walks
+  pub publications : new.publications ≡ old.publications
+  pub triggers : new.triggers ≡ old.triggers
+
+-- all but links, control messages, publications and packets is as it was
+pub record KeepsNodes {P : Type 0} (old new : Network P) : Type 0 where
+  pub policy : new.policy ≡ old.policy
+  pub topology : new.topology ≡ old.topology
+  pub nodes : new.nodes ≡ old.nodes
+  pub crashed : new.crashed ≡ old.crashed
   pub triggers : new.triggers ≡ old.triggers
 
 -- from the one chronicle to the other u comes to be crashed, or not; the other nodes stay as they were

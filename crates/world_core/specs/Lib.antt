@@ -1,4 +1,6 @@
 pub mod View
+pub mod Publications
+pub mod Walks
 pub mod Fits
 pub mod Effects
 pub mod Limits
@@ -7,6 +9,7 @@ pub mod Turning
 pub mod Waiting
 pub mod WaySets
 pub mod Matching
+pub mod Counting
 pub mod Happening
 pub mod Telling
 pub mod Refreshing

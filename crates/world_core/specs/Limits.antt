@@ -1,8 +1,8 @@
--- How many events, epochs, triggers, entries and items a run may have.
+-- How many events, epochs, triggers, entries, items, control messages and packets a run may have.
 use Rattle.std.specs.Prelude.{ℕ, ◌≡◌, Bool, true, false, not, ◌&&◌, Option, Some, None, List, nat_lt, nat_le, length, if◌then◌else◌}
 use Rattle.std.specs.List.{list_any, sum_by}
 use Rattle.topology.specs.declared.status.LimitKind.{LimitKind}
-use Rattle.topology.specs.declared.status.LimitKind.TheVariants.{Bytes, Events, Epochs, Triggers, Entries, Updates, Control}
+use Rattle.topology.specs.declared.status.LimitKind.TheVariants.{Bytes, Events, Epochs, Triggers, Entries, Updates, Control, Packets}
 use Rattle.topology.specs.Net.{Net}
 use Rattle.path_vector.specs.Rules.{Rules}
 use Rattle.trigger_log.specs.Entries.{locals}
@@ -11,16 +11,18 @@ use Rattle.trigger_log.specs.Sending.{sent_of}
 use Rattle.chronicle.specs.declared.events.Event.{Event}
 use Rattle.chronicle.specs.Facts.{Chronicle}
 use Rattle.chronicle.specs.Logs.{log_of}
+use Rattle.chronicle.specs.Control.{mailed}
 use Rattle.chronicle.specs.Epochs.{epoch}
 use Rattle.chronicle.specs.Inputs.{Input}
 use Rattle.chronicle.specs.Inputs as input
 use Rattle.chronicle.specs.Run.{step, run}
 use Rattle.chronicle.specs.Steps.{Step, Idle, Goes}
+use Rattle.chronicle.specs.Walks.{packets}
 use Rattle.node_core.specs.declared.limits.TheConstants.{MOST_EPOCHS, MOST_ENTRIES, MOST_UPDATES}
 use Rattle.node_core.specs.NodeLimits.{Reached}
 use Rattle.node_core.specs.declared.outputs.Stop.{Stop as NodeStop}
 use Rattle.node_core.specs.declared.outputs.Stop.TheVariants as node_stop
-use Rattle.world_core.specs.declared.bounds.TheConstants.{MOST_EVENTS, MOST_TRIGGERS}
+use Rattle.world_core.specs.declared.bounds.TheConstants.{MOST_EVENTS, MOST_TRIGGERS, MOST_CONTROL, MOST_PACKETS}
 use Rattle.world_core.specs.declared.outcomes.Stop.{Stop}
 use Rattle.world_core.specs.declared.outcomes.Stop.TheVariants as stop
 
@@ -40,20 +42,30 @@ has_more_entries net past = list_any (λ u. nat_lt MOST_ENTRIES (length (log_of 
 unfoldable pub has_more_updates : Rules → Net → Chronicle → Bool
 has_more_updates rules net past = list_any (λ u. nat_lt MOST_UPDATES (length (sent_of rules net u (log_of u past)))) net.nodes
 
--- the first of the four counts that is above its number, in this order
-abbrev pub first_above : (epochs triggers entries updates : Bool) → Option Reached
-first_above epochs triggers entries updates =
+-- more control messages were sent than may be
+unfoldable pub has_more_control : Chronicle → Bool
+has_more_control past = nat_lt MOST_CONTROL (length (mailed past))
+
+-- more packets entered the network than may
+unfoldable pub has_more_packets : Chronicle → Bool
+has_more_packets past = nat_lt MOST_PACKETS (packets past)
+
+-- the first of the six counts that is above its number, in this order
+abbrev pub first_above : (epochs triggers entries updates control packets : Bool) → Option Reached
+first_above epochs triggers entries updates control packets =
     if epochs then Some (record { kind = Epochs; number = MOST_EPOCHS })
     else if triggers then Some (record { kind = Triggers; number = MOST_TRIGGERS })
     else if entries then Some (record { kind = Entries; number = MOST_ENTRIES })
     else if updates then Some (record { kind = Updates; number = MOST_UPDATES })
+    else if control then Some (record { kind = Control; number = MOST_CONTROL })
+    else if packets then Some (record { kind = Packets; number = MOST_PACKETS })
     else None
 
 -- the first count of the chronicle that is above its number
 unfoldable pub above : Rules → Net → Chronicle → Option Reached
 above rules net now =
     first_above (has_more_epochs net now) (nat_lt MOST_TRIGGERS (triggers_of net now))
-    (has_more_entries net now) (has_more_updates rules net now)
+    (has_more_entries net now) (has_more_updates rules net now) (has_more_control now) (has_more_packets now)
 
 -- the same of what an event comes to: an idle one takes no count above its number
 abbrev pub above_by : Rules → Net → Step → Option Reached
@@ -83,6 +95,10 @@ makes_local (input.Prefer v value) = true
 makes_local (input.Notice v) = true
 makes_local (input.OpenSession v s) = true
 makes_local input.Snap = true
+makes_local (input.Propose e) = true
+makes_local (input.Control from m) = true
+makes_local (input.Inject id p) = true
+makes_local (input.Hop packet up) = true
 
 abbrev pub is_epochs : LimitKind → Bool
 is_epochs Bytes = false
@@ -92,6 +108,7 @@ is_epochs Triggers = false
 is_epochs Entries = false
 is_epochs Updates = false
 is_epochs Control = false
+is_epochs Packets = false
 
 -- the stop of the run where one of its nodes stops: the triggers of all nodes come before its entries
 abbrev pub run_stop : ℕ → Bool → NodeStop → Stop

@@ -1,6 +1,7 @@
 -- When all that a world keeps is what is read of its run.
-use Rattle.std.specs.Prelude.{ℕ, ◌≡◌, ◌≤◌, Bool, Some, List, length, map, slice_get}
-use Rattle.topology.specs.Lists.{ascending}
+use Rattle.std.specs.Prelude.{ℕ, ◌≡◌, ◌≤◌, Bool, true, Some, List, length, map, slice_get}
+use Rattle.std.specs.List.{AllByRecursion}
+use Rattle.topology.specs.Lists.{has, ascending}
 use Rattle.topology.specs.Net.{Net, IsValid}
 use Rattle.path_vector.specs.Rules.{Rules}
 use Rattle.trigger_log.specs.Going.{item_of}
@@ -8,15 +9,23 @@ use Rattle.link_model.specs.declared.links.Links.{Links}
 use Rattle.link_model.specs.Acts.{Acts}
 use Rattle.link_model.specs.Readings.{state as state_after, channel_after}
 use Rattle.link_model.specs.Standing.{StandsFor as LinksStandFor}
+use Rattle.control_mail.specs.Acts.{Acts as MailActs}
+use Rattle.control_mail.specs.Readings.{Letter, crashed as stopped_after, deliveries, letters}
+use Rattle.control_mail.specs.Seen.{Office}
+use Rattle.control_mail.specs.Standing.{StandsFor as MailsStandFor}
 use Rattle.chronicle.specs.Facts.{Chronicle}
 use Rattle.chronicle.specs.Links.{link}
 use Rattle.chronicle.specs.Channels.{channel}
+use Rattle.chronicle.specs.Control.{mailed}
 use Rattle.chronicle.specs.Crashes.{crashed}
 use Rattle.node_core.specs.declared.node.Node.{Node}
 use Rattle.node_core.specs.Standing.{StandsFor}
 use Rattle.world_core.specs.declared.network.Network.{Network}
-use Rattle.world_core.specs.declared.bounds.TheConstants.{MOST_TRIGGERS}
+use Rattle.world_core.specs.declared.bounds.TheConstants.{MOST_TRIGGERS, MOST_CONTROL, MOST_PACKETS}
 use Rattle.world_core.specs.Limits.{triggers_of}
+use Rattle.chronicle.specs.Walks.{packets}
+use Rattle.world_core.specs.Publications.{all_published}
+use Rattle.world_core.specs.Walks.{AreWalks}
 
 -- the nodes stand ascending, each as the run has it
 pub record AreNodes {P : Type 0} (policy : P) (rules : Rules) (net : Net) (past : Chronicle)
@@ -40,14 +49,38 @@ pub record AreLinks (net : Net) (past : Chronicle) (links : Links) : Type 0 wher
   pub states : (a b : ℕ) → state_after a b acts ≡ link a b past
   pub items : (a b : ℕ) → map item_of (channel_after a b acts) ≡ channel a b past
 
--- so many triggers were given, and no more than may be
+-- how often each control message was delivered, by its number
+abbrev pub Counts : Type 0
+Counts = ℕ → ℕ
+
+-- the control message goes from a node of the network to another, or to itself
+abbrev pub IsInside : Net → Letter → Type 0
+IsInside net m = (has net.nodes m.from ≡ true) × (has net.nodes m.to ≡ true)
+
+-- the control messages are those of the run, and so are the nodes that are crashed; and each message was delivered so
+-- often: the mails stand for acts after which it is so
+pub record AreMails (net : Net) (past : Chronicle) (counts : Counts) (mails : Office) : Type 0 where
+  pub acts : MailActs
+  pub stands : MailsStandFor net mails acts
+  pub letters : letters acts ≡ mailed past
+  pub stopped : (u : ℕ) → stopped_after u acts ≡ crashed u past
+  pub deliveries : (k : ℕ) → deliveries k acts ≡ counts k
+  pub inside : AllByRecursion (IsInside net) (mailed past)
+
+-- so many triggers were given, and no more than may be; nor were more control messages sent, nor did more packets enter
 pub record IsCounted (net : Net) (past : Chronicle) (triggers : ℕ) : Type 0 where
   pub total : triggers ≡ triggers_of net past
   pub few : triggers ≤ MOST_TRIGGERS
+  pub few_mails : length (mailed past) ≤ MOST_CONTROL
+  pub few_packets : packets past ≤ MOST_PACKETS
 
--- nodes, which of them are crashed, links and the count of triggers are as the run has them
-pub record Stands {P : Type 0} (rules : Rules) (past : Chronicle) (network : Network P) : Type 0 where
+-- nodes, which of them are crashed, links, control messages with their counts, publications, packets and the count of
+-- triggers are as the run has them
+pub record Stands {P : Type 0} (rules : Rules) (past : Chronicle) (counts : Counts) (network : Network P) : Type 0 where
   pub are_nodes : AreNodes network.policy rules network.topology.value past network.nodes.items
   pub are_crashed : AreCrashed network.topology.value past network.crashed.items
   pub are_links : AreLinks network.topology.value past network.links
+  pub are_mails : AreMails network.topology.value past counts network.mails
+  pub are_published : network.publications.items ≡ all_published past
+  pub are_walks : AreWalks network.topology.value past network.walks
   pub counted : IsCounted network.topology.value past network.triggers

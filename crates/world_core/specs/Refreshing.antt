@@ -3,11 +3,11 @@ use Rattle.std.specs.Prelude.{ℕ, ◌≡◌, Bool, true, false, List, [], ◌�
 use Rattle.std.specs.List.{list_any, AllByRecursion}
 use Rattle.topology.specs.Net.{Net, linked, neighbours}
 use Rattle.chronicle.specs.declared.events.Event.{Event}
-use Rattle.chronicle.specs.declared.events.Event.TheVariants.{Originate, Withdraw, Prefer, Deliver, Fail, Restore, Notice, OpenSession, Snap, Crash, Restart}
+use Rattle.chronicle.specs.declared.events.Event.TheVariants.{Originate, Withdraw, Prefer, Deliver, Fail, Restore, Notice, OpenSession, Snap, Propose, Control, Crash, Restart, Inject, Hop}
 use Rattle.chronicle.specs.declared.ways.Way.{Way}
 use Rattle.chronicle.specs.Facts.{Chronicle}
 use Rattle.world_core.specs.declared.outcomes.Effect.{Effect}
-use Rattle.world_core.specs.declared.outcomes.Effect.TheVariants.{Logged, Queued, Lost, Cut}
+use Rattle.world_core.specs.declared.outcomes.Effect.TheVariants.{Logged, Queued, Lost, Mailed, Cut, Published, Visited, Ended}
 use Rattle.world_core.specs.Waiting.{waits}
 use Rattle.world_core.specs.WaySets.{same_way}
 
@@ -25,8 +25,12 @@ is_outage (Restore a b) = true
 is_outage (Notice node nbr) = false
 is_outage (OpenSession node nbr) = false
 is_outage (Snap node) = false
+is_outage (Propose node epoch) = false
+is_outage (Control number) = false
 is_outage (Crash node) = false
 is_outage (Restart node) = false
+is_outage (Inject packet node prefix) = false
+is_outage (Hop packet) = false
 
 -- the ways over the link of the event on which a delivery may come to something else: both where the
 -- link changes, else the way to the node that takes the item, or that opens or closes its session
@@ -40,8 +44,12 @@ link_ways (Restore a b) = way a b ∷ way b a ∷ []
 link_ways (Notice node nbr) = way nbr node ∷ []
 link_ways (OpenSession node nbr) = way nbr node ∷ []
 link_ways (Snap node) = []
+link_ways (Propose node epoch) = []
+link_ways (Control number) = []
 link_ways (Crash node) = []
 link_ways (Restart node) = []
+link_ways (Inject packet node prefix) = []
+link_ways (Hop packet) = []
 
 -- the ways to u
 abbrev pub ways_to : Net → ℕ → List Way
@@ -58,8 +66,12 @@ node_ways net (Restore a b) = []
 node_ways net (Notice node nbr) = []
 node_ways net (OpenSession node nbr) = []
 node_ways net (Snap node) = []
+node_ways net (Propose node epoch) = []
+node_ways net (Control number) = []
 node_ways net (Crash node) = ways_to net node
 node_ways net (Restart node) = ways_to net node
+node_ways net (Inject packet node prefix) = []
+node_ways net (Hop packet) = []
 
 -- all ways on which a delivery may come to something else by the event itself
 abbrev pub ways_of : Net → Event → List Way
@@ -71,7 +83,11 @@ queued_ways [] = []
 queued_ways (Logged node index ∷ list) = queued_ways list
 queued_ways (Queued from to ∷ list) = way from to ∷ queued_ways list
 queued_ways (Lost from to ∷ list) = queued_ways list
+queued_ways (Mailed number ∷ list) = queued_ways list
 queued_ways (Cut node epoch ∷ list) = queued_ways list
+queued_ways (Published node epoch ∷ list) = queued_ways list
+queued_ways (Visited packet visit ∷ list) = queued_ways list
+queued_ways (Ended packet ending ∷ list) = queued_ways list
 
 -- each way goes over a link
 abbrev pub AreLinked : Net → List Way → Type 0

@@ -1,7 +1,8 @@
 -- What holds in every network, whatever happened.
 use Rattle.std.specs.Prelude.{ℕ, ◌≡◌, ◌≢◌, true, List, drop}
+use Rattle.topology.specs.declared.ballots.Ballot.{Ballot}
 use Rattle.topology.specs.declared.links.LinkState.TheVariants.{Up}
-use Rattle.topology.specs.declared.status.Reason.TheVariants.{WrongSeq, OldSession}
+use Rattle.topology.specs.declared.status.Reason.TheVariants.{WrongSeq, OldSession, NoRound}
 use Rattle.topology.specs.Lists.{has}
 use Rattle.topology.specs.Net.{Net, neighbours}
 use Rattle.path_vector.specs.Rules.{Rules}
@@ -16,6 +17,8 @@ use Rattle.cut_laws.specs.Cuts.{Consistent, RecordsWhatIsMissing}
 use Rattle.cut_laws.specs.Joined.{Joined}
 use Rattle.cut_laws.specs.Received.{BringsFrom}
 use Rattle.rest_laws.specs.Rest.{AtRest, TablesContinue}
+use Rattle.agreement_laws.specs.Agreed.{IsAgreed}
+use Rattle.walk_laws.specs.Walked.{IsWalked}
 use Rattle.world_core.specs.declared.outcomes.Outcome.{Outcome}
 use Rattle.world_core.specs.declared.outcomes.Outcome.TheVariants as outcome
 
@@ -46,8 +49,18 @@ pub record IsSound (rules : Rules) (net : Net) (past : Chronicle) : Type 0 where
   -- the tables by the value of their reports continue: a path in one is its node alone, or goes on as the path of
   -- its next node
   pub tables : (e : ℕ) (nodes : List ℕ) → TablesContinue rules net past e nodes
+  -- for an epoch one value is chosen at most, and decisions are such values, each that of reports of cuts; what a node
+  -- publishes is its table by a decision and its cut, in rising epochs, in the step that completes the two; published
+  -- paths continue, and are the best ones at the cut where nothing was open
+  pub agreed : IsAgreed rules net past
+  -- each packet is what is read of its walk; on the tables it follows published paths, and comes to no node twice; off
+  -- them it makes no more moves than the hop limit, and then its walk ends; and under backups no move of it goes to a
+  -- node where it was before
+  pub walked : IsWalked rules net past
 
--- no update was out of turn, and no session an old one: these reasons only a node alone meets
+-- no update was out of turn, no session an old one, and rounds did not come to their end: these reasons only a node
+-- alone meets
 abbrev pub IsNoStray : Outcome → Type 0
 IsNoStray (outcome.Did list) = Unit {0}
-IsNoStray (outcome.Idle why) = (why ≢ OldSession) × ((expected got : ℕ) → why ≢ WrongSeq expected got)
+IsNoStray (outcome.Idle why) =
+    (why ≢ OldSession) × ((expected got : ℕ) → why ≢ WrongSeq expected got) × ((b : Ballot) → why ≢ NoRound b)

@@ -1,12 +1,16 @@
 -- The facts that a node adds and tells.
-use Rattle.std.specs.Prelude.{ℕ, ◌≡◌, true, List, [], ◌∷◌}
+use Rattle.std.specs.Prelude.{ℕ, ◌≡◌, true, is_some, List, [], ◌∷◌}
 use Rattle.topology.specs.LinkStates.{carries}
+use Rattle.topology.specs.Lists.{has}
 use Rattle.topology.specs.Net.{Net, linked}
-use Rattle.chronicle.specs.Facts.{Fact, Chronicle, Log, Sent, Took, Fail, Restore, Raise, Crash, Restart}
+use Rattle.chronicle.specs.Facts.{Fact, Chronicle, Log, Sent, Took, Fail, Restore, Raise, Start, Mail, Heard, Crash, Restart, Publish, Visit, End}
 use Rattle.chronicle.specs.Links.{link}
+use Rattle.chronicle.specs.Walks.{standing}
+use Rattle.world_core.specs.Walks.{IsPassing}
 
--- after these facts u enters something, raises its epoch, or sends an item over one of its links: queued
--- where the link carries the session
+-- after these facts u enters something, raises its epoch, publishes a table, sends a control message to a node of the
+-- network, or an item over one of its links, queued where the link carries the session; or it passes a packet on, or ends
+-- the walk of one that entered the network
 abbrev pub IsTold : Net → ℕ → Chronicle → Fact → Type 0
 IsTold net u past (Log node entry) = node ≡ u
 IsTold net u past (Sent from to session item queued) =
@@ -15,8 +19,14 @@ IsTold net u past (Took from to session item) = ⊥
 IsTold net u past (Fail a b) = ⊥
 IsTold net u past (Restore a b) = ⊥
 IsTold net u past (Raise node epoch) = node ≡ u
+IsTold net u past (Start node epoch ballot) = ⊥
+IsTold net u past (Mail from to message) = (from ≡ u) × (has net.nodes from ≡ true) × (has net.nodes to ≡ true)
+IsTold net u past (Heard node from message) = ⊥
 IsTold net u past (Crash node) = ⊥
 IsTold net u past (Restart node) = ⊥
+IsTold net u past (Publish node epoch value paths) = node ≡ u
+IsTold net u past (Visit node packet) = IsPassing net node packet
+IsTold net u past (End packet ending) = is_some (standing packet past) ≡ true
 
 -- so it is with each of the facts, the oldest first
 abbrev pub AreTold : Net → ℕ → Chronicle → List Fact → Type 0

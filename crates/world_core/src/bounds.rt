@@ -5,3 +5,9 @@ pub const MOST_EVENTS: u32 = 1_000_000;
 
 /// The most triggers of all nodes together.
 pub const MOST_TRIGGERS: u32 = 8_192;
+
+/// The most control messages.
+pub const MOST_CONTROL: u32 = 16_384;
+
+/// The most packets.
+pub const MOST_PACKETS: u32 = 4_096;

@@ -1,22 +1,26 @@
 //! A node of the network is given an input.
-ghost use Rattle.std.specs.Prelude.{◌≡◌, [], true, length, OnOk, IfOk, IfErr};
+ghost use Rattle.std.specs.Prelude.{◌≡◌, ◌<◌, ◌≤◌, [], true, length, OnOk, IfOk, IfErr};
 ghost use Rattle.topology.specs.Lists.{has};
+ghost use Rattle.chronicle.specs.Control.{mailed};
 ghost use Rattle.chronicle.specs.Facts.{Chronicle};
 ghost use Rattle.chronicle.specs.Run.{given};
 ghost use Rattle.node_core.specs.Inputs.{input_of};
-ghost use Rattle.world_core.specs.Happening.{Comes, IsAsWas, MayHand};
-ghost use Rattle.world_core.specs.Limits.{above_by, StopsAt};
+ghost use Rattle.world_core.specs.Happening.{Comes, IsAsWas, MayHand, Stops};
+ghost use Rattle.world_core.specs.Matching.{AreMails, Counts};
 ghost use Rattle.world_core.specs.Places.{HasPlaces};
+ghost use Rattle.chronicle.specs.Walks.{packets};
+ghost use Rattle.world_core.specs.Walks.{AreWalks};
+ghost use Rattle.world_core.specs.declared.bounds.TheConstants.{MOST_CONTROL, MOST_PACKETS};
 
+use crate::bounds::{MOST_CONTROL, MOST_PACKETS};
 use crate::limits::{counted, is_local, stop_of};
 use crate::network::Network;
 use crate::outcomes::{Effect, Effects, Outcome, Stop};
-use crate::sending::hand_all;
 use crate::turning::turn;
 use node_core::{Input, OutputList, Outputs};
 use path_vector::Policy;
 use std::alloc::Global;
-use topology::{NoMemory, NodeId};
+use topology::{LimitKind, NoMemory, NodeId};
 
 // An empty list with room for what is told of these outputs.
 fn room_for(alloc: Global, outputs: &OutputList) -> Result<Vec<Effect>, NoMemory>
@@ -26,20 +30,46 @@ fn room_for(alloc: Global, outputs: &OutputList) -> Result<Vec<Effect>, NoMemory
 }
 
 impl<P: Policy + Copy> Network<P> {
+    // Stops where more control messages were sent than may be.
+    fn check_control(&self) -> Result<(), Stop>
+        ensures ok { OnOk result ((past : Chronicle) (counts : Counts) →
+            AreMails self.now.topology.value past counts self.now.mails → length (mailed past) ≤ MOST_CONTROL) }
+        ensures stopped { IfErr result (λ stop. (stop ≡ Stop.Limit LimitKind.Control MOST_CONTROL) × ((past : Chronicle) (counts : Counts) →
+            AreMails self.now.topology.value past counts self.now.mails → MOST_CONTROL < length (mailed past))) }
+    {
+        if self.mails.count() > MOST_CONTROL {
+            return Err(Stop::Limit(LimitKind::Control, MOST_CONTROL));
+        }
+        Ok(())
+    }
+
+    // Stops where more packets entered the network than may.
+    fn check_packets(&self) -> Result<(), Stop>
+        ensures ok { OnOk result ((past : Chronicle) → AreWalks self.now.topology.value past self.now.walks → packets past ≤ MOST_PACKETS) }
+        ensures stopped { IfErr result (λ stop. (stop ≡ Stop.Limit LimitKind.Packets MOST_PACKETS) × ((past : Chronicle) →
+            AreWalks self.now.topology.value past self.now.walks → MOST_PACKETS < packets past)) }
+    {
+        if self.walks.count() > MOST_PACKETS as usize {
+            return Err(Stop::Limit(LimitKind::Packets, MOST_PACKETS));
+        }
+        Ok(())
+    }
+
     /// The node handles the input: what it hands out goes over the links, or is lost there. After an
     /// `Err` the network is of no use.
     pub fn give(&mut self, node: NodeId, input: Input) -> Result<Outcome, Stop>
         requires node { has self.old.topology.value.nodes node ≡ true }
         requires places { HasPlaces self.old.topology.value (length self.old.nodes.items) }
         ensures others { OnOk result (IsAsWas self.old self.new) }
-        ensures comes { IfOk result (λ outcome. (past : Chronicle) →
-            MayHand (P.rules self.old.policy) past node (input_of input) self.old →
-            Comes (P.rules self.old.policy) past (given (P.rules self.old.policy) self.old.topology.value past node (input_of input)) self.new outcome) }
-        ensures stopped { IfErr result (λ stop. (past : Chronicle) →
-            MayHand (P.rules self.old.policy) past node (input_of input) self.old →
-            StopsAt (above_by (P.rules self.old.policy) self.old.topology.value
-            (given (P.rules self.old.policy) self.old.topology.value past node (input_of input))) stop) }
+        ensures comes { IfOk result (λ outcome. (past : Chronicle) (counts : Counts) →
+            MayHand (P.rules self.old.policy) past counts node (input_of input) self.old →
+            Comes (P.rules self.old.policy) past counts (given (P.rules self.old.policy) self.old.topology.value past node (input_of input)) self.new outcome) }
+        ensures stopped { IfErr result (λ stop. (past : Chronicle) (counts : Counts) →
+            MayHand (P.rules self.old.policy) past counts node (input_of input) self.old →
+            Stops (P.rules self.old.policy) self.old.topology.value past
+            (given (P.rules self.old.policy) self.old.topology.value past node (input_of input)) stop) }
     {
+        node_core::laws::others_change_nothing_of_what_a_node_stands_for::<P>();
         let rank = self.topology.rank_of(node).unwrap();
         let is_local = is_local(&input);
         let before = self.nodes[rank].log().next_trigger().count;
@@ -54,7 +84,9 @@ impl<P: Policy + Copy> Network<P> {
         let after = self.nodes[rank].log().next_trigger().count;
         self.triggers = counted(self.triggers, before, after)?;
         let mut effects = room_for(self.alloc, &list)?;
-        hand_all(node, list.into_vec(), &mut self.links, &mut effects)?;
+        self.hand_all(node, list.into_vec(), &mut effects)?;
+        self.check_control()?;
+        self.check_packets()?;
         Ok(Outcome::Did(Effects::new(effects)))
     }
 }

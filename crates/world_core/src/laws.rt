@@ -6,8 +6,10 @@ ghost use Rattle.chronicle.specs.declared.events.Event.{Event};
 ghost use Rattle.chronicle.specs.Run.{run};
 ghost use Rattle.world_core.specs.Sound.{IsSound};
 
+use agreement_laws::laws as of_agreement;
 use cut_laws::laws;
 use rest_laws::laws as of_rest;
+use walk_laws::laws as of_walks;
 
 /// Whatever happened, the network is sound.
 pub fn every_run_is_sound()
@@ -24,4 +26,6 @@ pub fn every_run_is_sound()
     laws::a_recording_lists_what_is_missing();
     of_rest::the_cuts_of_an_epoch_are_at_rest();
     of_rest::the_tables_of_a_value_continue();
+    of_agreement::a_run_is_agreed();
+    of_walks::a_run_is_walked();
 }

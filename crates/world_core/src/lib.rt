@@ -1,4 +1,4 @@
-//! All nodes and links of a network, and what each event does to them.
+//! All nodes and links of a network, its control messages, and what each event does to them.
 #![tactic(auto)]
 
 pub mod bounds;
@@ -7,18 +7,22 @@ pub mod laws;
 mod limits;
 mod network;
 pub mod outcomes;
+mod passing;
+pub mod publications;
 mod refreshing;
 mod sending;
 mod starting;
 mod steps;
 mod turning;
 mod waiting;
+pub mod walks;
 pub mod world;
 
 pub use chronicle::Event;
 pub use link_model::Links;
 pub use node_core::Node;
 pub use outcomes::{Effect, Effects, Outcome, Stop};
+pub use publications::Publication;
 pub use world::World;
 
 #[cfg(test)]

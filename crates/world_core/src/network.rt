@@ -1,4 +1,7 @@
-//! The nodes and links of a world.
+//! The nodes, the links, the control network and the packets of a world.
+use crate::publications::Publication;
+use crate::walks::Walks;
+use control_mail::Mails;
 use link_model::Links;
 use node_core::Node;
 use path_vector::Policy;
@@ -6,7 +9,7 @@ use std::alloc::Global;
 use std::rc::Rc;
 use topology::Topology;
 
-/// All nodes and links.
+/// All nodes and links, all control messages, all tables that were published, and all packets.
 #[derive(Drop)]
 pub struct Network<P: Policy + Copy> {
     pub alloc: Global,
@@ -17,6 +20,12 @@ pub struct Network<P: Policy + Copy> {
     /// At the rank of each node, whether it is crashed.
     pub crashed: Vec<bool>,
     pub links: Links,
+    /// All control messages. They are told which nodes are crashed, too.
+    pub mails: Mails,
+    /// What was published, the oldest first.
+    pub publications: Vec<Publication>,
+    /// All packets.
+    pub walks: Walks,
     /// The triggers that all nodes gave.
     pub triggers: u32,
 }

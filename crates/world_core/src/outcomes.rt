@@ -2,6 +2,7 @@
 ghost use Rattle.std.specs.Prelude.{◌≡◌};
 ghost use Rattle.world_core.specs.declared.outcomes.Stop.TheVariants.{NoMemory};
 
+use epoch_packet::{End, Visit};
 use std::marker::Model;
 use topology::{Epoch, LimitKind, NoMemory, NodeId, Reason};
 
@@ -14,8 +15,16 @@ pub enum Effect {
     Queued { from: NodeId, to: NodeId },
     /// A message was sent in a session that the link does not carry, and is lost.
     Lost { from: NodeId, to: NodeId },
+    /// A control message was sent: it has this number.
+    Mailed { number: u32 },
     /// The epoch of the node rose to this one, and it took its cut.
     Cut { node: NodeId, epoch: Epoch },
+    /// The node published its table of this epoch.
+    Published { node: NodeId, epoch: Epoch },
+    /// The packet came to a node, or left the stable tables there.
+    Visited { packet: u32, visit: Visit },
+    /// The walk of the packet ended.
+    Ended { packet: u32, end: End },
 }
 
 /// What an event did, in the order in which it did it.

@@ -7,7 +7,7 @@ ghost use Rattle.chronicle.specs.Facts.{Chronicle};
 ghost use Rattle.world_core.specs.declared.outcomes.Effect.{Effect as Told};
 ghost use Rattle.world_core.specs.Fits.{fits};
 ghost use Rattle.world_core.specs.Happening.{Comes};
-ghost use Rattle.world_core.specs.Matching.{Stands};
+ghost use Rattle.world_core.specs.Matching.{Counts, Stands};
 ghost use Rattle.world_core.specs.Refreshing.{AreWaitingBut, is_outage, link_ways, node_ways, queued_ways, ways_to, way};
 ghost use Rattle.chronicle.specs.Run.{after, step};
 ghost use Rattle.world_core.specs.Waiting.{AreWaiting};
@@ -30,7 +30,9 @@ fn way_of(event: &Event) -> Option<Way>
     let (from, to) = match event {
         Event::Originate { .. } | Event::Withdraw { .. } => return None,
         Event::Prefer { .. } | Event::Snap { .. } => return None,
+        Event::Propose { .. } | Event::Control { .. } => return None,
         Event::Crash { .. } | Event::Restart { .. } => return None,
+        Event::Inject { .. } | Event::Hop { .. } => return None,
         Event::Deliver { from, to } => (*from, *to),
         Event::Fail { a, b } => (*a, *b),
         Event::Restore { a, b } => (*a, *b),
@@ -55,8 +57,10 @@ fn node_of(event: &Event) -> Option<NodeId>
     match event {
         Event::Originate { .. } | Event::Withdraw { .. } => None,
         Event::Prefer { .. } | Event::Snap { .. } => None,
+        Event::Propose { .. } | Event::Control { .. } => None,
         Event::Deliver { .. } | Event::Fail { .. } | Event::Restore { .. } => None,
         Event::Notice { .. } | Event::OpenSession { .. } => None,
+        Event::Inject { .. } | Event::Hop { .. } => None,
         Event::Crash { node } => Some(*node),
         Event::Restart { node } => Some(*node),
     }
@@ -65,7 +69,7 @@ fn node_of(event: &Event) -> Option<NodeId>
 impl<P: Policy + Copy> Network<P> {
     // Whether a delivery over the way would not be idle.
     fn waits(&self, way: &Way) -> bool
-        ensures { (past : Chronicle) → Stands (P.rules self.now.policy) past self.now →
+        ensures { (past : Chronicle) (counts : Counts) → Stands (P.rules self.now.policy) past counts self.now →
             linked self.now.topology.value way.now.from way.now.to ≡ true →
             result ≡ arrives past way.now.from way.now.to }
     {
@@ -74,7 +78,7 @@ impl<P: Policy + Copy> Network<P> {
 
     // Looks at the way again.
     fn look(&self, way: &Way, waiting: &mut Waiting)
-        ensures { (past : Chronicle) (rest : List Direction) → Stands (P.rules self.now.policy) past self.now →
+        ensures { (past : Chronicle) (counts : Counts) (rest : List Direction) → Stands (P.rules self.now.policy) past counts self.now →
             AreWaitingBut self.now.topology.value past (way.now ∷ rest) (has_way self.now.topology.value waiting.old) →
             AreWaitingBut self.now.topology.value past rest (has_way self.now.topology.value waiting.new) }
     {
@@ -86,7 +90,7 @@ impl<P: Policy + Copy> Network<P> {
 
     // Looks again at each way to the node.
     fn look_at_node(&self, node: NodeId, waiting: &mut Waiting)
-        ensures { (past : Chronicle) (rest : List Direction) → Stands (P.rules self.now.policy) past self.now →
+        ensures { (past : Chronicle) (counts : Counts) (rest : List Direction) → Stands (P.rules self.now.policy) past counts self.now →
             AreWaitingBut self.now.topology.value past (ways_to self.now.topology.value node ++ rest) (has_way self.now.topology.value waiting.old) →
             AreWaitingBut self.now.topology.value past rest (has_way self.now.topology.value waiting.new) }
     {
@@ -101,7 +105,7 @@ impl<P: Policy + Copy> Network<P> {
 
     // Looks again at the ways to the node of the event, where the event stops it or starts it again.
     fn look_at_turned(&self, event: &Event, waiting: &mut Waiting)
-        ensures { (past : Chronicle) (rest : List Direction) → Stands (P.rules self.now.policy) past self.now →
+        ensures { (past : Chronicle) (counts : Counts) (rest : List Direction) → Stands (P.rules self.now.policy) past counts self.now →
             AreWaitingBut self.now.topology.value past (node_ways self.now.topology.value event.now ++ rest) (has_way self.now.topology.value waiting.old) →
             AreWaitingBut self.now.topology.value past rest (has_way self.now.topology.value waiting.new) }
     {
@@ -113,7 +117,7 @@ impl<P: Policy + Copy> Network<P> {
 
     // Looks again at the ways over the link of the event that it may have changed.
     fn look_at_link(&self, event: &Event, waiting: &mut Waiting)
-        ensures { (past : Chronicle) (rest : List Direction) → Stands (P.rules self.now.policy) past self.now →
+        ensures { (past : Chronicle) (counts : Counts) (rest : List Direction) → Stands (P.rules self.now.policy) past counts self.now →
             AreWaitingBut self.now.topology.value past (link_ways event.now ++ rest) (has_way self.now.topology.value waiting.old) →
             AreWaitingBut self.now.topology.value past rest (has_way self.now.topology.value waiting.new) }
     {
@@ -132,7 +136,7 @@ impl<P: Policy + Copy> Network<P> {
 
     // Looks again at the way over which something was queued.
     fn look_at_effect(&self, effect: &Effect, waiting: &mut Waiting)
-        ensures { (past : Chronicle) (rest : List Told) → Stands (P.rules self.now.policy) past self.now →
+        ensures { (past : Chronicle) (counts : Counts) (rest : List Told) → Stands (P.rules self.now.policy) past counts self.now →
             AreWaitingBut self.now.topology.value past (queued_ways (effect.now ∷ rest)) (has_way self.now.topology.value waiting.old) →
             AreWaitingBut self.now.topology.value past (queued_ways rest) (has_way self.now.topology.value waiting.new) }
     {
@@ -148,7 +152,7 @@ impl<P: Policy + Copy> Network<P> {
 
     // Looks again at each way over which something was queued.
     fn look_at_effects(&self, effects: &[Effect], waiting: &mut Waiting)
-        ensures { (past : Chronicle) → Stands (P.rules self.now.policy) past self.now →
+        ensures { (past : Chronicle) (counts : Counts) → Stands (P.rules self.now.policy) past counts self.now →
             AreWaitingBut self.now.topology.value past (queued_ways effects.now) (has_way self.now.topology.value waiting.old) →
             AreWaitingBut self.now.topology.value past [] (has_way self.now.topology.value waiting.new) }
     {
@@ -162,8 +166,8 @@ impl<P: Policy + Copy> Network<P> {
     /// its node where that stops or starts again, and those over which something was queued.
     pub fn refresh(&self, event: &Event, outcome: &Outcome, waiting: &mut Waiting)
         requires { IsTrue (fits self.now.topology.value event.now) }
-        ensures { (past : Chronicle) →
-            Comes (P.rules self.now.policy) past (step (P.rules self.now.policy) self.now.topology.value past event.now) self.now outcome.now →
+        ensures { (past : Chronicle) (counts : Counts) →
+            Comes (P.rules self.now.policy) past counts (step (P.rules self.now.policy) self.now.topology.value past event.now) self.now outcome.now →
             AreWaiting self.now.topology.value past (has_way self.now.topology.value waiting.old) →
             AreWaiting self.now.topology.value (after (P.rules self.now.policy) self.now.topology.value past event.now) (has_way self.now.topology.value waiting.new) }
     {

@@ -1,19 +1,33 @@
-//! What a node hands out goes to the links and to the list of effects.
-ghost use Rattle.std.specs.Prelude.{◌≡◌, ◌∷◌, ◌++◌, [], ℕ, true, List, map, OnOk, if◌then◌else◌};
+//! What a node hands out goes to the links, to the control network and to the list of effects.
+ghost use Rattle.std.specs.Prelude.{◌≡◌, ◌∷◌, ◌++◌, [], ℕ, suc, true, is_some, List, map, length, OnOk, if◌then◌else◌};
 ghost use Rattle.topology.specs.LinkStates.{carries};
+ghost use Rattle.topology.specs.Lists.{has};
 ghost use Rattle.topology.specs.Net.{Net, linked};
 ghost use Rattle.trigger_log.specs.Going.{item_of};
-ghost use Rattle.chronicle.specs.Facts.{Chronicle, Fact, Sent, happen};
+ghost use Rattle.consolidator.specs.Seen.{message_seen};
+ghost use Rattle.chronicle.specs.Control.{mailed};
+ghost use Rattle.chronicle.specs.Facts.{Chronicle, Fact, Sent, Mail as Mailed, Visit as Came, End as Ends, happen};
 ghost use Rattle.chronicle.specs.Links.{link};
-ghost use Rattle.chronicle.specs.Run.{carried_by};
+ghost use Rattle.chronicle.specs.Walks.{standing, visit_of};
 ghost use Rattle.node_core.specs.Outputs.{Hands, output_by, output_of};
-ghost use Rattle.world_core.specs.Happening.{AreSending};
+ghost use Rattle.world_core.specs.Happening.{AreSending, KeepsNodes};
+ghost use Rattle.world_core.specs.Matching.{AreLinks, AreMails, Counts};
 ghost use Rattle.world_core.specs.Telling.{AreTold, IsTold};
-ghost use Rattle.world_core.specs.declared.outcomes.Effect.TheVariants.{Queued, Lost};
+ghost use Rattle.world_core.specs.Walks.{AreWalks, IsPassing};
+ghost use Rattle.world_core.specs.declared.outcomes.Effect.TheVariants.{Queued, Lost, Mailed as Shown, Published, Visited, Ended};
 
+use crate::network::Network;
 use crate::outcomes::Effect;
+use crate::publications::Publication;
+use crate::walks::{Walks, visit_of};
+use consolidator::Mail;
+use control_mail::Mails;
+use epoch_packet::{End, Packet};
 use link_model::Links;
 use node_core::Output;
+use path_vector::Policy;
+use stable_table::Table;
+use std::rc::Rc;
 use topology::{NoMemory, NodeId};
 use trigger_log::Outgoing;
 
@@ -34,11 +48,10 @@ fn send(
     links: &mut Links,
     effects: &mut Vec<Effect>,
 ) -> Result<(), NoMemory>
-    ensures { OnOk result ((net : Net) (first past : Chronicle) → linked net from out.to ≡ true →
-        AreSending net first past links.old effects.old.items →
-        AreSending net first
-        (Sent from out.to out.session (item_of out.item) (carries (link from out.to past) out.session) ∷ past)
-        links.new effects.new.items) }
+    ensures { OnOk result ((net : Net) (past : Chronicle) → linked net from out.to ≡ true → AreLinks net past links.old →
+        let queued = carries (link from out.to past) out.session in
+        AreLinks net (Sent from out.to out.session (item_of out.item) queued ∷ past) links.new
+        × (effects.new.items ≡ effects.old.items ++ (if queued then Queued from out.to else Lost from out.to) ∷ [])) }
 {
     let to = out.to;
     let queued = links.push(from, to, out.session, out.item)?;
@@ -46,40 +59,119 @@ fn send(
     Ok(())
 }
 
-// Hands on one output of a node: an item is sent, an entry and a cut are told.
-fn hand(
-    node: NodeId,
-    output: Output,
-    links: &mut Links,
+// Posts a control message: it gets the next number.
+fn post(
+    from: NodeId,
+    mail: Mail,
+    mails: &mut Mails,
     effects: &mut Vec<Effect>,
 ) -> Result<(), NoMemory>
-    ensures { OnOk result ((net : Net) (first past : Chronicle) (f : Fact) →
-        IsTold net node past f → output_by f past ≡ output_of output ∷ [] →
-        AreSending net first past links.old effects.old.items →
-        AreSending net first (f ∷ past) links.new effects.new.items) }
+    ensures { OnOk result ((net : Net) (past : Chronicle) (counts : Counts) → AreMails net past counts mails.old →
+        has net.nodes from ≡ true → has net.nodes mail.to ≡ true →
+        AreMails net (Mailed from mail.to (message_seen mail.message) ∷ past) counts mails.new
+        × (effects.new.items ≡ effects.old.items ++ Shown (suc (length (mailed past))) ∷ [])) }
 {
-    match output {
-        Output::Logged { index } => effects.push(Effect::Logged { node, index })?,
-        Output::Cut { epoch } => effects.push(Effect::Cut { node, epoch })?,
-        Output::Send(out) => send(node, out, links, effects)?,
-    }
+    mails.post(from, mail)?;
+    let number = mails.count();
+    effects.push(Effect::Mailed { number })?;
     Ok(())
 }
 
-/// Hands on the outputs of a node, in their order.
-pub fn hand_all(
+// Keeps what a node published.
+fn publish(
     node: NodeId,
-    outputs: Vec<Output>,
-    links: &mut Links,
+    table: Rc<Table>,
+    publications: &mut Vec<Publication>,
     effects: &mut Vec<Effect>,
 ) -> Result<(), NoMemory>
-    ensures { OnOk result ((net : Net) (first past : Chronicle) (facts : List Fact) →
-        AreTold net node past facts → Hands past outputs.items (happen past facts) →
-        AreSending net first past links.old effects.old.items →
-        AreSending net first (happen past facts) links.new effects.new.items) }
+    ensures kept { OnOk result (publications.new.items ≡ publications.old.items
+        ++ record { node = node; epoch = table.value.epoch; value = table.value.value; paths = table.value.paths } ∷ []) }
+    ensures shown { OnOk result (effects.new.items ≡ effects.old.items ++ Published node table.value.epoch ∷ []) }
 {
-    for output in outputs {
-        hand(node, output, links, effects)?;
-    }
+    let epoch = table.epoch();
+    publications.push(Publication::new(node, table))?;
+    effects.push(Effect::Published { node, epoch })?;
     Ok(())
+}
+
+// A packet comes to a node, or leaves the tables there.
+fn forward(
+    next: NodeId,
+    packet: Box<Packet>,
+    walks: &mut Walks,
+    effects: &mut Vec<Effect>,
+) -> Result<(), NoMemory>
+    ensures { OnOk result ((net : Net) (past : Chronicle) → AreWalks net past walks.old → IsPassing net next packet.value →
+        AreWalks net (Came next packet.value ∷ past) walks.new
+        × (effects.new.items ≡ effects.old.items ++ Visited packet.value.id (visit_of next packet.value) ∷ [])) }
+{
+    let number = packet.id;
+    let visit = visit_of(next, &packet);
+    walks.visit(next, packet)?;
+    effects.push(Effect::Visited {
+        packet: number,
+        visit,
+    })?;
+    Ok(())
+}
+
+// The walk of a packet ended.
+fn end(number: u32, end: End, walks: &mut Walks, effects: &mut Vec<Effect>) -> Result<(), NoMemory>
+    ensures { OnOk result ((net : Net) (past : Chronicle) → AreWalks net past walks.old → is_some (standing number past) ≡ true →
+        AreWalks net (Ends number end ∷ past) walks.new
+        × (effects.new.items ≡ effects.old.items ++ Ended number end ∷ [])) }
+{
+    walks.end(number, end);
+    effects.push(Effect::Ended {
+        packet: number,
+        end,
+    })?;
+    Ok(())
+}
+
+impl<P: Policy + Copy> Network<P> {
+    // Hands on one output of a node: an item is sent, a control message posted, a table kept, and a packet passed on;
+    // an entry, a cut and the end of a walk are told.
+    fn hand(
+        &mut self,
+        node: NodeId,
+        output: Output,
+        effects: &mut Vec<Effect>,
+    ) -> Result<(), NoMemory>
+        ensures kept { OnOk result (KeepsNodes self.old self.new) }
+        ensures sending { OnOk result ((first past : Chronicle) (counts : Counts) (f : Fact) →
+            IsTold self.old.topology.value node past f → output_by f past ≡ output_of output ∷ [] →
+            AreSending first past counts self.old effects.old.items →
+            AreSending first (f ∷ past) counts self.new effects.new.items) }
+    {
+        match output {
+            Output::Logged { index } => effects.push(Effect::Logged { node, index })?,
+            Output::Cut { epoch } => effects.push(Effect::Cut { node, epoch })?,
+            Output::Send(out) => send(node, out, &mut self.links, effects)?,
+            Output::Mail(mail) => post(node, mail, &mut self.mails, effects)?,
+            Output::Published(table) => publish(node, table, &mut self.publications, effects)?,
+            Output::Forward { next, packet } => forward(next, packet, &mut self.walks, effects)?,
+            Output::Ended { id, end: how } => end(id, how, &mut self.walks, effects)?,
+        }
+        Ok(())
+    }
+
+    /// Hands on the outputs of a node, in their order.
+    pub fn hand_all(
+        &mut self,
+        node: NodeId,
+        outputs: Vec<Output>,
+        effects: &mut Vec<Effect>,
+    ) -> Result<(), NoMemory>
+        ensures kept { OnOk result (KeepsNodes self.old self.new) }
+        ensures sending { OnOk result ((first past : Chronicle) (counts : Counts) (facts : List Fact) →
+            AreTold self.old.topology.value node past facts → Hands past outputs.items (happen past facts) →
+            AreSending first past counts self.old effects.old.items →
+            AreSending first (happen past facts) counts self.new effects.new.items) }
+    {
+        for output in outputs {
+            self.hand(node, output, effects)?;
+        }
+        Ok(())
+    }
 }

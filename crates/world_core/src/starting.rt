@@ -1,8 +1,11 @@
 //! A network in which nothing has happened.
 ghost use Rattle.std.specs.Prelude.{◌≡◌, [], IfOk};
 ghost use Rattle.world_core.specs.Matching.{AreCrashed, AreNodes, Stands};
+ghost use Rattle.world_core.specs.Counting.{no_deliveries};
 
 use crate::network::Network;
+use crate::walks::Walks;
+use control_mail::Mails;
 use link_model::Links;
 use node_core::Node;
 use path_vector::Policy;
@@ -35,13 +38,14 @@ fn running(alloc: Global, topology: &Topology) -> Result<Vec<bool>, NoMemory>
 impl<P: Policy + Copy> Network<P> {
     /// The network in which nothing has happened.
     pub fn new(alloc: Global, topology: Rc<Topology>, policy: P) -> Result<Network<P>, NoMemory>
-        ensures stands { IfOk result (λ network. Stands (P.rules network.policy) [] network) }
+        ensures stands { IfOk result (λ network. Stands (P.rules network.policy) [] no_deliveries network) }
         ensures policy { IfOk result (λ network. network.policy ≡ policy) }
         ensures topology { IfOk result (λ network. network.topology.value ≡ topology.value) }
     {
         let nodes = fresh_nodes(alloc, &topology, policy)?;
         let crashed = running(alloc, &topology)?;
         let links = Links::new(alloc, &topology)?;
+        let mails = Mails::new(alloc, &topology)?;
         Ok(Network {
             alloc,
             topology,
@@ -49,6 +53,9 @@ impl<P: Policy + Copy> Network<P> {
             nodes,
             crashed,
             links,
+            mails,
+            publications: Vec::new(alloc),
+            walks: Walks::new(alloc),
             triggers: 0,
         })
     }

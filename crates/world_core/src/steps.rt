@@ -1,20 +1,21 @@
-//! What each event does to the nodes and links.
-ghost use Rattle.std.specs.Prelude.{◌≡◌, false, true, length, IsTrue, OnOk, IfOk, IfErr};
+//! What each event does to the nodes, the links and the control messages.
+ghost use Rattle.std.specs.Prelude.{◌≡◌, ◌∷◌, false, true, Some, None, length, IsTrue, OnOk, IfOk, IfErr, if◌then◌else◌};
 ghost use Rattle.topology.specs.Net.{linked};
-ghost use Rattle.chronicle.specs.Facts.{Chronicle};
+ghost use Rattle.chronicle.specs.Facts.{Chronicle, Crash};
 ghost use Rattle.trigger_log.specs.Entries.{is_session};
 ghost use Rattle.topology.specs.Lists.{has};
 ghost use Rattle.chronicle.specs.Crashes.{crashed};
-ghost use Rattle.chronicle.specs.Run.{actor, does, held_with, is_carried, is_stopped, step};
+ghost use Rattle.chronicle.specs.Run.{actor, addressee, does, held_with, is_carried, is_stopped, step};
 ghost use Rattle.chronicle.specs.Steps.{Idle};
+ghost use Rattle.world_core.specs.Counting.{AreFew, HasMails, MayDeliver, counts_after};
 ghost use Rattle.world_core.specs.Fits.{fits};
 ghost use Rattle.chronicle.specs.Channels.{channel};
 ghost use Rattle.chronicle.specs.Deliveries.{may_arrive};
 ghost use Rattle.chronicle.specs.Links.{link};
-ghost use Rattle.world_core.specs.Happening.{Comes, IsAsWas, IsRegular, KeepsParts, MayArrive, Turns};
-ghost use Rattle.world_core.specs.Limits.{above_by, StopsAt};
-ghost use Rattle.world_core.specs.Matching.{AreCrashed, Stands};
+ghost use Rattle.world_core.specs.Happening.{Comes, IsAsWas, IsRegular, KeepsAllButFlags, KeepsAllButMails, KeepsAllButNodes, MayArrive, Stops, Turns};
+ghost use Rattle.world_core.specs.Matching.{AreCrashed, AreMails, AreNodes, Counts, Stands};
 ghost use Rattle.world_core.specs.Places.{HasPlaces};
+ghost use Rattle.world_core.specs.Walks.{HasWalks};
 
 use crate::network::Network;
 use crate::outcomes::{Effects, Outcome, Stop};
@@ -43,23 +44,6 @@ fn is_session(held: Option<Session>, session: Session) -> bool
     }
 }
 
-// The node that has to run for the event, if there is one.
-fn actor(event: &Event) -> Option<NodeId>
-    ensures { result ≡ actor event.now }
-{
-    match event {
-        Event::Originate { node, .. } => Some(*node),
-        Event::Withdraw { node, .. } => Some(*node),
-        Event::Prefer { node, .. } => Some(*node),
-        Event::Deliver { to, .. } => Some(*to),
-        Event::Notice { node, .. } => Some(*node),
-        Event::OpenSession { node, .. } => Some(*node),
-        Event::Snap { node } => Some(*node),
-        Event::Crash { node } => Some(*node),
-        Event::Fail { .. } | Event::Restore { .. } | Event::Restart { .. } => None,
-    }
-}
-
 impl<P: Policy + Copy> Network<P> {
     /// Does the event, and answers what came of it. The ways that wait are not looked at again. After
     /// an `Err` the network is of no use.
@@ -67,27 +51,84 @@ impl<P: Policy + Copy> Network<P> {
         requires fits { IsTrue (fits self.old.topology.value event.now) }
         requires places { HasPlaces self.old.topology.value (length self.old.nodes.items) }
         requires flags { HasPlaces self.old.topology.value (length self.old.crashed.items) }
+        requires mails { MayDeliver self.old.topology.value self.old.mails }
+        requires walks { HasWalks self.old.topology.value self.old.walks }
         ensures others { OnOk result (IsAsWas self.old self.new) }
-        ensures comes { IfOk result (λ outcome. (past : Chronicle) →
-            Stands (P.rules self.old.policy) past self.old → IsRegular self.old.topology.value past →
-            Comes (P.rules self.old.policy) past (step (P.rules self.old.policy) self.old.topology.value past event.now) self.new outcome) }
-        ensures stopped { IfErr result (λ stop. (past : Chronicle) →
-            Stands (P.rules self.old.policy) past self.old → IsRegular self.old.topology.value past →
-            StopsAt (above_by (P.rules self.old.policy) self.old.topology.value
-            (step (P.rules self.old.policy) self.old.topology.value past event.now)) stop) }
+        ensures comes { IfOk result (λ outcome. (past : Chronicle) (counts : Counts) →
+            Stands (P.rules self.old.policy) past counts self.old → IsRegular self.old.topology.value past → AreFew counts →
+            Comes (P.rules self.old.policy) past (counts_after past event.now counts)
+            (step (P.rules self.old.policy) self.old.topology.value past event.now) self.new outcome) }
+        ensures stopped { IfErr result (λ stop. (past : Chronicle) (counts : Counts) →
+            Stands (P.rules self.old.policy) past counts self.old → IsRegular self.old.topology.value past → AreFew counts →
+            Stops (P.rules self.old.policy) self.old.topology.value past
+            (step (P.rules self.old.policy) self.old.topology.value past event.now) stop) }
     {
+        self.count(event);
         if self.is_stopped(event) {
             return Ok(Outcome::Idle(Reason::Crashed));
         }
         self.act(event)
     }
 
+    // A delivery of a control message is counted, whatever comes of it.
+    fn count(&mut self, event: &Event)
+        ensures others { IsAsWas self.old self.new }
+        ensures kept { KeepsAllButMails self.old self.new }
+        ensures counted { (past : Chronicle) (counts : Counts) →
+            AreMails self.old.topology.value past counts self.old.mails → AreFew counts →
+            AreMails self.old.topology.value past (counts_after past event.now counts) self.new.mails }
+    {
+        if let Event::Control { number } = event {
+            self.mails.deliver(*number);
+        }
+    }
+
+    // The node, where it is a consolidator: no other proposes.
+    fn proposer(&self, node: NodeId) -> Option<NodeId>
+        ensures { result ≡ (if has self.now.topology.value.consolidators node then Some node else None) }
+    {
+        if self.topology.consolidators().contains(&node) {
+            return Some(node);
+        }
+        None
+    }
+
+    // The node to which the control message goes, where there is one with the number.
+    fn addressee(&self, number: u32) -> Option<NodeId>
+        ensures { (past : Chronicle) (counts : Counts) → Stands (P.rules self.now.policy) past counts self.now →
+            result ≡ addressee number past }
+    {
+        Some(self.mails.kept(number)?.mail.to)
+    }
+
+    // The node that has to run for the event, if there is one.
+    fn actor(&self, event: &Event) -> Option<NodeId>
+        ensures { (past : Chronicle) (counts : Counts) → Stands (P.rules self.now.policy) past counts self.now →
+            result ≡ actor self.now.topology.value past event.now }
+    {
+        match event {
+            Event::Originate { node, .. } => Some(*node),
+            Event::Withdraw { node, .. } => Some(*node),
+            Event::Prefer { node, .. } => Some(*node),
+            Event::Deliver { to, .. } => Some(*to),
+            Event::Notice { node, .. } => Some(*node),
+            Event::OpenSession { node, .. } => Some(*node),
+            Event::Snap { node } => Some(*node),
+            Event::Propose { node, .. } => self.proposer(*node),
+            Event::Control { number } => self.addressee(*number),
+            Event::Crash { node } => Some(*node),
+            Event::Inject { packet, node, .. } => self.entrance(*packet, *node),
+            Event::Hop { packet } => self.stand(*packet),
+            Event::Fail { .. } | Event::Restore { .. } | Event::Restart { .. } => None,
+        }
+    }
+
     // Whether the node that has to run for the event is crashed.
     fn is_stopped(&self, event: &Event) -> bool
-        ensures { (past : Chronicle) → Stands (P.rules self.now.policy) past self.now → IsTrue (fits self.now.topology.value event.now) →
-            result ≡ is_stopped past (actor event.now) }
+        ensures { (past : Chronicle) (counts : Counts) → Stands (P.rules self.now.policy) past counts self.now → IsTrue (fits self.now.topology.value event.now) →
+            result ≡ is_stopped past (actor self.now.topology.value past event.now) }
     {
-        match actor(event) {
+        match self.actor(event) {
             Some(node) => self.is_crashed(node),
             None => false,
         }
@@ -95,7 +136,7 @@ impl<P: Policy + Copy> Network<P> {
 
     /// Whether the node is crashed.
     pub fn is_crashed(&self, node: NodeId) -> bool
-        ensures { (past : Chronicle) → Stands (P.rules self.now.policy) past self.now →
+        ensures { (past : Chronicle) (counts : Counts) → Stands (P.rules self.now.policy) past counts self.now →
             has self.now.topology.value.nodes node ≡ true → result ≡ crashed node past }
     {
         let Some(rank) = self.topology.rank_of(node) else {
@@ -112,14 +153,16 @@ impl<P: Policy + Copy> Network<P> {
         requires fits { IsTrue (fits self.old.topology.value event.now) }
         requires places { HasPlaces self.old.topology.value (length self.old.nodes.items) }
         requires flags { HasPlaces self.old.topology.value (length self.old.crashed.items) }
+        requires mails { HasMails self.old.topology.value self.old.mails }
+        requires walks { HasWalks self.old.topology.value self.old.walks }
         ensures others { OnOk result (IsAsWas self.old self.new) }
-        ensures comes { IfOk result (λ outcome. (past : Chronicle) →
-            Stands (P.rules self.old.policy) past self.old → IsRegular self.old.topology.value past →
-            Comes (P.rules self.old.policy) past (does (P.rules self.old.policy) self.old.topology.value past event.now) self.new outcome) }
-        ensures stopped { IfErr result (λ stop. (past : Chronicle) →
-            Stands (P.rules self.old.policy) past self.old → IsRegular self.old.topology.value past →
-            StopsAt (above_by (P.rules self.old.policy) self.old.topology.value
-            (does (P.rules self.old.policy) self.old.topology.value past event.now)) stop) }
+        ensures comes { IfOk result (λ outcome. (past : Chronicle) (counts : Counts) →
+            Stands (P.rules self.old.policy) past counts self.old → IsRegular self.old.topology.value past →
+            Comes (P.rules self.old.policy) past counts (does (P.rules self.old.policy) self.old.topology.value past event.now) self.new outcome) }
+        ensures stopped { IfErr result (λ stop. (past : Chronicle) (counts : Counts) →
+            Stands (P.rules self.old.policy) past counts self.old → IsRegular self.old.topology.value past →
+            Stops (P.rules self.old.policy) self.old.topology.value past
+            (does (P.rules self.old.policy) self.old.topology.value past event.now) stop) }
     {
         match event {
             Event::Originate { node, prefix } => self.give(*node, Input::Originate(*prefix)),
@@ -131,14 +174,22 @@ impl<P: Policy + Copy> Network<P> {
             Event::Notice { node, nbr } => self.notice(*node, *nbr),
             Event::OpenSession { node, nbr } => self.open_session(*node, *nbr),
             Event::Snap { node } => self.give(*node, Input::Snap),
+            Event::Propose { node, epoch } => self.give(*node, Input::Propose(*epoch)),
+            Event::Control { number } => self.control(*number),
             Event::Crash { node } => Ok(self.crash(*node)),
             Event::Restart { node } => Ok(self.restart(*node)),
+            Event::Inject {
+                packet,
+                node,
+                prefix,
+            } => self.inject(*packet, *node, *prefix),
+            Event::Hop { packet } => self.hop(*packet),
         }
     }
 
     // The session that a node holds with a neighbour.
     fn held(&self, node: NodeId, nbr: NodeId) -> Option<Session>
-        ensures { (past : Chronicle) → Stands (P.rules self.now.policy) past self.now →
+        ensures { (past : Chronicle) (counts : Counts) → Stands (P.rules self.now.policy) past counts self.now →
             linked self.now.topology.value node nbr ≡ true → result ≡ held_with node nbr past }
     {
         let rank = self.topology.rank_of(node)?;
@@ -147,9 +198,9 @@ impl<P: Policy + Copy> Network<P> {
 
     /// The session in which the oldest item on its way would arrive, or why a delivery does nothing.
     pub fn arrival(&self, from: NodeId, to: NodeId) -> Result<Session, Reason>
-        ensures session { IfOk result (λ s. (past : Chronicle) → Stands (P.rules self.now.policy) past self.now →
+        ensures session { IfOk result (λ s. (past : Chronicle) (counts : Counts) → Stands (P.rules self.now.policy) past counts self.now →
             linked self.now.topology.value from to ≡ true → MayArrive past from to s) }
-        ensures reason { IfErr result (λ reason. (past : Chronicle) → Stands (P.rules self.now.policy) past self.now →
+        ensures reason { IfErr result (λ reason. (past : Chronicle) (counts : Counts) → Stands (P.rules self.now.policy) past counts self.now →
             linked self.now.topology.value from to ≡ true →
             (does (P.rules self.now.policy) self.now.topology.value past (Event.Deliver from to) ≡ Idle reason)
             × (may_arrive (link from to past) (channel from to past) (held_with to from past) ≡ false)) }
@@ -174,13 +225,13 @@ impl<P: Policy + Copy> Network<P> {
         requires near { linked self.old.topology.value from to ≡ true }
         requires places { HasPlaces self.old.topology.value (length self.old.nodes.items) }
         ensures others { OnOk result (IsAsWas self.old self.new) }
-        ensures comes { IfOk result (λ outcome. (past : Chronicle) →
-            Stands (P.rules self.old.policy) past self.old → IsRegular self.old.topology.value past →
-            Comes (P.rules self.old.policy) past (does (P.rules self.old.policy) self.old.topology.value past (Event.Deliver from to)) self.new outcome) }
-        ensures stopped { IfErr result (λ stop. (past : Chronicle) →
-            Stands (P.rules self.old.policy) past self.old → IsRegular self.old.topology.value past →
-            StopsAt (above_by (P.rules self.old.policy) self.old.topology.value
-            (does (P.rules self.old.policy) self.old.topology.value past (Event.Deliver from to))) stop) }
+        ensures comes { IfOk result (λ outcome. (past : Chronicle) (counts : Counts) →
+            Stands (P.rules self.old.policy) past counts self.old → IsRegular self.old.topology.value past →
+            Comes (P.rules self.old.policy) past counts (does (P.rules self.old.policy) self.old.topology.value past (Event.Deliver from to)) self.new outcome) }
+        ensures stopped { IfErr result (λ stop. (past : Chronicle) (counts : Counts) →
+            Stands (P.rules self.old.policy) past counts self.old → IsRegular self.old.topology.value past →
+            Stops (P.rules self.old.policy) self.old.topology.value past
+            (does (P.rules self.old.policy) self.old.topology.value past (Event.Deliver from to)) stop) }
     {
         let session = match self.arrival(from, to) {
             Ok(session) => session,
@@ -204,13 +255,13 @@ impl<P: Policy + Copy> Network<P> {
         requires near { linked self.old.topology.value node nbr ≡ true }
         requires places { HasPlaces self.old.topology.value (length self.old.nodes.items) }
         ensures others { OnOk result (IsAsWas self.old self.new) }
-        ensures comes { IfOk result (λ outcome. (past : Chronicle) →
-            Stands (P.rules self.old.policy) past self.old → IsRegular self.old.topology.value past →
-            Comes (P.rules self.old.policy) past (does (P.rules self.old.policy) self.old.topology.value past (Event.Prefer node nbr value)) self.new outcome) }
-        ensures stopped { IfErr result (λ stop. (past : Chronicle) →
-            Stands (P.rules self.old.policy) past self.old → IsRegular self.old.topology.value past →
-            StopsAt (above_by (P.rules self.old.policy) self.old.topology.value
-            (does (P.rules self.old.policy) self.old.topology.value past (Event.Prefer node nbr value))) stop) }
+        ensures comes { IfOk result (λ outcome. (past : Chronicle) (counts : Counts) →
+            Stands (P.rules self.old.policy) past counts self.old → IsRegular self.old.topology.value past →
+            Comes (P.rules self.old.policy) past counts (does (P.rules self.old.policy) self.old.topology.value past (Event.Prefer node nbr value)) self.new outcome) }
+        ensures stopped { IfErr result (λ stop. (past : Chronicle) (counts : Counts) →
+            Stands (P.rules self.old.policy) past counts self.old → IsRegular self.old.topology.value past →
+            Stops (P.rules self.old.policy) self.old.topology.value past
+            (does (P.rules self.old.policy) self.old.topology.value past (Event.Prefer node nbr value)) stop) }
     {
         self.give(node, Input::Prefer { nbr, value })
     }
@@ -220,13 +271,13 @@ impl<P: Policy + Copy> Network<P> {
         requires near { linked self.old.topology.value node nbr ≡ true }
         requires places { HasPlaces self.old.topology.value (length self.old.nodes.items) }
         ensures others { OnOk result (IsAsWas self.old self.new) }
-        ensures comes { IfOk result (λ outcome. (past : Chronicle) →
-            Stands (P.rules self.old.policy) past self.old → IsRegular self.old.topology.value past →
-            Comes (P.rules self.old.policy) past (does (P.rules self.old.policy) self.old.topology.value past (Event.Notice node nbr)) self.new outcome) }
-        ensures stopped { IfErr result (λ stop. (past : Chronicle) →
-            Stands (P.rules self.old.policy) past self.old → IsRegular self.old.topology.value past →
-            StopsAt (above_by (P.rules self.old.policy) self.old.topology.value
-            (does (P.rules self.old.policy) self.old.topology.value past (Event.Notice node nbr))) stop) }
+        ensures comes { IfOk result (λ outcome. (past : Chronicle) (counts : Counts) →
+            Stands (P.rules self.old.policy) past counts self.old → IsRegular self.old.topology.value past →
+            Comes (P.rules self.old.policy) past counts (does (P.rules self.old.policy) self.old.topology.value past (Event.Notice node nbr)) self.new outcome) }
+        ensures stopped { IfErr result (λ stop. (past : Chronicle) (counts : Counts) →
+            Stands (P.rules self.old.policy) past counts self.old → IsRegular self.old.topology.value past →
+            Stops (P.rules self.old.policy) self.old.topology.value past
+            (does (P.rules self.old.policy) self.old.topology.value past (Event.Notice node nbr)) stop) }
     {
         if is_carried(&self.links.state(node, nbr), self.held(node, nbr)) {
             return Ok(Outcome::Idle(Reason::StillUp));
@@ -234,18 +285,39 @@ impl<P: Policy + Copy> Network<P> {
         self.give(node, Input::Notice(nbr))
     }
 
+    // A copy of the control message comes to its addressee.
+    fn control(&mut self, number: u32) -> Result<Outcome, Stop>
+        requires places { HasPlaces self.old.topology.value (length self.old.nodes.items) }
+        requires mails { HasMails self.old.topology.value self.old.mails }
+        ensures others { OnOk result (IsAsWas self.old self.new) }
+        ensures comes { IfOk result (λ outcome. (past : Chronicle) (counts : Counts) →
+            Stands (P.rules self.old.policy) past counts self.old → IsRegular self.old.topology.value past →
+            Comes (P.rules self.old.policy) past counts (does (P.rules self.old.policy) self.old.topology.value past (Event.Control number)) self.new outcome) }
+        ensures stopped { IfErr result (λ stop. (past : Chronicle) (counts : Counts) →
+            Stands (P.rules self.old.policy) past counts self.old → IsRegular self.old.topology.value past →
+            Stops (P.rules self.old.policy) self.old.topology.value past
+            (does (P.rules self.old.policy) self.old.topology.value past (Event.Control number)) stop) }
+    {
+        let Some(kept) = self.mails.kept(number) else {
+            return Ok(Outcome::Idle(Reason::NoSuchMessage));
+        };
+        let (from, to) = (kept.from, kept.mail.to);
+        let message = kept.mail.message.copy()?;
+        self.give(to, Input::Control { from, message })
+    }
+
     // The node opens the session that the link carries, and greets its neighbour in it.
     fn open_session(&mut self, node: NodeId, nbr: NodeId) -> Result<Outcome, Stop>
         requires near { linked self.old.topology.value node nbr ≡ true }
         requires places { HasPlaces self.old.topology.value (length self.old.nodes.items) }
         ensures others { OnOk result (IsAsWas self.old self.new) }
-        ensures comes { IfOk result (λ outcome. (past : Chronicle) →
-            Stands (P.rules self.old.policy) past self.old → IsRegular self.old.topology.value past →
-            Comes (P.rules self.old.policy) past (does (P.rules self.old.policy) self.old.topology.value past (Event.OpenSession node nbr)) self.new outcome) }
-        ensures stopped { IfErr result (λ stop. (past : Chronicle) →
-            Stands (P.rules self.old.policy) past self.old → IsRegular self.old.topology.value past →
-            StopsAt (above_by (P.rules self.old.policy) self.old.topology.value
-            (does (P.rules self.old.policy) self.old.topology.value past (Event.OpenSession node nbr))) stop) }
+        ensures comes { IfOk result (λ outcome. (past : Chronicle) (counts : Counts) →
+            Stands (P.rules self.old.policy) past counts self.old → IsRegular self.old.topology.value past →
+            Comes (P.rules self.old.policy) past counts (does (P.rules self.old.policy) self.old.topology.value past (Event.OpenSession node nbr)) self.new outcome) }
+        ensures stopped { IfErr result (λ stop. (past : Chronicle) (counts : Counts) →
+            Stands (P.rules self.old.policy) past counts self.old → IsRegular self.old.topology.value past →
+            Stops (P.rules self.old.policy) self.old.topology.value past
+            (does (P.rules self.old.policy) self.old.topology.value past (Event.OpenSession node nbr)) stop) }
     {
         if self.held(node, nbr).is_some() {
             return Ok(Outcome::Idle(Reason::AlreadyOpen));
@@ -260,9 +332,10 @@ impl<P: Policy + Copy> Network<P> {
     fn fail(&mut self, a: NodeId, b: NodeId) -> Outcome
         requires { linked self.old.topology.value a b ≡ true }
         ensures others { IsAsWas self.old self.new }
-        ensures comes { (past : Chronicle) → Stands (P.rules self.old.policy) past self.old →
-            Comes (P.rules self.old.policy) past (does (P.rules self.old.policy) self.old.topology.value past (Event.Fail a b)) self.new result }
+        ensures comes { (past : Chronicle) (counts : Counts) → Stands (P.rules self.old.policy) past counts self.old →
+            Comes (P.rules self.old.policy) past counts (does (P.rules self.old.policy) self.old.topology.value past (Event.Fail a b)) self.new result }
     {
+        node_core::laws::others_change_nothing_of_what_a_node_stands_for::<P>();
         if !self.links.fail(a, b) {
             return Outcome::Idle(Reason::AlreadyDown);
         }
@@ -274,9 +347,10 @@ impl<P: Policy + Copy> Network<P> {
     fn restore(&mut self, a: NodeId, b: NodeId) -> Outcome
         requires { linked self.old.topology.value a b ≡ true }
         ensures others { IsAsWas self.old self.new }
-        ensures comes { (past : Chronicle) → Stands (P.rules self.old.policy) past self.old → IsRegular self.old.topology.value past →
-            Comes (P.rules self.old.policy) past (does (P.rules self.old.policy) self.old.topology.value past (Event.Restore a b)) self.new result }
+        ensures comes { (past : Chronicle) (counts : Counts) → Stands (P.rules self.old.policy) past counts self.old → IsRegular self.old.topology.value past →
+            Comes (P.rules self.old.policy) past counts (does (P.rules self.old.policy) self.old.topology.value past (Event.Restore a b)) self.new result }
     {
+        node_core::laws::others_change_nothing_of_what_a_node_stands_for::<P>();
         if !self.links.restore(a, b) {
             return Outcome::Idle(Reason::AlreadyUp);
         }
@@ -289,7 +363,7 @@ impl<P: Policy + Copy> Network<P> {
         requires node { has self.old.topology.value.nodes node ≡ true }
         requires flags { HasPlaces self.old.topology.value (length self.old.crashed.items) }
         ensures others { IsAsWas self.old self.new }
-        ensures kept { KeepsParts self.old self.new }
+        ensures kept { KeepsAllButFlags self.old self.new }
         ensures flags { (past now : Chronicle) → AreCrashed self.old.topology.value past self.old.crashed.items →
             Turns node is past now → AreCrashed self.old.topology.value now self.new.crashed.items }
     {
@@ -297,15 +371,33 @@ impl<P: Policy + Copy> Network<P> {
         self.crashed[rank] = is;
     }
 
+    // The node loses what it loses in a crash.
+    fn forget(&mut self, node: NodeId)
+        requires node { has self.old.topology.value.nodes node ≡ true }
+        requires places { HasPlaces self.old.topology.value (length self.old.nodes.items) }
+        ensures others { IsAsWas self.old self.new }
+        ensures kept { KeepsAllButNodes self.old self.new }
+        ensures nodes { (past : Chronicle) →
+            AreNodes self.old.policy (P.rules self.old.policy) self.old.topology.value past self.old.nodes.items →
+            AreNodes self.old.policy (P.rules self.old.policy) self.old.topology.value (Crash node ∷ past) self.new.nodes.items }
+    {
+        node_core::laws::others_change_nothing_of_what_a_node_stands_for::<P>();
+        let rank = self.topology.rank_of(node).unwrap();
+        self.nodes[rank].forget();
+    }
+
     // The node stops.
     fn crash(&mut self, node: NodeId) -> Outcome
         requires node { has self.old.topology.value.nodes node ≡ true }
+        requires places { HasPlaces self.old.topology.value (length self.old.nodes.items) }
         requires flags { HasPlaces self.old.topology.value (length self.old.crashed.items) }
         ensures others { IsAsWas self.old self.new }
-        ensures comes { (past : Chronicle) → Stands (P.rules self.old.policy) past self.old →
-            Comes (P.rules self.old.policy) past (does (P.rules self.old.policy) self.old.topology.value past (Event.Crash node)) self.new result }
+        ensures comes { (past : Chronicle) (counts : Counts) → Stands (P.rules self.old.policy) past counts self.old →
+            Comes (P.rules self.old.policy) past counts (does (P.rules self.old.policy) self.old.topology.value past (Event.Crash node)) self.new result }
     {
         self.set_crashed(node, true);
+        self.forget(node);
+        self.mails.crash(node);
         let unseen = Effects::new(Vec::new(self.alloc));
         Outcome::Did(unseen)
     }
@@ -315,13 +407,15 @@ impl<P: Policy + Copy> Network<P> {
         requires node { has self.old.topology.value.nodes node ≡ true }
         requires flags { HasPlaces self.old.topology.value (length self.old.crashed.items) }
         ensures others { IsAsWas self.old self.new }
-        ensures comes { (past : Chronicle) → Stands (P.rules self.old.policy) past self.old →
-            Comes (P.rules self.old.policy) past (does (P.rules self.old.policy) self.old.topology.value past (Event.Restart node)) self.new result }
+        ensures comes { (past : Chronicle) (counts : Counts) → Stands (P.rules self.old.policy) past counts self.old →
+            Comes (P.rules self.old.policy) past counts (does (P.rules self.old.policy) self.old.topology.value past (Event.Restart node)) self.new result }
     {
+        node_core::laws::others_change_nothing_of_what_a_node_stands_for::<P>();
         if !self.is_crashed(node) {
             return Outcome::Idle(Reason::NotCrashed);
         }
         self.set_crashed(node, false);
+        self.mails.restart(node);
         let unseen = Effects::new(Vec::new(self.alloc));
         Outcome::Did(unseen)
     }

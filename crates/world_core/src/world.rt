@@ -1,37 +1,46 @@
 //! The world: a network and what happened in it.
-ghost use Rattle.std.specs.Prelude.{◌≡◌, [], ◌∷◌, ◌++◌, ◌&&◌, false, nat_lt, length, None, IsTrue, IsNone, IfOk, IfErr, IfSome, option_map, ◌↔◌};
+ghost use Rattle.std.specs.Prelude.{◌≡◌, [], ◌∷◌, ◌++◌, ◌&&◌, false, nat_lt, nat_le, length, Some, None, IsTrue, IsNone, IfOk, IfErr, IfSome, option_map, ◌↔◌};
 ghost use Rattle.topology.specs.Lists.{has};
 ghost use Rattle.topology.specs.Net.{linked};
+ghost use Rattle.consolidator.specs.Seen.{message_seen};
+ghost use Rattle.node_core.specs.declared.limits.TheConstants.{MOST_EPOCHS};
 ghost use Rattle.chronicle.specs.declared.ways.Way.{Way};
 ghost use Rattle.chronicle.specs.Crashes.{crashed};
-ghost use Rattle.chronicle.specs.Deliveries.{next_delivery};
+ghost use Rattle.chronicle.specs.Control.{mail_with, mailed};
+ghost use Rattle.chronicle.specs.Deliveries.{deliveries, next_delivery, next_mail};
 ghost use Rattle.chronicle.specs.Run.{run, step};
 ghost use Rattle.node_core.specs.Standing.{StandsFor};
 ghost use Rattle.world_core.specs.Fits.{fits};
 ghost use Rattle.world_core.specs.Effects.{Tells};
 ghost use Rattle.world_core.specs.Limits.{limit_of, StopsAt};
 ghost use Rattle.world_core.specs.Matching.{AreLinks};
+ghost use Rattle.world_core.specs.Publications.{all_published};
 ghost use Rattle.world_core.specs.Sound.{IsNoStray, IsSound};
+ghost use Rattle.world_core.specs.Walks.{walk_of};
 
 use crate::bounds::MOST_EVENTS;
 use crate::laws;
 use crate::network::Network;
 use crate::outcomes::{Outcome, Stop};
+use crate::publications::Publication;
 use crate::waiting::Waiting;
 use chronicle::Event;
+use consolidator::Mail;
+use epoch_packet::{End, Visit};
 use link_model::Links;
 use node_core::Node;
-use node_core::limits::MOST_PREFERENCE;
+use node_core::limits::{MOST_EPOCHS, MOST_PREFERENCE};
 use path_vector::Policy;
 use std::alloc::Global;
 use std::marker::Model;
 use std::rc::Rc;
-use topology::{LimitKind, NoMemory, NodeId, PrefixId, Topology};
+use topology::{Epoch, LimitKind, NoMemory, NodeId, PrefixId, Topology};
 
-/// All nodes and links of a network, and the events so far.
+/// All nodes and links of a network, its control messages, what was published, and the events so far.
 #[derive(Drop)]
 pub struct World<P: Policy + Copy> {
-    network: Network<P>,
+    // Behind a box, so that a world that moves carries a few words.
+    network: Box<Network<P>>,
     // The ways over which a delivery would not be idle.
     waiting: Waiting,
     events: Vec<Event>,
@@ -42,14 +51,16 @@ impl<P: Policy + Copy> Model for World<P> {
     ghost use Rattle.world_core.specs.Matching.{Stands};
     ghost use Rattle.world_core.specs.Waiting.{AreWaiting};
     ghost use Rattle.world_core.specs.WaySets.{has_way};
+    ghost use Rattle.chronicle.specs.Deliveries.{deliveries};
     ghost use Rattle.chronicle.specs.Run.{run};
 
     ghost Value = { WorldView P };
 
-    ghost view = { λ w. record { policy = w.network.policy; net = w.network.topology.value; events = w.events.items } };
+    ghost view = { λ w. record { policy = w.network.value.policy; net = w.network.value.topology.value; events = w.events.items } };
 
-    ghost invariant = { λ w. let past = run (P.rules w.network.policy) w.network.topology.value w.events.items in
-        Stands (P.rules w.network.policy) past w.network × AreWaiting w.network.topology.value past (has_way w.network.topology.value w.waiting) };
+    ghost invariant = { λ w. let past = run (P.rules w.network.value.policy) w.network.value.topology.value w.events.items in
+        Stands (P.rules w.network.value.policy) past (deliveries (P.rules w.network.value.policy) w.network.value.topology.value w.events.items) w.network.value
+        × AreWaiting w.network.value.topology.value past (has_way w.network.value.topology.value w.waiting) };
 }
 
 // Whether there is such a node and such a prefix.
@@ -66,13 +77,22 @@ fn joined(topology: &Topology, a: NodeId, b: NodeId) -> bool
     topology.relation(a, b).is_some()
 }
 
+// Whether there is such a node, and such an epoch may be.
+fn proposes(topology: &Topology, node: NodeId, epoch: Epoch) -> bool
+    ensures { result ≡ (has topology.now.nodes node && (nat_le 1 epoch && nat_le epoch MOST_EPOCHS)) }
+{
+    let epoch = epoch.number();
+    topology.rank_of(node).is_some() && epoch >= 1 && epoch <= MOST_EPOCHS
+}
+
 impl<P: Policy + Copy> World<P> {
     /// The world in which nothing has happened.
     pub fn new(alloc: Global, topology: Rc<Topology>, policy: P) -> Result<World<P>, NoMemory>
         ensures { IfOk result (λ world. world ≡ record { policy = policy; net = topology.value; events = [] }) }
     {
+        let network = Network::new(alloc, topology, policy)?;
         Ok(World {
-            network: Network::new(alloc, topology, policy)?,
+            network: Box::new(alloc, network)?,
             waiting: Waiting::new(alloc)?,
             events: Vec::new(alloc),
         })
@@ -92,7 +112,8 @@ impl<P: Policy + Copy> World<P> {
         &self.network.topology
     }
 
-    /// Whether the names of the event are in the network, and a preference is a million at most.
+    /// Whether the names of the event are in the network, a preference is a million at most, an epoch 1 to 32, and
+    /// control messages and packets are numbered from 1.
     pub fn fits(&self, event: &Event) -> bool
         ensures { result ≡ fits self.now.net event.now }
     {
@@ -109,8 +130,16 @@ impl<P: Policy + Copy> World<P> {
             Event::Notice { node, nbr } => joined(topology, *node, *nbr),
             Event::OpenSession { node, nbr } => joined(topology, *node, *nbr),
             Event::Snap { node } => topology.rank_of(*node).is_some(),
+            Event::Propose { node, epoch } => proposes(topology, *node, *epoch),
+            Event::Control { number } => *number >= 1,
             Event::Crash { node } => topology.rank_of(*node).is_some(),
             Event::Restart { node } => topology.rank_of(*node).is_some(),
+            Event::Inject {
+                packet,
+                node,
+                prefix,
+            } => *packet >= 1 && names(topology, *node, *prefix),
+            Event::Hop { packet } => *packet >= 1,
         }
     }
 
@@ -149,6 +178,50 @@ impl<P: Policy + Copy> World<P> {
         Some((ends.from, ends.to))
     }
 
+    /// The control message with this number: who sent it, what it is with its addressee, and how often it was
+    /// delivered. None exactly where no message has the number. Takes no memory.
+    pub fn mail(&self, number: u32) -> Option<(NodeId, &Mail, u32)>
+        ensures some { IfSome result (λ mail. let past = run (P.rules self.now.policy) self.now.net self.now.events in
+            (mail_with number past ≡ Some (record { from = mail.0; to = mail.1.now.to; message = message_seen mail.1.now.message }))
+            × (mail.2 ≡ deliveries (P.rules self.now.policy) self.now.net self.now.events number)) }
+        ensures none { IsNone result ↔ (mail_with number (run (P.rules self.now.policy) self.now.net self.now.events) ≡ None) }
+    {
+        let kept = self.network.mails.kept(number)?;
+        Some((kept.from, &kept.mail, kept.deliveries))
+    }
+
+    /// How many control messages there are: the number of the last one. Takes no memory.
+    pub fn mail_count(&self) -> u32
+        ensures { result ≡ length (mailed (run (P.rules self.now.policy) self.now.net self.now.events)) }
+    {
+        self.network.mails.count()
+    }
+
+    /// The number of the next control message: the lowest that was never delivered and whose addressee is not
+    /// crashed. Goes once over the nodes, and takes no memory.
+    pub fn next_mail(&self) -> Option<u32>
+        ensures { result ≡ next_mail (P.rules self.now.policy) self.now.net self.now.events }
+    {
+        self.network.mails.next()
+    }
+
+    /// All that was published, the oldest first.
+    pub fn publications(&self) -> &[Publication]
+        ensures { result.now ≡ all_published (run (P.rules self.now.policy) self.now.net self.now.events) }
+    {
+        &self.network.publications
+    }
+
+    /// The walk of a packet: its visits, the oldest first, and how it ended. None exactly where no packet with this
+    /// number entered the network; no end while it goes on. Takes no memory.
+    pub fn walk(&self, packet: u32) -> Option<(&[Visit], Option<End>)>
+        ensures { option_map (λ walk. (walk.0.now, walk.1)) result
+            ≡ walk_of packet (run (P.rules self.now.policy) self.now.net self.now.events) }
+    {
+        let journey = self.network.walks.of(packet)?;
+        Some((journey.visits(), journey.end()))
+    }
+
     /// The world after one more event, and what came of it. Stops at a limit exactly where the
     /// event would take a count above its number, unless memory is wanted first. The cost is that of
     /// what the event touches: the node's neighbours, and the prefix.
@@ -177,6 +250,8 @@ impl<P: Policy + Copy> World<P> {
         cut_laws::laws::what_arrives_may_be_heard();
         cut_laws::laws::sessions_are_few();
         cut_laws::laws::no_world_is_out_of_turn();
+        agreement_laws::laws::rounds_are_few();
+        agreement_laws::laws::values_have_few_triggers();
         let outcome = network.happen(&event)?;
         network.refresh(&event, &outcome, &mut waiting);
         let Ok(()) = events.push(event) else {

@@ -12,4 +12,6 @@ returns c rules net events valid = record {
   recordings = λ e u v. c.a_recording_lists_what_is_missing.ensures rules net events e u v valid;
   rest = λ e nodes. c.the_cuts_of_an_epoch_are_at_rest.ensures rules net events e nodes valid;
   tables = λ e nodes. c.the_tables_of_a_value_continue.ensures rules net events e nodes valid;
+  agreed = c.a_run_is_agreed.ensures rules net events valid;
+  walked = c.a_run_is_walked.ensures rules net events valid;
 }

@@ -10,14 +10,14 @@ use Rattle.world_core.proofs.Handed.{comes_by, stops_by, delivers}
 use Rattle.world_core.proofs.network.Network.deliver.Goals as goal
 
 pub returns-in-Err-clause-comes : goal.returns-in-Err-clause-comes
-returns-in-Err-clause-comes g c past was regular =
-    idle (g.P.Policy.rules c.args.self.now.policy) past _ _ c.in-Err.reason (c.in-Err.ensures.reason past was c.requires.near).0 was
+returns-in-Err-clause-comes g c past counts was regular =
+    idle (g.P.Policy.rules c.args.self.now.policy) past counts _ _ c.in-Err.reason (c.in-Err.ensures.reason past counts was c.requires.near).0 was
 
 pub returns-in_default-clause-comes : goal.returns-in_default-clause-comes
-returns-in_default-clause-comes g c past was regular =
+returns-in_default-clause-comes g c past counts was regular =
     let net = c.args.self.now.topology.value in
     let links = was.are_links in
-    let arrives = c.in-Ok.ensures.session past was c.requires.near in
+    let arrives = c.in-Ok.ensures.session past counts was c.requires.near in
     let none = empty_read net past c.args.self.now.links links c.args.from c.args.to (c.in_default.ensures.none net links.acts links.stands c.requires.near) in
     absurd (cc (sym none ∙ arrives.front.2))
 
@@ -26,7 +26,7 @@ give-requires-clause-node g c = (linked_nodes c.args.self.now.topology.value c.a
 
 pub returns-clause-comes : goal.returns-clause-comes
 returns-clause-comes g c = IfOk-weaker c.give.result _ _
-    (λ r h past was regular.
+    (λ r h past counts was regular.
     let rules = g.P.Policy.rules c.args.self.now.policy in
     let net = c.args.self.now.topology.value in
     let links = was.are_links in
@@ -34,13 +34,13 @@ returns-clause-comes g c = IfOk-weaker c.give.result _ _
     let popped = c.in-Some.ensures.some net links.acts links.stands c.requires.near in
     let front = front_read net past c.args.self.now.links links c.args.from c.args.to c.in-Some.item popped.0 popped.1 in
     let took = taken net past c.args.self.now.links c.pop_front.new.self links c.args.from c.args.to s (item_of c.in-Some.item) popped.2 in
-    comes_by rules past (Deliver c.args.from c.args.to) c.args.to (input.Arrive c.args.from s (item_of c.in-Some.item)) _ c.give.new.self r
-    (delivers rules past _ c.args.from c.args.to s (item_of c.in-Some.item) (map item_of popped.0) was.are_nodes was.are_crashed was.counted regular c.requires.near (c.in-Ok.ensures.session past was c.requires.near) front took) (h past))
+    comes_by rules past counts (Deliver c.args.from c.args.to) c.args.to (input.Arrive c.args.from s (item_of c.in-Some.item)) _ c.give.new.self r
+    (delivers rules past counts _ c.args.from c.args.to s (item_of c.in-Some.item) (map item_of popped.0) was.are_nodes was.are_crashed was.are_mails was.are_published was.are_walks was.counted regular c.requires.near (c.in-Ok.ensures.session past counts was c.requires.near) front took) (h past counts))
     c.give.ensures.comes
 
 pub returns-clause-stopped : goal.returns-clause-stopped
 returns-clause-stopped g c = IfErr-weaker c.give.result _ _
-    (λ why h past was regular.
+    (λ why h past counts was regular.
     let rules = g.P.Policy.rules c.args.self.now.policy in
     let net = c.args.self.now.topology.value in
     let links = was.are_links in
@@ -48,6 +48,6 @@ returns-clause-stopped g c = IfErr-weaker c.give.result _ _
     let popped = c.in-Some.ensures.some net links.acts links.stands c.requires.near in
     let front = front_read net past c.args.self.now.links links c.args.from c.args.to c.in-Some.item popped.0 popped.1 in
     let took = taken net past c.args.self.now.links c.pop_front.new.self links c.args.from c.args.to s (item_of c.in-Some.item) popped.2 in
-    stops_by rules past (Deliver c.args.from c.args.to) c.args.to (input.Arrive c.args.from s (item_of c.in-Some.item)) _ why
-    (delivers rules past _ c.args.from c.args.to s (item_of c.in-Some.item) (map item_of popped.0) was.are_nodes was.are_crashed was.counted regular c.requires.near (c.in-Ok.ensures.session past was c.requires.near) front took) (h past))
+    stops_by rules past counts (Deliver c.args.from c.args.to) c.args.to (input.Arrive c.args.from s (item_of c.in-Some.item)) _ why
+    (delivers rules past counts _ c.args.from c.args.to s (item_of c.in-Some.item) (map item_of popped.0) was.are_nodes was.are_crashed was.are_mails was.are_published was.are_walks was.counted regular c.requires.near (c.in-Ok.ensures.session past counts was c.requires.near) front took) (h past counts))
     c.give.ensures.stopped

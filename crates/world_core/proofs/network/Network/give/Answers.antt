@@ -1,16 +1,17 @@
-use Rattle.std.proofs.Common.{◌∙◌, sym, refl, ap, subst, arith, length, length-set}
+use Rattle.std.proofs.Common.{◌≤◌, ◌∙◌, sym, refl, ap, subst, arith, length, length-set}
 use Rattle.std.proofs.lemmas.Result.{err_from_is_err_and}
 use Rattle.chronicle.specs.Logs.{log_of}
 use Rattle.chronicle.specs.Run.{carried_by, chronicle_of}
 use Rattle.node_core.specs.Inputs.{input_of}
 use Rattle.node_core.specs.Outputs.{Answers}
+use Rattle.world_core.specs.declared.bounds.TheConstants.{MOST_TRIGGERS}
 use Rattle.world_core.specs.Limits.{makes_local, above_by, StopsAt}
 use Rattle.world_core.proofs.Near.{is_ranked}
 use Rattle.world_core.proofs.Nodes.{inside_places, all_within, node_at}
-use Rattle.world_core.proofs.Stopping.{handed_on, stops_with, stops_at_triggers}
-use Rattle.world_core.proofs.Answered.{given_sent, given_tells, idle_links, idle_counted, idle_tells, logs, others_same, what, new_stands, new_answers, nodes_given, total_given}
+use Rattle.world_core.proofs.Stopping.{handed_on, stops_with, stops_at_triggers, stops_at_control, stops_at_packets}
+use Rattle.world_core.proofs.Answered.{sending_begun, sent_stands, given_sent, given_tells, idle_links, idle_mails, idle_published, idle_walks, idle_counted, idle_tells, logs, others_same, stay, what, new_stands, new_answers, nodes_given, total_given}
 use Rattle.world_core.proofs.Steady.{given_flags}
-use Rattle.world_core.proofs.Telling.{give_adds}
+use Rattle.world_core.proofs.Telling.{begun, give_adds}
 use Rattle.world_core.proofs.network.Network.give.Goals as goal
 
 pub unwrap-rank-requires : goal.unwrap-rank-requires
@@ -32,7 +33,7 @@ turn-requires g c =
     inside_places c.args.self.now.topology.value (length c.args.self.now.nodes.items) c.unwrap-rank.result c.args.node c.requires.places at
 
 pub returns-in-Err-clause-stopped : goal.returns-in-Err-clause-stopped
-returns-in-Err-clause-stopped g c past may =
+returns-in-Err-clause-stopped g c past counts may values =
     let policy = c.args.self.now.policy in
     let rules = g.P.Policy.rules policy in
     let net = c.args.self.now.topology.value in
@@ -48,10 +49,10 @@ returns-in-Err-clause-stopped g c past may =
     (rw c.is_local-is_local.ensures
     (stops_with rules net past u (makes_local (input_of i)) c.args.self.now.triggers s c.in-Err.stop nodes.valid c.requires.node
     (all_within policy rules net past c.args.self.now.nodes.items nodes) (others_same policy g.P.Policy.rules net past u i) may.counted.total may.counted.few
-    (logs policy g.P.Policy.rules net past u i) stops))
+    (logs policy g.P.Policy.rules net past u i) values stops))
 
 pub returns-in-Idle-clause-comes : goal.returns-in-Idle-clause-comes
-returns-in-Idle-clause-comes g c past may =
+returns-in-Idle-clause-comes g c past counts may =
     let policy = c.args.self.now.policy in
     let net = c.args.self.now.topology.value in
     let u = c.args.node in
@@ -63,9 +64,12 @@ returns-in-Idle-clause-comes g c past may =
     (new_answers policy g.P.Policy.rules net past u i c.args.self.now.nodes.items c.turn.new.nodes.items c.unwrap-rank.result turned.0 turned.1 c.in-Ok.outputs may.are_nodes at may.may_come turned.2 turned.4) in
     record {
       stands = record {
-        are_nodes = nodes_given policy g.P.Policy.rules net past u i c.args.self.now.nodes.items c.turn.new.nodes.items c.unwrap-rank.result turned.0 turned.1 c.in-Ok.outputs may.are_nodes at may.may_come turned.2 turned.4 turned.3;
+        are_nodes = nodes_given policy g.P.Policy.rules net past u i c.args.self.now.nodes.items c.turn.new.nodes.items c.unwrap-rank.result turned.0 turned.1 c.in-Ok.outputs may.are_nodes at may.may_come turned.2 turned.4 (stay policy g.P.Policy.rules net past u i c.others_change_nothing_of_what_a_node_stands_for.ensures.given) turned.3;
         are_crashed = given_flags (g.P.Policy.rules policy) net past u (input_of i) c.args.self.now.crashed.items may.are_crashed;
         are_links = idle_links net past u (input_of i) s c.in-Idle.reason c.args.self.now.links answers may.goes may.are_links;
+        are_mails = idle_mails net past counts s c.in-Idle.reason c.args.self.now.mails answers may.are_mails;
+        are_published = idle_published past s c.in-Idle.reason c.args.self.now.publications.items answers may.are_published;
+        are_walks = idle_walks net past s c.in-Idle.reason c.args.self.now.walks answers may.are_walks;
         counted = idle_counted net past s c.in-Idle.reason c.args.self.now.triggers answers may.counted;
       };
       tells = idle_tells past s c.in-Idle.reason answers;
@@ -84,7 +88,7 @@ pub returns-in_err-self-clause-stopped : goal.returns-in_err-self-clause-stopped
 returns-in_err-self-clause-stopped g c =
     let out = err_from_is_err_and c.from_residual.result c.from_residual.ensures.1 in
     handed_on c.from_residual.result _ out.0 out.1
-    (λ past may.
+    (λ past counts may values.
     let policy = c.args.self.now.policy in
     let rules = g.P.Policy.rules policy in
     let net = c.args.self.now.topology.value in
@@ -95,7 +99,7 @@ returns-in_err-self-clause-stopped g c =
     let items = c.args.self.now.nodes.items in
     let at = rw (c.unwrap-rank.ensures, c.deref.ensures) at c.rank_of.ensures.some in
     let turned = c.in-Ok.ensures.turned in
-    let now = nodes_given policy g.P.Policy.rules net past u i items c.turn.new.nodes.items rank turned.0 turned.1 c.in-Ok.outputs may.are_nodes at may.may_come turned.2 turned.4 turned.3 in
+    let now = nodes_given policy g.P.Policy.rules net past u i items c.turn.new.nodes.items rank turned.0 turned.1 c.in-Ok.outputs may.are_nodes at may.may_come turned.2 turned.4 (stay policy g.P.Policy.rules net past u i c.others_change_nothing_of_what_a_node_stands_for.ensures.given) turned.3 in
     let answers = subst (Answers past s) c.in-Did.is (new_answers policy g.P.Policy.rules net past u i items c.turn.new.nodes.items rank turned.0 turned.1 c.in-Ok.outputs may.are_nodes at may.may_come turned.2 turned.4) in
     let new = new_stands policy g.P.Policy.rules net past u i items c.turn.new.nodes.items rank turned.0 turned.1 c.in-Ok.outputs may.are_nodes at may.may_come turned.2 turned.4 in
     let before = c.next_trigger-before.ensures policy net u (log_of u past) (c.log.ensures policy net u past (node_at policy rules net past items may.are_nodes rank u c.index.result.now at c.index.ensures)) in
@@ -107,8 +111,11 @@ returns-in_err-self-clause-stopped g c =
     (stops_at_triggers rules net past u (makes_local (input_of i)) c.args.self.now.triggers _ s c.in-Did.list may.are_nodes.valid c.requires.node
     (all_within policy rules net past items may.are_nodes) (others_same policy g.P.Policy.rules net past u i) may.counted.total may.counted.few answers sum stopped.1 new.within))
 
-pub returns-clause-comes : goal.returns-clause-comes
-returns-clause-comes g c past may =
+pub returns-in_err-check_control-clause-stopped : goal.returns-in_err-check_control-clause-stopped
+returns-in_err-check_control-clause-stopped g c =
+    let out = err_from_is_err_and c.from_residual-in_err-check_control.result c.from_residual-in_err-check_control.ensures.1 in
+    handed_on c.from_residual-in_err-check_control.result _ out.0 out.1
+    (λ past counts may values.
     let policy = c.args.self.now.policy in
     let rules = g.P.Policy.rules policy in
     let net = c.args.self.now.topology.value in
@@ -119,22 +126,82 @@ returns-clause-comes g c past may =
     let items = c.args.self.now.nodes.items in
     let at = rw (c.unwrap-rank.ensures, c.deref.ensures) at c.rank_of.ensures.some in
     let turned = c.in-Ok.ensures.turned in
-    let now = nodes_given policy g.P.Policy.rules net past u i items c.turn.new.nodes.items rank turned.0 turned.1 c.in-Ok.outputs may.are_nodes at may.may_come turned.2 turned.4 turned.3 in
+    let now = nodes_given policy g.P.Policy.rules net past u i items c.turn.new.nodes.items rank turned.0 turned.1 c.in-Ok.outputs may.are_nodes at may.may_come turned.2 turned.4 (stay policy g.P.Policy.rules net past u i c.others_change_nothing_of_what_a_node_stands_for.ensures.given) turned.3 in
     let answers = subst (Answers past s) c.in-Did.is (new_answers policy g.P.Policy.rules net past u i items c.turn.new.nodes.items rank turned.0 turned.1 c.in-Ok.outputs may.are_nodes at may.may_come turned.2 turned.4) in
     let before = c.next_trigger-before.ensures policy net u (log_of u past) (c.log.ensures policy net u past (node_at policy rules net past items may.are_nodes rank u c.index.result.now at c.index.ensures)) in
     let after = c.next_trigger-after.ensures policy net u (log_of u (chronicle_of past s)) (c.log-2.ensures policy net u (chronicle_of past s) (node_at policy rules net (chronicle_of past s) c.turn.new.nodes.items now rank u c.index-2.result.now at c.index-2.ensures)) in
     let sum = total_given net past u (makes_local (input_of i)) s c.args.self.now.triggers c.next_trigger-before.result.count c.next_trigger-after.result.count may.are_nodes.valid c.requires.node
     (others_same policy g.P.Policy.rules net past u i) (logs policy g.P.Policy.rules net past u i) may.counted.total (ap (λ t. t.count) before) (ap (λ t. t.count) after) in
     let counted = c.in_ok-self.ensures.ok in
-    let adds = give_adds rules net (carried_by u past) u past (λ w t. refl) (input_of i) may.may_come in
-    let sent = given_sent net past u (input_of i) s c.in-Did.list c.into_vec.result.items c.args.self.now.links c.hand_all.new.links c.hand_all.new.effects.items (sym c.into_vec.ensures) adds answers may.are_links
-    (λ first mid facts told hands sending. c.in_ok-hand_all.ensures net first mid facts told hands (rw c.in_ok-effects.ensures sending)) in
+    let net_kept = c.in_ok-hand_all.ensures.kept in
+    let start = sending_begun past counts u (input_of i) (record c.args.self.now { nodes = c.turn.new.nodes; triggers = c.in_ok-self.field-0 }) may.are_links may.are_mails may.are_published may.are_walks in
+    let adds = give_adds rules net (carried_by u past) u past (λ w t. refl) may.are_nodes.valid c.requires.node (input_of i) may.may_come may.sender may.passing in
+    let sent = given_sent net past counts u (input_of i) s c.in-Did.list c.into_vec.result.items (record c.args.self.now { nodes = c.turn.new.nodes; triggers = c.in_ok-self.field-0 }) c.hand_all.new.self c.hand_all.new.effects.items (sym c.into_vec.ensures) adds answers start
+    (λ first mid facts told hands sending. c.in_ok-hand_all.ensures.sending first mid counts facts told hands (rw c.in_ok-effects.ensures sending)) in
+    let stopped = c.in_err-check_control.ensures.stopped in
+    rw (out.2, stopped.0)
+    (stops_at_control policy rules net past c.turn.new.nodes.items s c.in-Did.list now (subst (λ n. n ≤ MOST_TRIGGERS) (counted.0 ∙ sum) counted.1) answers (stopped.1 (chronicle_of past s) counts sent.are_mails)))
+
+pub returns-in_err-check_packets-clause-stopped : goal.returns-in_err-check_packets-clause-stopped
+returns-in_err-check_packets-clause-stopped g c =
+    let out = err_from_is_err_and c.from_residual-in_err-check_packets.result c.from_residual-in_err-check_packets.ensures.1 in
+    handed_on c.from_residual-in_err-check_packets.result _ out.0 out.1
+    (λ past counts may values.
+    let policy = c.args.self.now.policy in
+    let rules = g.P.Policy.rules policy in
+    let net = c.args.self.now.topology.value in
+    let u = c.args.node in
+    let i = c.args.input in
+    let s = what policy g.P.Policy.rules net past u i in
+    let rank = c.unwrap-rank.result in
+    let items = c.args.self.now.nodes.items in
+    let at = rw (c.unwrap-rank.ensures, c.deref.ensures) at c.rank_of.ensures.some in
+    let turned = c.in-Ok.ensures.turned in
+    let now = nodes_given policy g.P.Policy.rules net past u i items c.turn.new.nodes.items rank turned.0 turned.1 c.in-Ok.outputs may.are_nodes at may.may_come turned.2 turned.4 (stay policy g.P.Policy.rules net past u i c.others_change_nothing_of_what_a_node_stands_for.ensures.given) turned.3 in
+    let answers = subst (Answers past s) c.in-Did.is (new_answers policy g.P.Policy.rules net past u i items c.turn.new.nodes.items rank turned.0 turned.1 c.in-Ok.outputs may.are_nodes at may.may_come turned.2 turned.4) in
+    let before = c.next_trigger-before.ensures policy net u (log_of u past) (c.log.ensures policy net u past (node_at policy rules net past items may.are_nodes rank u c.index.result.now at c.index.ensures)) in
+    let after = c.next_trigger-after.ensures policy net u (log_of u (chronicle_of past s)) (c.log-2.ensures policy net u (chronicle_of past s) (node_at policy rules net (chronicle_of past s) c.turn.new.nodes.items now rank u c.index-2.result.now at c.index-2.ensures)) in
+    let sum = total_given net past u (makes_local (input_of i)) s c.args.self.now.triggers c.next_trigger-before.result.count c.next_trigger-after.result.count may.are_nodes.valid c.requires.node
+    (others_same policy g.P.Policy.rules net past u i) (logs policy g.P.Policy.rules net past u i) may.counted.total (ap (λ t. t.count) before) (ap (λ t. t.count) after) in
+    let counted = c.in_ok-self.ensures.ok in
+    let net_kept = c.in_ok-hand_all.ensures.kept in
+    let start = sending_begun past counts u (input_of i) (record c.args.self.now { nodes = c.turn.new.nodes; triggers = c.in_ok-self.field-0 }) may.are_links may.are_mails may.are_published may.are_walks in
+    let adds = give_adds rules net (carried_by u past) u past (λ w t. refl) may.are_nodes.valid c.requires.node (input_of i) may.may_come may.sender may.passing in
+    let sent = given_sent net past counts u (input_of i) s c.in-Did.list c.into_vec.result.items (record c.args.self.now { nodes = c.turn.new.nodes; triggers = c.in_ok-self.field-0 }) c.hand_all.new.self c.hand_all.new.effects.items (sym c.into_vec.ensures) adds answers start
+    (λ first mid facts told hands sending. c.in_ok-hand_all.ensures.sending first mid counts facts told hands (rw c.in_ok-effects.ensures sending)) in
+    let few = c.in_ok-check_control.ensures.ok (chronicle_of past s) counts sent.are_mails in
+    let stopped = c.in_err-check_packets.ensures.stopped in
+    rw (out.2, stopped.0)
+    (stops_at_packets policy rules net past c.turn.new.nodes.items s c.in-Did.list now (subst (λ n. n ≤ MOST_TRIGGERS) (counted.0 ∙ sum) counted.1) few answers (stopped.1 (chronicle_of past s) sent.are_walks)))
+
+pub returns-clause-comes : goal.returns-clause-comes
+returns-clause-comes g c past counts may =
+    let policy = c.args.self.now.policy in
+    let rules = g.P.Policy.rules policy in
+    let net = c.args.self.now.topology.value in
+    let u = c.args.node in
+    let i = c.args.input in
+    let s = what policy g.P.Policy.rules net past u i in
+    let rank = c.unwrap-rank.result in
+    let items = c.args.self.now.nodes.items in
+    let at = rw (c.unwrap-rank.ensures, c.deref.ensures) at c.rank_of.ensures.some in
+    let turned = c.in-Ok.ensures.turned in
+    let now = nodes_given policy g.P.Policy.rules net past u i items c.turn.new.nodes.items rank turned.0 turned.1 c.in-Ok.outputs may.are_nodes at may.may_come turned.2 turned.4 (stay policy g.P.Policy.rules net past u i c.others_change_nothing_of_what_a_node_stands_for.ensures.given) turned.3 in
+    let answers = subst (Answers past s) c.in-Did.is (new_answers policy g.P.Policy.rules net past u i items c.turn.new.nodes.items rank turned.0 turned.1 c.in-Ok.outputs may.are_nodes at may.may_come turned.2 turned.4) in
+    let before = c.next_trigger-before.ensures policy net u (log_of u past) (c.log.ensures policy net u past (node_at policy rules net past items may.are_nodes rank u c.index.result.now at c.index.ensures)) in
+    let after = c.next_trigger-after.ensures policy net u (log_of u (chronicle_of past s)) (c.log-2.ensures policy net u (chronicle_of past s) (node_at policy rules net (chronicle_of past s) c.turn.new.nodes.items now rank u c.index-2.result.now at c.index-2.ensures)) in
+    let sum = total_given net past u (makes_local (input_of i)) s c.args.self.now.triggers c.next_trigger-before.result.count c.next_trigger-after.result.count may.are_nodes.valid c.requires.node
+    (others_same policy g.P.Policy.rules net past u i) (logs policy g.P.Policy.rules net past u i) may.counted.total (ap (λ t. t.count) before) (ap (λ t. t.count) after) in
+    let counted = c.in_ok-self.ensures.ok in
+    let net_kept = c.in_ok-hand_all.ensures.kept in
+    let start = sending_begun past counts u (input_of i) (record c.args.self.now { nodes = c.turn.new.nodes; triggers = c.in_ok-self.field-0 }) may.are_links may.are_mails may.are_published may.are_walks in
+    let adds = give_adds rules net (carried_by u past) u past (λ w t. refl) may.are_nodes.valid c.requires.node (input_of i) may.may_come may.sender may.passing in
+    let sent = given_sent net past counts u (input_of i) s c.in-Did.list c.into_vec.result.items (record c.args.self.now { nodes = c.turn.new.nodes; triggers = c.in_ok-self.field-0 }) c.hand_all.new.self c.hand_all.new.effects.items (sym c.into_vec.ensures) adds answers start
+    (λ first mid facts told hands sending. c.in_ok-hand_all.ensures.sending first mid counts facts told hands (rw c.in_ok-effects.ensures sending)) in
+    let few = c.in_ok-check_control.ensures.ok (chronicle_of past s) counts sent.are_mails in
+    let few_packets = c.in_ok-check_packets.ensures.ok (chronicle_of past s) sent.are_walks in
     record {
-      stands = record {
-        are_nodes = now;
-        are_crashed = given_flags (g.P.Policy.rules policy) net past u (input_of i) c.args.self.now.crashed.items may.are_crashed;
-        are_links = sent.are_links;
-        counted = record { total = counted.0 ∙ sum; few = counted.1 };
-      };
+      stands = sent_stands rules past s counts (record c.args.self.now { nodes = c.turn.new.nodes; triggers = c.in_ok-self.field-0 }) c.hand_all.new.self c.hand_all.new.effects.items (begun u (input_of i) past) net_kept now
+          (given_flags rules net past u (input_of i) c.args.self.now.crashed.items may.are_crashed) (counted.0 ∙ sum) counted.1 few few_packets sent;
       tells = rw c.new.ensures (given_tells past u (input_of i) s c.in-Did.list c.hand_all.new.effects.items answers sent.since);
     }

@@ -1,29 +1,62 @@
-use Rattle.std.proofs.Common.{◌∙◌, sym, subst}
+use Rattle.std.proofs.Common.{◌∙◌, sym}
 use Rattle.std.proofs.lemmas.Result.{IfOk-weaker, IfErr-weaker}
 use Rattle.topology.specs.declared.status.Reason.TheVariants.{Crashed}
-use Rattle.world_core.specs.Limits.{above_by, StopsAt}
-use Rattle.world_core.proofs.Comes.{comes_so, idle}
-use Rattle.world_core.proofs.Crashing.{step_runs, step_stopped}
+use Rattle.world_core.specs.Counting.{counts_after}
+use Rattle.world_core.proofs.Comes.{idle}
+use Rattle.world_core.proofs.Counted.{counted_stands, regular_by_new, runs_on, stands_by_new, stops_on}
+use Rattle.world_core.proofs.Crashing.{step_stopped}
 use Rattle.world_core.proofs.network.Network.happen.Goals as goal
 
 pub returns-then-is_stopped-clause-comes : goal.returns-then-is_stopped-clause-comes
-returns-then-is_stopped-clause-comes g c past was regular =
-    let rules = g.P.Policy.rules c.args.self.now.policy in
-    let net = c.args.self.now.topology.value in
-    idle rules past _ _ Crashed (step_stopped rules net past c.args.event.now (sym (c.is_stopped.ensures past was c.requires.fits) ∙ c.if-is_stopped.true)) was
+returns-then-is_stopped-clause-comes g c past counts was regular few =
+    let old = c.args.self.now in
+    let rules = g.P.Policy.rules in
+    let event = c.args.event.now in
+    let now = counts_after past event counts in
+    let new = c.count.new.self in
+    let same = c.count.ensures.others in
+    let stands = counted_stands rules past old new same counts now c.count.ensures.kept was (c.count.ensures.counted past counts was.are_mails few) in
+    let stopped = sym (c.is_stopped.ensures past now (stands_by_new rules past old new same now stands) (rw same.topology c.requires.fits)) ∙ c.if-is_stopped.true in
+    idle (rules old.policy) past now _ _ Crashed (step_stopped (rules old.policy) old.topology.value past event (rw same.topology at stopped)) stands
+
+pub act-requires-clause-mails : goal.act-requires-clause-mails
+act-requires-clause-mails g c =
+    let has = c.requires.mails.has in
+    record {
+      past = has.past;
+      counts = counts_after has.past c.args.event.now has.counts;
+      are_mails = rw c.count.ensures.others.topology (c.count.ensures.counted has.past has.counts has.are_mails c.requires.mails.few);
+    }
+
+pub act-requires-clause-walks : goal.act-requires-clause-walks
+act-requires-clause-walks g c =
+    let walks = c.requires.walks in
+    record { past = walks.past; are_walks = rw (c.count.ensures.others.topology, c.count.ensures.kept.walks) walks.are_walks }
 
 pub returns-clause-comes : goal.returns-clause-comes
 returns-clause-comes g c = IfOk-weaker c.act.result _ _
-    (λ r h past was regular.
-    let rules = g.P.Policy.rules c.args.self.now.policy in
-    let net = c.args.self.now.topology.value in
-    comes_so rules past _ _ c.act.new.self r (step_runs rules net past c.args.event.now (sym (c.is_stopped.ensures past was c.requires.fits) ∙ c.if-is_stopped.false)) (h past was regular))
+    (λ r h past counts was regular few.
+    let old = c.args.self.now in
+    let rules = g.P.Policy.rules in
+    let event = c.args.event.now in
+    let now = counts_after past event counts in
+    let new = c.count.new.self in
+    let same = c.count.ensures.others in
+    let stands = stands_by_new rules past old new same now (counted_stands rules past old new same counts now c.count.ensures.kept was (c.count.ensures.counted past counts was.are_mails few)) in
+    let runs = sym (c.is_stopped.ensures past now stands (rw same.topology c.requires.fits)) ∙ c.if-is_stopped.false in
+    runs_on rules past old new same now event c.act.new.self r (rw same.topology at runs) (h past now stands (regular_by_new rules past old new same regular)))
     c.act.ensures.comes
 
 pub returns-clause-stopped : goal.returns-clause-stopped
 returns-clause-stopped g c = IfErr-weaker c.act.result _ _
-    (λ why h past was regular.
-    let rules = g.P.Policy.rules c.args.self.now.policy in
-    let net = c.args.self.now.topology.value in
-    subst (λ s. StopsAt (above_by rules net s) why) (sym (step_runs rules net past c.args.event.now (sym (c.is_stopped.ensures past was c.requires.fits) ∙ c.if-is_stopped.false))) (h past was regular))
+    (λ why h past counts was regular few.
+    let old = c.args.self.now in
+    let rules = g.P.Policy.rules in
+    let event = c.args.event.now in
+    let now = counts_after past event counts in
+    let new = c.count.new.self in
+    let same = c.count.ensures.others in
+    let stands = stands_by_new rules past old new same now (counted_stands rules past old new same counts now c.count.ensures.kept was (c.count.ensures.counted past counts was.are_mails few)) in
+    let runs = sym (c.is_stopped.ensures past now stands (rw same.topology c.requires.fits)) ∙ c.if-is_stopped.false in
+    stops_on rules past old new same event why (rw same.topology at runs) (h past now stands (regular_by_new rules past old new same regular)))
     c.act.ensures.stopped

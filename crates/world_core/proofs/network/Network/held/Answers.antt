@@ -7,14 +7,14 @@ use Rattle.world_core.proofs.Nodes.{inside_places, node_at, not_missing, places_
 use Rattle.world_core.proofs.network.Network.held.Goals as goal
 
 pub returns-in_err-rank : goal.returns-in_err-rank
-returns-in_err-rank g c past was near =
+returns-in_err-rank g c past counts was near =
     let net = c.args.self.now.topology.value in
     let node = (linked_nodes net c.args.node c.args.nbr was.are_nodes.valid near).0 in
     let none = rw c.deref.ensures at c.rank_of.ensures.none in
     absurd (some_none c.rank_of.result (is_ranked net.nodes c.args.node c.rank_of.result none.0 node) c.in_err-rank.was)
 
 pub returns-in_err-get : goal.returns-in_err-get
-returns-in_err-get g c past was near =
+returns-in_err-get g c past counts was near =
     let policy = c.args.self.now.policy in
     let net = c.args.self.now.topology.value in
     let items = c.args.self.now.nodes.items in
@@ -24,7 +24,7 @@ returns-in_err-get g c past was near =
     absurd (not_missing c.get.result c.in_ok-rank.rank (length items) found.0 inside c.in_err-get.was)
 
 pub returns : goal.returns
-returns g c past was near =
+returns g c past counts was near =
     let policy = c.args.self.now.policy in
     let rules = g.P.Policy.rules policy in
     let net = c.args.self.now.topology.value in

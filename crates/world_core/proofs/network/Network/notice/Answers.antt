@@ -11,35 +11,35 @@ use Rattle.world_core.proofs.Handed.{comes_by, stops_by, notices}
 use Rattle.world_core.proofs.network.Network.notice.Goals as goal
 
 pub returns-then-is_carried-clause-comes : goal.returns-then-is_carried-clause-comes
-returns-then-is_carried-clause-comes g c past was regular =
+returns-then-is_carried-clause-comes g c past counts was regular =
     let rules = g.P.Policy.rules c.args.self.now.policy in
     let net = c.args.self.now.topology.value in
     let links = was.are_links in
     let is = link_read net past c.args.self.now.links links c.args.node c.args.nbr c.state.result (c.state.ensures net links.acts links.stands c.requires.near) in
-    let carried = ap₂ is_carried is (sym (c.held.ensures past was c.requires.near)) in
-    idle rules past _ _ StillUp (notice_up rules net past c.args.node c.args.nbr (carried ∙ (sym c.is_carried.ensures ∙ c.if-is_carried.true))) was
+    let carried = ap₂ is_carried is (sym (c.held.ensures past counts was c.requires.near)) in
+    idle rules past counts _ _ StillUp (notice_up rules net past c.args.node c.args.nbr (carried ∙ (sym c.is_carried.ensures ∙ c.if-is_carried.true))) was
 
 pub give-requires-clause-node : goal.give-requires-clause-node
 give-requires-clause-node g c = (linked_nodes c.args.self.now.topology.value c.args.node c.args.nbr c.requires.places.valid c.requires.near).0
 
 pub returns-clause-comes : goal.returns-clause-comes
 returns-clause-comes g c = IfOk-weaker c.give.result _ _
-    (λ r h past was regular.
+    (λ r h past counts was regular.
     let rules = g.P.Policy.rules c.args.self.now.policy in
     let links = was.are_links in
     let is = link_read c.args.self.now.topology.value past c.args.self.now.links links c.args.node c.args.nbr c.state.result (c.state.ensures c.args.self.now.topology.value links.acts links.stands c.requires.near) in
-    let carried = ap₂ is_carried is (sym (c.held.ensures past was c.requires.near)) in
-    comes_by rules past (Notice c.args.node c.args.nbr) c.args.node (input.Notice c.args.nbr) c.args.self.now c.give.new.self r
-    (notices rules past c.args.self.now was c.args.node c.args.nbr c.requires.near (carried ∙ (sym c.is_carried.ensures ∙ c.if-is_carried.false))) (h past))
+    let carried = ap₂ is_carried is (sym (c.held.ensures past counts was c.requires.near)) in
+    comes_by rules past counts (Notice c.args.node c.args.nbr) c.args.node (input.Notice c.args.nbr) c.args.self.now c.give.new.self r
+    (notices rules past counts c.args.self.now was c.args.node c.args.nbr c.requires.near (carried ∙ (sym c.is_carried.ensures ∙ c.if-is_carried.false))) (h past counts))
     c.give.ensures.comes
 
 pub returns-clause-stopped : goal.returns-clause-stopped
 returns-clause-stopped g c = IfErr-weaker c.give.result _ _
-    (λ why h past was regular.
+    (λ why h past counts was regular.
     let rules = g.P.Policy.rules c.args.self.now.policy in
     let links = was.are_links in
     let is = link_read c.args.self.now.topology.value past c.args.self.now.links links c.args.node c.args.nbr c.state.result (c.state.ensures c.args.self.now.topology.value links.acts links.stands c.requires.near) in
-    let carried = ap₂ is_carried is (sym (c.held.ensures past was c.requires.near)) in
-    stops_by rules past (Notice c.args.node c.args.nbr) c.args.node (input.Notice c.args.nbr) c.args.self.now why
-    (notices rules past c.args.self.now was c.args.node c.args.nbr c.requires.near (carried ∙ (sym c.is_carried.ensures ∙ c.if-is_carried.false))) (h past))
+    let carried = ap₂ is_carried is (sym (c.held.ensures past counts was c.requires.near)) in
+    stops_by rules past counts (Notice c.args.node c.args.nbr) c.args.node (input.Notice c.args.nbr) c.args.self.now why
+    (notices rules past counts c.args.self.now was c.args.node c.args.nbr c.requires.near (carried ∙ (sym c.is_carried.ensures ∙ c.if-is_carried.false))) (h past counts))
     c.give.ensures.stopped

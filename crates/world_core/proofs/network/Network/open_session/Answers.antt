@@ -12,42 +12,42 @@ use Rattle.world_core.proofs.Handed.{comes_by, stops_by, opens}
 use Rattle.world_core.proofs.network.Network.open_session.Goals as goal
 
 pub returns-then-is_some-clause-comes : goal.returns-then-is_some-clause-comes
-returns-then-is_some-clause-comes g c past was regular =
+returns-then-is_some-clause-comes g c past counts was regular =
     let rules = g.P.Policy.rules c.args.self.now.policy in
     let net = c.args.self.now.topology.value in
-    idle rules past _ _ AlreadyOpen
-    (open_held rules net past c.args.node c.args.nbr (held_with c.args.node c.args.nbr past) refl (ap is_some (sym (c.held.ensures past was c.requires.near)) ∙ (sym c.is_some.ensures ∙ c.if-is_some.true))) was
+    idle rules past counts _ _ AlreadyOpen
+    (open_held rules net past c.args.node c.args.nbr (held_with c.args.node c.args.nbr past) refl (ap is_some (sym (c.held.ensures past counts was c.requires.near)) ∙ (sym c.is_some.ensures ∙ c.if-is_some.true))) was
 
 pub returns-in_default-clause-comes : goal.returns-in_default-clause-comes
-returns-in_default-clause-comes g c past was regular =
+returns-in_default-clause-comes g c past counts was regular =
     let rules = g.P.Policy.rules c.args.self.now.policy in
     let net = c.args.self.now.topology.value in
     let links = was.are_links in
-    let none = none_of (held_with c.args.node c.args.nbr past) (ap is_some (sym (c.held.ensures past was c.requires.near)) ∙ (sym c.is_some.ensures ∙ c.if-is_some.false)) in
+    let none = none_of (held_with c.args.node c.args.nbr past) (ap is_some (sym (c.held.ensures past counts was c.requires.near)) ∙ (sym c.is_some.ensures ∙ c.if-is_some.false)) in
     let is = link_read net past c.args.self.now.links links c.args.node c.args.nbr c.state.result (c.state.ensures net links.acts links.stands c.requires.near) in
-    idle rules past _ _ LinkDown (open_step rules net past c.args.node c.args.nbr None (Down c.in_default.field-0) none (is ∙ c.in_default.is)) was
+    idle rules past counts _ _ LinkDown (open_step rules net past c.args.node c.args.nbr None (Down c.in_default.field-0) none (is ∙ c.in_default.is)) was
 
 pub give-requires-clause-node : goal.give-requires-clause-node
 give-requires-clause-node g c = (linked_nodes c.args.self.now.topology.value c.args.node c.args.nbr c.requires.places.valid c.requires.near).0
 
 pub returns-clause-comes : goal.returns-clause-comes
 returns-clause-comes g c = IfOk-weaker c.give.result _ _
-    (λ r h past was regular.
+    (λ r h past counts was regular.
     let rules = g.P.Policy.rules c.args.self.now.policy in
     let links = was.are_links in
-    let none = none_of (held_with c.args.node c.args.nbr past) (ap is_some (sym (c.held.ensures past was c.requires.near)) ∙ (sym c.is_some.ensures ∙ c.if-is_some.false)) in
+    let none = none_of (held_with c.args.node c.args.nbr past) (ap is_some (sym (c.held.ensures past counts was c.requires.near)) ∙ (sym c.is_some.ensures ∙ c.if-is_some.false)) in
     let is = link_read c.args.self.now.topology.value past c.args.self.now.links links c.args.node c.args.nbr c.state.result (c.state.ensures c.args.self.now.topology.value links.acts links.stands c.requires.near) in
-    comes_by rules past (OpenSession c.args.node c.args.nbr) c.args.node (input.OpenSession c.args.nbr c.in-Up.session) c.args.self.now c.give.new.self r
-    (opens rules past c.args.self.now was c.args.node c.args.nbr c.in-Up.session c.requires.near none (is ∙ c.in-Up.is)) (h past))
+    comes_by rules past counts (OpenSession c.args.node c.args.nbr) c.args.node (input.OpenSession c.args.nbr c.in-Up.session) c.args.self.now c.give.new.self r
+    (opens rules past counts c.args.self.now was c.args.node c.args.nbr c.in-Up.session c.requires.near none (is ∙ c.in-Up.is)) (h past counts))
     c.give.ensures.comes
 
 pub returns-clause-stopped : goal.returns-clause-stopped
 returns-clause-stopped g c = IfErr-weaker c.give.result _ _
-    (λ why h past was regular.
+    (λ why h past counts was regular.
     let rules = g.P.Policy.rules c.args.self.now.policy in
     let links = was.are_links in
-    let none = none_of (held_with c.args.node c.args.nbr past) (ap is_some (sym (c.held.ensures past was c.requires.near)) ∙ (sym c.is_some.ensures ∙ c.if-is_some.false)) in
+    let none = none_of (held_with c.args.node c.args.nbr past) (ap is_some (sym (c.held.ensures past counts was c.requires.near)) ∙ (sym c.is_some.ensures ∙ c.if-is_some.false)) in
     let is = link_read c.args.self.now.topology.value past c.args.self.now.links links c.args.node c.args.nbr c.state.result (c.state.ensures c.args.self.now.topology.value links.acts links.stands c.requires.near) in
-    stops_by rules past (OpenSession c.args.node c.args.nbr) c.args.node (input.OpenSession c.args.nbr c.in-Up.session) c.args.self.now why
-    (opens rules past c.args.self.now was c.args.node c.args.nbr c.in-Up.session c.requires.near none (is ∙ c.in-Up.is)) (h past))
+    stops_by rules past counts (OpenSession c.args.node c.args.nbr) c.args.node (input.OpenSession c.args.nbr c.in-Up.session) c.args.self.now why
+    (opens rules past counts c.args.self.now was c.args.node c.args.nbr c.in-Up.session c.requires.near none (is ∙ c.in-Up.is)) (h past counts))
     c.give.ensures.stopped

@@ -10,16 +10,16 @@ give-requires-clause-node g c = (linked_nodes c.args.self.now.topology.value c.a
 
 pub returns-clause-comes : goal.returns-clause-comes
 returns-clause-comes g c = IfOk-weaker c.give.result _ _
-    (λ r h past was regular.
+    (λ r h past counts was regular.
     let rules = g.P.Policy.rules c.args.self.now.policy in
-    comes_by rules past (Prefer c.args.node c.args.nbr c.args.value) c.args.node (input.Prefer c.args.nbr c.args.value) c.args.self.now c.give.new.self r
-    (prefers rules past c.args.self.now was c.args.node c.args.nbr c.args.value c.requires.near) (h past))
+    comes_by rules past counts (Prefer c.args.node c.args.nbr c.args.value) c.args.node (input.Prefer c.args.nbr c.args.value) c.args.self.now c.give.new.self r
+    (prefers rules past counts c.args.self.now was c.args.node c.args.nbr c.args.value c.requires.near) (h past counts))
     c.give.ensures.comes
 
 pub returns-clause-stopped : goal.returns-clause-stopped
 returns-clause-stopped g c = IfErr-weaker c.give.result _ _
-    (λ why h past was regular.
+    (λ why h past counts was regular.
     let rules = g.P.Policy.rules c.args.self.now.policy in
-    stops_by rules past (Prefer c.args.node c.args.nbr c.args.value) c.args.node (input.Prefer c.args.nbr c.args.value) c.args.self.now why
-    (prefers rules past c.args.self.now was c.args.node c.args.nbr c.args.value c.requires.near) (h past))
+    stops_by rules past counts (Prefer c.args.node c.args.nbr c.args.value) c.args.node (input.Prefer c.args.nbr c.args.value) c.args.self.now why
+    (prefers rules past counts c.args.self.now was c.args.node c.args.nbr c.args.value c.requires.near) (h past counts))
     c.give.ensures.stopped

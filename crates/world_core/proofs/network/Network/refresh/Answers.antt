@@ -6,19 +6,19 @@ use Rattle.world_core.proofs.Changing.{stale, still, all_known}
 use Rattle.world_core.proofs.network.Network.refresh.Goals as goal
 
 pub returns-in_default : goal.returns-in_default
-returns-in_default g c past comes was =
+returns-in_default g c past counts comes was =
     let rules = g.P.Policy.rules c.args.self.now.policy in
     let net = c.args.self.now.topology.value in
     still net past (has_way c.args.self.now.topology.value c.args.waiting.now) was rules c.args.event.now c.in_default.field-0 (rw c.in_default.is at comes.tells)
 
 pub returns : goal.returns
 unfolding after
-returns g c past comes was =
+returns g c past counts comes was =
     let rules = g.P.Policy.rules c.args.self.now.policy in
     let net = c.args.self.now.topology.value in
     let now = after rules net past c.args.event.now in
     let start = stale net past (has_way c.args.self.now.topology.value c.args.waiting.now) was rules c.args.event.now c.in-Did.effects comes.stands.are_nodes.valid c.requires (rw c.in-Did.is at comes.tells) in
-    let turned = c.look_at_turned.ensures now (link_ways c.args.event.now ++ queued_ways c.in-Did.effects) comes.stands start in
-    let mid = c.look_at_link.ensures now (queued_ways c.in-Did.effects) comes.stands turned in
+    let turned = c.look_at_turned.ensures now counts (link_ways c.args.event.now ++ queued_ways c.in-Did.effects) comes.stands start in
+    let mid = c.look_at_link.ensures now counts (queued_ways c.in-Did.effects) comes.stands turned in
     all_known net now (has_way c.args.self.now.topology.value c.look_at_effects.new.waiting)
-    (c.look_at_effects.ensures now comes.stands (rw c.as_slice.ensures mid))
+    (c.look_at_effects.ensures now counts comes.stands (rw c.as_slice.ensures mid))

@@ -1,0 +1,122 @@
+use Rattle.std.proofs.Common.{◌∷◌, ◌++◌, ◌∙◌, ap, [], refl}
+use Rattle.topology.specs.LinkStates.{carries}
+use Rattle.trigger_log.specs.Going.{going_of}
+use Rattle.consolidator.specs.Seen.{message_seen}
+use Rattle.chronicle.specs.Facts.{Log, Raise, Sent, Mail, Publish, Visit, End}
+use Rattle.chronicle.specs.Links.{link}
+use Rattle.chronicle.proofs.Visiting.{same_more, same_now}
+use Rattle.node_core.specs.Outputs.{output_of}
+use Rattle.world_core.specs.declared.outcomes.Effect.TheVariants.{Logged}
+use Rattle.world_core.proofs.Handing.{sent_is, mailed_is, forwarded_is, ended_is, logged_is, cut_is, published_is}
+use Rattle.world_core.proofs.Mailing.{same_mails}
+use Rattle.world_core.proofs.Shown.{sent_next, since_next}
+use Rattle.world_core.proofs.Walking.{walks_stay}
+use Rattle.world_core.proofs.network.Network.hand.Goals as goal
+
+pub returns-in_ok-send-in-Send-clause-sending : goal.returns-in_ok-send-in-Send-clause-sending
+returns-in_ok-send-in-Send-clause-sending g c first past counts f told shows was =
+    let net = c.args.self.now.topology.value in
+    let u = c.args.node in
+    let out = going_of c.in-Send.out in
+    let sent = sent_is net u past f out told (shows ∙ ap (λ o. output_of o ∷ []) c.in-Send.is) in
+    let done = c.in_ok-send-in-Send.ensures net past sent.1 was.are_links in
+    let fact = Sent u out.to out.session out.item (carries (link u out.to past) out.session) in
+    rw sent.0
+    (record {
+      are_links = done.0;
+      are_mails = same_mails net past (fact ∷ past) counts c.args.self.now.mails refl (λ v. refl) was.are_mails;
+      are_published = was.are_published;
+      are_walks = walks_stay net past (fact ∷ past) c.args.self.now.walks (same_more fact past past (λ t. t) (same_now past)) was.are_walks;
+      since = sent_next first past u out c.args.effects.now.items c.send.new.effects.items (carries (link u out.to past) out.session) was.since done.1;
+    })
+
+pub returns-in_ok-post-in-Mail-clause-sending : goal.returns-in_ok-post-in-Mail-clause-sending
+returns-in_ok-post-in-Mail-clause-sending g c first past counts f told shows was =
+    let net = c.args.self.now.topology.value in
+    let u = c.args.node in
+    let to = c.in-Mail.mail.to in
+    let m = message_seen c.in-Mail.mail.message in
+    let mailed = mailed_is net u past f to m told (shows ∙ ap (λ o. output_of o ∷ []) c.in-Mail.is) in
+    let done = c.in_ok-post-in-Mail.ensures net past counts was.are_mails mailed.1 mailed.2 in
+    rw mailed.0
+    (record {
+      are_links = record { acts = was.are_links.acts; stands = was.are_links.stands; states = was.are_links.states; items = was.are_links.items };
+      are_mails = done.0;
+      are_published = was.are_published;
+      are_walks = walks_stay net past (Mail u to m ∷ past) c.args.self.now.walks (same_more (Mail u to m) past past (λ t. t) (same_now past)) was.are_walks;
+      since = since_next first past (Mail u to m) c.args.effects.now.items c.post.new.effects.items _ was.since done.1 refl;
+    })
+
+pub returns-in_ok-forward-in-Forward-clause-sending : goal.returns-in_ok-forward-in-Forward-clause-sending
+returns-in_ok-forward-in-Forward-clause-sending g c first past counts f told shows was =
+    let net = c.args.self.now.topology.value in
+    let w = c.in-Forward.next in
+    let packet = c.in-Forward.packet.value in
+    let came = forwarded_is net c.args.node past f w packet told (shows ∙ ap (λ o. output_of o ∷ []) c.in-Forward.is) in
+    let done = c.in_ok-forward-in-Forward.ensures net past was.are_walks came.1 in
+    rw came.0
+    (record {
+      are_links = record { acts = was.are_links.acts; stands = was.are_links.stands; states = was.are_links.states; items = was.are_links.items };
+      are_mails = same_mails net past (Visit w packet ∷ past) counts c.args.self.now.mails refl (λ v. refl) was.are_mails;
+      are_published = was.are_published;
+      are_walks = done.0;
+      since = since_next first past (Visit w packet) c.args.effects.now.items c.forward.new.effects.items _ was.since done.1 refl;
+    })
+
+pub returns-in_ok-end-in-Ended-clause-sending : goal.returns-in_ok-end-in-Ended-clause-sending
+returns-in_ok-end-in-Ended-clause-sending g c first past counts f told shows was =
+    let net = c.args.self.now.topology.value in
+    let id = c.in-Ended.id in
+    let how = c.in-Ended.how in
+    let over = ended_is net c.args.node past f id how told (shows ∙ ap (λ o. output_of o ∷ []) c.in-Ended.is) in
+    let done = c.in_ok-end-in-Ended.ensures net past was.are_walks over.1 in
+    rw over.0
+    (record {
+      are_links = record { acts = was.are_links.acts; stands = was.are_links.stands; states = was.are_links.states; items = was.are_links.items };
+      are_mails = same_mails net past (End id how ∷ past) counts c.args.self.now.mails refl (λ v. refl) was.are_mails;
+      are_published = was.are_published;
+      are_walks = done.0;
+      since = since_next first past (End id how) c.args.effects.now.items c.end.new.effects.items _ was.since done.1 refl;
+    })
+
+pub returns-in_ok-push-in-Logged-clause-sending : goal.returns-in_ok-push-in-Logged-clause-sending
+returns-in_ok-push-in-Logged-clause-sending g c first past counts f told shows was =
+    let net = c.args.self.now.topology.value in
+    let u = c.args.node in
+    let made = logged_is net u past f c.in-Logged.index told (shows ∙ ap (λ o. output_of o ∷ []) c.in-Logged.is) in
+    rw made.1
+    (record {
+      are_links = record { acts = was.are_links.acts; stands = was.are_links.stands; states = was.are_links.states; items = was.are_links.items };
+      are_mails = same_mails net past (Log u made.0 ∷ past) counts c.args.self.now.mails refl (λ v. refl) was.are_mails;
+      are_published = was.are_published;
+      are_walks = walks_stay net past (Log u made.0 ∷ past) c.args.self.now.walks (same_more (Log u made.0) past past (λ t. t) (same_now past)) was.are_walks;
+      since = since_next first past (Log u made.0) c.args.effects.now.items _ (Logged u c.in-Logged.index) was.since c.in_ok-push-in-Logged.ensures.items (ap (λ n. Logged u n ∷ []) made.2);
+    })
+
+pub returns-in_ok-push-in-Cut-clause-sending : goal.returns-in_ok-push-in-Cut-clause-sending
+returns-in_ok-push-in-Cut-clause-sending g c first past counts f told shows was =
+    let net = c.args.self.now.topology.value in
+    let u = c.args.node in
+    let e = c.in-Cut.epoch in
+    rw (cut_is net u past f e told (shows ∙ ap (λ o. output_of o ∷ []) c.in-Cut.is))
+    (record {
+      are_links = record { acts = was.are_links.acts; stands = was.are_links.stands; states = was.are_links.states; items = was.are_links.items };
+      are_mails = same_mails net past (Raise u e ∷ past) counts c.args.self.now.mails refl (λ v. refl) was.are_mails;
+      are_published = was.are_published;
+      are_walks = walks_stay net past (Raise u e ∷ past) c.args.self.now.walks (same_more (Raise u e) past past (λ t. t) (same_now past)) was.are_walks;
+      since = since_next first past (Raise u e) c.args.effects.now.items _ _ was.since c.in_ok-push-in-Cut.ensures.items refl;
+    })
+
+pub returns-in_ok-publish-in-Published-clause-sending : goal.returns-in_ok-publish-in-Published-clause-sending
+returns-in_ok-publish-in-Published-clause-sending g c first past counts f told shows was =
+    let net = c.args.self.now.topology.value in
+    let u = c.args.node in
+    let t = c.in-Published.table.value in
+    rw (published_is net u past f t.epoch t.value t.paths told (shows ∙ ap (λ o. output_of o ∷ []) c.in-Published.is))
+    (record {
+      are_links = record { acts = was.are_links.acts; stands = was.are_links.stands; states = was.are_links.states; items = was.are_links.items };
+      are_mails = same_mails net past (Publish u t.epoch t.value t.paths ∷ past) counts c.args.self.now.mails refl (λ v. refl) was.are_mails;
+      are_published = c.in_ok-publish-in-Published.ensures.kept ∙ ap (λ l. l ++ record { node = u; epoch = t.epoch; value = t.value; paths = t.paths } ∷ []) was.are_published;
+      are_walks = walks_stay net past (Publish u t.epoch t.value t.paths ∷ past) c.args.self.now.walks (same_more (Publish u t.epoch t.value t.paths) past past (λ t. t) (same_now past)) was.are_walks;
+      since = since_next first past (Publish u t.epoch t.value t.paths) c.args.effects.now.items _ _ was.since c.in_ok-publish-in-Published.ensures.shown refl;
+    })

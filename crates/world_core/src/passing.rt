@@ -1,0 +1,139 @@
+//! Packets enter the network, and go on.
+ghost use Rattle.std.specs.Prelude.{◌≡◌, true, is_some, None, Some, ◌<◌, length, OnOk, IfOk, IfErr, if◌then◌else◌};
+ghost use Rattle.topology.specs.LinkStates.{is_up};
+ghost use Rattle.topology.specs.Lists.{has};
+ghost use Rattle.chronicle.specs.Facts.{Chronicle};
+ghost use Rattle.chronicle.specs.Run.{does, stands_at, up_links};
+ghost use Rattle.chronicle.specs.Walks.{ending, standing};
+ghost use Rattle.world_core.specs.Happening.{Comes, IsAsWas, Stops};
+ghost use Rattle.world_core.specs.Matching.{AreLinks, Counts, Stands};
+ghost use Rattle.world_core.specs.Places.{HasPlaces};
+ghost use Rattle.world_core.specs.Walks.{AreWalks, HasWalks};
+
+use crate::network::Network;
+use crate::outcomes::{Outcome, Stop};
+use chronicle::Event;
+use epoch_packet::{Nodes, Packet};
+use node_core::Input;
+use path_vector::Policy;
+use std::alloc::Global;
+use topology::{LinkState, NoMemory, NodeId, PrefixId, Reason};
+
+// The same nodes.
+fn copy_nodes(alloc: Global, nodes: &Nodes) -> Result<Nodes, NoMemory>
+    ensures { IfOk result (λ copy. copy ≡ nodes.now) }
+{
+    Ok(Nodes::new(Vec::from_slice(alloc, nodes.as_slice())?))
+}
+
+// The same packet: the one that stands there stays until it has come to another node.
+fn copy_packet(alloc: Global, packet: &Packet) -> Result<Box<Packet>, NoMemory>
+    ensures { IfOk result (λ copy. copy.value ≡ packet.now) }
+{
+    let trail = copy_nodes(alloc, &packet.trail)?;
+    let route = copy_nodes(alloc, &packet.route)?;
+    let copy = Packet {
+        id: packet.id,
+        prefix: packet.prefix,
+        epoch: packet.epoch,
+        mode: packet.mode,
+        budget: packet.budget,
+        reached: packet.reached,
+        visited: packet.visited,
+        trail,
+        route,
+    };
+    Ok(Box::new(alloc, copy)?)
+}
+
+// Whether a link in this state is up.
+fn is_up(state: LinkState) -> bool
+    ensures { result ≡ is_up state }
+{
+    matches!(state, LinkState::Up(_))
+}
+
+impl<P: Policy + Copy> Network<P> {
+    /// The node where the packet enters the network: none where the packet is known.
+    pub fn entrance(&self, packet: u32, node: NodeId) -> Option<NodeId>
+        ensures { (past : Chronicle) → AreWalks self.now.topology.value past self.now.walks →
+            result ≡ (if is_some (standing packet past) then None else Some node) }
+    {
+        if self.walks.of(packet).is_some() {
+            return None;
+        }
+        Some(node)
+    }
+
+    /// The node where the packet stands, while its walk goes on.
+    pub fn stand(&self, packet: u32) -> Option<NodeId>
+        ensures { (past : Chronicle) → AreWalks self.now.topology.value past self.now.walks →
+            result ≡ stands_at (standing packet past) (ending packet past) }
+    {
+        let journey = self.walks.of(packet)?;
+        if journey.end().is_some() {
+            return None;
+        }
+        Some(journey.node())
+    }
+
+    // The neighbours of the node whose link is up.
+    fn up_links(&self, node: NodeId) -> Result<Vec<NodeId>, NoMemory>
+        ensures { IfOk result (λ up. (past : Chronicle) → AreLinks self.now.topology.value past self.now.links →
+            up.items ≡ up_links self.now.topology.value node past) }
+    {
+        let neighbours = self.topology.neighbours(node);
+        let mut up = Vec::with_capacity(self.alloc, neighbours.len())?;
+        for nbr in neighbours {
+            if is_up(self.links.state(node, *nbr)) {
+                up.push(*nbr)?;
+            }
+        }
+        Ok(up)
+    }
+
+    /// The packet enters the network at the node, unless one with its number did.
+    pub fn inject(&mut self, packet: u32, node: NodeId, prefix: PrefixId) -> Result<Outcome, Stop>
+        requires node { has self.old.topology.value.nodes node ≡ true }
+        requires prefix { prefix < length self.old.topology.value.prefixes }
+        requires places { HasPlaces self.old.topology.value (length self.old.nodes.items) }
+        ensures others { OnOk result (IsAsWas self.old self.new) }
+        ensures comes { IfOk result (λ outcome. (past : Chronicle) (counts : Counts) →
+            Stands (P.rules self.old.policy) past counts self.old →
+            Comes (P.rules self.old.policy) past counts (does (P.rules self.old.policy) self.old.topology.value past (Event.Inject packet node prefix)) self.new outcome) }
+        ensures stopped { IfErr result (λ stop. (past : Chronicle) (counts : Counts) →
+            Stands (P.rules self.old.policy) past counts self.old →
+            Stops (P.rules self.old.policy) self.old.topology.value past
+            (does (P.rules self.old.policy) self.old.topology.value past (Event.Inject packet node prefix)) stop) }
+    {
+        if self.walks.of(packet).is_some() {
+            return Ok(Outcome::Idle(Reason::PacketKnown));
+        }
+        self.give(node, Input::Inject { id: packet, prefix })
+    }
+
+    /// The packet goes on from the node where it stands, unless its walk has ended.
+    pub fn hop(&mut self, packet: u32) -> Result<Outcome, Stop>
+        requires places { HasPlaces self.old.topology.value (length self.old.nodes.items) }
+        requires walks { HasWalks self.old.topology.value self.old.walks }
+        ensures others { OnOk result (IsAsWas self.old self.new) }
+        ensures comes { IfOk result (λ outcome. (past : Chronicle) (counts : Counts) →
+            Stands (P.rules self.old.policy) past counts self.old →
+            Comes (P.rules self.old.policy) past counts (does (P.rules self.old.policy) self.old.topology.value past (Event.Hop packet)) self.new outcome) }
+        ensures stopped { IfErr result (λ stop. (past : Chronicle) (counts : Counts) →
+            Stands (P.rules self.old.policy) past counts self.old →
+            Stops (P.rules self.old.policy) self.old.topology.value past
+            (does (P.rules self.old.policy) self.old.topology.value past (Event.Hop packet)) stop) }
+    {
+        let Some(journey) = self.walks.of(packet) else {
+            return Ok(Outcome::Idle(Reason::NoSuchPacket));
+        };
+        if journey.end().is_some() {
+            return Ok(Outcome::Idle(Reason::PacketEnded));
+        }
+        let node = journey.node();
+        let packet = copy_packet(self.alloc, journey.packet())?;
+        let up = self.up_links(node)?;
+        self.give(node, Input::Hop { packet, up })
+    }
+}

@@ -1,0 +1,76 @@
+//! What was published.
+ghost use Rattle.std.specs.Prelude.{◌≡◌, option_map, option_and_then, slice_get, IfOk};
+
+use incomplete_closure::Value;
+use stable_table::Table;
+use std::marker::Model;
+use std::rc::Rc;
+use topology::{Epoch, NoMemory, NodeId, PrefixId};
+
+/// A table that a node published. It shares the table with the node.
+#[derive(Debug, Drop)]
+pub struct Publication {
+    node: NodeId,
+    table: Rc<Table>,
+}
+
+impl Model for Publication {
+    ghost use Rattle.world_core.specs.Publications.{PublicationView};
+
+    ghost Value = { PublicationView };
+
+    ghost view = { λ p. record {
+      node = p.node;
+      epoch = p.table.value.epoch;
+      value = p.table.value.value;
+      paths = p.table.value.paths;
+    } };
+}
+
+impl Publication {
+    /// The node published this table. Takes no memory.
+    pub fn new(node: NodeId, table: Rc<Table>) -> Publication
+        ensures { result ≡ record { node = node; epoch = table.value.epoch; value = table.value.value; paths = table.value.paths } }
+    {
+        Publication { node, table }
+    }
+
+    /// The same publication. The table is shared, not copied.
+    pub fn share(&self) -> Result<Publication, NoMemory>
+        ensures { IfOk result (λ publication. publication ≡ self.now) }
+    {
+        Ok(Publication {
+            node: self.node,
+            table: self.table.clone()?,
+        })
+    }
+
+    /// The node that published it.
+    pub fn node(&self) -> NodeId
+        ensures { result ≡ self.now.node }
+    {
+        self.node
+    }
+
+    /// The epoch of the table.
+    pub fn epoch(&self) -> Epoch
+        ensures { result ≡ self.now.epoch }
+    {
+        self.table.epoch()
+    }
+
+    /// The value that the table is by.
+    pub fn value(&self) -> &Value
+        ensures { result.now ≡ self.now.value }
+    {
+        self.table.value()
+    }
+
+    /// The path of a prefix. None where the table has none.
+    pub fn path(&self, prefix: PrefixId) -> Option<&[NodeId]>
+        ensures { option_map (λ nodes. nodes.now) result
+            ≡ option_and_then (λ path. path) (slice_get self.now.paths prefix) }
+    {
+        self.table.path(prefix)
+    }
+}

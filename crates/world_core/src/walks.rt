@@ -1,0 +1,186 @@
+//! The packets of a world, and their walks.
+ghost use Rattle.std.specs.Prelude.{◌≡◌, ◌∷◌, ◌++◌, [], true, None, Some, find, length, is_some, OnOk, OnErr, IfOk};
+ghost use Rattle.std.specs.Option.{option_copied};
+ghost use Rattle.topology.specs.Net.{Net};
+ghost use Rattle.chronicle.specs.Facts.{Chronicle, Visit as Came, End as Ends};
+ghost use Rattle.chronicle.specs.Walks.{standing, visit_of};
+ghost use Rattle.world_core.specs.Walks.{AreWalks, IsPassing, is_of};
+
+use epoch_packet::{End, Packet, Visit};
+use indexmap::IndexSet;
+use std::alloc::Global;
+use std::marker::Model;
+use topology::{NoMemory, NodeId};
+
+/// A visit, as a walk tells it, of a packet that comes to the node or leaves the tables there.
+pub fn visit_of(node: NodeId, packet: &Packet) -> Visit
+    ensures { result ≡ visit_of node packet.now }
+{
+    Visit {
+        node,
+        mode: packet.mode,
+        epoch: packet.epoch,
+    }
+}
+
+/// A packet: where it stands, what it is like there, where it was, and how its walk ended.
+#[derive(Drop)]
+pub struct Journey {
+    node: NodeId,
+    packet: Box<Packet>,
+    // The oldest first.
+    visits: Vec<Visit>,
+    end: Option<End>,
+}
+
+impl Model for Journey {
+    ghost use Rattle.world_core.specs.Walks.{JourneyView};
+
+    ghost Value = { JourneyView };
+
+    ghost view = { λ j. record { node = j.node; packet = j.packet.value; visits = j.visits.items; ending = j.end } };
+}
+
+impl Journey {
+    // The packet has just entered the network at the node.
+    fn begin(alloc: Global, node: NodeId, packet: Box<Packet>) -> Result<Journey, NoMemory>
+        ensures { IfOk result (λ journey. journey ≡ record { node = node; packet = packet.value; visits = visit_of node packet.value ∷ []; ending = None }) }
+    {
+        let mut visits = Vec::new(alloc);
+        visits.push(visit_of(node, &packet))?;
+        Ok(Journey {
+            node,
+            packet,
+            visits,
+            end: None,
+        })
+    }
+
+    // The packet comes to the node, or leaves the tables there.
+    fn go_on(&mut self, node: NodeId, packet: Box<Packet>) -> Result<(), NoMemory>
+        ensures ok { OnOk result (self.new ≡ record { node = node; packet = packet.value; visits = self.old.visits ++ visit_of node packet.value ∷ []; ending = self.old.ending }) }
+        ensures err { OnErr result (self.new ≡ self.old) }
+    {
+        self.visits.push(visit_of(node, &packet))?;
+        self.node = node;
+        self.packet = packet;
+        Ok(())
+    }
+
+    // Its walk ended.
+    fn finish(&mut self, end: End)
+        ensures { self.new ≡ record self.old { ending = Some end } }
+    {
+        self.end = Some(end);
+    }
+
+    /// The node where the packet stands, or stood when its walk ended.
+    pub fn node(&self) -> NodeId
+        ensures { result ≡ self.now.node }
+    {
+        self.node
+    }
+
+    /// The packet as it is there.
+    pub fn packet(&self) -> &Packet
+        ensures { result.now ≡ self.now.packet }
+    {
+        &self.packet
+    }
+
+    /// The visits of the walk, the oldest first.
+    pub fn visits(&self) -> &[Visit]
+        ensures { result.now ≡ self.now.visits }
+    {
+        &self.visits
+    }
+
+    /// How the walk ended. None while it has not.
+    pub fn end(&self) -> Option<End>
+        ensures { result ≡ self.now.ending }
+    {
+        self.end
+    }
+}
+
+/// All packets in the order in which they entered the network, found by their numbers.
+#[derive(Drop)]
+pub struct Walks {
+    numbers: IndexSet<u32>,
+    // At the place of its number.
+    journeys: Vec<Journey>,
+}
+
+impl Model for Walks {
+    ghost use Rattle.std.specs.Prelude.{◌≡◌, List, map};
+    ghost use Rattle.world_core.specs.Walks.{JourneyView, number_of};
+
+    ghost Value = { List JourneyView };
+
+    ghost view = { λ w. w.journeys.items };
+
+    ghost invariant = { λ w. w.numbers.keys ≡ map number_of w.journeys.items };
+}
+
+impl Walks {
+    /// No packet.
+    pub fn new(alloc: Global) -> Walks
+        ensures { result ≡ [] }
+    {
+        Walks {
+            numbers: IndexSet::new(alloc),
+            journeys: Vec::new(alloc),
+        }
+    }
+
+    /// How many packets entered the network.
+    pub fn count(&self) -> usize
+        ensures { result ≡ length self.now }
+    {
+        self.journeys.len()
+    }
+
+    /// The packet with this number. None exactly where none entered the network.
+    pub fn of(&self, number: u32) -> Option<&Journey>
+        ensures { option_copied result ≡ find (is_of number) self.now }
+    {
+        let place = self.numbers.get_index_of(&number)?;
+        Some(&self.journeys[place])
+    }
+
+    // A packet with a new number enters the network.
+    fn enter(&mut self, node: NodeId, packet: Box<Packet>) -> Result<(), NoMemory>
+        requires { find (is_of packet.value.id) self.old ≡ None }
+        ensures { OnOk result (self.new ≡ self.old ++ record { node = node; packet = packet.value; visits = visit_of node packet.value ∷ []; ending = None } ∷ []) }
+    {
+        let number = packet.id;
+        let journey = Journey::begin(*self.journeys.allocator(), node, packet)?;
+        self.numbers.reserve(1)?;
+        self.journeys.push(journey)?;
+        self.numbers.insert(number).unwrap();
+        Ok(())
+    }
+
+    /// The packet comes to a node, or leaves the tables there. After want of memory the walks are of no use.
+    pub fn visit(&mut self, node: NodeId, packet: Box<Packet>) -> Result<(), NoMemory>
+        ensures { OnOk result ((net : Net) (past : Chronicle) → AreWalks net past self.old →
+            IsPassing net node packet.value → AreWalks net (Came node packet.value ∷ past) self.new) }
+    {
+        let Some(place) = self.numbers.get_index_of(&packet.id) else {
+            self.enter(node, packet)?;
+            return Ok(());
+        };
+        self.journeys[place].go_on(node, packet)?;
+        Ok(())
+    }
+
+    /// The walk of the packet ended.
+    pub fn end(&mut self, number: u32, end: End)
+        ensures { (net : Net) (past : Chronicle) → AreWalks net past self.old → is_some (standing number past) ≡ true →
+            AreWalks net (Ends number end ∷ past) self.new }
+    {
+        if let Some(place) = self.numbers.get_index_of(&number) {
+            self.journeys[place].finish(end);
+        }
+    }
+}
