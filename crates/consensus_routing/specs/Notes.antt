@@ -11,7 +11,7 @@ use Rattle.route_io.specs.Views.{SinkView}
 -- the words of the line, without its end
 abbrev pub note_words : Status → List ℕ
 note_words Done = []
-note_words Usage = codes "usage: consensus_routing replay"
+note_words Usage = codes "usage: consensus_routing replay | load NUMBER"
 note_words NoMemory = codes "no memory"
 note_words (BadSchedule line kind) = codes "bad schedule: line " ++ decimal line ++ codes ": " ++ bad_words kind
 note_words (Limit kind number) = codes "limit: " ++ limit_words kind ++ codes " " ++ decimal number

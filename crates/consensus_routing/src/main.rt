@@ -1,7 +1,8 @@
-//! Replays schedules of a network whose routers agree on stable tables.
+//! Replays schedules of a network whose routers agree on stable tables, and makes loads of them.
 #![tactic(auto)]
 
 mod exit;
+mod forms;
 mod notes;
 mod run;
 #[cfg(test)]

@@ -44,7 +44,7 @@ fn words_of(status: &Status) -> ArrayString<ROOM>
     let mut text = ArrayString::new();
     match status {
         Status::Done => {}
-        Status::Usage => text.push_str("usage: consensus_routing replay"),
+        Status::Usage => text.push_str("usage: consensus_routing replay | load NUMBER"),
         Status::NoMemory => text.push_str("no memory"),
         Status::BadSchedule(line, kind) => bad_schedule(&mut text, *line, *kind),
         Status::Limit(kind, most) => limit(&mut text, *kind, *most),

@@ -1,27 +1,17 @@
 //! The top call.
-ghost use Rattle.std.specs.Prelude.{◌≡◌, ◌↔◌, IsTrue, map};
+ghost use Rattle.std.specs.Prelude.{◌≡◌, map};
 ghost use Rattle.std.specs.String.{string_bytes};
-ghost use Rattle.consensus_routing.specs.Headline.{Headline, replay_form};
+ghost use Rattle.consensus_routing.specs.Headline.{Headline};
 ghost use Rattle.consensus_routing.specs.Notes.{Noted};
 
+use crate::forms::{Form, form_of};
 use crate::notes::tell;
 use route_io::{Sink, Source};
-use route_replay::replay;
+use route_replay::{load, replay};
 use std::alloc::Global;
 use topology::Status;
 
-// Whether the words are the one form that is built.
-fn is_replay(words: &[String]) -> bool
-    ensures { IsTrue result ↔ (map (λ word. string_bytes word) words.now ≡ replay_form) }
-{
-    match words {
-        [word] => word.as_str() == "replay",
-        _ => false,
-    }
-}
-
-// Replays, where the words are the one form. Words of no form leave the source and the sink as they
-// were.
+// Does what the words say. Words of no form leave the source and the sink as they were.
 fn outcome<I: Source, O: Sink>(
     alloc: Global,
     words: &[String],
@@ -32,16 +22,21 @@ fn outcome<I: Source, O: Sink>(
         (I.seen source.old) (I.seen source.new) (O.seen sink.old) (O.seen sink.new) result }
     ensures untouched { result ≡ Status.Usage → (source.new ≡ source.old) × (sink.new ≡ sink.old) }
 {
-    if !is_replay(words) {
+    let Some(form) = form_of(words) else {
         return Status::Usage;
+    };
+    match form {
+        Form::Replay => replay(alloc, source, sink),
+        Form::Load(number) => load(alloc, number, sink),
     }
-    replay(alloc, source, sink)
 }
 
 /// Does what the words say. The words are those after the program's name; `replay` reads a
-/// schedule from the source, runs it, and writes its text to the sink. The notes get one line where
-/// the run ended before its time; a fault of theirs changes nothing. What a user may rely on stands
-/// in `specs/Headline.antt`, `specs/Notes.antt` and in `route_replay/specs/Replayed.antt`.
+/// schedule from the source, runs it, and writes its text to the sink; `load` with a number makes a
+/// network and its schedule, runs it, and writes counts of the run. The notes get one line where the
+/// run ended before its time; a fault of theirs changes nothing. What a user may rely on stands in
+/// `specs/Headline.antt`, `specs/Notes.antt` and in `route_replay/specs/Replayed.antt` and
+/// `Loaded.antt`.
 pub fn run<I: Source, O: Sink, E: Sink>(
     alloc: Global,
     words: &[String],

@@ -44,7 +44,22 @@ rib 2 10.0.0.0/8: 2 1
 rib 3 10.0.0.0/8: 3 2 1
 ";
 
-const USAGE_NOTE: &str = "usage: consensus_routing replay\n";
+// The counts of the load 0. The links are those that tools/load_schedule.py makes; entries, control messages,
+// publications and how the packets end are those that a replay of its schedule shows.
+const LOAD_0: &str = "\
+nodes 24
+links 44
+events 1717
+entries 886
+control 429
+publications 95
+delivered 11
+expired 0
+stuck 1
+moving 0
+";
+
+const USAGE_NOTE: &str = "usage: consensus_routing replay | load NUMBER\n";
 
 fn words_of(alloc: Global, words: &[&str]) -> Result<Vec<String>, Fail> {
     let mut given = Vec::new(alloc);
@@ -140,6 +155,43 @@ fn runs_a_file_and_names_each_fault(rt: HostRuntime) -> Result<(), Fail> {
         assert_eq!(rt; written.as_str(), text, "{words:?} {reads:?} {writes:?}");
         assert_eq!(rt; noted.as_str(), note, "{words:?} {reads:?} {writes:?}");
     }
+    Ok(())
+}
+
+// Words of no form.
+const NO_FORMS: [&[&str]; 9] = [
+    &["load"],
+    &["load", ""],
+    &["load", "x"],
+    &["load", "01"],
+    &["load", "-1"],
+    &["load", "4294967296"],
+    &["load", "0", "0"],
+    &["replay", "0"],
+    &["Load", "0"],
+];
+
+#[test]
+fn takes_words_of_the_forms_alone(rt: HostRuntime) -> Result<(), Fail> {
+    for words in NO_FORMS {
+        let (answer, written, noted) = outcome(rt.alloc(), words, &[], &[])?;
+        assert_eq!(rt; answer, Status::Usage, "{words:?}");
+        assert_eq!(rt; written.as_str(), "", "{words:?}");
+        assert_eq!(rt; noted.as_str(), USAGE_NOTE, "{words:?}");
+    }
+    Ok(())
+}
+
+#[test]
+fn counts_the_run_of_a_load(rt: HostRuntime) -> Result<(), Fail> {
+    let (answer, written, noted) = outcome(rt.alloc(), &["load", "0"], &[1], &[])?;
+    assert_eq!(rt; answer, Status::Done);
+    assert_eq!(rt; written.as_str(), LOAD_0);
+    assert_eq!(rt; noted.as_str(), "");
+    let (failed, cut, note) = outcome(rt.alloc(), &["load", "4294967295"], &[], &[1])?;
+    assert_eq!(rt; failed, Status::WriteFault);
+    assert_eq!(rt; cut.as_str(), "");
+    assert_eq!(rt; note.as_str(), "write fault\n");
     Ok(())
 }
 

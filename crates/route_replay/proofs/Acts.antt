@@ -9,7 +9,6 @@ use Rattle.topology.specs.declared.status.LimitKind.{LimitKind}
 use Rattle.topology.specs.Net.{Net}
 use Rattle.path_vector.specs.Rules.{Rules}
 use Rattle.chronicle.specs.declared.events.Event.{Event}
-use Rattle.chronicle.specs.Run.{run}
 use Rattle.node_core.specs.NodeLimits.{Reached}
 use Rattle.world_core.specs.Limits.{StopsAt}
 use Rattle.world_core.specs.declared.outcomes.Stop.{Stop}
@@ -127,7 +126,7 @@ handed_none r Q P h = let e = err_from_is_err_and r h.1 in rw e.1 tt
 
 -- what is known of a task is known of a directive that asks for it
 pub task_runs : {T : Type 0} (rules : Rules) (net : Net) (events : List Event) (line : ℕ) (asked task : Task) (sink sink' : SinkView) (r : Result T RunEnd) → asked ≡ task
-    → Runs sink sink' (lines_by (said_for rules net (run rules net events) line task) (course rules net events task)) (limit_by (course rules net events task)) r
-    → Runs sink sink' (lines_by (said_for rules net (run rules net events) line asked) (course rules net events asked)) (limit_by (course rules net events asked)) r
+    → Runs sink sink' (lines_by (said_for rules net events line task) (course rules net events task)) (limit_by (course rules net events task)) r
+    → Runs sink sink' (lines_by (said_for rules net events line asked) (course rules net events asked)) (limit_by (course rules net events asked)) r
 task_runs rules net events line asked task sink sink' r is runs =
-    subst (λ (t : Task). Runs sink sink' (lines_by (said_for rules net (run rules net events) line t) (course rules net events t)) (limit_by (course rules net events t)) r) (sym is) runs
+    subst (λ (t : Task). Runs sink sink' (lines_by (said_for rules net events line t) (course rules net events t)) (limit_by (course rules net events t)) r) (sym is) runs

@@ -1,7 +1,7 @@
 -- The reports of an epoch, put together.
-use Rattle.std.proofs.Common.{ℕ, Bool, true, false, Option, Some, None, List, [], ◌∷◌, ◌++◌, map, filter, is_some, ◌≡◌, refl, sym, ◌∙◌, ap, subst, inl, inr, option_map}
+use Rattle.std.proofs.Common.{ℕ, Bool, Option, Some, None, List, [], ◌∷◌, ◌++◌, map, filter, is_some, ◌≡◌, refl, sym, ◌∙◌, ap, subst, inl, inr, option_map}
 use Rattle.std.specs.Prelude.{if◌then◌else◌}
-use Rattle.std.specs.List.{cons_option, filter_map}
+use Rattle.std.specs.List.{cons_option}
 use Rattle.std.specs.List.Sorted.{IsStrictlyIncreasing}
 use Rattle.std.proofs.lemmas.List.Kept.{IsStrictlyIncreasing-filter}
 use Rattle.topology.specs.Lists.{Among}

@@ -1,6 +1,6 @@
 -- What each end of a replay gives of the promise.
 use Rattle.std.proofs.Common.{◌≡◌, ◌≢◌, ℕ, zero, suc, ◌++◌, ◌<◌, ◌≤◌, inl, inr, Option, Some, None, IfSome, List, [], ◌∷◌, length, Result, Ok, Err, Bool, true, false, not, true≢false, cond, nat_lt, nat_le, refl, sym, ap, ◌∙◌, subst, arith}
-use Rattle.std.specs.Prelude.{MatchBool}
+use Rattle.std.specs.Prelude.{MatchBool, is_some, if◌then◌else◌}
 use Rattle.std.specs.Io.KnownBytes.{IsAtEnd}
 use Rattle.route_io.specs.Views.{SourceView, SinkView}
 use Rattle.route_io.proofs.Bytes.{stays_quiet, risen_as}
@@ -15,12 +15,13 @@ use Rattle.path_vector.specs.Rules.{Rules}
 use Rattle.chronicle.specs.declared.events.Event.{Event}
 use Rattle.chronicle.specs.declared.events.Event.TheVariants as event
 use Rattle.chronicle.specs.declared.ways.Way.{Way}
-use Rattle.chronicle.specs.Deliveries.{next_delivery}
+use Rattle.chronicle.specs.Deliveries.{next_delivery, next_mail}
 use Rattle.chronicle.specs.Run.{step, run}
 use Rattle.chronicle.specs.Steps.{Step, Idle, Goes}
+use Rattle.chronicle.specs.Walks.{ending}
 use Rattle.node_core.specs.NodeLimits.{Reached}
 use Rattle.world_core.specs.declared.bounds.TheConstants.{MOST_EVENTS, MOST_TRIGGERS}
-use Rattle.world_core.specs.Limits.{triggers_of, has_more_epochs, has_more_entries, has_more_updates, first_above, above, above_by, limit_of}
+use Rattle.world_core.specs.Limits.{triggers_of, has_more_epochs, has_more_entries, has_more_updates, has_more_control, has_more_packets, first_above, above, above_by, limit_of}
 use Rattle.schedule_file.specs.declared.lines.Numbered.{Numbered}
 use Rattle.schedule_file.specs.declared.lines.Line.{Line}
 use Rattle.schedule_file.specs.Spelling.{words_by_line}
@@ -32,9 +33,11 @@ use Rattle.route_replay.specs.declared.ends.RunEnd.TheVariants as end
 use Rattle.route_replay.specs.declared.tasks.Task.{Task}
 use Rattle.route_replay.specs.declared.tasks.Task.TheVariants as task
 use Rattle.route_replay.specs.declared.runner.TheConstants.{MAX_BYTES}
-use Rattle.route_replay.specs.Text.{Course, Leads, Stops, unless, with_event, then_on, drained, course, text, stop, stop_by, task_of}
+use Rattle.route_replay.specs.Text.{Course, Leads, Stops, unless, with_event, then_on, drained, controlled, hopped, is_idle, course, text, stop, stop_by, task_of}
 use Rattle.route_replay.specs.Running.{Runs}
-use Rattle.route_replay.specs.Replayed.{Replayed, Comes, IsLimit, StopsRun, is_of_run}
+use Rattle.agreement_laws.specs.Agreed.{IsAgreed}
+use Rattle.walk_laws.specs.Walked.{IsWalked}
+use Rattle.route_replay.specs.Replayed.{Replayed, Comes, IsLimit, StopsRun, behind, is_of_run}
 
 -- what a told source gave is what it told
 pub known : (told : Option (List ℕ)) (items : List ℕ) → IfSome told (λ bytes. items ≡ bytes) → (bytes : List ℕ) → told ≡ Some bytes → items ≡ bytes
@@ -67,6 +70,8 @@ pub ends_bad : (source source' : SourceView) (sink : SinkView) (bytes : List ℕ
 ends_bad source source' sink bytes line kind read one short bad at_end quiet = record {
   formed = λ e. absurd (cc e);
   done = λ e. absurd (cc e);
+  agreed = λ _ told t run. absurd (one.apart run.lines line kind (subst (λ b. Reads [] (words_by_line b) run.lines) (sym (read told t)) run.is_run.read) bad);
+  walked = λ _ told t run. absurd (one.apart run.lines line kind (subst (λ b. Reads [] (words_by_line b) run.lines) (sym (read told t)) run.is_run.read) bad);
   front = λ told t. inl refl;
   silent = λ _. refl;
   bad_schedule = λ n k e told t.
@@ -97,17 +102,19 @@ abbrev NotBytes : Option Reached → Type 0
 NotBytes None = Unit {0}
 NotBytes (Some reached) = reached.kind ≢ count.Bytes
 
-above_not_bytes : (epochs triggers entries updates : Bool) → NotBytes (first_above epochs triggers entries updates)
-above_not_bytes true triggers entries updates = λ e. cc e
-above_not_bytes false true entries updates = λ e. cc e
-above_not_bytes false false true updates = λ e. cc e
-above_not_bytes false false false true = λ e. cc e
-above_not_bytes false false false false = tt
+above_not_bytes : (epochs triggers entries updates control packets : Bool) → NotBytes (first_above epochs triggers entries updates control packets)
+above_not_bytes true triggers entries updates control packets = λ e. cc e
+above_not_bytes false true entries updates control packets = λ e. cc e
+above_not_bytes false false true updates control packets = λ e. cc e
+above_not_bytes false false false true control packets = λ e. cc e
+above_not_bytes false false false false true packets = λ e. cc e
+above_not_bytes false false false false false true = λ e. cc e
+above_not_bytes false false false false false false = tt
 
 step_not_bytes : (rules : Rules) (net : Net) (s : Step) → NotBytes (above_by rules net s)
 unfolding above
 step_not_bytes rules net (Idle reason) = tt
-step_not_bytes rules net (Goes now) = above_not_bytes (has_more_epochs net now) (nat_lt MOST_TRIGGERS (triggers_of net now)) (has_more_entries net now) (has_more_updates rules net now)
+step_not_bytes rules net (Goes now) = above_not_bytes (has_more_epochs net now) (nat_lt MOST_TRIGGERS (triggers_of net now)) (has_more_entries net now) (has_more_updates rules net now) (has_more_control now) (has_more_packets now)
 
 limit_not_bytes : (rules : Rules) (net : Net) (events : List Event) (e : Event) → NotBytes (limit_of rules net events e)
 unfolding limit_of
@@ -145,11 +152,42 @@ drained_not_bytes rules net (suc n) events =
           (event_not_bytes rules net events (event.Deliver way.from way.to)) (drained_not_bytes rules net n)
     ]
 
+controlled_not_bytes : (rules : Rules) (net : Net) (n : ℕ) (events : List Event) → StopsNotBytes (controlled rules net n events)
+controlled_not_bytes rules net zero events = tt
+controlled_not_bytes rules net (suc n) events =
+    elim (next_mail rules net events) as (λ (o : Option ℕ). StopsNotBytes (elim o [
+      | None ↦ Leads events
+      | Some number ↦ then_on (with_event rules net events (event.Control number)) (controlled rules net n)
+    ])) [
+      | None ↦ tt
+      | Some number ↦ then_not_bytes (with_event rules net events (event.Control number)) (controlled rules net n)
+          (event_not_bytes rules net events (event.Control number)) (controlled_not_bytes rules net n)
+    ]
+
+hopped_not_bytes : (rules : Rules) (net : Net) (k n : ℕ) (events : List Event) → StopsNotBytes (hopped rules net k n events)
+hopped_not_bytes rules net k zero events = tt
+hopped_not_bytes rules net k (suc n) events =
+    let led = with_event rules net events (event.Hop k) in
+    let idle = is_idle (step rules net (run rules net events) (event.Hop k)) in
+    elim (is_some (ending k (run rules net events))) as (λ b. StopsNotBytes (if b then Leads events else then_on led (λ later. if idle then Leads later else hopped rules net k n later))) [
+      | true ↦ tt
+      | false ↦ then_not_bytes led (λ later. if idle then Leads later else hopped rules net k n later) (event_not_bytes rules net events (event.Hop k)) (λ later.
+          elim idle as (λ b. StopsNotBytes (if b then Leads later else hopped rules net k n later)) [
+            | true ↦ tt
+            | false ↦ hopped_not_bytes rules net k n later
+          ])
+    ]
+
 task_not_bytes : (rules : Rules) (net : Net) (events : List Event) (t : Task) → StopsNotBytes (course rules net events t)
 task_not_bytes rules net events (task.Event e) = event_not_bytes rules net events e
 task_not_bytes rules net events (task.Deliveries times) = drained_not_bytes rules net times events
 task_not_bytes rules net events (task.Show view) = tt
+task_not_bytes rules net events (task.ControlMessages times) = controlled_not_bytes rules net times events
 task_not_bytes rules net events (task.ShowClosure epoch) = tt
+task_not_bytes rules net events task.ShowControl = tt
+task_not_bytes rules net events (task.ShowTables epoch) = tt
+task_not_bytes rules net events (task.Hops packet times) = hopped_not_bytes rules net packet times events
+task_not_bytes rules net events (task.ShowWalk packet) = tt
 
 either_not_bytes : (led : Course) (rest : List Event → Option Reached) → StopsNotBytes led → ((events : List Event) → NotBytes (rest events)) → NotBytes (stop_by led rest)
 either_not_bytes (Leads events) rest h k = k events
@@ -172,6 +210,7 @@ of_run count.Triggers ne = refl
 of_run count.Entries ne = refl
 of_run count.Updates ne = refl
 of_run count.Control ne = refl
+of_run count.Packets ne = refl
 
 is_limit : (bytes : List ℕ) (kind : LimitKind) (number : ℕ) (held held' : Option (List ℕ)) → kind ≢ count.Bytes
     → StopsRun bytes (record { kind = kind; number = number }) held held' → IsLimit bytes kind number held held'
@@ -188,7 +227,8 @@ none_some : {A P : Type 0} (o : Option A) (x : A) → o ≡ None → o ≡ Some 
 none_some o x a b = absurd (cc (sym a ∙ b))
 
 module _ (source source' : SourceView) (sink sink' : SinkView) (bytes : List ℕ) (lines : List Line)
-    (read : (told : List ℕ) → source.left ≡ Some told → bytes ≡ told) (one : OneReading bytes) (short : length bytes ≤ MAX_BYTES) (reads : Reads [] (words_by_line bytes) lines) (at_end : IsAtEnd source'.left) (quiet : source'.faults ≡ source.faults) where
+    (read : (told : List ℕ) → source.left ≡ Some told → bytes ≡ told) (one : OneReading bytes) (short : length bytes ≤ MAX_BYTES) (reads : Reads [] (words_by_line bytes) lines) (at_end : IsAtEnd source'.left) (quiet : source'.faults ≡ source.faults)
+    (is_agreed : IsAgreed gao_rexford (net_of lines) (behind lines)) (is_walked : IsWalked gao_rexford (net_of lines) (behind lines)) where
   abbrev written : List ℕ
   written = text gao_rexford (net_of lines) [] (directives_of lines)
 
@@ -202,6 +242,18 @@ module _ (source source' : SourceView) (sink sink' : SinkView) (bytes : List ℕ
     stopped = stopped;
     is_run = record { read = subst (λ b. Reads [] (words_by_line b) lines) (read told t) reads; text = refl; stop = refl };
   }
+
+  -- whatever the file comes to, its run is agreed
+  run_agreed : (told : List ℕ) → source.left ≡ Some told → (run : Comes told) → IsAgreed gao_rexford (net_of run.lines) (behind run.lines)
+  run_agreed told t run =
+      let same = one.lines run.lines lines (subst (λ b. Reads [] (words_by_line b) run.lines) (sym (read told t)) run.is_run.read) reads in
+      subst (λ ls. IsAgreed gao_rexford (net_of ls) (behind ls)) (sym same) is_agreed
+
+  -- and is walked so
+  run_walked : (told : List ℕ) → source.left ≡ Some told → (run : Comes told) → IsWalked gao_rexford (net_of run.lines) (behind run.lines)
+  run_walked told t run =
+      let same = one.lines run.lines lines (subst (λ b. Reads [] (words_by_line b) run.lines) (sym (read told t)) run.is_run.read) reads in
+      subst (λ ls. IsWalked gao_rexford (net_of ls) (behind ls)) (sym same) is_walked
 
   -- whatever the file comes to, it is stopped so
   same_stop : (told : List ℕ) → source.left ≡ Some told → (run : Comes told) → run.stopped ≡ stopped
@@ -219,6 +271,8 @@ module _ (source source' : SourceView) (sink sink' : SinkView) (bytes : List ℕ
   ends_run (Ok _) runs = record {
     formed = λ e. absurd (cc e);
     done = λ e told t. (comes told t, runs.whole.1, runs.whole.0);
+    agreed = λ _ told t run. run_agreed told t run;
+    walked = λ _ told t run. run_walked told t run;
     front = λ told t. inr (comes told t, runs.front.0, runs.front.1, runs.front.2);
     silent = λ e. absurd (cc e);
     bad_schedule = λ n k e. absurd (cc e);
@@ -235,6 +289,8 @@ module _ (source source' : SourceView) (sink sink' : SinkView) (bytes : List ℕ
   ends_run (Err end.NoMemory) runs = record {
     formed = λ e. absurd (cc e);
     done = λ e. absurd (cc e);
+    agreed = λ e. absurd (cc e);
+    walked = λ e. absurd (cc e);
     front = λ told t. inr (comes told t, runs.front.0, runs.front.1, runs.front.2);
     silent = λ e. absurd (cc e);
     bad_schedule = λ n k e. absurd (cc e);
@@ -251,6 +307,8 @@ module _ (source source' : SourceView) (sink sink' : SinkView) (bytes : List ℕ
   ends_run (Err end.WriteFault) runs = record {
     formed = λ e. absurd (cc e);
     done = λ e. absurd (cc e);
+    agreed = λ _ told t run. run_agreed told t run;
+    walked = λ _ told t run. run_walked told t run;
     front = λ told t. inr (comes told t, runs.front.0, runs.front.1, runs.front.2);
     silent = λ e. absurd (cc e);
     bad_schedule = λ n k e. absurd (cc e);
@@ -270,6 +328,8 @@ module _ (source source' : SourceView) (sink sink' : SinkView) (bytes : List ℕ
       record {
         formed = λ e. absurd (cc e);
         done = λ e. absurd (cc e);
+        agreed = λ _ told t run. run_agreed told t run;
+        walked = λ _ told t run. run_walked told t run;
         front = λ told t. inr (comes told t, runs.front.0, runs.front.1, runs.front.2);
         silent = λ e. absurd (true≢false (sym e ∙ ap not (of_run kind ne)));
         bad_schedule = λ n k e. absurd (cc e);

@@ -1,5 +1,6 @@
 -- What a file directs fits the network that it describes.
 use Rattle.std.proofs.Common.{◌≡◌, ℕ, suc, ◌≤◌, Bool, true, false, not, ◌==◌, Some, None, List, [], ◌∷◌, length, refl, sym, subst, arith, nat_lt, nat_le, if◌then◌else◌}
+use Rattle.std.specs.Prelude.{◌&&◌, IsTrue}
 use Rattle.std.specs.List.{list_any}
 use Rattle.std.proofs.lemmas.Bool.Decides.{nat_tests}
 use Rattle.topology.specs.declared.prefixes.Prefix.{Prefix as Range}
@@ -10,15 +11,16 @@ use Rattle.topology.specs.declared.status.BadKind.TheVariants as bad
 use Rattle.topology.proofs.Tests.{and_both}
 use Rattle.schedule_file.specs.declared.lines.Directive.{Directive}
 use Rattle.schedule_file.specs.declared.lines.Instruction.{Instruction}
-use Rattle.schedule_file.specs.declared.lines.Instruction.TheVariants.{Origin, Single, Pair, Prefer, Drain, Show, ShowEpoch}
+use Rattle.schedule_file.specs.declared.lines.Instruction.TheVariants.{Origin, Single, Pair, Prefer, Propose, Drain, Control, ControlAll, Inject, Hop, HopTimes, Show, ShowEpoch, ShowWalk}
 use Rattle.schedule_file.specs.declared.table.OriginEvent.TheVariants.{Originate, Withdraw}
 use Rattle.schedule_file.specs.declared.table.NodeEvent.TheVariants.{Snap, Crash, Restart}
 use Rattle.schedule_file.specs.declared.table.PairEvent.TheVariants.{Deliver, Fail, Restore, Notice, Open}
 use Rattle.schedule_file.specs.declared.table.PlainView.TheVariants.{Rib, Log}
-use Rattle.schedule_file.specs.declared.table.EpochView.TheVariants.{Cut, Closure}
+use Rattle.schedule_file.specs.declared.table.PlainView.TheVariants.{Control as Messages}
+use Rattle.schedule_file.specs.declared.table.EpochView.TheVariants.{Cut, Closure, Tables}
 use Rattle.schedule_file.specs.declared.lines.Numbered.{Numbered}
 use Rattle.schedule_file.specs.Lines.{DirectsInRange}
-use Rattle.schedule_file.specs.Grammar.{place_in, fault_from, directed_fault, directive_of, Follows, AllFollow}
+use Rattle.schedule_file.specs.Grammar.{place_in, fault_from, origin_fault, directed_fault, directive_of, Follows, AllFollow}
 use Rattle.route_replay.specs.Text.{task_of}
 use Rattle.route_replay.specs.Running.{Fitting, AllFitting}
 
@@ -60,12 +62,12 @@ near_linked true true false e = absurd (cc e)
 near_linked true false j e = absurd (cc e)
 near_linked false kb j e = absurd (cc e)
 
--- a preference is as much as it may be
+-- a number is as much as it may be
 small : (value most : ℕ) → value ≤ most → nat_le value most ≡ true
 small value most below = grind (arith, nat_tests, below)
 
 module _ (net : Net) where
-  origin_fits : (node : ℕ) (p : Range) → directed_fault net (Origin Originate node p) ≡ None → Fitting net (task_of (directive_of net (Origin Originate node p)))
+  origin_fits : (node : ℕ) (p : Range) → origin_fault net node p ≡ None → IsTrue (has net.nodes node && nat_lt (place_in p net.prefixes) (length net.prefixes))
   origin_fits node p fine =
       let named = origin_named (has net.nodes node) (has_prefix net p) fine in
       and_both _ _ named.0 (inside p net.prefixes named.1)
@@ -86,11 +88,21 @@ module _ (net : Net) where
   instruction_fits (Pair Open a b) r fine = joined a b fine
   instruction_fits (Prefer node nbr value) r fine =
       and_both _ _ (near_linked (has net.nodes node) (has net.nodes nbr) (linked net node nbr) fine) (small value _ r.2)
+  instruction_fits (Propose node epoch) r fine =
+      and_both _ _ (node_named (has net.nodes node) fine) (and_both _ _ (small 1 epoch r.1) (small epoch _ r.2))
   instruction_fits (Drain times) r fine = tt
+  instruction_fits (Control number) r fine = small 1 number r.0
+  instruction_fits (ControlAll times) r fine = tt
+  instruction_fits (Inject packet node p) r fine = and_both _ _ (small 1 packet r.0) (origin_fits node p fine)
+  instruction_fits (Hop packet) r fine = small 1 packet r.0
+  instruction_fits (HopTimes packet times) r fine = small 1 packet r.0
   instruction_fits (Show Rib) r fine = tt
   instruction_fits (Show Log) r fine = tt
+  instruction_fits (Show Messages) r fine = tt
   instruction_fits (ShowEpoch Cut epoch) r fine = tt
   instruction_fits (ShowEpoch Closure epoch) r fine = tt
+  instruction_fits (ShowEpoch Tables epoch) r fine = tt
+  instruction_fits (ShowWalk packet) r fine = tt
 
   directive_fits : (d : Directive) → Follows net d → Fitting net (task_of d)
   directive_fits d f =

@@ -1,6 +1,6 @@
 -- Text that is gathered piece by piece.
 use Rattle.std.proofs.Common.{◌≡◌, ℕ, suc, ◌+◌, ◌<◌, ◌≤◌, Option, Some, IfSome, List, [], ◌∷◌, ◌++◌, length, map, take, drop, refl, sym, ap, ◌∙◌, subst, slice_get, get_or, zero-add, add-one, append_assoc, arith, Ok, Err}
-use Rattle.std.specs.Prelude.{Result, IsErr, IsErrAnd, IfErr, OnOk, option_map}
+use Rattle.std.specs.Prelude.{Result, IsErr, IsErrAnd, IfErr, OnOk, is_ok, if◌then◌else◌, option_map}
 use Rattle.std.specs.List.{flat_map, enumerate_from}
 use Rattle.std.proofs.lemmas.Result.{err_from_is_err_and}
 use Rattle.std.proofs.Math.Seq.{drop-cons}
@@ -14,7 +14,14 @@ use Rattle.route_io.proofs.Bytes.{appends_none, appends_on, front_after, front_m
 use Rattle.route_replay.specs.declared.ends.RunEnd.{RunEnd}
 use Rattle.route_replay.specs.declared.ends.RunEnd.TheVariants.{NoMemory, WriteFault}
 use Rattle.route_replay.specs.Gathering.{PageView, Gathers, Breaks}
+use Rattle.route_replay.specs.Lines.{ended}
 use Rattle.route_replay.proofs.Steps.{at_place}
+
+-- the words of a line, and its end
+pub line_ended : {T E : Type 0} (r : Result T E) (before mid now words end : List ℕ) → mid ≡ before ++ words → now ≡ (if is_ok r then mid ++ end else mid) → end ≡ 10 ∷ [] → OnOk r (now ≡ before ++ ended words)
+line_ended (Ok x) before mid now words end is made one =
+    made ∙ (ap (λ bytes. bytes ++ end) is ∙ (ap (λ bytes. (before ++ words) ++ bytes) one ∙ append_assoc before words (10 ∷ [])))
+line_ended (Err e) before mid now words end is made one = tt
 
 -- an error that a `?` hands on
 pub handed_on : {T E : Type 0} (r : Result T E) (Q P : E → Type 0) → IsErr r × IsErrAnd r Q → ((e : E) → Q e → P e) → IfErr r P
@@ -152,15 +159,17 @@ module _ {X : Type 0} (f : X → List ℕ) (xs : List X) (i : ℕ) where
   pub gathers_all : (old new : PageView) → length xs ≤ i → Gathers old new (flat_map f (take i xs)) → Gathers old new (flat_map f xs)
   gathers_all old new over g = subst (λ (ys : List X). Gathers old new (flat_map f ys)) (take_all i xs over) g
 
--- what stands at a place of a list with its places
-pub enumerated : {X : Type 0} (xs : List X) (i : ℕ) (x : X) → i < length xs → slice_get xs i ≡ Some x → slice_get (enumerate_from 0 xs) i ≡ Some (i, x)
-enumerated {X = X} xs i x inside at =
-    let within : i < length (enumerate_from 0 xs) = omega (arith, inside, length-enumerate_from 0 xs) in
-    slice_get-get_or (enumerate_from 0 xs) i (0, x) within
+-- what stands at a place of a list with its places, of which the first is n
+pub enumerated_from : {X : Type 0} (n : ℕ) (xs : List X) (i : ℕ) (x : X) → i < length xs → slice_get xs i ≡ Some x → slice_get (enumerate_from n xs) i ≡ Some (n + i, x)
+enumerated_from {X = X} n xs i x inside at =
+    let within : i < length (enumerate_from n xs) = omega (arith, inside, length-enumerate_from n xs) in
+    slice_get-get_or (enumerate_from n xs) i (0, x) within
     ∙ ap (λ (p : ℕ × X). Some p)
-    (get_or-enumerate_from 0 xs i (0, x) inside
-    ∙ (ap (λ (n : ℕ). (n, get_or xs i x)) (zero-add i)
-    ∙ ap (λ (y : X). (i, y)) (sym (at_place xs i x inside at))))
+    (get_or-enumerate_from n xs i (0, x) inside
+    ∙ ap (λ (y : X). (n + i, y)) (sym (at_place xs i x inside at)))
+
+pub enumerated : {X : Type 0} (xs : List X) (i : ℕ) (x : X) → i < length xs → slice_get xs i ≡ Some x → slice_get (enumerate_from 0 xs) i ≡ Some (i, x)
+enumerated {X = X} xs i x inside at = enumerated_from 0 xs i x inside at ∙ ap (λ (n : ℕ). Some (n, x)) (zero-add i)
 
 -- the words of a line at a place
 pub line_at : (lines : List (List ℕ)) (i : ℕ) → i < length lines → slice_get lines i ≡ Some (get_or lines i [])

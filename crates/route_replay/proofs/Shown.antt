@@ -5,11 +5,17 @@ use Rattle.std.proofs.lemmas.List.{length-map}
 use Rattle.std.proofs.lemmas.List.FromFn.{length-enumerate_from}
 use Rattle.topology.specs.Net.{Net, neighbours}
 use Rattle.path_vector.specs.Rules.{Rules}
+use Rattle.chronicle.specs.declared.events.Event.{Event}
+use Rattle.chronicle.specs.Control.{mailed}
 use Rattle.chronicle.specs.Facts.{Chronicle}
 use Rattle.chronicle.specs.Logs.{log_of}
+use Rattle.chronicle.specs.Publications.{Publication}
+use Rattle.chronicle.specs.Run.{run}
 use Rattle.route_replay.specs.RibText.{rib_lines}
 use Rattle.route_replay.specs.LogText.{log_lines}
 use Rattle.route_replay.specs.CutText.{cut_lines}
+use Rattle.route_replay.specs.ControlText.{mail_lines}
+use Rattle.route_replay.specs.TablesText.{table_lines}
 use Rattle.route_replay.proofs.Logs.{length-steps}
 
 -- a route to each prefix
@@ -26,6 +32,15 @@ length-log_lines rules net past node = length-map _ _ ∙ length-steps (log_of n
 pub length-cut_lines : (net : Net) (past : Chronicle) (e node : ℕ) → length (cut_lines net past e node) ≡ suc (length (neighbours net node))
 unfolding cut_lines
 length-cut_lines net past e node = ap suc (length-map _ _)
+
+-- one for each control message
+pub length-mail_lines : (rules : Rules) (net : Net) (events : List Event) → length (mail_lines rules net events) ≡ length (mailed (run rules net events))
+unfolding mail_lines
+length-mail_lines rules net events = length-map _ _ ∙ length-enumerate_from 1 (mailed (run rules net events))
+
+-- one for each prefix
+pub length-table_lines : (net : Net) (u e : ℕ) (t : Publication) → length (table_lines net u e (Some t)) ≡ length net.prefixes
+length-table_lines net u e t = length-map _ _ ∙ length-enumerate_from 0 net.prefixes
 
 pub some_at : {X : Type 0} (xs : List X) (i : ℕ) → i < length xs → IsSome (slice_get xs i)
 some_at [] i inside = absurd (omega (arith, inside))

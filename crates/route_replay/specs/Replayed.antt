@@ -6,17 +6,21 @@ use Rattle.topology.specs.declared.status.Status.{Status}
 use Rattle.topology.specs.declared.status.Status.TheVariants.{Done, Usage, NoMemory, BadSchedule, Limit, ReadFault, WriteFault}
 use Rattle.topology.specs.declared.status.BadKind.{BadKind}
 use Rattle.topology.specs.declared.status.LimitKind.{LimitKind}
-use Rattle.topology.specs.declared.status.LimitKind.TheVariants.{Bytes, Events, Epochs, Triggers, Entries, Updates, Control}
+use Rattle.topology.specs.declared.status.LimitKind.TheVariants.{Bytes, Events, Epochs, Triggers, Entries, Updates, Control, Packets}
 use Rattle.route_io.specs.Causes.{RoseIf, AppendsFront}
 use Rattle.route_io.specs.Views.{SourceView, SinkView}
 use Rattle.path_vector.specs.GaoRexford.{gao_rexford}
+use Rattle.chronicle.specs.Facts.{Chronicle}
+use Rattle.chronicle.specs.Run.{run}
+use Rattle.agreement_laws.specs.Agreed.{IsAgreed}
+use Rattle.walk_laws.specs.Walked.{IsWalked}
 use Rattle.node_core.specs.NodeLimits.{Reached}
 use Rattle.schedule_file.specs.declared.lines.Line.{Line}
 use Rattle.schedule_file.specs.Spelling.{words_by_line}
 use Rattle.schedule_file.specs.Grammar.{Reads, net_of, directives_of}
 use Rattle.schedule_file.specs.Refusals.{FirstBad}
 use Rattle.route_replay.specs.declared.runner.TheConstants.{MAX_BYTES}
-use Rattle.route_replay.specs.Text.{text, stop}
+use Rattle.route_replay.specs.Text.{text, stop, events_of}
 
 -- what the lines of a file come to: the text of their run, up to the directive that a limit stops,
 -- and that limit, where one does
@@ -32,6 +36,10 @@ pub record Comes (bytes : List ℕ) : Type 0 where
   pub stopped : Option Reached
   pub is_run : IsRun bytes lines written stopped
 
+-- the run behind the text of the lines: that of all their events, up to the directive that a limit stops
+abbrev pub behind : List Line → Chronicle
+behind lines = run gao_rexford (net_of lines) (events_of gao_rexford (net_of lines) [] (directives_of lines))
+
 -- nothing was written, or a front of the text of the file
 abbrev pub WroteFront : List ℕ → Option (List ℕ) → Option (List ℕ) → Type 0
 WroteFront bytes held held' =
@@ -46,6 +54,7 @@ is_of_run Triggers = true
 is_of_run Entries = true
 is_of_run Updates = true
 is_of_run Control = true
+is_of_run Packets = true
 
 -- the statuses before which nothing is run
 abbrev pub ends_early : Status → Bool
@@ -84,6 +93,14 @@ pub record Replayed (source source' : SourceView) (sink sink' : SinkView) (statu
   -- Done: no limit stopped the run of the file, and its whole text was written
   pub done : status ≡ Done → (bytes : List ℕ) → source.left ≡ Some bytes
       → (run : Comes bytes) × (run.stopped ≡ None) × Appends sink.held sink'.held run.written
+  -- in the run behind the text all tables of one epoch come from one chosen value, and every published path continues
+  -- as the next node's published path of that epoch, if it has one
+  pub agreed : ends_read status ≡ true → (bytes : List ℕ) → source.left ≡ Some bytes
+      → (run : Comes bytes) → IsAgreed gao_rexford (net_of run.lines) (behind run.lines)
+  -- in that run no packet visits a node twice on one epoch's stable tables, and none makes more transient moves than the
+  -- hop limit; after that many its next hop that is not idle ends it
+  pub walked : ends_read status ≡ true → (bytes : List ℕ) → source.left ≡ Some bytes
+      → (run : Comes bytes) → IsWalked gao_rexford (net_of run.lines) (behind run.lines)
   -- BadSchedule: the line is the first outside the grammar, and this is what is wrong with it
   pub bad_schedule : (line : ℕ) (kind : BadKind) → status ≡ BadSchedule line kind
       → (bytes : List ℕ) → source.left ≡ Some bytes → FirstBad bytes line kind

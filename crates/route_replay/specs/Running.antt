@@ -7,6 +7,7 @@ use Rattle.route_io.specs.Views.{SinkView}
 use Rattle.topology.specs.declared.status.LimitKind.{LimitKind}
 use Rattle.topology.specs.Lists.{Begins}
 use Rattle.topology.specs.Net.{Net}
+use Rattle.chronicle.specs.declared.events.Event.TheVariants as event
 use Rattle.world_core.specs.Fits.{fits}
 use Rattle.node_core.specs.NodeLimits.{Reached}
 use Rattle.world_core.specs.View.{WorldView}
@@ -24,7 +25,12 @@ abbrev pub Fitting : Net → Task → Type 0
 Fitting net (task.Event e) = IsTrue (fits net e)
 Fitting net (task.Deliveries times) = Unit {0}
 Fitting net (task.Show view) = Unit {0}
+Fitting net (task.ControlMessages times) = Unit {0}
 Fitting net (task.ShowClosure epoch) = Unit {0}
+Fitting net task.ShowControl = Unit {0}
+Fitting net (task.ShowTables epoch) = Unit {0}
+Fitting net (task.Hops packet times) = IsTrue (fits net (event.Hop packet))
+Fitting net (task.ShowWalk packet) = Unit {0}
 
 -- so is each that the lines ask for
 abbrev pub AllFitting : Net → List Numbered → Type 0

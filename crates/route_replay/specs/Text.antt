@@ -1,27 +1,30 @@
 -- The text of a run: for each directive its lines, read on the chronicle at its turn.
-use Rattle.std.specs.Prelude.{ℕ, zero, suc, Option, Some, None, List, [], ◌∷◌, ◌++◌, codes}
+use Rattle.std.specs.Prelude.{ℕ, zero, suc, Bool, true, false, is_some, Option, Some, None, List, [], ◌∷◌, ◌++◌, codes, if◌then◌else◌}
 use Rattle.std.specs.Fmt.{decimal}
 use Rattle.topology.specs.declared.status.Reason.{Reason}
 use Rattle.topology.specs.Net.{Net}
 use Rattle.path_vector.specs.Rules.{Rules}
 use Rattle.chronicle.specs.declared.events.Event.{Event}
 use Rattle.chronicle.specs.declared.events.Event.TheVariants as event
-use Rattle.chronicle.specs.Facts.{Chronicle}
 use Rattle.chronicle.specs.Run.{step, run}
 use Rattle.chronicle.specs.Steps.{Step, Idle, Goes}
-use Rattle.chronicle.specs.Deliveries.{next_delivery}
+use Rattle.chronicle.specs.Deliveries.{next_delivery, next_mail}
+use Rattle.chronicle.specs.Walks.{ending}
 use Rattle.node_core.specs.NodeLimits.{Reached}
 use Rattle.world_core.specs.Limits.{limit_of}
 use Rattle.schedule_file.specs.declared.lines.Directive.{Directive}
-use Rattle.schedule_file.specs.declared.lines.Directive.TheVariants.{Originate, Withdraw, Prefer, Deliver, Fail, Restore, Notice, OpenSession, Snap, Crash, Restart, Drain, ShowRib, ShowLog, ShowCut, ShowClosure}
+use Rattle.schedule_file.specs.declared.lines.Directive.TheVariants.{Originate, Withdraw, Prefer, Deliver, Fail, Restore, Notice, OpenSession, Snap, Propose, Control, Crash, Restart, Drain, ControlAll, ShowRib, ShowLog, ShowControl, ShowCut, ShowClosure, ShowTables, Inject, Hop, ShowWalk}
 use Rattle.schedule_file.specs.declared.lines.Numbered.{Numbered}
 use Rattle.route_replay.specs.declared.tasks.Task.{Task}
 use Rattle.route_replay.specs.declared.tasks.Task.TheVariants as task
 use Rattle.route_replay.specs.declared.views.View.TheVariants.{Rib, Log, Cut}
 use Rattle.route_replay.specs.ClosureText.{closure_text}
+use Rattle.route_replay.specs.ControlText.{control_text}
 use Rattle.route_replay.specs.Lines.{ended}
 use Rattle.route_replay.specs.ReasonText.{reason_words}
+use Rattle.route_replay.specs.TablesText.{tables_text}
 use Rattle.route_replay.specs.Views.{view_text}
+use Rattle.route_replay.specs.WalkText.{walk_text}
 
 -- the line of an event that did nothing
 abbrev pub idle_line : ℕ → Reason → List ℕ
@@ -60,6 +63,33 @@ drained rules net (suc n) events =
       | Some way ↦ then_on (with_event rules net events (event.Deliver way.from way.to)) (drained rules net n)
     ]
 
+-- at most n control messages, each the next one when its turn comes
+abbrev pub controlled : Rules → Net → ℕ → List Event → Course
+controlled rules net zero events = Leads events
+controlled rules net (suc n) events =
+    elim (next_mail rules net events) [
+      | None ↦ Leads events
+      | Some number ↦ then_on (with_event rules net events (event.Control number)) (controlled rules net n)
+    ]
+
+-- the event did nothing
+abbrev pub is_idle : Step → Bool
+is_idle (Idle reason) = true
+is_idle (Goes now) = false
+
+-- at most n hops of packet k: none once its walk has ended, and none after one that did nothing
+abbrev pub hopped : Rules → Net → ℕ → ℕ → List Event → Course
+hopped rules net k zero events = Leads events
+hopped rules net k (suc n) events =
+    if is_some (ending k (run rules net events)) then Leads events
+    else then_on (with_event rules net events (event.Hop k))
+    (λ later. if is_idle (step rules net (run rules net events) (event.Hop k)) then Leads later else hopped rules net k n later)
+
+-- one hop is an event of its own line
+abbrev pub hops_of : ℕ → Option ℕ → Task
+hops_of k None = task.Event (event.Hop k)
+hops_of k (Some times) = task.Hops k times
+
 -- what a directive asks for
 abbrev pub task_of : Directive → Task
 task_of (Originate node prefix) = task.Event (event.Originate node prefix)
@@ -71,31 +101,50 @@ task_of (Restore a b) = task.Event (event.Restore a b)
 task_of (Notice node nbr) = task.Event (event.Notice node nbr)
 task_of (OpenSession node nbr) = task.Event (event.OpenSession node nbr)
 task_of (Snap node) = task.Event (event.Snap node)
+task_of (Propose node epoch) = task.Event (event.Propose node epoch)
+task_of (Control number) = task.Event (event.Control number)
 task_of (Crash node) = task.Event (event.Crash node)
 task_of (Restart node) = task.Event (event.Restart node)
 task_of (Drain times) = task.Deliveries times
+task_of (ControlAll times) = task.ControlMessages times
 task_of ShowRib = task.Show Rib
 task_of ShowLog = task.Show Log
 task_of (ShowCut epoch) = task.Show (Cut epoch)
 task_of (ShowClosure epoch) = task.ShowClosure epoch
+task_of ShowControl = task.ShowControl
+task_of (ShowTables epoch) = task.ShowTables epoch
+task_of (Inject packet node prefix) = task.Event (event.Inject packet node prefix)
+task_of (Hop packet times) = hops_of packet times
+task_of (ShowWalk packet) = task.ShowWalk packet
 
 -- where a task leads, after these events
 abbrev pub course : Rules → Net → List Event → Task → Course
 course rules net events (task.Event e) = with_event rules net events e
 course rules net events (task.Deliveries times) = drained rules net times events
 course rules net events (task.Show view) = Leads events
+course rules net events (task.ControlMessages times) = controlled rules net times events
 course rules net events (task.ShowClosure epoch) = Leads events
+course rules net events task.ShowControl = Leads events
+course rules net events (task.ShowTables epoch) = Leads events
+course rules net events (task.Hops packet times) = hopped rules net packet times events
+course rules net events (task.ShowWalk packet) = Leads events
 
--- what is written for a task of this line: an event's idle line, or what is shown; deliveries write nothing
-abbrev pub said_for : Rules → Net → Chronicle → ℕ → Task → List ℕ
-said_for rules net past line (task.Event e) = step_text line (step rules net past e)
-said_for rules net past line (task.Deliveries times) = []
-said_for rules net past line (task.Show view) = view_text rules net past view
-said_for rules net past line (task.ShowClosure epoch) = closure_text rules net past epoch
+-- what is written for a task of this line: an event's idle line, or what is shown; deliveries and hops by the number
+-- write nothing
+abbrev pub said_for : Rules → Net → List Event → ℕ → Task → List ℕ
+said_for rules net events line (task.Event e) = step_text line (step rules net (run rules net events) e)
+said_for rules net events line (task.Deliveries times) = []
+said_for rules net events line (task.Show view) = view_text rules net (run rules net events) view
+said_for rules net events line (task.ControlMessages times) = []
+said_for rules net events line (task.ShowClosure epoch) = closure_text rules net (run rules net events) epoch
+said_for rules net events line task.ShowControl = control_text rules net events
+said_for rules net events line (task.ShowTables epoch) = tables_text net (run rules net events) epoch
+said_for rules net events line (task.Hops packet times) = []
+said_for rules net events line (task.ShowWalk packet) = walk_text packet (run rules net events)
 
 -- the lines of a directive, read on the run at its turn
 abbrev pub said : Rules → Net → List Event → Numbered → List ℕ
-said rules net events d = said_for rules net (run rules net events) d.line (task_of d.directive)
+said rules net events d = said_for rules net events d.line (task_of d.directive)
 
 -- what is said, and then the text of the rest, where no limit stopped it
 abbrev pub text_by : List ℕ → Course → (List Event → List ℕ) → List ℕ
@@ -107,6 +156,17 @@ abbrev pub text : Rules → Net → List Event → List Numbered → List ℕ
 text rules net events [] = []
 text rules net events (d ∷ ds) =
     text_by (said rules net events d) (course rules net events (task_of d.directive)) (λ later. text rules net later ds)
+
+-- all events on the way: none of a directive that a limit stops
+abbrev pub events_by : List Event → Course → (List Event → List Event) → List Event
+events_by before (Leads events) rest = rest events
+events_by before (Stops at) rest = before
+
+-- the events of the directives, one after the other, up to the one that a limit stops
+abbrev pub events_of : Rules → Net → List Event → List Numbered → List Event
+events_of rules net events [] = events
+events_of rules net events (d ∷ ds) =
+    events_by events (course rules net events (task_of d.directive)) (λ later. events_of rules net later ds)
 
 -- the limit that stopped the directive, else what stops the rest
 abbrev pub stop_by : Course → (List Event → Option Reached) → Option Reached

@@ -1,23 +1,31 @@
 //! What each directive does and writes.
-ghost use Rattle.std.specs.Prelude.{◌≡◌, ◌++◌, None, IsTrue, IfOk, IfErr, OnOk};
+ghost use Rattle.std.specs.Prelude.{◌≡◌, ◌++◌, None, is_some, IsTrue, IfOk, IfErr, OnOk};
 ghost use Rattle.std.specs.String.{string_bytes};
+ghost use Rattle.chronicle.specs.declared.events.Event.TheVariants as Happens;
 ghost use Rattle.chronicle.specs.Facts.{Chronicle};
+ghost use Rattle.chronicle.specs.Walks.{ending};
 ghost use Rattle.chronicle.specs.Run.{run, step};
 ghost use Rattle.chronicle.specs.Steps.{Step};
 ghost use Rattle.world_core.specs.Effects.{Tells};
 ghost use Rattle.world_core.specs.Fits.{fits};
 ghost use Rattle.route_replay.specs.ClosureText.{closure_text};
-ghost use Rattle.route_replay.specs.Text.{idle_line, task_of, said, step_text, course, drained, with_event};
+ghost use Rattle.route_replay.specs.ControlText.{control_text};
+ghost use Rattle.route_replay.specs.TablesText.{tables_text};
+ghost use Rattle.route_replay.specs.Text.{idle_line, task_of, said, step_text, course, controlled, drained, hopped, is_idle, with_event};
 ghost use Rattle.route_replay.specs.Views.{past_of, view_text};
+ghost use Rattle.route_replay.specs.WalkText.{walk_text};
 ghost use Rattle.route_replay.specs.Running.{Fitting, Advances, StopsIn, lines_by, limit_by, Runs};
 
 use crate::closure_text::closure_line;
+use crate::control_text::all_mails;
 use crate::ends::RunEnd;
 use crate::numbers::push_number;
 use crate::page::Page;
 use crate::reason_text::reason_words;
+use crate::tables_text::{all_tables, published_in};
 use crate::tasks::{Task, task_of};
 use crate::views::{View, all_nodes};
+use crate::walk_text::walk_words;
 use path_vector::Policy;
 use route_io::Sink;
 use schedule_file::Numbered;
@@ -101,7 +109,7 @@ fn act<P: Policy + Copy, O: Sink>(
 }
 
 // The world after at most so many deliveries, each the next one when its turn comes.
-fn drain<P: Policy + Copy>(world: World<P>, times: u32) -> Result<World<P>, Stop>
+pub(crate) fn drain<P: Policy + Copy>(world: World<P>, times: u32) -> Result<World<P>, Stop>
     ensures world { IfOk result (λ next. Advances world next
         (drained (P.rules world.policy) world.net times world.events)) }
     ensures stopped { IfErr result (StopsIn
@@ -115,6 +123,70 @@ fn drain<P: Policy + Copy>(world: World<P>, times: u32) -> Result<World<P>, Stop
         let (from, to) = way;
         let (next, _outcome) = world.step(Event::Deliver { from, to })?;
         world = next;
+    }
+    Ok(world)
+}
+
+// The world after at most so many control messages, each the next one when its turn comes.
+pub(crate) fn control_all<P: Policy + Copy>(world: World<P>, times: u32) -> Result<World<P>, Stop>
+    ensures world { IfOk result (λ next. Advances world next
+        (controlled (P.rules world.policy) world.net times world.events)) }
+    ensures stopped { IfErr result (StopsIn
+        (controlled (P.rules world.policy) world.net times world.events)) }
+{
+    let mut world = world;
+    for _ in 0..times {
+        let Some(number) = world.next_mail() else {
+            return Ok(world);
+        };
+        let (next, _outcome) = world.step(Event::Control { number })?;
+        world = next;
+    }
+    Ok(world)
+}
+
+// Whether the event did nothing.
+fn is_idle(outcome: &Outcome) -> bool
+    ensures { (past : Chronicle) (step : Step) → Tells past step outcome.now → result ≡ is_idle step }
+{
+    match outcome {
+        Outcome::Did(_) => false,
+        Outcome::Idle(_) => true,
+    }
+}
+
+// Whether the walk of the packet has ended.
+fn has_ended<P: Policy + Copy>(world: &World<P>, packet: u32) -> bool
+    ensures { result ≡ is_some (ending packet (past_of (P.rules world.now.policy) world.now)) }
+{
+    match world.walk(packet) {
+        Some((_, end)) => end.is_some(),
+        None => false,
+    }
+}
+
+// The world after at most so many hops of the packet: up to one that ends its walk, or that does nothing.
+pub(crate) fn hop<P: Policy + Copy>(
+    world: World<P>,
+    packet: u32,
+    times: u32,
+) -> Result<World<P>, Stop>
+    requires { IsTrue (fits world.net (Happens.Hop packet)) }
+    ensures world { IfOk result (λ next. Advances world next
+        (hopped (P.rules world.policy) world.net packet times world.events)) }
+    ensures stopped { IfErr result (StopsIn
+        (hopped (P.rules world.policy) world.net packet times world.events)) }
+{
+    let mut world = world;
+    for _ in 0..times {
+        if has_ended(&world, packet) {
+            return Ok(world);
+        }
+        let (next, outcome) = world.step(Event::Hop { packet })?;
+        world = next;
+        if is_idle(&outcome) {
+            return Ok(world);
+        }
     }
     Ok(world)
 }
@@ -153,6 +225,54 @@ fn show_closure<P: Policy + Copy, O: Sink>(
     Ok(())
 }
 
+// Writes the control messages.
+fn show_control<P: Policy + Copy, O: Sink>(
+    alloc: Global,
+    world: &World<P>,
+    sink: &mut O,
+) -> Result<(), RunEnd>
+    ensures { Runs (O.seen sink.old) (O.seen sink.new)
+        (control_text (P.rules world.now.policy) world.now.net world.now.events) None result }
+{
+    let mut page = Page::new(alloc, sink);
+    all_mails(&mut page, world)?;
+    page.flush()?;
+    Ok(())
+}
+
+// Writes the tables of an epoch.
+fn show_tables<P: Policy + Copy, O: Sink>(
+    alloc: Global,
+    world: &World<P>,
+    epoch: Epoch,
+    sink: &mut O,
+) -> Result<(), RunEnd>
+    ensures { Runs (O.seen sink.old) (O.seen sink.new)
+        (tables_text world.now.net (past_of (P.rules world.now.policy) world.now) epoch) None result }
+{
+    let publications = published_in(alloc, world, epoch)?;
+    let mut page = Page::new(alloc, sink);
+    all_tables(&mut page, world, epoch, &publications)?;
+    page.flush()?;
+    Ok(())
+}
+
+// Writes the walk of a packet.
+fn show_walk<P: Policy + Copy, O: Sink>(
+    alloc: Global,
+    world: &World<P>,
+    packet: u32,
+    sink: &mut O,
+) -> Result<(), RunEnd>
+    ensures { Runs (O.seen sink.old) (O.seen sink.new)
+        (walk_text packet (past_of (P.rules world.now.policy) world.now)) None result }
+{
+    let mut page = Page::new(alloc, sink);
+    walk_words(&mut page, world, packet)?;
+    page.flush()?;
+    Ok(())
+}
+
 /// The world after a directive, whose lines are written.
 pub fn advance<P: Policy + Copy, O: Sink>(
     alloc: Global,
@@ -175,8 +295,22 @@ pub fn advance<P: Policy + Copy, O: Sink>(
             show(alloc, &world, view, sink)?;
             Ok(world)
         }
+        Task::ControlMessages(times) => Ok(control_all(world, times)?),
         Task::ShowClosure(epoch) => {
             show_closure(alloc, &world, epoch, sink)?;
+            Ok(world)
+        }
+        Task::ShowControl => {
+            show_control(alloc, &world, sink)?;
+            Ok(world)
+        }
+        Task::ShowTables(epoch) => {
+            show_tables(alloc, &world, epoch, sink)?;
+            Ok(world)
+        }
+        Task::Hops { packet, times } => Ok(hop(world, packet, times)?),
+        Task::ShowWalk(packet) => {
+            show_walk(alloc, &world, packet, sink)?;
             Ok(world)
         }
     }

@@ -2,9 +2,14 @@
 #![tactic(auto)]
 
 pub mod closure_text;
+pub mod control_text;
 pub mod cut_text;
 pub mod directives;
+pub mod draws;
 pub mod ends;
+pub mod load_network;
+pub mod load_schedule;
+pub mod loading;
 pub mod log_text;
 mod numbers;
 pub mod page;
@@ -12,8 +17,12 @@ pub mod plain;
 pub mod reason_text;
 pub mod rib_text;
 pub mod runner;
+pub mod summary;
+pub mod tables_text;
 pub mod tasks;
 pub mod views;
+pub mod walk_text;
 
+pub use loading::load;
 pub use plain::replay_plain;
 pub use runner::{MAX_BYTES, replay};

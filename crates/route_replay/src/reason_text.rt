@@ -1,11 +1,20 @@
 //! The text of reasons.
 ghost use Rattle.std.specs.Prelude.{◌≡◌, ◌++◌, OnOk};
 ghost use Rattle.std.specs.String.{string_bytes};
-ghost use Rattle.route_replay.specs.ReasonText.{reason_words};
+ghost use Rattle.route_replay.specs.ReasonText.{ballot_text, reason_words};
 
 use crate::numbers::{push_node, push_number};
 use std::alloc::AllocError;
-use topology::Reason;
+use topology::{Ballot, Reason};
+
+/// Adds a ballot.
+pub(crate) fn ballot_words(out: &mut String, ballot: Ballot) -> Result<(), AllocError>
+    ensures { OnOk result (string_bytes out.new ≡ string_bytes out.old ++ ballot_text ballot) }
+{
+    push_number(out, ballot.round)?;
+    out.push('/')?;
+    push_node(out, ballot.node)
+}
 
 /// Adds the words of a reason.
 pub fn reason_words(out: &mut String, reason: Reason) -> Result<(), AllocError>
@@ -32,12 +41,13 @@ pub fn reason_words(out: &mut String, reason: Reason) -> Result<(), AllocError>
         Reason::Duplicate => out.push_str("duplicate"),
         Reason::Promised(ballot) => {
             out.push_str("promised ")?;
-            push_number(out, ballot.round)?;
-            out.push('/')?;
-            push_node(out, ballot.node)
+            ballot_words(out, ballot)
         }
         Reason::StaleBallot => out.push_str("stale ballot"),
         Reason::NoRound(_) => out.push_str("no round"),
         Reason::NotCrashed => out.push_str("not crashed"),
+        Reason::PacketKnown => out.push_str("packet known"),
+        Reason::NoSuchPacket => out.push_str("no such packet"),
+        Reason::PacketEnded => out.push_str("packet ended"),
     }
 }

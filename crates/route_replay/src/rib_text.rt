@@ -104,7 +104,7 @@ fn node_words(out: &mut String, node: NodeId) -> Result<(), AllocError>
     push_node(out, node)
 }
 
-fn path_words(out: &mut String, nodes: &[NodeId]) -> Result<(), AllocError>
+pub(crate) fn path_words(out: &mut String, nodes: &[NodeId]) -> Result<(), AllocError>
     ensures { OnOk result (string_bytes out.new ≡ string_bytes out.old ++ nodes_text nodes.now) }
 {
     for node in nodes {

@@ -1,6 +1,6 @@
 //! What directives ask for.
 ghost use Rattle.std.specs.Prelude.{◌≡◌};
-ghost use Rattle.route_replay.specs.Text.{task_of};
+ghost use Rattle.route_replay.specs.Text.{hops_of, task_of};
 
 use crate::views::View;
 use schedule_file::Directive;
@@ -14,8 +14,28 @@ pub enum Task {
     /// At most so many deliveries, each the next one when its turn comes.
     Deliveries(u32),
     Show(View),
+    /// At most so many control messages, each the next one when its turn comes.
+    ControlMessages(u32),
     /// The value of the reports of an epoch.
     ShowClosure(Epoch),
+    /// The control messages.
+    ShowControl,
+    /// The tables of an epoch.
+    ShowTables(Epoch),
+    /// At most so many hops of a packet, up to one that does nothing, or that ends its walk.
+    Hops { packet: u32, times: u32 },
+    /// The walk of a packet.
+    ShowWalk(u32),
+}
+
+// One hop is an event of its own line.
+fn hops_of(packet: u32, times: Option<u32>) -> Task
+    ensures { result ≡ hops_of packet times }
+{
+    match times {
+        None => Task::Event(Event::Hop { packet }),
+        Some(times) => Task::Hops { packet, times },
+    }
 }
 
 /// The task of a directive.
@@ -51,12 +71,31 @@ pub fn task_of(directive: &Directive) -> Task
             nbr: *nbr,
         }),
         Directive::Snap { node } => Task::Event(Event::Snap { node: *node }),
+        Directive::Propose { node, epoch } => Task::Event(Event::Propose {
+            node: *node,
+            epoch: *epoch,
+        }),
+        Directive::Control { number } => Task::Event(Event::Control { number: *number }),
         Directive::Crash { node } => Task::Event(Event::Crash { node: *node }),
         Directive::Restart { node } => Task::Event(Event::Restart { node: *node }),
         Directive::Drain { times } => Task::Deliveries(*times),
+        Directive::ControlAll { times } => Task::ControlMessages(*times),
         Directive::ShowRib => Task::Show(View::Rib),
         Directive::ShowLog => Task::Show(View::Log),
         Directive::ShowCut(epoch) => Task::Show(View::Cut(*epoch)),
         Directive::ShowClosure(epoch) => Task::ShowClosure(*epoch),
+        Directive::ShowControl => Task::ShowControl,
+        Directive::ShowTables(epoch) => Task::ShowTables(*epoch),
+        Directive::Inject {
+            packet,
+            node,
+            prefix,
+        } => Task::Event(Event::Inject {
+            packet: *packet,
+            node: *node,
+            prefix: *prefix,
+        }),
+        Directive::Hop { packet, times } => hops_of(*packet, *times),
+        Directive::ShowWalk(packet) => Task::ShowWalk(*packet),
     }
 }

@@ -1,5 +1,14 @@
-use Rattle.consensus_routing.proofs.Ending.{of_replay}
+use Rattle.std.proofs.Common.{◌≡◌, subst, true≢false, sym, ap, ◌∙◌}
+use Rattle.route_replay.specs.Loaded.{ends_load}
+use Rattle.consensus_routing.specs.Forms.{IsForm}
+use Rattle.consensus_routing.proofs.Ending.{of_none, of_replay, of_load}
 use Rattle.consensus_routing.proofs.run.outcome.Goals as goal
 
-pub returns-clause-headline : goal.returns-clause-headline
-returns-clause-headline g c = of_replay _ _ _ _ _ _ (c.is_replay.ensures.0 c.if-not-is_replay.false) c.replay.ensures
+pub returns-in_default-clause-headline : goal.returns-in_default-clause-headline
+returns-in_default-clause-headline g c = of_none _ _ _ (rw c.in_default.is at c.form_of.ensures.none)
+
+pub returns-in-Replay-clause-headline : goal.returns-in-Replay-clause-headline
+returns-in-Replay-clause-headline g c = of_replay _ _ _ _ _ _ (rw c.in-Replay.is at c.in-Some.ensures.some) c.replay.ensures
+
+pub returns-in-Load-clause-headline : goal.returns-in-Load-clause-headline
+returns-in-Load-clause-headline g c = of_load _ _ _ _ _ _ (rw c.in-Load.is at c.in-Some.ensures.some) c.load.ensures

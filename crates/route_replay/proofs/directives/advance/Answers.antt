@@ -57,3 +57,71 @@ returns-in_ok-show_closure-in-ShowClosure-clause-runs g c =
     let world = c.args.world in
     task_runs (g.P.Policy.rules world.policy) world.net world.events c.args.numbered.now.line _ _ _ _ _ (sym c.task_of.ensures ∙ c.in-ShowClosure.is)
     (runs_answer _ _ _ _ c.in_ok-show_closure-in-ShowClosure.field-0 world c.in_ok-show_closure-in-ShowClosure.ensures)
+
+pub returns-in_err-control_all-in-ControlMessages-clause-runs : goal.returns-in_err-control_all-in-ControlMessages-clause-runs
+returns-in_err-control_all-in-ControlMessages-clause-runs g c =
+    let world = c.args.world in
+    task_runs (g.P.Policy.rules world.policy) world.net world.events c.args.numbered.now.line _ _ _ _ _ (sym c.task_of.ensures ∙ c.in-ControlMessages.is)
+    (handed_runs c.from_residual-in_err-control_all-in-ControlMessages.result _ _ _ _ _ c.from_residual-in_err-control_all-in-ControlMessages.ensures (λ why same.
+    runs_stop _ [] _ c.in_err-control_all-in-ControlMessages.field-0.0 why same c.in_err-control_all-in-ControlMessages.ensures.stopped))
+
+pub returns-in_ok-control_all-in-ControlMessages-clause-runs : goal.returns-in_ok-control_all-in-ControlMessages-clause-runs
+returns-in_ok-control_all-in-ControlMessages-clause-runs g c =
+    let world = c.args.world in
+    task_runs (g.P.Policy.rules world.policy) world.net world.events c.args.numbered.now.line _ _ _ _ _ (sym c.task_of.ensures ∙ c.in-ControlMessages.is)
+    (runs_led _ _ c.in_ok-control_all-in-ControlMessages.field-0.events _ c.in_ok-control_all-in-ControlMessages.ensures.world.leads)
+
+pub returns-in_err-show_control-in-ShowControl-clause-runs : goal.returns-in_err-show_control-in-ShowControl-clause-runs
+returns-in_err-show_control-in-ShowControl-clause-runs g c =
+    let world = c.args.world in
+    task_runs (g.P.Policy.rules world.policy) world.net world.events c.args.numbered.now.line _ _ _ _ _ (sym c.task_of.ensures ∙ c.in-ShowControl.is)
+    (handed_runs c.from_residual-in_err-show_control-in-ShowControl.result _ _ _ _ _ c.from_residual-in_err-show_control-in-ShowControl.ensures (λ why same.
+    runs_as _ _ _ _ why c.in_err-show_control-in-ShowControl.field-0.0 c.in_err-show_control-in-ShowControl.ensures same))
+
+pub returns-in_ok-show_control-in-ShowControl-clause-runs : goal.returns-in_ok-show_control-in-ShowControl-clause-runs
+returns-in_ok-show_control-in-ShowControl-clause-runs g c =
+    let world = c.args.world in
+    task_runs (g.P.Policy.rules world.policy) world.net world.events c.args.numbered.now.line _ _ _ _ _ (sym c.task_of.ensures ∙ c.in-ShowControl.is)
+    (runs_answer _ _ _ _ c.in_ok-show_control-in-ShowControl.field-0 world c.in_ok-show_control-in-ShowControl.ensures)
+
+pub returns-in_err-show_tables-in-ShowTables-clause-runs : goal.returns-in_err-show_tables-in-ShowTables-clause-runs
+returns-in_err-show_tables-in-ShowTables-clause-runs g c =
+    let world = c.args.world in
+    task_runs (g.P.Policy.rules world.policy) world.net world.events c.args.numbered.now.line _ _ _ _ _ (sym c.task_of.ensures ∙ c.in-ShowTables.is)
+    (handed_runs c.from_residual-in_err-show_tables-in-ShowTables.result _ _ _ _ _ c.from_residual-in_err-show_tables-in-ShowTables.ensures (λ why same.
+    runs_as _ _ _ _ why c.in_err-show_tables-in-ShowTables.field-0.0 c.in_err-show_tables-in-ShowTables.ensures same))
+
+pub returns-in_ok-show_tables-in-ShowTables-clause-runs : goal.returns-in_ok-show_tables-in-ShowTables-clause-runs
+returns-in_ok-show_tables-in-ShowTables-clause-runs g c =
+    let world = c.args.world in
+    task_runs (g.P.Policy.rules world.policy) world.net world.events c.args.numbered.now.line _ _ _ _ _ (sym c.task_of.ensures ∙ c.in-ShowTables.is)
+    (runs_answer _ _ _ _ c.in_ok-show_tables-in-ShowTables.field-0 world c.in_ok-show_tables-in-ShowTables.ensures)
+
+pub hop-requires : goal.hop-requires
+hop-requires g c = subst (Fitting c.args.world.net) (sym c.task_of.ensures ∙ c.in-Hops.is) c.requires
+
+pub returns-in_err-hop-in-Hops-clause-runs : goal.returns-in_err-hop-in-Hops-clause-runs
+returns-in_err-hop-in-Hops-clause-runs g c =
+    let world = c.args.world in
+    task_runs (g.P.Policy.rules world.policy) world.net world.events c.args.numbered.now.line _ _ _ _ _ (sym c.task_of.ensures ∙ c.in-Hops.is)
+    (handed_runs c.from_residual-in_err-hop-in-Hops.result _ _ _ _ _ c.from_residual-in_err-hop-in-Hops.ensures (λ why same.
+    runs_stop _ [] _ c.in_err-hop-in-Hops.field-0.0 why same c.in_err-hop-in-Hops.ensures.stopped))
+
+pub returns-in_ok-hop-in-Hops-clause-runs : goal.returns-in_ok-hop-in-Hops-clause-runs
+returns-in_ok-hop-in-Hops-clause-runs g c =
+    let world = c.args.world in
+    task_runs (g.P.Policy.rules world.policy) world.net world.events c.args.numbered.now.line _ _ _ _ _ (sym c.task_of.ensures ∙ c.in-Hops.is)
+    (runs_led _ _ c.in_ok-hop-in-Hops.field-0.events _ c.in_ok-hop-in-Hops.ensures.world.leads)
+
+pub returns-in_err-show_walk-in-ShowWalk-clause-runs : goal.returns-in_err-show_walk-in-ShowWalk-clause-runs
+returns-in_err-show_walk-in-ShowWalk-clause-runs g c =
+    let world = c.args.world in
+    task_runs (g.P.Policy.rules world.policy) world.net world.events c.args.numbered.now.line _ _ _ _ _ (sym c.task_of.ensures ∙ c.in-ShowWalk.is)
+    (handed_runs c.from_residual-in_err-show_walk-in-ShowWalk.result _ _ _ _ _ c.from_residual-in_err-show_walk-in-ShowWalk.ensures (λ why same.
+    runs_as _ _ _ _ why c.in_err-show_walk-in-ShowWalk.field-0.0 c.in_err-show_walk-in-ShowWalk.ensures same))
+
+pub returns-in_ok-show_walk-in-ShowWalk-clause-runs : goal.returns-in_ok-show_walk-in-ShowWalk-clause-runs
+returns-in_ok-show_walk-in-ShowWalk-clause-runs g c =
+    let world = c.args.world in
+    task_runs (g.P.Policy.rules world.policy) world.net world.events c.args.numbered.now.line _ _ _ _ _ (sym c.task_of.ensures ∙ c.in-ShowWalk.is)
+    (runs_answer _ _ _ _ c.in_ok-show_walk-in-ShowWalk.field-0 world c.in_ok-show_walk-in-ShowWalk.ensures)

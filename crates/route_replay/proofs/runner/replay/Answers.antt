@@ -1,8 +1,11 @@
-use Rattle.std.proofs.Common.{Ok, Err}
+use Rattle.std.proofs.Common.{Ok, Err, [], subst}
+use Rattle.topology.specs.Net.{IsValid}
+use Rattle.path_vector.specs.GaoRexford.{gao_rexford}
 use Rattle.route_replay.specs.declared.ends.RunEnd.TheVariants.{NoMemory, WriteFault, Limit}
-use Rattle.schedule_file.specs.Grammar.{IsFile}
+use Rattle.schedule_file.specs.Grammar.{IsFile, net_of, directives_of}
 use Rattle.schedule_file.specs.Refusals.{FirstBad}
 use Rattle.route_replay.proofs.Ending.{ends_bad, ends_run, known, one_reading_of}
+use Rattle.route_replay.specs.Text.{events_of}
 use Rattle.route_replay.proofs.Fitting.{all_fit}
 use Rattle.route_replay.proofs.runner.replay.Goals as goal
 
@@ -20,27 +23,35 @@ pub returns-in-Ok-run_schedule : goal.returns-in-Ok-run_schedule
 returns-in-Ok-run_schedule g c =
     let bytes = c.in-Ok.bytes.items in
     let file : IsFile bytes c.in-Ok-parse.schedule = rw c.deref.ensures.value at c.in-Ok-parse.ensures.ok in
+    let agreed = c.a_run_is_agreed.ensures gao_rexford (net_of file.0) (events_of gao_rexford (net_of file.0) [] (directives_of file.0)) (subst IsValid file.2 c.nodes-nodes.ensures.valid) in
+    let walked = c.a_run_is_walked.ensures gao_rexford (net_of file.0) (events_of gao_rexford (net_of file.0) [] (directives_of file.0)) (subst IsValid file.2 c.nodes-nodes.ensures.valid) in
     let runs = rw (file.2, file.3) at c.in-Ok-run_schedule.ensures in
-    ends_run _ _ _ _ bytes file.0 (known _ bytes c.in-Ok.ensures.ok) (one_reading_of bytes) c.in-Ok.ensures.within file.1 c.in-Ok.ensures.end (c.in-Ok.ensures.cause.quiet (λ e. cc e)) (Ok c.in-Ok-run_schedule.field-0) runs
+    ends_run _ _ _ _ bytes file.0 (known _ bytes c.in-Ok.ensures.ok) (one_reading_of bytes) c.in-Ok.ensures.within file.1 c.in-Ok.ensures.end (c.in-Ok.ensures.cause.quiet (λ e. cc e)) agreed walked (Ok c.in-Ok-run_schedule.field-0) runs
 
 pub returns-in-Err-NoMemory-run_schedule : goal.returns-in-Err-NoMemory-run_schedule
 returns-in-Err-NoMemory-run_schedule g c =
     let bytes = c.in-Ok.bytes.items in
     let file : IsFile bytes c.in-Ok-parse.schedule = rw c.deref.ensures.value at c.in-Ok-parse.ensures.ok in
+    let agreed = c.a_run_is_agreed.ensures gao_rexford (net_of file.0) (events_of gao_rexford (net_of file.0) [] (directives_of file.0)) (subst IsValid file.2 c.nodes-nodes.ensures.valid) in
+    let walked = c.a_run_is_walked.ensures gao_rexford (net_of file.0) (events_of gao_rexford (net_of file.0) [] (directives_of file.0)) (subst IsValid file.2 c.nodes-nodes.ensures.valid) in
     let runs = rw (file.2, file.3, c.in-Err-NoMemory-run_schedule.field-0-is) at c.in-Err-NoMemory-run_schedule.ensures in
-    ends_run _ _ _ _ bytes file.0 (known _ bytes c.in-Ok.ensures.ok) (one_reading_of bytes) c.in-Ok.ensures.within file.1 c.in-Ok.ensures.end (c.in-Ok.ensures.cause.quiet (λ e. cc e)) (Err NoMemory) runs
+    ends_run _ _ _ _ bytes file.0 (known _ bytes c.in-Ok.ensures.ok) (one_reading_of bytes) c.in-Ok.ensures.within file.1 c.in-Ok.ensures.end (c.in-Ok.ensures.cause.quiet (λ e. cc e)) agreed walked (Err NoMemory) runs
 
 pub returns-in-Err-WriteFault : goal.returns-in-Err-WriteFault
 returns-in-Err-WriteFault g c =
     let bytes = c.in-Ok.bytes.items in
     let file : IsFile bytes c.in-Ok-parse.schedule = rw c.deref.ensures.value at c.in-Ok-parse.ensures.ok in
+    let agreed = c.a_run_is_agreed.ensures gao_rexford (net_of file.0) (events_of gao_rexford (net_of file.0) [] (directives_of file.0)) (subst IsValid file.2 c.nodes-nodes.ensures.valid) in
+    let walked = c.a_run_is_walked.ensures gao_rexford (net_of file.0) (events_of gao_rexford (net_of file.0) [] (directives_of file.0)) (subst IsValid file.2 c.nodes-nodes.ensures.valid) in
     let runs = rw (file.2, file.3, c.in-Err-WriteFault.field-0-is) at c.in-Err-WriteFault.ensures in
-    ends_run _ _ _ _ bytes file.0 (known _ bytes c.in-Ok.ensures.ok) (one_reading_of bytes) c.in-Ok.ensures.within file.1 c.in-Ok.ensures.end (c.in-Ok.ensures.cause.quiet (λ e. cc e)) (Err WriteFault) runs
+    ends_run _ _ _ _ bytes file.0 (known _ bytes c.in-Ok.ensures.ok) (one_reading_of bytes) c.in-Ok.ensures.within file.1 c.in-Ok.ensures.end (c.in-Ok.ensures.cause.quiet (λ e. cc e)) agreed walked (Err WriteFault) runs
 
 pub returns : goal.returns
 returns g c =
     let bytes = c.in-Ok.bytes.items in
     let file : IsFile bytes c.in-Ok-parse.schedule = rw c.deref.ensures.value at c.in-Ok-parse.ensures.ok in
+    let agreed = c.a_run_is_agreed.ensures gao_rexford (net_of file.0) (events_of gao_rexford (net_of file.0) [] (directives_of file.0)) (subst IsValid file.2 c.nodes-nodes.ensures.valid) in
+    let walked = c.a_run_is_walked.ensures gao_rexford (net_of file.0) (events_of gao_rexford (net_of file.0) [] (directives_of file.0)) (subst IsValid file.2 c.nodes-nodes.ensures.valid) in
     let runs = rw (file.2, file.3, c.in-Err-Limit.field-0-is) at c.in-Err-Limit.ensures in
     rw (c.in-Err-Limit.kind-is, c.in-Err-Limit.number-is)
-    (ends_run _ _ _ _ bytes file.0 (known _ bytes c.in-Ok.ensures.ok) (one_reading_of bytes) c.in-Ok.ensures.within file.1 c.in-Ok.ensures.end (c.in-Ok.ensures.cause.quiet (λ e. cc e)) (Err (Limit c.in-Err-Limit.kind c.in-Err-Limit.number)) runs)
+    (ends_run _ _ _ _ bytes file.0 (known _ bytes c.in-Ok.ensures.ok) (one_reading_of bytes) c.in-Ok.ensures.within file.1 c.in-Ok.ensures.end (c.in-Ok.ensures.cause.quiet (λ e. cc e)) agreed walked (Err (Limit c.in-Err-Limit.kind c.in-Err-Limit.number)) runs)

@@ -1,0 +1,72 @@
+-- Control messages, one after the other, and their lines.
+use Rattle.std.proofs.Common.{◌≡◌, ℕ, zero, suc, ◌+◌, ◌-◌, ◌<◌, ◌≤◌, Bool, true, false, Option, Some, None, List, [], ◌∷◌, ◌++◌, length, cond, refl, sym, ap, ◌∙◌, arith, nat_le}
+use Rattle.std.specs.Prelude.{find}
+use Rattle.std.specs.List.{range_with_len}
+use Rattle.std.proofs.lemmas.Bool.Decides.{nat_tests}
+use Rattle.topology.specs.Net.{Net}
+use Rattle.path_vector.specs.Rules.{Rules}
+use Rattle.chronicle.specs.declared.events.Event.{Event}
+use Rattle.chronicle.specs.declared.events.Event.TheVariants.{Control}
+use Rattle.chronicle.specs.Control.{mailed}
+use Rattle.chronicle.specs.Deliveries.{is_next, next_mail}
+use Rattle.chronicle.specs.Run.{run}
+use Rattle.node_core.specs.NodeLimits.{Reached}
+use Rattle.world_core.specs.Limits.{limit_of, StopsAt}
+use Rattle.world_core.specs.declared.outcomes.Stop.{Stop}
+use Rattle.world_core.specs.declared.outcomes.Stop.TheVariants as stop
+use Rattle.route_replay.specs.Text.{Course, Leads, unless, then_on, controlled}
+use Rattle.route_replay.specs.Running.{StopsIn}
+
+-- what is found among numbers from a on is no lower
+found_from : (test : ℕ → Bool) (a n k : ℕ) → find test (range_with_len a n) ≡ Some k → a ≤ k
+found_from test a zero k e = absurd (cc e)
+found_from test a (suc n) k e =
+    (elim (test a) as (λ b. test a ≡ b → a ≤ k) [
+      | true ↦ λ here. let found : Some a ≡ Some k = sym (ap (λ b. cond b (Some a) (find test (range_with_len (a + 1) n))) here) ∙ e in let same : a ≡ k = cc in omega (arith, same)
+      | false ↦ λ other. let later = found_from test (a + 1) n k (sym (ap (λ b. cond b (Some a) (find test (range_with_len (a + 1) n))) other) ∙ e) in omega (arith, later)
+    ]) refl
+
+-- control messages are numbered from 1
+pub mail_fits : (rules : Rules) (net : Net) (events : List Event) (number : ℕ) → next_mail rules net events ≡ Some number → nat_le 1 number ≡ true
+unfolding next_mail
+mail_fits rules net events number e =
+    let from_one : 1 ≤ number = found_from (is_next rules net events) 1 (length (mailed (run rules net events))) number e in
+    grind (arith, nat_tests, from_one)
+
+module _ (rules : Rules) (net : Net) (events : List Event) (n : ℕ) where
+  abbrev after_mail : Option ℕ → Course
+  after_mail None = Leads events
+  after_mail (Some number) = then_on (unless (limit_of rules net events (Control number)) (events ++ Control number ∷ [])) (controlled rules net n)
+
+  control_by : controlled rules net (suc n) events ≡ after_mail (next_mail rules net events)
+  control_by =
+      elim (next_mail rules net events) as (λ (o : Option ℕ). ◌≡◌ {A = Course} (elim o [
+        | None ↦ Leads events
+        | Some number ↦ then_on (unless (limit_of rules net events (Control number)) (events ++ Control number ∷ [])) (controlled rules net n)
+      ]) (after_mail o)) [
+        | None ↦ refl
+        | Some number ↦ refl
+      ]
+
+  -- no message is next
+  pub control_ends : next_mail rules net events ≡ None → controlled rules net (suc n) events ≡ Leads events
+  control_ends e = control_by ∙ ap after_mail e
+
+  control_on : (number : ℕ) → next_mail rules net events ≡ Some number
+      → controlled rules net (suc n) events ≡ then_on (unless (limit_of rules net events (Control number)) (events ++ Control number ∷ [])) (controlled rules net n)
+  control_on number e = control_by ∙ ap after_mail e
+
+  -- one message more
+  pub control_goes : (number : ℕ) → next_mail rules net events ≡ Some number → limit_of rules net events (Control number) ≡ None
+      → controlled rules net (suc n) events ≡ controlled rules net n (events ++ Control number ∷ [])
+  control_goes number e within = control_on number e ∙ ap (λ (o : Option Reached). then_on (unless o (events ++ Control number ∷ [])) (controlled rules net n)) within
+
+  -- a limit stops it
+  pub control_stops : (number : ℕ) (why : Stop) → next_mail rules net events ≡ Some number → StopsAt (limit_of rules net events (Control number)) why → StopsIn (controlled rules net (suc n) events) why
+  control_stops number stop.NoMemory e stops = tt
+  control_stops number (stop.Limit kind limit) e stops =
+      control_on number e ∙ ap (λ (o : Option Reached). then_on (unless o (events ++ Control number ∷ [])) (controlled rules net n)) stops
+
+-- so many are left
+pub control_more : (rules : Rules) (net : Net) (events : List Event) (times i : ℕ) → i < times → controlled rules net (suc (times - (i + 1))) events ≡ controlled rules net (times - i) events
+control_more rules net events times i below = let e : suc (times - (i + 1)) ≡ times - i = omega arith in ap (λ n. controlled rules net n events) e

@@ -1,0 +1,79 @@
+-- What a user is promised of a load.
+use Rattle.std.specs.Prelude.{ℕ, Bool, true, false, ◌≡◌, ◌≢◌, ◌⊎◌, Option, Some, None, List, []}
+use Rattle.std.specs.List.{AllByRecursion}
+use Rattle.std.specs.Io.KnownBytes.{Appends}
+use Rattle.topology.specs.Lists.{Begins}
+use Rattle.topology.specs.Net.{Net}
+use Rattle.topology.specs.declared.status.Status.{Status}
+use Rattle.topology.specs.declared.status.Status.TheVariants.{Done, Usage, NoMemory, BadSchedule, Limit, ReadFault, WriteFault}
+use Rattle.topology.specs.declared.status.LimitKind.{LimitKind}
+use Rattle.route_io.specs.Causes.{RoseIf, AppendsFront}
+use Rattle.route_io.specs.Views.{SinkView}
+use Rattle.path_vector.specs.GaoRexford.{gao_rexford}
+use Rattle.path_vector.specs.Rules.{Rules}
+use Rattle.agreement_laws.specs.Agreed.{IsAgreed}
+use Rattle.walk_laws.specs.Walked.{IsWalked}
+use Rattle.node_core.specs.NodeLimits.{Reached}
+use Rattle.world_core.specs.View.{WorldView}
+use Rattle.world_core.specs.declared.outcomes.Stop.{Stop}
+use Rattle.world_core.specs.declared.outcomes.Stop.TheVariants as stop
+use Rattle.schedule_file.specs.declared.lines.Directive.{Directive}
+use Rattle.schedule_file.specs.declared.lines.Numbered.{Numbered}
+use Rattle.route_replay.specs.LoadNetwork.{load_net}
+use Rattle.route_replay.specs.LoadText.{load_run, load_stop, load_text}
+use Rattle.route_replay.specs.Running.{Fitting}
+use Rattle.route_replay.specs.Text.{events_of, stop, task_of}
+
+-- each of these directives fits the network
+abbrev pub AllFit : Net → List Directive → Type 0
+AllFit net directives = AllByRecursion (λ d. Fitting net (task_of d)) directives
+
+-- the world is that of the same network and policy, its events are those of the lines, and no limit stops these
+pub record Performs {P : Type 0} (rules : Rules) (old new : WorldView P) (lines : List Numbered) : Type 0 where
+  pub same_policy : new.policy ≡ old.policy
+  pub same_net : new.net ≡ old.net
+  pub events : new.events ≡ events_of rules old.net old.events lines
+  pub goes : stop rules old.net old.events lines ≡ None
+
+-- a stop at a limit is where the lines stop; want of memory may come at any step
+abbrev pub StopsLoad : {P : Type 0} → Rules → WorldView P → List Numbered → Stop → Type 0
+StopsLoad rules world lines stop.NoMemory = Unit {0}
+StopsLoad rules world lines (stop.Limit kind number) =
+    stop rules world.net world.events lines ≡ Some (record { kind = kind; number = number })
+
+-- the statuses with which a load may end
+abbrev pub ends_load : Status → Bool
+ends_load Done = true
+ends_load Usage = false
+ends_load NoMemory = true
+ends_load (BadSchedule line kind) = false
+ends_load (Limit kind number) = true
+ends_load ReadFault = false
+ends_load WriteFault = true
+
+-- how a load ends, on a sink as it was and as it is then
+pub record Loaded (number : ℕ) (sink sink' : SinkView) (status : Status) : Type 0 where
+  -- nothing is read, and nothing is wrong with what is made
+  pub formed : ends_load status ≡ true
+  -- Done: no limit stopped the run, and the whole text was written
+  pub done : status ≡ Done → (load_stop number ≡ None) × Appends sink.held sink'.held (load_text number)
+  -- unless memory ran out: in the run all tables of one epoch come from one chosen value, and every published path continues as the next
+  -- node's published path of that epoch, if it has one
+  pub agreed : status ≢ NoMemory → IsAgreed gao_rexford (load_net number) (load_run number)
+  -- no packet visits a node twice on one epoch's stable tables, and none makes more transient moves than the hop limit
+  pub walked : status ≢ NoMemory → IsWalked gao_rexford (load_net number) (load_run number)
+  -- Limit: the count would pass its number, and nothing is written
+  pub limit : (kind : LimitKind) (most : ℕ) → status ≡ Limit kind most
+      → (load_stop number ≡ Some (record { kind = kind; number = most })) × Appends sink.held sink'.held []
+  -- WriteFault: a call of the sink failed; after every other answer none has
+  pub write_fault : RoseIf (status ≡ WriteFault) sink.faults sink'.faults
+  -- a write fault cuts the text off
+  pub cut_off : status ≡ WriteFault → AppendsFront sink.held sink'.held (load_text number)
+  -- whatever the end, what was written is a front of the text
+  pub front : (some : List ℕ) × Begins some (load_text number) × Appends sink.held sink'.held some
+  -- the load is run to its end, or up to the limit that stops it, unless the sink fails or memory runs out
+  pub complete : load_stop number ≡ None → (status ≡ Done) ⊎ ((status ≡ NoMemory) ⊎ (status ≡ WriteFault))
+  pub stopped : (reached : Reached) → load_stop number ≡ Some reached
+      → (status ≡ Limit reached.kind reached.number) ⊎ (status ≡ NoMemory)
+  -- no call changes how much the sink can hold
+  pub same_room : sink'.room ≡ sink.room

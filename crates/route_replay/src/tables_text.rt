@@ -1,0 +1,180 @@
+//! The text of tables.
+ghost use Rattle.std.specs.Prelude.{◌≡◌, ◌++◌, Some, None, option_map, IfErr, IfOk, OnOk};
+ghost use Rattle.std.specs.String.{string_bytes};
+ghost use Rattle.route_replay.specs.Gathering.{Gathers, Breaks, page_view};
+ghost use Rattle.route_replay.specs.RibText.{path_text};
+ghost use Rattle.route_replay.specs.TablesText.{last_of, published_for, table_head, table_in, table_line, table_text, tables_text, unpublished_line};
+ghost use Rattle.route_replay.specs.Views.{past_of};
+
+use crate::ends::RunEnd;
+use crate::numbers::{push_node, push_number};
+use crate::page::Page;
+use crate::rib_text::{path_words, prefix_words};
+use path_vector::Policy;
+use route_io::Sink;
+use std::alloc::{AllocError, Global};
+use topology::{Epoch, NoMemory, NodeId, Prefix, PrefixId, Topology};
+use world_core::{Publication, World};
+
+/// What was published for the epoch, the oldest first. The tables are shared.
+pub fn published_in<P: Policy + Copy>(
+    alloc: Global,
+    world: &World<P>,
+    epoch: Epoch,
+) -> Result<Vec<Publication>, NoMemory>
+    ensures { IfOk result (λ list. list.items ≡ published_for epoch (past_of (P.rules world.now.policy) world.now)) }
+{
+    let mut list = Vec::new(alloc);
+    for publication in world.publications() {
+        if publication.epoch() == epoch {
+            list.push(publication.share()?)?;
+        }
+    }
+    Ok(list)
+}
+
+// What the node published last of these.
+fn last_of(publications: &[Publication], node: NodeId) -> Option<&Publication>
+    ensures { option_map (λ publication. publication.now) result ≡ last_of node publications.now }
+{
+    let mut last = None;
+    for publication in publications {
+        if publication.node() == node {
+            last = Some(publication);
+        }
+    }
+    last
+}
+
+// A node and an epoch.
+fn head_words(out: &mut String, node: NodeId, epoch: Epoch) -> Result<(), AllocError>
+    ensures { OnOk result (string_bytes out.new ≡ string_bytes out.old ++ table_head node epoch) }
+{
+    out.push_str("table ")?;
+    push_node(out, node)?;
+    out.push(' ')?;
+    push_number(out, epoch.number())
+}
+
+// The line of a node that published no table of the epoch.
+fn unpublished_words(out: &mut String, node: NodeId, epoch: Epoch) -> Result<(), AllocError>
+    ensures { OnOk result (string_bytes out.new ≡ string_bytes out.old ++ unpublished_line node epoch) }
+{
+    head_words(out, node, epoch)?;
+    out.push_str(": unpublished")?;
+    out.push('\n')
+}
+
+// A path, or none.
+fn table_path_words(out: &mut String, path: Option<&[NodeId]>) -> Result<(), AllocError>
+    ensures { OnOk result (string_bytes out.new
+        ≡ string_bytes out.old ++ path_text (option_map (λ nodes. nodes.now) path.entry)) }
+{
+    match path {
+        None => out.push_str(" none"),
+        Some(nodes) => path_words(out, nodes),
+    }
+}
+
+// The line of a prefix in the table of a node.
+fn table_words(
+    out: &mut String,
+    node: NodeId,
+    epoch: Epoch,
+    prefix: &Prefix,
+    path: Option<&[NodeId]>,
+) -> Result<(), AllocError>
+    ensures { OnOk result (string_bytes out.new
+        ≡ string_bytes out.old ++ table_line node epoch prefix.now (option_map (λ nodes. nodes.now) path.entry)) }
+{
+    head_words(out, node, epoch)?;
+    out.push(' ')?;
+    prefix_words(out, prefix)?;
+    out.push(':')?;
+    table_path_words(out, path)?;
+    out.push('\n')
+}
+
+// Adds the line of a node that published no table of the epoch.
+fn add_unpublished<O: Sink>(
+    page: &mut Page<'_, String, O>,
+    topology: &Topology,
+    node: NodeId,
+    epoch: Epoch,
+) -> Result<(), RunEnd>
+    ensures gathers { OnOk result (Gathers (page_view O.seen page.old) (page_view O.seen page.new)
+        (table_text topology.now node epoch None)) }
+    ensures breaks { IfErr result (Breaks (O.seen page.old.sink.now) (O.seen page.new.sink.now)
+        (string_bytes page.old.text ++ table_text topology.now node epoch None)) }
+    ensures same_sink { page.new.sink.ghost_name ≡ page.old.sink.ghost_name }
+{
+    unpublished_words(&mut page.text, node, epoch)?;
+    page.spill()
+}
+
+// Adds the lines of the table of a node.
+fn add_table<O: Sink>(
+    page: &mut Page<'_, String, O>,
+    topology: &Topology,
+    node: NodeId,
+    epoch: Epoch,
+    publication: &Publication,
+) -> Result<(), RunEnd>
+    ensures gathers { OnOk result (Gathers (page_view O.seen page.old) (page_view O.seen page.new)
+        (table_text topology.now node epoch (Some (table_in publication.now)))) }
+    ensures breaks { IfErr result (Breaks (O.seen page.old.sink.now) (O.seen page.new.sink.now)
+        (string_bytes page.old.text ++ table_text topology.now node epoch (Some (table_in publication.now)))) }
+    ensures same_sink { page.new.sink.ghost_name ≡ page.old.sink.ghost_name }
+{
+    for place in 0..topology.prefix_count() {
+        let id = PrefixId::new(place);
+        let prefix = topology.prefix(id).unwrap();
+        table_words(&mut page.text, node, epoch, &prefix, publication.path(id))?;
+        page.spill()?;
+    }
+    Ok(())
+}
+
+// Adds the lines of a node.
+fn one_table<O: Sink>(
+    page: &mut Page<'_, String, O>,
+    topology: &Topology,
+    epoch: Epoch,
+    publications: &[Publication],
+    node: NodeId,
+) -> Result<(), RunEnd>
+    ensures gathers { OnOk result (Gathers (page_view O.seen page.old) (page_view O.seen page.new)
+        (table_text topology.now node epoch (option_map table_in (last_of node publications.now)))) }
+    ensures breaks { IfErr result (Breaks (O.seen page.old.sink.now) (O.seen page.new.sink.now)
+        (string_bytes page.old.text ++ table_text topology.now node epoch (option_map table_in (last_of node publications.now)))) }
+    ensures same_sink { page.new.sink.ghost_name ≡ page.old.sink.ghost_name }
+{
+    match last_of(publications, node) {
+        None => add_unpublished(page, topology, node, epoch),
+        Some(publication) => add_table(page, topology, node, epoch, publication),
+    }
+}
+
+/// Adds the lines of all nodes, ascending, by what was published for the epoch.
+#[tactic(auto, unfolding(crate::specs::TablesText::tables_text))]
+pub fn all_tables<P: Policy + Copy, O: Sink>(
+    page: &mut Page<'_, String, O>,
+    world: &World<P>,
+    epoch: Epoch,
+    publications: &[Publication],
+) -> Result<(), RunEnd>
+    requires { publications.now ≡ published_for epoch (past_of (P.rules world.now.policy) world.now) }
+    ensures gathers { let past = past_of (P.rules world.now.policy) world.now in
+        OnOk result (Gathers (page_view O.seen page.old) (page_view O.seen page.new)
+        (tables_text world.now.net past epoch)) }
+    ensures breaks { let past = past_of (P.rules world.now.policy) world.now in
+        IfErr result (Breaks (O.seen page.old.sink.now) (O.seen page.new.sink.now)
+        (string_bytes page.old.text ++ tables_text world.now.net past epoch)) }
+    ensures same_sink { page.new.sink.ghost_name ≡ page.old.sink.ghost_name }
+{
+    let topology = world.topology();
+    for node in topology.nodes() {
+        one_table(page, topology, epoch, publications, *node)?;
+    }
+    Ok(())
+}
