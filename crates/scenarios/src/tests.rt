@@ -1,4 +1,5 @@
 //! Files and runs as tables.
+mod agreement;
 mod closures;
 mod crashes;
 mod files;
@@ -8,4 +9,6 @@ mod runs;
 mod schemes;
 mod sizes;
 mod snapshots;
+mod tables;
 mod unrest;
+mod walks;

@@ -144,3 +144,30 @@ fn takes_as_many_events_as_the_limit_says(rt: HostRuntime) -> Result<(), Fail> {
         "5: idle already up\n",
     )
 }
+
+// One node that begins a ballot for each line: so many control messages behind the first, its report.
+const BALLOTS: &str = "node 1 consolidator\nbegin\nsnap 1\nctl 1\n";
+
+#[test]
+fn sends_as_many_control_messages_as_the_limit_says(rt: HostRuntime) -> Result<(), Fail> {
+    let alloc = rt.alloc();
+    let propose = ("propose 1 1\n", "propose 1 1\n");
+    let control = Status::Limit(LimitKind::Control, 16_384);
+    let cases = [
+        (16_382, "", Status::Done),
+        (16_383, "", Status::Done),
+        (16_384, "", control),
+        (16_383, "crash 1\n", Status::Done),
+        // the answer to a ballot is one more
+        (16_383, "ctl 2\n", control),
+    ];
+    check_busy(&rt, alloc, BALLOTS, propose, &cases, "")?;
+    // epochs come before control messages
+    let mut front = String::from_str(alloc, BALLOTS)?;
+    for _ in 1..32 {
+        front.push_str("snap 1\n")?;
+    }
+    let epochs = Status::Limit(LimitKind::Epochs, 32);
+    let cases = [(16_352, "", Status::Done), (16_352, "snap 1\n", epochs)];
+    check_busy(&rt, alloc, front.as_str(), propose, &cases, "")
+}

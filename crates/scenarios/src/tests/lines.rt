@@ -17,13 +17,18 @@ good: link 1 3 peer
 good: link 3 2 provider
 good: pref 2 1 1000000
 good: prefix 10.0.0.0/9
+good: hops 0
+good: hops 65535
+good: transient deflect
+good: transient detour 3
+good: transient backup # on the whole walk
 good: begin
 unknown word: nodes 4
 unknown word: consolidator
 unknown word: NODE 4
-not built: hop 1 2 3 4 5 6
-not built: transient x
-not built: show walk 1 2 3
+not here: hop 1 2 3 4 5 6
+not here: inject 1
+not here: show walk 1 2 3
 not here: show
 not here: show foo
 not here: originate
@@ -48,6 +53,22 @@ wrong count: pref 1 2
 wrong count: prefix
 wrong count: prefix x y
 wrong count: begin 0
+wrong count: hops
+wrong count: hops 1 x
+wrong count: transient
+wrong count: transient x y z
+wrong count: transient detour
+wrong count: transient deflect 1
+wrong count: transient backup x
+bad number: hops 65536
+bad number: hops 01
+bad number: hops x
+unknown word: transient x
+unknown word: transient x 0
+unknown word: transient Backup
+bad number: transient detour 0
+bad number: transient detour x
+unknown node: transient detour 9
 bad number: node 0
 bad number: node 01
 bad number: node 65536
@@ -106,21 +127,65 @@ good: show cut 1
 good: show cut 32
 good: show closure 1
 good: show closure 32
+good: propose 2 1
+good: propose 1 32
+good: ctl 1
+good: ctl 1000000
+good: ctl all 1
+good: ctl all 1000000
+good: show ctl
+good: show tables 1
+good: show tables 32
+good: inject 1 1 10.0.0.0/8
+good: inject 4294967295 3 10.0.0.0/8
+good: hop 1
+good: hop 4294967295 1000000
+good: show walk 1
+good: show walk 4294967295
 unknown word: prefixes
 unknown word: Drain 1
 unknown word: snaps 1
-not built: propose
-not built: ctl 1 2
+wrong count: propose
+wrong count: propose 1
+bad number: propose x 1
+bad number: propose 9 33
+unknown node: propose 9 1
+wrong count: ctl
+wrong count: ctl all 1 2
+unknown word: ctl 1 2
+unknown word: ctl x 0
+bad number: ctl all
+bad number: ctl 0
+bad number: ctl 1000001
+bad number: ctl all 0
 wrong count: crash
 unknown node: restart 9
-not built: hops 1
-not built: transient
-not built: inject 1
-not built: hop
-not built: show tables x y
-not built: show ctl
-not built: show tables
-not built: show walk 1
+not here: hops 1
+not here: transient
+wrong count: inject 1
+wrong count: inject 1 1 10.0.0.0/8 1
+bad number: inject 0 9 x
+bad number: inject 4294967296 1 10.0.0.0/8
+bad number: inject 1 0 x
+bad prefix: inject 1 9 10.0.0.0
+unknown node: inject 1 9 20.0.0.0/8
+unknown prefix: inject 1 1 20.0.0.0/8
+wrong count: hop
+wrong count: hop 1 2 3
+bad number: hop 0
+bad number: hop 4294967296
+bad number: hop 1 0
+bad number: hop 1 1000001
+bad number: hop x y
+wrong count: show tables x y
+wrong count: show ctl 1
+wrong count: show tables
+bad number: show tables 33
+bad number: show tables x
+wrong count: show walk
+wrong count: show walk 1 2
+bad number: show walk 0
+bad number: show walk 4294967296
 not here: node 1
 not here: link
 not here: pref 1 2 x

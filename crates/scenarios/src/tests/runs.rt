@@ -8,9 +8,14 @@ use topology::{BadKind, Status};
 
 /// How the run of this file ended, and what was written.
 pub fn outcome(alloc: Global, file: &str) -> Result<(Status, String), Fail> {
+    outcome_in(alloc, file, 16_384)
+}
+
+/// The same, with room for so many bytes.
+pub fn outcome_in(alloc: Global, file: &str, room: usize) -> Result<(Status, String), Fail> {
     let content = Vec::from_slice(alloc, file.as_bytes())?;
     let mut source = MemSource::new(content, Vec::new(alloc));
-    let mut sink = MemSink::new(vec![in alloc; 0; 16384]?, Vec::new(alloc));
+    let mut sink = MemSink::new(vec![in alloc; 0; room]?, Vec::new(alloc));
     let status = replay(alloc, &mut source, &mut sink);
     let text = String::from_utf8(Vec::from_slice(alloc, sink.held())?)?;
     Ok((status, text))
@@ -30,6 +35,15 @@ begin
 /// Two nodes, described in five lines.
 pub const PAIR: &str = "\
 node 1
+node 2
+link 1 2 any
+prefix 10.0.0.0/8
+begin
+";
+
+/// The same, where one of them is a consolidator.
+pub const PAIR_CONSOLIDATED: &str = "\
+node 1 consolidator
 node 2
 link 1 2 any
 prefix 10.0.0.0/8
