@@ -89,7 +89,43 @@ def long_log():
     return cold_start()[:-1] + ["show log"] * 50
 
 
-SCHEDULES = [cold_start, flapping_links, long_drains, idle_lines, long_log]
+def epoch_cuts():
+    """A cold start, and a cut of each node: all reports are on their way to the three consolidators."""
+    return cold_start()[:-1] + ["snap 1", "drain 1000000"]
+
+
+def epoch_closure():
+    """The same, and the reports put together once."""
+    return epoch_cuts() + ["show closure 1"]
+
+
+def epoch_tables():
+    """The same without that, a ballot, and the tables of all nodes."""
+    return epoch_cuts() + ["ctl all 1000000", "propose 1 1", "ctl all 1000000", "show tables 1"]
+
+
+def packets():
+    """The tables of an epoch; then twenty links fail, and 4,096 packets go to their ends, on the tables and off them."""
+    lines = epoch_cuts() + ["ctl all 1000000", "propose 1 1", "ctl all 1000000"]
+    links = [line.split()[1:3] for line in lines if line.startswith("link")]
+    prefixes = ranges(60)
+    lines += [f"fail {a} {b}" for a, b in random.Random(3).sample(links, 20)]
+    for packet in range(1, 4097):
+        lines += [f"inject {packet} {1 + packet * 11 % 48} {prefixes[packet % 60]}", f"hop {packet} 1000"]
+    return lines + ["show walk 4096"]
+
+
+SCHEDULES = [
+    cold_start,
+    flapping_links,
+    long_drains,
+    idle_lines,
+    long_log,
+    epoch_cuts,
+    epoch_closure,
+    epoch_tables,
+    packets,
+]
 
 
 def run(program, text, wanted=False):
@@ -113,16 +149,23 @@ def text_of(lines):
 
 
 def events_of(program, lines):
-    """How many events the run has: one for each line that is one, and one for each delivery of a
-    drain, which is an entry that came of an update or a greeting."""
+    """How many events the run has: one for each line that is one, one for each delivery of a drain, which
+    is an entry that came of an update or a greeting, or one of the markers of a snapshot, and one for each
+    delivery of a control message, and one for each visit and each end of a packet's walk."""
     words = [line.split()[0] for line in lines[lines.index("begin") + 1:]]
-    by_hand = sum(word not in ("show", "drain") for word in words)
+    by_hand = sum(word not in ("show", "drain", "ctl", "inject", "hop") for word in words)
     if "drain" not in words:
         return by_hand
     quiet = [line for line in lines if not line.startswith("show")]
     log = run(program, text_of(quiet + ["show log"]), wanted=True)[2]
     taken = sum(b" recv " in line or b" ready " in line for line in log.splitlines())
-    return by_hand + taken - words.count("deliver")
+    markers = 2 * words.count("snap") * sum(line.startswith("link") for line in lines)
+    control = run(program, text_of(quiet + ["show ctl"]), wanted=True)[2] if "ctl" in words else b""
+    mailed = sum(int(line.rsplit(b" x", 1)[1]) for line in control.splitlines())
+    walks = [f"show walk {packet}" for packet in range(1, words.count("inject") + 1)]
+    told = run(program, text_of(quiet + walks), wanted=True)[2] if walks else b""
+    passed = sum(line.count(b"@") + (not line.endswith(b"moving")) for line in told.splitlines())
+    return by_hand + taken + markers + mailed + passed - words.count("deliver")
 
 
 def main():
