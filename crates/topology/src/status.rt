@@ -1,7 +1,7 @@
 //! How runs and single events end.
 ghost use Rattle.std.specs.Prelude.{◌≡◌};
 
-use crate::Ballot;
+use crate::{Ballot, FrameFault, NodeId};
 
 /// Why an event did nothing.
 #[derive(Clone, Copy, Debug, PartialEq, Eq)]
@@ -77,6 +77,8 @@ pub enum LimitKind {
     Control,
     /// The packets that were injected.
     Packets,
+    /// The frames that a node took over its link.
+    Frames,
 }
 
 impl LimitKind {
@@ -95,6 +97,7 @@ impl LimitKind {
             LimitKind::Updates => "updates",
             LimitKind::Control => "control",
             LimitKind::Packets => "packets",
+            LimitKind::Frames => "frames",
         }
     }
 }
@@ -104,8 +107,6 @@ impl LimitKind {
 pub enum BadKind {
     /// A word begins no line, or is none of those that may stand at its place.
     UnknownWord,
-    /// The line is one that is not built yet.
-    NotBuilt,
     /// The line stands on the wrong side of `begin`, or is a second `begin`.
     NotHere,
     /// No such line has this number of words.
@@ -141,7 +142,6 @@ impl BadKind {
     {
         match self {
             BadKind::UnknownWord => "unknown word",
-            BadKind::NotBuilt => "not built",
             BadKind::NotHere => "not here",
             BadKind::WrongCount => "wrong count",
             BadKind::BadNumber => "bad number",
@@ -175,6 +175,12 @@ pub enum Status {
     ReadFault,
     /// The sink failed.
     WriteFault,
+    /// The link failed.
+    LinkFault,
+    /// The frame that begins at this offset of what came over the link is refused.
+    BadFrame(u64, FrameFault),
+    /// The network has no node with this number.
+    NoSuchNode(NodeId),
 }
 
 impl Status {
@@ -192,6 +198,9 @@ impl Status {
             Status::Limit(_, _) => 5,
             Status::ReadFault => 6,
             Status::WriteFault => 7,
+            Status::LinkFault => 8,
+            Status::BadFrame(_, _) => 9,
+            Status::NoSuchNode(_) => 10,
         }
     }
 }

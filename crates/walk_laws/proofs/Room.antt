@@ -6,6 +6,7 @@ use Rattle.topology.specs.Paths.{differ}
 use Rattle.topology.specs.Net.{Net}
 use Rattle.topology.specs.declared.names.Scheme.{Scheme}
 use Rattle.topology.specs.declared.names.Scheme.TheVariants as scheme
+use Rattle.topology.proofs.Few.{no_more}
 use Rattle.topology.proofs.Sets.{has-append, differ-append}
 use Rattle.topology.proofs.Tests.{and_left, and_right, and_both, or_left, or_right, or_first, or_second, or_none, not_true, not_false, same_sym, same_is, same_refl}
 use Rattle.epoch_packet.specs.declared.packets.Packet.{Packet}
@@ -21,55 +22,6 @@ use Rattle.walk_laws.specs.Readings.{off_tables, nodes_of, reached, trail}
 use Rattle.walk_laws.proofs.OnTables.{Read}
 use Rattle.walk_laws.proofs.OffTables.{counts_since, read_hop}
 use Rattle.walk_laws.proofs.Trails.{but_last_is_there, trail_is_old}
-
--- the list without the first x
-abbrev without : ℕ → List ℕ → List ℕ
-without x [] = []
-without x (y ∷ ys) = if y == x then ys else y ∷ without x ys
-
--- one fewer, where x is there
-without_is_less : (x : ℕ) (ys : List ℕ) → has ys x ≡ true → length ys ≡ suc (length (without x ys))
-without_is_less x [] there = cc
-without_is_less x (y ∷ ys) there =
-    (elim (y == x) as (λ t. (t || has ys x) ≡ true → suc (length ys) ≡ suc (length (if t then ys else y ∷ without x ys))) [
-      | true ↦ λ e. refl
-      | false ↦ λ e. ap suc (without_is_less x ys e)
-    ]) there
-
--- any other number stays
-without_keeps : (x z : ℕ) (ys : List ℕ) → (x == z) ≡ false → has ys z ≡ true → has (without x ys) z ≡ true
-without_keeps x z [] apart there = there
-without_keeps x z (y ∷ ys) apart there =
-    (elim (y == x) as (λ t. (y == x) ≡ t → has (if t then ys else y ∷ without x ys) z ≡ true) [
-      | true ↦ λ e. let same : y ≡ x = same_is y x e in
-          let off : (y == z) ≡ false = ap (λ n. n == z) same ∙ apart in
-          sym (ap (λ b. b || has ys z) off) ∙ there
-      | false ↦ λ e. (elim (y == z) as (λ t. (t || has ys z) ≡ true → (t || has (without x ys) z) ≡ true) [
-        | true ↦ λ d. refl
-        | false ↦ λ d. without_keeps x z ys apart d
-      ]) there
-    ]) refl
-
--- numbers that differ and are all in a list are no more than the list has
-pub no_more : (xs ys : List ℕ) → differ xs ≡ true → ((x : ℕ) → has xs x ≡ true → has ys x ≡ true) → length xs ≤ length ys
-no_more [] ys apart all = omega arith
-no_more (x ∷ xs) ys apart all =
-    let here : has ys x ≡ true = all x (or_first (x == x) (has xs x) (same_refl x)) in
-    let less = without_is_less x ys here in
-    let rest = no_more xs (without x ys) (and_right (not (has xs x)) (differ xs) apart)
-    (λ z there. without_keeps x z ys (other z there) (all z (or_second (x == z) (has xs z) there))) in
-    omega (arith, less, rest)
-  where
-    -- a number further on is another one
-    other : (z : ℕ) → has xs z ≡ true → (x == z) ≡ false
-    other z there =
-        (elim (x == z) as (λ t. (x == z) ≡ t → t ≡ false) [
-          | true ↦ λ e.
-              let twice : has xs x ≡ true = subst (λ n. has xs n ≡ true) (sym (same_is x z e)) there in
-              let once : has xs x ≡ false = not_true (has xs x) (and_left (not (has xs x)) (differ xs) apart) in
-              cc
-          | false ↦ λ e. refl
-        ]) refl
 
 -- the last one in front of the others
 differ_turned : (xs : List ℕ) (n : ℕ) → differ (xs ++ n ∷ []) ≡ true → differ (n ∷ xs) ≡ true

@@ -1,7 +1,7 @@
 -- Reading elements one after the other into memory, as a loop does.
 use Rattle.std.proofs.Common.{◌≡◌, ℕ, suc, ◌-◌, ◌+◌, ◌≤◌, ◌<◌, true, List, [], ◌∷◌, ◌++◌, Result, Ok, Err, refl, sym, ap, ◌∙◌, append_assoc, arith}
 use Rattle.std.proofs.lemmas.List.{append-nil}
-use Rattle.wire_frames.specs.declared.faults.FrameKind.{FrameKind}
+use Rattle.topology.specs.declared.frame_faults.FrameKind.{FrameKind}
 use Rattle.wire_frames.specs.Formats.{Format, ◌>>=◌, Series, many_at}
 use Rattle.wire_frames.proofs.Formats.{IsFormat, ok_is}
 

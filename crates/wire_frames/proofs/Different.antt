@@ -4,7 +4,7 @@ use Rattle.std.specs.Prelude.{◌==◌, ◌↔◌, IfSome, IsSome}
 use Rattle.std.proofs.lemmas.Bool.{eqb-true, eq-eqb, and_from, or_right, not-true}
 use Rattle.topology.specs.Lists.{has}
 use Rattle.topology.specs.Paths.{differ, IsPath}
-use Rattle.wire_frames.specs.declared.faults.FrameKind.TheVariants as fault
+use Rattle.topology.specs.declared.frame_faults.FrameKind.TheVariants as fault
 use Rattle.wire_frames.specs.Formats.{◌>>=◌, held, many_at}
 use Rattle.wire_frames.specs.Fields.{node, different, path_of}
 use Rattle.wire_frames.proofs.Formats.{bind_ok, held_ok, ok_is}

@@ -6,8 +6,8 @@ use Rattle.std.specs.Int.{Width, w8, w16, w32, w64, byte_len, from_be_bytes, to_
 use Rattle.std.proofs.lemmas.Bool.{cases_lt, ltb-false, le-ltb, leb-true, and_parts, and_from}
 use Rattle.std.proofs.lemmas.List.{take_at, drop_at, take-append-drop, length-append, length-take, get_or-drop, get_or-take, get_or_past}
 use Rattle.std.proofs.lemmas.Nat.{be_bytes_2, be_bytes_4, be_bytes_8, from_be_bytes-to_be_bytes_2, from_be_bytes-to_be_bytes_4, from_be_bytes-to_be_bytes_8}
-use Rattle.wire_frames.specs.declared.faults.FrameKind.{FrameKind}
-use Rattle.wire_frames.specs.declared.faults.FrameKind.TheVariants as fault
+use Rattle.topology.specs.declared.frame_faults.FrameKind.{FrameKind}
+use Rattle.topology.specs.declared.frame_faults.FrameKind.TheVariants as fault
 use Rattle.wire_frames.specs.Formats.{Format, IsBytes, ◌>>=◌, held, word_at, tested, number, ordered, pair, Meaning, meant, behind, optional, Series, many_at, many_fit, listed}
 
 IsBytes-drop : (n : ℕ) (bytes : List ℕ) → IsBytes bytes → IsBytes (drop n bytes)

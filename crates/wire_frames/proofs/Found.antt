@@ -4,8 +4,8 @@ use Rattle.std.specs.Prelude.{nat_le, ◌==◌, find}
 use Rattle.std.specs.Int.{w32, to_be_bytes}
 use Rattle.std.proofs.lemmas.List.{append-nil, take_at, take-append-drop, length-append, length-take, nil_from_length}
 use Rattle.std.proofs.lemmas.Bool.{leb-true, and_parts, and_from, eqb-true, ltb-false, le-ltb, le-leb}
-use Rattle.wire_frames.specs.declared.faults.FrameKind.{FrameKind}
-use Rattle.wire_frames.specs.declared.faults.FrameKind.TheVariants as fault
+use Rattle.topology.specs.declared.frame_faults.FrameKind.{FrameKind}
+use Rattle.topology.specs.declared.frame_faults.FrameKind.TheVariants as fault
 use Rattle.wire_frames.specs.declared.tags.Tag.{Tag}
 use Rattle.wire_frames.specs.declared.tags.Tag.TheVariants.{Originate, Withdraw, Prefer, Notice, OpenSession, Snap, Propose, Update, Marker, Hello, Report, Prepare, Promise, Accept, Accepted, Decision, Hop, Forward, Ended, Published, Inject}
 use Rattle.wire_frames.specs.declared.frames.Frame.{Frame}

@@ -3,8 +3,8 @@ use Rattle.std.proofs.Common.{◌≡◌, ℕ, ◌-◌, true, false, List, [], �
 use Rattle.std.specs.Borrow.{Bor}
 use Rattle.std.proofs.lemmas.List.{take_at, length-append}
 use Rattle.topology.specs.Lists.{has}
-use Rattle.wire_frames.specs.declared.faults.FrameKind.{FrameKind}
-use Rattle.wire_frames.specs.declared.faults.FrameKind.TheVariants as fault
+use Rattle.topology.specs.declared.frame_faults.FrameKind.{FrameKind}
+use Rattle.topology.specs.declared.frame_faults.FrameKind.TheVariants as fault
 use Rattle.wire_frames.specs.Formats.{Format, IsBytes, pair, Meaning, meant, Series, listed, stepped, skipped}
 use Rattle.wire_frames.specs.Fields.{node, different}
 use Rattle.wire_frames.specs.Shown.{Gives, Passes, Cuts}

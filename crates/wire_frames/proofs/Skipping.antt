@@ -1,6 +1,6 @@
 -- Going over elements one after the other, as a loop does.
 use Rattle.std.proofs.Common.{◌≡◌, ℕ, zero, suc, ◌-◌, ◌+◌, ◌≤◌, ◌<◌, List, [], ◌∷◌, length, Result, Ok, Err, refl, sym, ap, subst, ◌∙◌, arith}
-use Rattle.wire_frames.specs.declared.faults.FrameKind.{FrameKind}
+use Rattle.topology.specs.declared.frame_faults.FrameKind.{FrameKind}
 use Rattle.wire_frames.specs.Formats.{Format, ◌>>=◌, Series, many_at, listed, after, stepped, skipped}
 use Rattle.topology.specs.declared.names.Trigger.{Trigger}
 use Rattle.topology.specs.declared.names.Scope.{Scope}

@@ -2,8 +2,8 @@
 use Rattle.std.specs.Prelude.{ℕ, zero, suc, Bool, true, false, ◌&&◌, List, [], ◌∷◌, ◌++◌, ◌<◌, get_or, length, take, drop, Option, Some, None, Result, Ok, Err, nat_lt, if◌then◌else◌}
 use Rattle.std.specs.List.{flat_map}
 use Rattle.std.specs.Int.{Width, w8, byte_len, to_be_bytes, from_be_bytes, is_in_range}
-use Rattle.wire_frames.specs.declared.faults.FrameKind.{FrameKind}
-use Rattle.wire_frames.specs.declared.faults.FrameKind.TheVariants as fault
+use Rattle.topology.specs.declared.frame_faults.FrameKind.{FrameKind}
+use Rattle.topology.specs.declared.frame_faults.FrameKind.TheVariants as fault
 
 -- reads answers the value at the front and the bytes behind it, or what is wrong first; spells is the one spelling of a value; fits tells which values have one
 pub record Format (A : Type 0) : Type 0 where

@@ -5,7 +5,7 @@ use Rattle.topology.specs.declared.ballots.Ballot.{Ballot}
 use Rattle.incomplete_closure.specs.declared.reports.Report.{Report}
 use Rattle.incomplete_closure.specs.declared.values.Value.{Value}
 use Rattle.epoch_packet.specs.declared.packets.Packet.{Packet}
-use Rattle.wire_frames.specs.declared.faults.FrameKind.{FrameKind}
+use Rattle.topology.specs.declared.frame_faults.FrameKind.{FrameKind}
 use Rattle.wire_frames.specs.declared.frames.Frame.{Frame}
 use Rattle.wire_frames.specs.declared.frames.Frame.TheVariants as frame
 use Rattle.wire_frames.specs.declared.frames.FrameRef.{FrameRef}

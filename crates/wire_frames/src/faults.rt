@@ -1,22 +1,6 @@
-//! What is wrong with the bytes of a frame.
+//! Why a part of a frame is not read.
 use std::alloc::{AllocError, AllocFailed};
-use topology::NoMemory;
-
-/// What is wrong where a frame is to stand: the first of these from left to right.
-#[derive(Clone, Copy, Debug, PartialEq, Eq)]
-pub enum FrameKind {
-    /// The first byte is not the version 1.
-    Version,
-    /// The second byte is that of no kind of frame.
-    Kind,
-    /// The body is longer than its kind allows, a field goes past it, or bytes are left over behind
-    /// its last field.
-    Length,
-    /// A field is out of its range.
-    Value,
-    /// A list is not in its order, or has an element twice that may be there once.
-    Order,
-}
+use topology::{FrameKind, NoMemory};
 
 // Why a part of a frame is not read into memory.
 #[derive(Clone, Copy, Debug, PartialEq, Eq)]

@@ -34,7 +34,7 @@ mod bodies;
 pub mod checking;
 pub mod decoding;
 pub mod encoding;
-pub mod faults;
+mod faults;
 mod fitting;
 pub mod frames;
 pub mod laws;
@@ -50,10 +50,10 @@ mod writing;
 pub use checking::has_spelling;
 pub use decoding::decode;
 pub use encoding::encode;
-pub use faults::FrameKind;
 pub use frames::{Decoded, Frame, FrameRef};
 pub use owned::to_owned;
 pub use paths::Paths;
+pub use topology::FrameKind;
 
 #[cfg(test)]
 mod tests;
