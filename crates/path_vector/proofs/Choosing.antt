@@ -131,7 +131,7 @@ found_read before ns p place found o r past is get h =
     whole None h = absurd h
     whole (Some c) h = read_found ns p found.place (Some c) r get h.0
 
-among_at : (ns : List Neighbour) (i : ℕ) (n : Neighbour) → slice_get ns i ≡ Some n → Among n ns
+pub among_at : (ns : List Neighbour) (i : ℕ) (n : Neighbour) → slice_get ns i ≡ Some n → Among n ns
 among_at [] i n e = absurd (cc e)
 among_at (m ∷ ms) zero n e = inl (cc e)
 among_at (m ∷ ms) (suc i) n e = inr (among_at ms i n e)

@@ -1,6 +1,7 @@
 -- An update of a neighbour that leaves the best route as it is.
-use Rattle.std.proofs.Common.{ℕ, suc, ◌+◌, ◌<◌, Bool, true, false, cond, not, ◌==◌, ◌||◌, Option, Some, None, List, [], ◌∷◌, ◌≡◌, ◌≢◌, ◌⊎◌, inl, inr, ⊎_elim, refl, sym, ◌∙◌, ap, subst, arith, length, filter_map, option_map}
+use Rattle.std.proofs.Common.{ℕ, suc, ◌<◌, Bool, true, false, cond, not, ◌==◌, ◌||◌, Option, Some, None, List, [], ◌∷◌, ◌≡◌, ◌≢◌, ◌⊎◌, inl, inr, ⊎_elim, refl, sym, ◌∙◌, ap, subst, arith, length, filter_map, option_map}
 use Rattle.std.specs.List.{cons_option}
+use Rattle.std.specs.Prelude.{is_some}
 use Rattle.std.proofs.lemmas.Bool.{cases_eq}
 use Rattle.std.proofs.lemmas.Bool.Decides.{nat_tests}
 use Rattle.topology.specs.declared.names.Scope.TheVariants.{One}
@@ -8,13 +9,15 @@ use Rattle.topology.specs.Lists.{Among, has}
 use Rattle.topology.specs.Net.{Net, IsValid, neighbours, file_preference}
 use Rattle.path_vector.specs.declared.causes.Cause.TheVariants.{Recv}
 use Rattle.path_vector.specs.declared.neighbours.Neighbour.{Neighbour}
+use Rattle.path_vector.specs.declared.neighbours.Rival.{Rival}
 use Rattle.path_vector.specs.declared.policy.Ranked.{Ranked}
 use Rattle.path_vector.specs.Rules.{Rules, IsRanking}
 use Rattle.path_vector.specs.History.{History, change, owns, preference}
 use Rattle.path_vector.specs.Selection.{Choice, IsFirst, best, candidate, choice, first, ranked}
 use Rattle.path_vector.specs.Standing.{Remembers}
-use Rattle.path_vector.specs.Kept.{Keeps, Leads, first_kept, kept_choice, kept_path, led_by}
-use Rattle.path_vector.proofs.Answering.{among_all, first_is, own_best}
+use Rattle.path_vector.specs.Kept.{Keeps, IsAhead, IsOutranked, Outranks, WithdrawsNothing, ids, told_rank, first_kept, kept_choice, kept_path, led_by}
+use Rattle.path_vector.proofs.Answering.{among_all, each_choice, first_is, kept_is, own_best}
+use Rattle.path_vector.proofs.Local.{first_same}
 use Rattle.path_vector.proofs.First.{Apart, choice_named, choices_apart, first_is_first, none_is_none}
 use Rattle.path_vector.proofs.Remembering.{other_candidate, updated}
 
@@ -48,6 +51,21 @@ among_to f (v ∷ vs) w d there is =
     behind : (o : Option Choice) → Among d (filter_map f vs) → Among d (cons_option o (filter_map f vs))
     behind None a = a
     behind (Some c) a = inr a
+
+-- whoever is kept is among those that are kept
+among_ids : (ns : List Neighbour) (n : Neighbour) → Among n ns → has (ids ns) n.id ≡ true
+among_ids [] n a = absurd a
+among_ids (m ∷ ms) n a = ⊎_elim
+    (λ (same : m ≡ n). let self : (n.id == n.id) ≡ true = grind (arith, nat_tests) in rw (ap (λ (x : Neighbour). x.id == n.id) same ∙ self) refl)
+    (λ (more : Among n ms). let later = among_ids ms n more in elim (m.id == n.id) as (λ b. (b || has (ids ms) n.id) ≡ true) [ true ↦ refl | false ↦ later ]) a
+
+-- the first of the candidates is c, and v neither is the first nor becomes it
+record Leads (before : Ranked → Ranked → Bool) (p v : ℕ) (path : Option (List ℕ)) (ns : List Neighbour) : Type 0 where
+  leader : Choice
+  is_first : first_kept before p ns ≡ Some leader
+  other : leader.nbr ≢ v
+  later : (q : List ℕ) → path ≡ Some q → (n : Neighbour) × Among n ns × (n.id ≡ v)
+      × (before (record { nbr = v; preference = n.preference; length = suc (length q) }) (ranked leader) ≡ false)
 
 -- ---- one choice is another one, which is not before the first
 
@@ -137,7 +155,7 @@ module _ (net : Net) (u : ℕ) (h : History) (p v s seq : ℕ) (path : Option (L
   own_stays rules own = own_best rules net u now p (owns_still ∙ own) ∙ sym (own_best rules net u h p own)
 
   -- the route by a neighbour that leads stays
-  pub best_stays : (rules : Rules) → IsRanking rules.before → IsValid net → owns h p ≡ false → (ns : List Neighbour) → Keeps net u h ns → p < length net.prefixes → Leads rules.before p v path ns
+  best_stays : (rules : Rules) → IsRanking rules.before → IsValid net → owns h p ≡ false → (ns : List Neighbour) → Keeps net u h ns → p < length net.prefixes → Leads rules.before p v path ns
       → best rules net u now p ≡ best rules net u h p
   unfolding best
   best_stays rules ranking valid own ns keeps below leads =
@@ -157,34 +175,122 @@ module _ (net : Net) (u : ℕ) (h : History) (p v s seq : ℕ) (path : Option (L
           inr (ap (λ r. rules.before r (ranked leads.leader)) rank ∙ n.3))
           (choice_own d e)
 
--- ---- what is kept shows that a neighbour leads
+  -- whoever is outranked is not the first, and does not become the first
+  leads_of : (rules : Rules) → IsRanking rules.before → IsValid net → (ns : List Neighbour) → Keeps net u h ns → p < length net.prefixes → IsOutranked rules.before p v path ns → Leads rules.before p v path ns
+  leads_of rules ranking valid ns keeps below low =
+      (elim (first_kept rules.before p ns) as (λ o. first_kept rules.before p ns ≡ o → Leads rules.before p v path ns) [
+        | None ↦ λ e. absurd (subst (Among better) (none_is_none rules.before ranking of (neighbours net u) (choices_apart net u h p valid) (is_first ∙ e)) there)
+        | Some c ↦ λ e.
+            let best_one = first_is_first rules.before ranking of (neighbours net u) c (choices_apart net u h p valid) (is_first ∙ e) in
+            let not_better : rules.before (ranked better) (ranked c) ≡ false = best_one.first better there in
+            record {
+              leader = c;
+              is_first = e;
+              other = λ own.
+                  let found = among_of of (neighbours net u) c best_one.among in
+                  let named_so : c.nbr ≡ found.0 = choice_named net u h p found.0 c found.2 in
+                  let old : kept_choice p low.teller ≡ Some c = each_choice net u h p low.teller teller_kept below ∙ (ap of (low.is_sender ∙ (sym own ∙ named_so)) ∙ found.2) in
+                  let ahead = subst (λ o. IsAhead rules.before (ranked better) o) (low.old ∙ ap (λ o. option_map ranked o) old) low.outranks.old in
+                  cc (sym not_better ∙ ahead);
+              later = λ q is. (
+                low.teller,
+                low.is_one,
+                low.is_sender,
+                let new : low.rival.new ≡ Some (told_rank v low.teller.preference q) = low.new ∙ ap (λ o. option_map (told_rank v low.teller.preference) o) is in
+                    let ahead = subst (λ o. IsAhead rules.before (ranked better) o) new low.outranks.new in
+                    behind_both (told_rank v low.teller.preference q) (ranked c) ahead not_better,
+              );
+            }
+      ]) refl
+    where
+      of : ℕ → Option Choice
+      of = choice net u h p
 
-pub leads_by : (before : Ranked → Ranked → Bool) (p v : ℕ) (path : Option (List ℕ)) (ns : List Neighbour) (n teller : Neighbour) (rank : Ranked) (q : List ℕ) (t : Bool) → kept_choice p n ≡ first_kept before p ns
-    → Some rank ≡ option_map ranked (kept_choice p n) → n.id ≢ v → path ≡ Some q → (teller.id ≡ v) × Among teller ns
-    → t ≡ before (record { nbr = v; preference = teller.preference; length = length q + 1 }) rank → not t ≡ true → Leads before p v path ns
-leads_by before p v path ns n teller rank q t first_one ranks apart told teller_is test low =
-    (elim (kept_path p n) as (λ o. option_map made o ≡ first_kept before p ns → Some rank ≡ option_map ranked (option_map made o) → Leads before p v path ns) [
-      | None ↦ λ f r. absurd (cc r)
-      | Some x ↦ λ f r. record {
-        leader = made x;
-        is_first = sym f;
-        other = apart;
-        later = λ r2 e. (teller, teller_is.1, teller_is.0, below x (let same : rank ≡ ranked (made x) = cc r in same) r2 (let same : q ≡ r2 = cc (sym told ∙ e) in same));
-      }
-    ]) first_one ranks
+      better : Choice
+      better = low.outranks.choice
+
+      teller_kept : Remembers net u h low.teller
+      teller_kept = among_all (Remembers net u h) ns low.teller keeps.each low.is_one
+
+      is_first : first rules.before of (neighbours net u) ≡ first_kept rules.before p ns
+      is_first = sym (first_is rules.before net u h p ns keeps below)
+
+      there : Among better (filter_map of (neighbours net u))
+      there =
+          let kept : Remembers net u h low.other = among_all (Remembers net u h) ns low.other keeps.each low.is_other in
+          among_to of (neighbours net u) low.other.id better (subst (λ vs. has vs low.other.id ≡ true) keeps.same (among_ids ns low.other low.is_other))
+          (sym (each_choice net u h p low.other kept below) ∙ low.outranks.is_one)
+
+      behind_both : (x y : Ranked) → rules.before (ranked better) x ≡ true → rules.before (ranked better) y ≡ false → rules.before x y ≡ false
+      behind_both x y ahead not_ahead =
+          (elim (rules.before x y) as (λ b. rules.before x y ≡ b → b ≡ false) [
+            | true ↦ λ e. absurd (cc (sym not_ahead ∙ ranking.transitive (ranked better) x y ahead e))
+            | false ↦ λ e. refl
+          ]) refl
+
+  -- the route stays where the neighbour is outranked
+  pub outranked_stays : (rules : Rules) → IsRanking rules.before → IsValid net → owns h p ≡ false → (ns : List Neighbour) → Keeps net u h ns → p < length net.prefixes → IsOutranked rules.before p v path ns
+      → best rules net u now p ≡ best rules net u h p
+  outranked_stays rules ranking valid own ns keeps below low = best_stays rules ranking valid own ns keeps below (leads_of rules ranking valid ns keeps below low)
+
+  -- a withdrawal of what was not told changes nothing
+  pub nothing_stays : (rules : Rules) → (ns : List Neighbour) → Keeps net u h ns → p < length net.prefixes → WithdrawsNothing p v path ns
+      → best rules net u now p ≡ best rules net u h p
+  unfolding best
+  nothing_stays rules ns keeps below nothing =
+      rw (owns_still, first_same rules.before (choice net u now p) (choice net u h p) same (neighbours net u)) refl
+    where
+      kept : Remembers net u h nothing.teller
+      kept = among_all (Remembers net u h) ns nothing.teller keeps.each nothing.is_one
+
+      was : candidate u h p v ≡ None
+      was = ap (candidate u h p) (sym nothing.is_sender) ∙ (sym (kept_is net u h p nothing.teller kept below) ∙ nothing.without)
+
+      own : choice net u now p v ≡ choice net u h p v
+      own = ⊎_elim
+          (λ (led : candidate u now p v ≡ led_by u (Recv v s seq path)).
+          let none : led_by u (Recv v s seq path) ≡ None = ap (λ q. led_by u (Recv v s seq q)) nothing.withdrawal in
+          ap named (led ∙ (none ∙ sym was)))
+          (λ (old : candidate u now p v ≡ candidate u h p v). ap named old)
+          (updated u h p v s seq path)
+
+      same : (w : ℕ) → choice net u now p w ≡ choice net u h p w
+      same w = ⊎_elim (λ (e : w ≡ v). subst (λ x. choice net u now p x ≡ choice net u h p x) (sym e) own) (λ (n : w ≢ v). choice_other w n) (cases_eq w v)
+
+-- ---- what is kept shows that a neighbour is outranked
+
+pub outranked_by : (before : Ranked → Ranked → Bool) (p v : ℕ) (path : Option (List ℕ)) (ns : List Neighbour) (teller : Neighbour) (rival : Rival) → (teller.id ≡ v) × Among teller ns
+    → rival.nbr ≡ teller.id → rival.old ≡ option_map ranked (kept_choice p teller) → rival.new ≡ option_map (told_rank teller.id teller.preference) path
+    → (other : Neighbour) × Among other ns × Outranks before p rival other → IsOutranked before p v path ns
+outranked_by before p v path ns teller rival is nbr old new found = record {
+  teller = teller;
+  is_one = is.1;
+  is_sender = is.0;
+  rival = rival;
+  nbr = nbr ∙ is.0;
+  old = old;
+  new = new ∙ ap (λ w. option_map (told_rank w teller.preference) path) is.0;
+  other = found.0;
+  is_other = found.1;
+  outranks = found.2;
+}
+
+-- ---- what is kept shows that nothing is withdrawn
+
+pub nothing_by : {A : Type 0} (p v : ℕ) (path : Option (List ℕ)) (ns : List Neighbour) (teller : Neighbour) (read : A → List ℕ) (found : Option A) (some none : Bool)
+    → some ≡ is_some path → some ≡ false → (teller.id ≡ v) × Among teller ns → option_map read found ≡ kept_path p teller → is_some found ≡ not none → none ≡ true → WithdrawsNothing p v path ns
+nothing_by {A = A} p v path ns teller read found some none brings off is kept empty so = record {
+  withdrawal = no_path path (sym brings ∙ off);
+  teller = teller;
+  is_one = is.1;
+  is_sender = is.0;
+  without = sym kept ∙ not_one found (empty ∙ ap not so);
+}
   where
-    made : List ℕ → Choice
-    made x = record { nbr = n.id; preference = n.preference; path = x }
+    no_path : (o : Option (List ℕ)) → is_some o ≡ false → o ≡ None
+    no_path None e = refl
+    no_path (Some x) e = absurd (cc e)
 
-    off : (b : Bool) → not b ≡ true → b ≡ false
-    off true e = absurd (cc e)
-    off false e = refl
-
-    more : suc (length q) ≡ length q + 1
-    more = omega arith
-
-    below : (x : List ℕ) → rank ≡ ranked (made x) → (r2 : List ℕ) → q ≡ r2 → before (record { nbr = v; preference = teller.preference; length = suc (length r2) }) (ranked (made x)) ≡ false
-    below x same r2 is =
-        ap (λ (l : List ℕ). before (record { nbr = v; preference = teller.preference; length = suc (length l) }) (ranked (made x))) (sym is)
-        ∙ (ap (before (record { nbr = v; preference = teller.preference; length = suc (length q) })) (sym same)
-        ∙ (ap (λ (m : ℕ). before (record { nbr = v; preference = teller.preference; length = m }) rank) more ∙ (sym test ∙ off t low)))
+    not_one : (o : Option A) → is_some o ≡ false → option_map read o ≡ None
+    not_one None e = refl
+    not_one (Some x) e = absurd (cc e)

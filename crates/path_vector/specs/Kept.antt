@@ -7,6 +7,7 @@ use Rattle.path_vector.specs.declared.causes.Cause.{Cause}
 use Rattle.path_vector.specs.declared.causes.Cause.TheVariants.{Originate, Withdraw, Recv, Down, Up, Ready, Prefer}
 use Rattle.path_vector.specs.declared.neighbours.Neighbour.{Neighbour}
 use Rattle.path_vector.specs.declared.neighbours.Found.{Found}
+use Rattle.path_vector.specs.declared.neighbours.Rival.{Rival}
 use Rattle.path_vector.specs.declared.policy.Ranked.{Ranked}
 use Rattle.path_vector.specs.History.{History, held_by, highest_by, preference_by}
 use Rattle.path_vector.specs.Selection.{Choice, ranked, consider}
@@ -110,13 +111,42 @@ kept_choice p n =
 abbrev pub first_kept : (Ranked → Ranked → Bool) → ℕ → List Neighbour → Option Choice
 first_kept before p ns = fold (λ found n. consider before found (kept_choice p n)) None ns
 
--- the first of those candidates is of another neighbour than v, and a path of v would not be before it
-pub record Leads (before : Ranked → Ranked → Bool) (p v : ℕ) (path : Option (List ℕ)) (ns : List Neighbour) : Type 0 where
-  pub leader : Choice
-  pub is_first : first_kept before p ns ≡ Some leader
-  pub other : leader.nbr ≢ v
-  pub later : (q : List ℕ) → path ≡ Some q → (n : Neighbour) × Among n ns × (n.id ≡ v)
-      × (before (record { nbr = v; preference = n.preference; length = suc (length q) }) (ranked leader) ≡ false)
+-- the rank of a candidate that v makes by telling this path
+abbrev pub told_rank : ℕ → ℕ → List ℕ → Ranked
+told_rank v preference path = record { nbr = v; preference = preference; length = suc (length path) }
+
+-- the rank is before the other one, where there is one
+abbrev pub IsAhead : (Ranked → Ranked → Bool) → Ranked → Option Ranked → Type 0
+IsAhead before rank other = IfSome other (λ r. before rank r ≡ true)
+
+-- this neighbour, another one than the rival, has a candidate for p that is before both of the rival
+pub record Outranks (before : Ranked → Ranked → Bool) (p : ℕ) (rival : Rival) (n : Neighbour) : Type 0 where
+  pub apart : n.id ≢ rival.nbr
+  pub choice : Choice
+  pub is_one : kept_choice p n ≡ Some choice
+  pub old : IsAhead before (ranked choice) rival.old
+  pub new : IsAhead before (ranked choice) rival.new
+
+-- another neighbour has a candidate for p before that of v, and before what v would have by this path
+pub record IsOutranked (before : Ranked → Ranked → Bool) (p v : ℕ) (path : Option (List ℕ)) (ns : List Neighbour) : Type 0 where
+  pub teller : Neighbour
+  pub is_one : Among teller ns
+  pub is_sender : teller.id ≡ v
+  pub rival : Rival
+  pub nbr : rival.nbr ≡ v
+  pub old : rival.old ≡ option_map ranked (kept_choice p teller)
+  pub new : rival.new ≡ option_map (told_rank v teller.preference) path
+  pub other : Neighbour
+  pub is_other : Among other ns
+  pub outranks : Outranks before p rival other
+
+-- an update of v is a withdrawal, and v has no candidate for p
+pub record WithdrawsNothing (p v : ℕ) (path : Option (List ℕ)) (ns : List Neighbour) : Type 0 where
+  pub withdrawal : path ≡ None
+  pub teller : Neighbour
+  pub is_one : Among teller ns
+  pub is_sender : teller.id ≡ v
+  pub without : kept_path p teller ≡ None
 
 -- nothing was found so far, or this rank is before what was found
 abbrev pub is_sooner : (Ranked → Ranked → Bool) → Option Found → Ranked → Bool

@@ -7,9 +7,9 @@ ghost use Rattle.path_vector.specs.History.{History, HasScope, Accepts, change};
 ghost use Rattle.path_vector.specs.Selection.{ranked};
 ghost use Rattle.topology.specs.declared.names.Scope.TheVariants.{All};
 ghost use Rattle.path_vector.specs.Standing.{Remembers};
-ghost use Rattle.path_vector.specs.Kept.{IsCopy, Hears, Turns, Keeps, Rises, ids, names, led_by, kept_path, kept_choice, first_kept, is_sooner, Leads};
+ghost use Rattle.path_vector.specs.Kept.{IsCopy, Hears, Turns, Keeps, Rises, ids, names, led_by, kept_path, kept_choice, first_kept, is_sooner, told_rank, IsAhead, Outranks, IsOutranked, WithdrawsNothing};
 
-use crate::{Cause, Policy, Ranked};
+use crate::{Cause, LikelyPlaces, Policy, Ranked};
 use std::alloc::Global;
 use topology::{NoMemory, NodeId, Path, PrefixId, Relation, Scope, Session, Topology};
 
@@ -29,6 +29,14 @@ pub struct Neighbour {
 struct Found {
     place: usize,
     rank: Ranked,
+}
+
+// A neighbour that tells something: its candidate, and what it would have then.
+#[derive(Clone, Copy)]
+struct Rival {
+    nbr: NodeId,
+    old: Option<Ranked>,
+    new: Option<Ranked>,
 }
 
 impl Neighbour {
@@ -52,6 +60,33 @@ impl Neighbour {
             preference: self.preference,
             length: path.nodes().len() as u32,
         })
+    }
+
+    // Its candidate, and what it would have by this path, as a policy sees them.
+    fn as_rival(&self, prefix: PrefixId, path: &Option<Path>) -> Rival
+        ensures nbr { result.nbr ≡ self.now.id }
+        ensures old { result.old ≡ option_map ranked (kept_choice prefix self.now) }
+        ensures new { result.new ≡ option_map (told_rank self.now.id self.now.preference) path.now }
+    {
+        Rival {
+            nbr: self.id,
+            old: self.rank(prefix),
+            new: self.rank_by(path),
+        }
+    }
+
+    // What it would have by this path, as a policy sees it.
+    fn rank_by(&self, path: &Option<Path>) -> Option<Ranked>
+        ensures { result ≡ option_map (told_rank self.now.id self.now.preference) path.now }
+    {
+        match path {
+            None => None,
+            Some(path) => Some(Ranked {
+                nbr: self.id,
+                preference: self.preference,
+                length: path.nodes().len() as u32 + 1,
+            }),
+        }
     }
 
     // An equal one.
@@ -249,32 +284,56 @@ fn lead_path(path: &Option<Path>, node: NodeId) -> Result<Option<Path>, NoMemory
     }
 }
 
-// The place of a neighbour.
-pub(crate) fn place_of(neighbours: &[Neighbour], id: NodeId) -> Option<usize>
+// Whether the neighbour of this number stands at this place.
+fn is_at(neighbours: &[Neighbour], place: usize, id: NodeId) -> bool
+    ensures { IsTrue result → slice_get (ids neighbours.now) place ≡ Some id }
+{
+    match neighbours.get(place) {
+        None => false,
+        Some(neighbour) => neighbour.id == id,
+    }
+}
+
+// The place of a neighbour, which is mostly the likely one.
+pub(crate) fn place_of(neighbours: &[Neighbour], likely: &LikelyPlaces, id: NodeId) -> Option<usize>
     ensures some { IfSome result (λ place. slice_get (ids neighbours.now) place ≡ Some id) }
     ensures none { Rises (ids neighbours.now) →
         IfNone result (has (ids neighbours.now) id ≡ false) }
 {
+    let guess = likely.guess(id);
+    if is_at(neighbours, guess, id) {
+        return Some(guess);
+    }
     neighbours
         .binary_search_by_key(&id, |neighbour| neighbour.id)
         .ok()
 }
 
 // The neighbour of this number.
-pub(crate) fn find(neighbours: &[Neighbour], id: NodeId) -> Option<&Neighbour>
+pub(crate) fn find<'a>(
+    neighbours: &'a [Neighbour],
+    likely: &LikelyPlaces,
+    id: NodeId,
+) -> Option<&'a Neighbour>
     ensures some { IfSome result (λ neighbour.
         (neighbour.now.id ≡ id) × Among neighbour.now neighbours.now) }
     ensures none { Rises (ids neighbours.now) →
         IfNone result (has (ids neighbours.now) id ≡ false) }
 {
-    match place_of(neighbours, id) {
+    match place_of(neighbours, likely, id) {
         None => None,
         Some(place) => Some(&neighbours[place]),
     }
 }
 
 // Takes an entry. `led` is the own node before the path of an update.
-pub(crate) fn heed(neighbours: &mut Vec<Neighbour>, scope: &Scope, cause: &Cause, led: Option<Path>)
+pub(crate) fn heed(
+    neighbours: &mut Vec<Neighbour>,
+    likely: &LikelyPlaces,
+    scope: &Scope,
+    cause: &Cause,
+    led: Option<Path>,
+)
     ensures { (net : Net) (u : ℕ) (past : History) → Keeps net u past neighbours.old.items →
         Accepts past scope.now cause.now → led ≡ led_by u cause.now →
         Keeps net u (change scope.now cause.now ∷ past) neighbours.new.items }
@@ -282,7 +341,7 @@ pub(crate) fn heed(neighbours: &mut Vec<Neighbour>, scope: &Scope, cause: &Cause
     let Some(id) = named(cause) else {
         return;
     };
-    let Some(place) = place_of(neighbours, id) else {
+    let Some(place) = place_of(neighbours, likely, id) else {
         return;
     };
     neighbours[place].heed(*scope, cause, led);
@@ -322,36 +381,82 @@ pub(crate) fn first<'a, P: Policy>(
     }
 }
 
-// Whether the first candidate is of another neighbour than this one, and stays the first where that
-// one tells of this path, or withdraws.
-pub(crate) fn leads<P: Policy>(
-    policy: &P,
+// Whether an update is a withdrawal of a neighbour that has no candidate.
+pub(crate) fn withdraws_nothing(
     neighbours: &[Neighbour],
+    likely: &LikelyPlaces,
     prefix: PrefixId,
     from: NodeId,
     path: &Option<Path>,
 ) -> bool
-    ensures { IsTrue result → Leads (P.rules policy.now).before prefix from path.now neighbours.now }
+    ensures { IsTrue result → WithdrawsNothing prefix from path.now neighbours.now }
 {
-    let Some(leader) = first(policy, neighbours, prefix) else {
-        return false;
-    };
-    let Some(rank) = leader.rank(prefix) else {
-        return false;
-    };
-    if leader.id == from {
+    if path.is_some() {
         return false;
     }
-    let Some(path) = path else {
-        return true;
-    };
-    let Some(teller) = find(neighbours, from) else {
+    let Some(teller) = find(neighbours, likely, from) else {
         return false;
     };
-    let told = Ranked {
-        nbr: from,
-        preference: teller.preference,
-        length: path.nodes().len() as u32 + 1,
+    teller.path(prefix).is_none()
+}
+
+// Whether a rank is before another one, where there is one.
+fn is_ahead<P: Policy>(policy: &P, rank: &Ranked, other: &Option<Ranked>) -> bool
+    ensures { IsTrue result → IsAhead (P.rules policy.now).before rank.now other.now }
+{
+    match other {
+        None => true,
+        Some(other) => policy.before(*rank, *other),
+    }
+}
+
+// Whether another neighbour has a candidate that is before both of the rival.
+fn outranks<P: Policy>(policy: &P, other: &Neighbour, prefix: PrefixId, rival: &Rival) -> bool
+    ensures { IsTrue result → Outranks (P.rules policy.now).before prefix rival.now other.now }
+{
+    if other.id == rival.nbr {
+        return false;
+    }
+    match other.rank(prefix) {
+        None => false,
+        Some(rank) => is_ahead(policy, &rank, &rival.old) && is_ahead(policy, &rank, &rival.new),
+    }
+}
+
+// Whether one of these neighbours does.
+fn some_outranks<P: Policy>(
+    policy: &P,
+    neighbours: &[Neighbour],
+    prefix: PrefixId,
+    rival: &Rival,
+) -> bool
+    ensures { IsTrue result → (other : Neighbour) × Among other neighbours.now
+        × Outranks (P.rules policy.now).before prefix rival.now other }
+{
+    for other in neighbours {
+        if outranks(policy, other, prefix, rival) {
+            return true;
+        }
+    }
+    false
+}
+
+// Whether another neighbour than this one has a candidate that is before what this one told, and
+// before what it would tell by this path: so the first candidate is of another one, and stays the
+// first. Mostly one of the first few shows it.
+pub(crate) fn is_outranked<P: Policy>(
+    policy: &P,
+    neighbours: &[Neighbour],
+    likely: &LikelyPlaces,
+    prefix: PrefixId,
+    from: NodeId,
+    path: &Option<Path>,
+) -> bool
+    ensures { IsTrue result → IsOutranked (P.rules policy.now).before prefix from path.now neighbours.now }
+{
+    let Some(teller) = find(neighbours, likely, from) else {
+        return false;
     };
-    !policy.before(told, rank)
+    let rival = teller.as_rival(prefix, path);
+    some_outranks(policy, neighbours, prefix, &rival)
 }

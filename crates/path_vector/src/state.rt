@@ -14,7 +14,7 @@ ghost use Rattle.path_vector.specs.Taken.{Takes, IsTaken};
 ghost use Rattle.path_vector.specs.Answers.{Shows, GoesFirst, Copies, behind};
 
 use crate::neighbours::{self, Neighbour};
-use crate::{Cause, Learned, Policy, order};
+use crate::{Cause, Learned, LikelyPlaces, Policy, order};
 use std::alloc::Global;
 use topology::{NoMemory, NodeId, Path, PrefixId, Relation, Scope, Session, Topology};
 
@@ -54,6 +54,7 @@ pub struct RouteState<P: Policy + Copy> {
     alone: Path,
     owned: Vec<bool>,
     neighbours: Vec<Neighbour>,
+    likely: LikelyPlaces,
 }
 
 impl<P: Policy + Copy> RouteState<P> {
@@ -74,6 +75,7 @@ impl<P: Policy + Copy> RouteState<P> {
             alone: Path::single(alloc, node)?,
             owned: vec![in alloc; false; topology.prefix_count() as usize]?,
             neighbours: neighbours::neighbours_of(alloc, topology, node)?,
+            likely: LikelyPlaces::of(topology.neighbours(node)),
         })
     }
 
@@ -91,7 +93,7 @@ impl<P: Policy + Copy> RouteState<P> {
             StandsFor policy net u self.now h →
             has (neighbours net u) nbr ≡ true → result ≡ held h nbr }
     {
-        neighbours::find(&self.neighbours, nbr)?.held
+        neighbours::find(&self.neighbours, &self.likely, nbr)?.held
     }
 
     /// Whether an entry about a neighbour, or about none, may follow the entries so far: it has the
@@ -105,7 +107,11 @@ impl<P: Policy + Copy> RouteState<P> {
             return false;
         }
         match cause {
-            Cause::Up { nbr, session } => match neighbours::find(&self.neighbours, *nbr) {
+            Cause::Up { nbr, session } => match neighbours::find(
+                &self.neighbours,
+                &self.likely,
+                *nbr,
+            ) {
                 None => false,
                 Some(neighbour) => neighbour.highest < *session,
             },
@@ -123,7 +129,7 @@ impl<P: Policy + Copy> RouteState<P> {
     {
         let led = neighbours::lead(cause, self.node())?;
         mark(&mut self.owned, &scope, cause);
-        neighbours::heed(&mut self.neighbours, &scope, cause, led);
+        neighbours::heed(&mut self.neighbours, &self.likely, &scope, cause, led);
         Ok(())
     }
 
@@ -138,6 +144,7 @@ impl<P: Policy + Copy> RouteState<P> {
             alone: self.alone.copy()?,
             owned: Vec::from_slice(self.alloc, &self.owned)?,
             neighbours: neighbours::copy_of(&self.neighbours)?,
+            likely: self.likely,
         })
     }
 
@@ -157,7 +164,7 @@ impl<P: Policy + Copy> RouteState<P> {
             prefix < length net.prefixes → has (neighbours net u) nbr ≡ true →
             behind u (option_map (λ nodes. nodes.now) result) ≡ candidate u h prefix nbr }
     {
-        let path = neighbours::find(&self.neighbours, nbr)?.path(prefix)?;
+        let path = neighbours::find(&self.neighbours, &self.likely, nbr)?.path(prefix)?;
         Some(&path.nodes()[1..])
     }
 
@@ -220,8 +227,8 @@ impl<P: Policy + Copy> RouteState<P> {
     }
 
     /// Whether an update of a neighbour leaves the best route of its prefix as it is: the node
-    /// originates the prefix, or the route goes by another neighbour and no path of this one is before
-    /// it. Where it answers no, the route may change or not.
+    /// originates the prefix, or this neighbour withdraws what it did not tell, or the route goes by another
+    /// neighbour and no path of this one is before it. Where it answers no, the route may change or not.
     pub fn stays(&self, prefix: PrefixId, from: NodeId, path: &Option<Path>) -> bool
         ensures { (policy : P) (net : Net) (u session seq : ℕ) (h : History) → StandsFor policy net u self.now h →
             prefix < length net.prefixes → IsTrue result →
@@ -232,7 +239,24 @@ impl<P: Policy + Copy> RouteState<P> {
         if is_own {
             return true;
         }
-        neighbours::leads(&self.policy, &self.neighbours, prefix, from, path)
+        let is_nothing = neighbours::withdraws_nothing(
+            &self.neighbours,
+            &self.likely,
+            prefix,
+            from,
+            path,
+        );
+        if is_nothing {
+            return true;
+        }
+        neighbours::is_outranked(
+            &self.policy,
+            &self.neighbours,
+            &self.likely,
+            prefix,
+            from,
+            path,
+        )
     }
 
     /// What the node offers a neighbour: its best route where export allows it, else none.
@@ -295,7 +319,7 @@ impl<P: Policy + Copy> RouteState<P> {
             StandsFor policy net u self.now h →
             has (neighbours net u) nbr ≡ true → result ≡ relation net u nbr }
     {
-        Some(neighbours::find(&self.neighbours, nbr)?.relation)
+        Some(neighbours::find(&self.neighbours, &self.likely, nbr)?.relation)
     }
 
     // The best route of a prefix.

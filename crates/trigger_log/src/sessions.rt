@@ -1,11 +1,12 @@
 //! The sessions that a node ever held.
-ghost use Rattle.std.specs.Prelude.{ℕ, ◌≡◌, ◌<◌, ◌+◌, ◌^◌, List, [], ◌∷◌, ◌++◌, Some, None, false, true, length, map, slice_get, slice_set, is_none, ◌&&◌, if◌then◌else◌, IfOk, IfSome, IfNone, OnOk, OnErr};
+ghost use Rattle.std.specs.Prelude.{ℕ, IsTrue, ◌≡◌, ◌<◌, ◌+◌, ◌^◌, List, [], ◌∷◌, ◌++◌, Some, None, false, true, length, map, slice_get, slice_set, is_none, ◌&&◌, if◌then◌else◌, IfOk, IfSome, IfNone, OnOk, OnErr};
 ghost use Rattle.std.specs.List.{AllByRecursion};
 ghost use Rattle.trigger_log.specs.declared.sessions.SessionMark.{SessionMark};
 ghost use Rattle.topology.specs.Lists.{Among, has};
 ghost use Rattle.topology.specs.Net.{Net, IsValid, neighbours};
 ghost use Rattle.trigger_log.specs.Rows.{EndsWith, joined, shifted};
 
+use path_vector::LikelyPlaces;
 use std::alloc::Global;
 use std::marker::Model;
 use topology::{NoMemory, NodeId, Session, Trigger};
@@ -49,6 +50,7 @@ impl SessionMark {
 #[derive(Drop)]
 pub struct Sessions {
     near: Vec<NodeId>,
+    likely: LikelyPlaces,
     marks: Vec<SessionMark>,
     newest: Vec<usize>,
 }
@@ -80,6 +82,13 @@ fn copy_of(alloc: Global, near: &[NodeId]) -> Result<Vec<NodeId>, NoMemory>
     Ok(Vec::from_slice(alloc, near)?)
 }
 
+// Whether the neighbour stands at this place.
+fn is_at(near: &[NodeId], place: usize, nbr: NodeId) -> bool
+    ensures { IsTrue result → slice_get near.now place ≡ Some nbr }
+{
+    near.get(place) == Some(&nbr)
+}
+
 impl Sessions {
     /// One row for each neighbour, with the session that both ends hold from the start.
     pub fn new(alloc: Global, near: &[NodeId]) -> Result<Sessions, NoMemory>
@@ -102,6 +111,7 @@ impl Sessions {
         }
         Ok(Sessions {
             near: copy_of(alloc, near)?,
+            likely: LikelyPlaces::of(near),
             marks,
             newest,
         })
@@ -114,8 +124,23 @@ impl Sessions {
         self.newest.len()
     }
 
-    /// The place of a neighbour.
+    /// The place of a neighbour, which is mostly the likely one.
     pub fn place_of(&self, nbr: NodeId) -> Option<usize>
+        ensures some { (net : Net) (u : ℕ) → IsValid net → self.now.near ≡ neighbours net u →
+            IfSome result (λ place. slice_get (neighbours net u) place ≡ Some nbr) }
+        ensures none { (net : Net) (u : ℕ) → IsValid net → self.now.near ≡ neighbours net u →
+            IfNone result (has (neighbours net u) nbr ≡ false) }
+        ensures within { IfSome result (λ place. place < length self.now.rows) }
+    {
+        let guess = self.likely.guess(nbr);
+        if is_at(&self.near, guess, nbr) {
+            return Some(guess);
+        }
+        self.searched(nbr)
+    }
+
+    // The place of a neighbour, by a search.
+    fn searched(&self, nbr: NodeId) -> Option<usize>
         ensures some { (net : Net) (u : ℕ) → IsValid net → self.now.near ≡ neighbours net u →
             IfSome result (λ place. slice_get (neighbours net u) place ≡ Some nbr) }
         ensures none { (net : Net) (u : ℕ) → IsValid net → self.now.near ≡ neighbours net u →
