@@ -78,7 +78,16 @@ impl Links {
             linked net from to ≡ false) }
     {
         let way = self.way_of(from, to)?;
-        Some(&self.channels[way])
+        Some(self.channel_at(way))
+    }
+
+    /// The way with this number: the state of the link, and what is on its way. Takes no memory.
+    pub fn channel_at(&self, way: usize) -> &Channel
+        requires { way < length self.now.table }
+        ensures { (net : Net) (acts : Acts) (from to : ℕ) → StandsFor net self.now acts →
+            IsPlaced self.now from to way → IsChannel acts from to result.now }
+    {
+        &self.channels[way]
     }
 
     /// Sends an item on its way in a session. True where it is queued; false where the link does not
@@ -197,6 +206,19 @@ impl Links {
         let Some(way) = self.way_of(from, to) else {
             return None;
         };
+        self.pop_front_at(way)
+    }
+
+    /// Takes the oldest item on the way with this number. Takes no memory.
+    pub fn pop_front_at(&mut self, way: usize) -> Option<Item>
+        requires { way < length self.old.table }
+        ensures some { IfSome result (λ item. (net : Net) (acts : Acts) (from to : ℕ) → StandsFor net self.old acts →
+            IsPlaced self.old from to way → (rest : List Carried) × (channel_after from to acts ≡ item ∷ rest) ×
+            StandsFor net self.new (Take from to ∷ acts)) }
+        ensures none { IfNone result ((net : Net) (acts : Acts) (from to : ℕ) → StandsFor net self.old acts →
+            IsPlaced self.old from to way → channel_after from to acts ≡ []) }
+        ensures unchanged { IfNone result (self.new ≡ self.old) }
+    {
         self.channels[way].pop_front()
     }
 }

@@ -32,7 +32,7 @@ use Rattle.route_replay.specs.declared.ends.RunEnd.{RunEnd}
 use Rattle.route_replay.specs.declared.ends.RunEnd.TheVariants as end
 use Rattle.route_replay.specs.declared.tasks.Task.{Task}
 use Rattle.route_replay.specs.declared.tasks.Task.TheVariants as task
-use Rattle.route_replay.specs.declared.runner.TheConstants.{MAX_BYTES}
+use Rattle.schedule_file.specs.declared.parser.TheConstants.{MAX_BYTES}
 use Rattle.route_replay.specs.Text.{Course, Leads, Stops, unless, with_event, then_on, drained, controlled, hopped, is_idle, course, text, stop, stop_by, task_of}
 use Rattle.route_replay.specs.Running.{Runs}
 use Rattle.agreement_laws.specs.Agreed.{IsAgreed}
@@ -211,6 +211,7 @@ of_run count.Entries ne = refl
 of_run count.Updates ne = refl
 of_run count.Control ne = refl
 of_run count.Packets ne = refl
+of_run count.Frames ne = refl
 
 is_limit : (bytes : List ℕ) (kind : LimitKind) (number : ℕ) (held held' : Option (List ℕ)) → kind ≢ count.Bytes
     → StopsRun bytes (record { kind = kind; number = number }) held held' → IsLimit bytes kind number held held'

@@ -5,7 +5,7 @@ use Rattle.std.specs.Io.KnownBytes.{Appends}
 use Rattle.topology.specs.Lists.{Begins}
 use Rattle.topology.specs.Net.{Net}
 use Rattle.topology.specs.declared.status.Status.{Status}
-use Rattle.topology.specs.declared.status.Status.TheVariants.{Done, Usage, NoMemory, BadSchedule, Limit, ReadFault, WriteFault}
+use Rattle.topology.specs.declared.status.Status.TheVariants.{Done, Usage, NoMemory, BadSchedule, Limit, ReadFault, WriteFault, LinkFault, BadFrame, NoSuchNode}
 use Rattle.topology.specs.declared.status.LimitKind.{LimitKind}
 use Rattle.route_io.specs.Causes.{RoseIf, AppendsFront}
 use Rattle.route_io.specs.Views.{SinkView}
@@ -50,6 +50,9 @@ ends_load (BadSchedule line kind) = false
 ends_load (Limit kind number) = true
 ends_load ReadFault = false
 ends_load WriteFault = true
+ends_load LinkFault = false
+ends_load (BadFrame offset fault) = false
+ends_load (NoSuchNode node) = false
 
 -- how a load ends, on a sink as it was and as it is then
 pub record Loaded (number : ℕ) (sink sink' : SinkView) (status : Status) : Type 0 where

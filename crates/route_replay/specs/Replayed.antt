@@ -3,10 +3,10 @@ use Rattle.std.specs.Prelude.{ℕ, Bool, true, false, not, MatchBool, ◌≡◌,
 use Rattle.std.specs.Io.KnownBytes.{Appends, IsAtEnd}
 use Rattle.topology.specs.Lists.{Begins}
 use Rattle.topology.specs.declared.status.Status.{Status}
-use Rattle.topology.specs.declared.status.Status.TheVariants.{Done, Usage, NoMemory, BadSchedule, Limit, ReadFault, WriteFault}
+use Rattle.topology.specs.declared.status.Status.TheVariants.{Done, Usage, NoMemory, BadSchedule, Limit, ReadFault, WriteFault, LinkFault, BadFrame, NoSuchNode}
 use Rattle.topology.specs.declared.status.BadKind.{BadKind}
 use Rattle.topology.specs.declared.status.LimitKind.{LimitKind}
-use Rattle.topology.specs.declared.status.LimitKind.TheVariants.{Bytes, Events, Epochs, Triggers, Entries, Updates, Control, Packets}
+use Rattle.topology.specs.declared.status.LimitKind.TheVariants.{Bytes, Events, Epochs, Triggers, Entries, Updates, Control, Packets, Frames}
 use Rattle.route_io.specs.Causes.{RoseIf, AppendsFront}
 use Rattle.route_io.specs.Views.{SourceView, SinkView}
 use Rattle.path_vector.specs.GaoRexford.{gao_rexford}
@@ -19,7 +19,7 @@ use Rattle.schedule_file.specs.declared.lines.Line.{Line}
 use Rattle.schedule_file.specs.Spelling.{words_by_line}
 use Rattle.schedule_file.specs.Grammar.{Reads, net_of, directives_of}
 use Rattle.schedule_file.specs.Refusals.{FirstBad}
-use Rattle.route_replay.specs.declared.runner.TheConstants.{MAX_BYTES}
+use Rattle.schedule_file.specs.declared.parser.TheConstants.{MAX_BYTES}
 use Rattle.route_replay.specs.Text.{text, stop, events_of}
 
 -- what the lines of a file come to: the text of their run, up to the directive that a limit stops,
@@ -55,6 +55,7 @@ is_of_run Entries = true
 is_of_run Updates = true
 is_of_run Control = true
 is_of_run Packets = true
+is_of_run Frames = true
 
 -- the statuses before which nothing is run
 abbrev pub ends_early : Status → Bool
@@ -65,6 +66,9 @@ ends_early (BadSchedule line kind) = true
 ends_early (Limit kind number) = not (is_of_run kind)
 ends_early ReadFault = true
 ends_early WriteFault = false
+ends_early LinkFault = true
+ends_early (BadFrame offset fault) = true
+ends_early (NoSuchNode node) = true
 
 -- the statuses before which the file was read to its end
 abbrev pub ends_read : Status → Bool
@@ -75,6 +79,9 @@ ends_read (BadSchedule line kind) = true
 ends_read (Limit kind number) = is_of_run kind
 ends_read ReadFault = false
 ends_read WriteFault = true
+ends_read LinkFault = false
+ends_read (BadFrame offset fault) = false
+ends_read (NoSuchNode node) = false
 
 -- the run would take that count above its number, and the text of the directives before was written
 abbrev pub StopsRun : List ℕ → Reached → Option (List ℕ) → Option (List ℕ) → Type 0

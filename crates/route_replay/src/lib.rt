@@ -25,4 +25,4 @@ pub mod walk_text;
 
 pub use loading::load;
 pub use plain::replay_plain;
-pub use runner::{MAX_BYTES, replay};
+pub use runner::replay;

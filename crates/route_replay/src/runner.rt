@@ -9,14 +9,11 @@ use crate::directives::advance;
 use crate::ends::RunEnd;
 use path_vector::{GaoRexford, Policy};
 use route_io::{ReadEnd, Sink, Source, read_all};
-use schedule_file::{Numbered, ParseEnd, Schedule, parse};
+use schedule_file::{MAX_BYTES, Numbered, ParseEnd, Schedule, parse};
 use std::alloc::Global;
 use std::rc::Rc;
 use topology::{LimitKind, Status};
 use world_core::World;
-
-/// The most bytes that a schedule may have.
-pub const MAX_BYTES: u32 = 16_777_216;
 
 /// Runs the directives, and writes the text of each before the next is taken.
 pub fn run_lines<P: Policy + Copy, O: Sink>(

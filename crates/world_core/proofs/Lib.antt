@@ -22,6 +22,7 @@ pub mod Answered
 pub mod Comes
 pub mod Handed
 pub mod Changing
+pub mod Opened
 pub mod Next
 pub mod Lawful
 pub mod Stepped

@@ -8,7 +8,7 @@ use Rattle.chronicle.specs.declared.ways.Way.{Way}
 use Rattle.chronicle.specs.Facts.{Chronicle}
 use Rattle.world_core.specs.declared.outcomes.Effect.{Effect}
 use Rattle.world_core.specs.declared.outcomes.Effect.TheVariants.{Logged, Queued, Lost, Mailed, Cut, Published, Visited, Ended}
-use Rattle.world_core.specs.Waiting.{waits}
+use Rattle.world_core.specs.Waiting.{is_open, waits}
 use Rattle.world_core.specs.WaySets.{same_way}
 
 abbrev pub way : ℕ → ℕ → Way
@@ -32,13 +32,13 @@ is_outage (Restart node) = false
 is_outage (Inject packet node prefix) = false
 is_outage (Hop packet) = false
 
--- the ways over the link of the event on which a delivery may come to something else: both where the
--- link changes, else the way to the node that takes the item, or that opens or closes its session
+-- the ways over the link of the event that it may open or close: both where the link changes, else the way to the node
+-- that opens or closes its session
 abbrev pub link_ways : Event → List Way
 link_ways (Originate node prefix) = []
 link_ways (Withdraw node prefix) = []
 link_ways (Prefer node nbr value) = []
-link_ways (Deliver from to) = way from to ∷ []
+link_ways (Deliver from to) = []
 link_ways (Fail a b) = way a b ∷ way b a ∷ []
 link_ways (Restore a b) = way a b ∷ way b a ∷ []
 link_ways (Notice node nbr) = way nbr node ∷ []
@@ -73,9 +73,14 @@ node_ways net (Restart node) = ways_to net node
 node_ways net (Inject packet node prefix) = []
 node_ways net (Hop packet) = []
 
--- all ways on which a delivery may come to something else by the event itself
-abbrev pub ways_of : Net → Event → List Way
-ways_of net event = node_ways net event ++ link_ways event
+-- all ways that the event may open or close
+abbrev pub turned_ways : Net → Event → List Way
+turned_ways net event = node_ways net event ++ link_ways event
+
+-- the way from which the event may take an item
+abbrev pub taken_ways : Event → List Way
+taken_ways (Deliver from to) = way from to ∷ []
+taken_ways other = []
 
 -- the ways over which something was queued
 abbrev pub queued_ways : List Effect → List Way
@@ -93,7 +98,9 @@ queued_ways (Ended packet ending ∷ list) = queued_ways list
 abbrev pub AreLinked : Net → List Way → Type 0
 AreLinked net ways = AllByRecursion (λ (w : Way). linked net w.from w.to ≡ true) ways
 
--- the set has each way that waits but for these, of which nothing is known, and no other
-pub record AreWaitingBut (net : Net) (past : Chronicle) (ways : List Way) (has : Way → Bool) : Type 0 where
-  pub near : AreLinked net ways
-  pub right : (one : Way) → list_any (same_way one) ways ≡ false → has one ≡ waits net past one
+-- the set has each way that waits but for these, and no other: those that may have been opened or closed, of which nothing
+-- is known, and those on which more or less may be than was; what it has of these is open
+pub record AreWaitingBut (net : Net) (past : Chronicle) (turned busy : List Way) (has : Way → Bool) : Type 0 where
+  pub near : AreLinked net (turned ++ busy)
+  pub right : (one : Way) → list_any (same_way one) (turned ++ busy) ≡ false → has one ≡ waits net past one
+  pub open_still : (one : Way) → list_any (same_way one) turned ≡ false → has one ≡ true → is_open past one.from one.to ≡ true

@@ -13,6 +13,7 @@ mod refreshing;
 mod sending;
 mod starting;
 mod steps;
+mod taking;
 mod turning;
 mod waiting;
 pub mod walks;

@@ -41,6 +41,14 @@ impl Waiting {
         }
     }
 
+    /// Whether the way with this number is in. Takes no memory.
+    pub fn has(&self, number: usize) -> bool
+        requires { number < MOST_WAYS }
+        ensures { result ≡ has_number self.now number }
+    {
+        self.words[number / 64] >> (number % 64) & 1 == 1
+    }
+
     /// The lowest number of a way. Takes no memory.
     pub fn first(&self) -> Option<usize>
         ensures some { IfSome result (IsLowest self.now) }

@@ -252,7 +252,7 @@ impl<P: Policy + Copy> World<P> {
         cut_laws::laws::no_world_is_out_of_turn();
         agreement_laws::laws::rounds_are_few();
         agreement_laws::laws::values_have_few_triggers();
-        let outcome = network.happen(&event)?;
+        let outcome = network.advance(&event, &waiting)?;
         network.refresh(&event, &outcome, &mut waiting);
         let Ok(()) = events.push(event) else {
             return Err(Stop::NoMemory);

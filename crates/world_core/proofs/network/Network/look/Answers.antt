@@ -7,7 +7,7 @@ use Rattle.world_core.proofs.Numbered.{put_way}
 use Rattle.world_core.proofs.network.Network.look.Goals as goal
 
 pub returns-in_default : goal.returns-in_default
-returns-in_default g c past counts rest stands was =
+returns-in_default g c past counts turned busy stands was =
     let links = stands.are_links in
     let net = c.args.self.now.topology.value in
     absurd (true≢false (sym was.near.0 ∙ c.in_default.ensures.none net (ways_after links.acts) (keeps_of net c.args.self.now.links links.acts links.stands)))
@@ -16,12 +16,12 @@ pub put-requires : goal.put-requires
 put-requires g c = c.in-Some.ensures.few
 
 pub returns : goal.returns
-returns g c past counts rest stands was =
+returns g c past counts turned busy stands was =
     let net = c.args.self.now.topology.value in
     let way = c.args.way.now in
     let placed = c.in-Some.ensures.some in
     let same = stands.are_links.stands.numbered in
-    looked net past way rest (has_way net c.args.waiting.now) (has_way net c.put.new.self) c.waits.result
+    looked net past way turned busy (has_way net c.args.waiting.now) (has_way net c.put.new.self) c.waits.result
     (put_way (ways_of net) way c.in-Some.number c.waits.result (has_number c.args.waiting.now) (has_number c.put.new.self)
     (ap (λ l. slice_get l c.in-Some.number) (sym same) ∙ placed.here) (λ i there. placed.only i (ap (λ l. slice_get l i) same ∙ there)) c.put.ensures)
     (c.waits.ensures past counts stands) was

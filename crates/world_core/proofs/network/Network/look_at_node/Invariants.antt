@@ -8,6 +8,6 @@ use Rattle.world_core.proofs.network.Network.look_at_node.Given as goal
 
 abbrev pub invariant-loop-nbr : goal.invariant-loop-nbr
 invariant-loop-nbr g l = record {
-  known : (past : Chronicle) (counts : Counts) (rest : List Way) → Stands (g.P.Policy.rules l.self.policy) past counts l.self → AreWaitingBut l.self.topology.value past (ways_to l.self.topology.value l.node ++ rest) (has_way l.self.topology.value l.fn.waiting)
-      → AreWaitingBut l.self.topology.value past (map (λ v. way v l.node) (drop l.nbr-index l.nbr-items) ++ rest) (has_way l.self.topology.value l.waiting);
+  known : (past : Chronicle) (counts : Counts) (turned busy : List Way) → Stands (g.P.Policy.rules l.self.policy) past counts l.self → AreWaitingBut l.self.topology.value past (ways_to l.self.topology.value l.node ++ turned) busy (has_way l.self.topology.value l.fn.waiting)
+      → AreWaitingBut l.self.topology.value past (map (λ v. way v l.node) (drop l.nbr-index l.nbr-items) ++ turned) busy (has_way l.self.topology.value l.waiting);
 }

@@ -4,7 +4,7 @@ use Rattle.world_core.specs.WaySets.{has_way}
 use Rattle.world_core.proofs.network.Network.look_at_turned.Goals as goal
 
 pub returns : goal.returns
-returns g c past counts rest matches was =
+returns g c past counts turned busy matches was =
     let net = c.args.self.now.topology.value in
-    c.look_at_node.ensures past counts rest matches
-    (subst (λ ways. AreWaitingBut net past (ways ++ rest) (has_way net c.args.waiting.now)) (c.in-Some.ensures.some net) was)
+    c.look_at_node.ensures past counts turned busy matches
+    (subst (λ ways. AreWaitingBut net past (ways ++ turned) busy (has_way net c.args.waiting.now)) (c.in-Some.ensures.some net) was)

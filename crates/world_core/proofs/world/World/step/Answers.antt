@@ -21,21 +21,21 @@ returns-then-len-clause-stopped g c =
     let long : MOST_EVENTS ≤ length c.self.inside.events.items = omega arith in
     rw (← c.self.view_is) (limit_events (g.P.Policy.rules c.self.inside.network.value.policy) c.self.inside.network.value.topology.value c.self.inside.events.items c.args.event long)
 
-pub happen-requires-clause-fits : goal.happen-requires-clause-fits
-happen-requires-clause-fits g c = rw c.deref_mut.ensures.value (subst (λ w. IsTrue (fits w.net c.args.event)) (sym c.self.view_is) c.requires)
+pub advance-requires-clause-fits : goal.advance-requires-clause-fits
+advance-requires-clause-fits g c = rw c.deref_mut.ensures.value (subst (λ w. IsTrue (fits w.net c.args.event)) (sym c.self.view_is) c.requires)
 
-pub happen-requires-clause-places : goal.happen-requires-clause-places
-happen-requires-clause-places g c =
+pub advance-requires-clause-places : goal.advance-requires-clause-places
+advance-requires-clause-places g c =
     let network = c.self.inside.network.value in
     let rules = g.P.Policy.rules network.policy in
     let net = network.topology.value in
     rw c.deref_mut.ensures.value (places_of network.policy rules net (run rules net c.self.inside.events.items) network.nodes.items c.self.invariant.0.are_nodes)
 
-pub happen-requires-clause-flags : goal.happen-requires-clause-flags
-happen-requires-clause-flags g c = rw c.deref_mut.ensures.value (record { valid = c.self.invariant.0.are_nodes.valid; count_is = c.self.invariant.0.are_crashed.flag_count })
+pub advance-requires-clause-flags : goal.advance-requires-clause-flags
+advance-requires-clause-flags g c = rw c.deref_mut.ensures.value (record { valid = c.self.invariant.0.are_nodes.valid; count_is = c.self.invariant.0.are_crashed.flag_count })
 
-pub happen-requires-clause-mails : goal.happen-requires-clause-mails
-happen-requires-clause-mails g c =
+pub advance-requires-clause-mails : goal.advance-requires-clause-mails
+advance-requires-clause-mails g c =
     let network = c.self.inside.network.value in
     let rules = g.P.Policy.rules network.policy in
     let net = network.topology.value in
@@ -46,8 +46,8 @@ happen-requires-clause-mails g c =
       few = few_deliveries rules net events short;
     })
 
-pub happen-requires-clause-walks : goal.happen-requires-clause-walks
-happen-requires-clause-walks g c =
+pub advance-requires-clause-walks : goal.advance-requires-clause-walks
+advance-requires-clause-walks g c =
     let network = c.self.inside.network.value in
     let rules = g.P.Policy.rules network.policy in
     rw c.deref_mut.ensures.value (record { past = run rules network.topology.value c.self.inside.events.items; are_walks = c.self.invariant.0.are_walks })
@@ -65,7 +65,7 @@ returns-in_err-outcome-clause-stopped g c =
     regular_of net past (length events) short (λ v u. c.the_front_item_is_the_next.ensures rules net events v u valid) (λ v u s x rest. c.what_arrives_may_be_heard.ensures rules net events v u s x rest valid)
     (c.every_run_is_sound.ensures rules net events valid).order (c.sessions_are_few.ensures rules net events) in
     let values = values_after rules net events c.args.event (λ from to e b value. c.values_have_few_triggers.ensures.accepts rules net (events ++ c.args.event ∷ []) from to e b value valid) in
-    let stops = (rw c.deref_mut.ensures.value at c.in_err-outcome.ensures.stopped) past (deliveries rules net events) c.self.invariant.0 regular (few_deliveries rules net events short) values in
+    let stops = (rw c.deref_mut.ensures.value at c.in_err-outcome.ensures.stopped) past (deliveries rules net events) c.self.invariant.0 regular (few_deliveries rules net events short) c.self.invariant.1 values in
     let out = err_from_is_err_and c.from_residual.result c.from_residual.ensures.1 in
     rw (← c.self.view_is) (handed_on c.from_residual.result _ out.0 out.1 (rw out.2 (stops_later rules net events c.args.event c.in_err-outcome.field-0.0 short stops)))
 
@@ -87,9 +87,9 @@ invariant_of-world g c =
     regular_of net past (length events) short (λ v u. c.the_front_item_is_the_next.ensures rules net events v u valid) (λ v u s x rest. c.what_arrives_may_be_heard.ensures rules net events v u s x rest valid)
     (c.every_run_is_sound.ensures rules net events valid).order (c.sessions_are_few.ensures rules net events) in
     let counts = deliveries rules net events in
-    let comes = (rw c.deref_mut.ensures.value at c.in_ok-outcome.ensures.comes) past counts c.self.invariant.0 regular (few_deliveries rules net events short) in
+    let comes = (rw c.deref_mut.ensures.value at c.in_ok-outcome.ensures.comes) past counts c.self.invariant.0 regular (few_deliveries rules net events short) c.self.invariant.1 in
     let now = counts_after past c.args.event counts in
-    let new = c.happen.new.self in
+    let new = c.advance.new.self in
     let same = rw c.deref_mut.ensures.value at c.in_ok-outcome.ensures.others in
     let waits = (rw c.deref.ensures at c.refresh.ensures) (run (g.P.Policy.rules new.policy) new.topology.value events) now (comes_new g.P.Policy.rules network new events c.args.event same now c.in_ok-outcome.outcome comes)
     (waiting_new g.P.Policy.rules network new events c.args.event same (has_way new.topology.value c.self.inside.waiting)
@@ -111,7 +111,7 @@ returns-clause-outcome g c =
     regular_of net past (length events) short (λ v u. c.the_front_item_is_the_next.ensures rules net events v u valid) (λ v u s x rest. c.what_arrives_may_be_heard.ensures rules net events v u s x rest valid)
     (c.every_run_is_sound.ensures rules net events valid).order (c.sessions_are_few.ensures rules net events) in
     let counts = deliveries rules net events in
-    let comes = (rw c.deref_mut.ensures.value at c.in_ok-outcome.ensures.comes) past counts c.self.invariant.0 regular (few_deliveries rules net events short) in
+    let comes = (rw c.deref_mut.ensures.value at c.in_ok-outcome.ensures.comes) past counts c.self.invariant.0 regular (few_deliveries rules net events short) c.self.invariant.1 in
     rw (← c.self.view_is) comes.tells
 
 pub returns-clause-reasons : goal.returns-clause-reasons
@@ -127,7 +127,7 @@ returns-clause-reasons g c =
     regular_of net past (length events) short (λ v u. c.the_front_item_is_the_next.ensures rules net events v u valid) (λ v u s x rest. c.what_arrives_may_be_heard.ensures rules net events v u s x rest valid)
     (c.every_run_is_sound.ensures rules net events valid).order (c.sessions_are_few.ensures rules net events) in
     let counts = deliveries rules net events in
-    let comes = (rw c.deref_mut.ensures.value at c.in_ok-outcome.ensures.comes) past counts c.self.invariant.0 regular (few_deliveries rules net events short) in
+    let comes = (rw c.deref_mut.ensures.value at c.in_ok-outcome.ensures.comes) past counts c.self.invariant.0 regular (few_deliveries rules net events short) c.self.invariant.1 in
     no_stray past (step rules net past c.args.event) c.in_ok-outcome.outcome comes.tells
     (c.no_world_is_out_of_turn.ensures.sessions rules net events c.args.event valid) (c.no_world_is_out_of_turn.ensures.updates rules net events c.args.event valid)
     (λ b. c.rounds_are_few.ensures.enough rules net events c.args.event b (rounds_left (length events) short))
@@ -152,12 +152,12 @@ returns-clause-within g c =
     regular_of net past (length events) short (λ v u. c.the_front_item_is_the_next.ensures rules net events v u valid) (λ v u s x rest. c.what_arrives_may_be_heard.ensures rules net events v u s x rest valid)
     (c.every_run_is_sound.ensures rules net events valid).order (c.sessions_are_few.ensures rules net events) in
     let counts = deliveries rules net events in
-    let comes = (rw c.deref_mut.ensures.value at c.in_ok-outcome.ensures.comes) past counts c.self.invariant.0 regular (few_deliveries rules net events short) in
+    let comes = (rw c.deref_mut.ensures.value at c.in_ok-outcome.ensures.comes) past counts c.self.invariant.0 regular (few_deliveries rules net events short) c.self.invariant.1 in
     let same = rw c.deref_mut.ensures.value at c.in_ok-outcome.ensures.others in
-    let within = stands_within rules past (counts_after past c.args.event counts) (step rules net past c.args.event) c.happen.new.self comes.stands in
+    let within = stands_within rules past (counts_after past c.args.event counts) (step rules net past c.args.event) c.advance.new.self comes.stands in
     rw (← c.self.view_is) (limit_later rules net events c.args.event short ∙ subst (λ n. above_by rules n (step rules net past c.args.event) ≡ None) (ap (λ t. t.value) same.topology) within)
 
 pub returns-clause-world : goal.returns-clause-world
 returns-clause-world g c =
     let same = rw c.deref_mut.ensures.value at c.in_ok-outcome.ensures.others in
-    rw (← c.self.view_is) (view_new g.P.Policy.rules c.self.inside.network.value c.happen.new.self c.self.inside.events.items c.args.event same _ c.in-Ok.ensures.items)
+    rw (← c.self.view_is) (view_new g.P.Policy.rules c.self.inside.network.value c.advance.new.self c.self.inside.events.items c.args.event same _ c.in-Ok.ensures.items)

@@ -1,0 +1,108 @@
+//! Deliveries over ways that wait.
+ghost use Rattle.std.specs.Prelude.{◌≡◌, true, length, IsTrue, OnOk, IfOk, IfErr};
+ghost use Rattle.topology.specs.Net.{linked};
+ghost use Rattle.link_model.specs.Keeping.{IsPlaced};
+ghost use Rattle.chronicle.specs.Deliveries.{arrives};
+ghost use Rattle.chronicle.specs.Facts.{Chronicle};
+ghost use Rattle.chronicle.specs.Run.{does, step};
+ghost use Rattle.world_core.specs.Counting.{AreFew, MayDeliver, counts_after};
+ghost use Rattle.world_core.specs.Fits.{fits};
+ghost use Rattle.world_core.specs.Happening.{Comes, IsAsWas, IsRegular, Stops};
+ghost use Rattle.world_core.specs.Matching.{Counts, Stands};
+ghost use Rattle.world_core.specs.Places.{HasPlaces};
+ghost use Rattle.world_core.specs.Waiting.{AreWaiting};
+ghost use Rattle.world_core.specs.WaySets.{has_way};
+ghost use Rattle.world_core.specs.Walks.{HasWalks};
+
+use crate::network::Network;
+use crate::outcomes::{Outcome, Stop};
+use crate::waiting::Waiting;
+use chronicle::Event;
+use node_core::Input;
+use path_vector::Policy;
+use topology::{LinkState, NodeId, Reason};
+
+impl<P: Policy + Copy> Network<P> {
+    // The oldest item on the way with this number arrives, where a delivery over the way would not be idle.
+    fn take(&mut self, from: NodeId, to: NodeId, way: usize) -> Result<Outcome, Stop>
+        requires near { linked self.old.topology.value from to ≡ true }
+        requires places { HasPlaces self.old.topology.value (length self.old.nodes.items) }
+        requires placed { IsPlaced self.old.links from to way }
+        ensures others { OnOk result (IsAsWas self.old self.new) }
+        ensures comes { IfOk result (λ outcome. (past : Chronicle) (counts : Counts) →
+            Stands (P.rules self.old.policy) past counts self.old → IsRegular self.old.topology.value past → arrives past from to ≡ true →
+            Comes (P.rules self.old.policy) past counts (does (P.rules self.old.policy) self.old.topology.value past (Event.Deliver from to)) self.new outcome) }
+        ensures stopped { IfErr result (λ stop. (past : Chronicle) (counts : Counts) →
+            Stands (P.rules self.old.policy) past counts self.old → IsRegular self.old.topology.value past → arrives past from to ≡ true →
+            Stops (P.rules self.old.policy) self.old.topology.value past
+            (does (P.rules self.old.policy) self.old.topology.value past (Event.Deliver from to)) stop) }
+    {
+        let LinkState::Up(session) = self.links.channel_at(way).state() else {
+            return Ok(Outcome::Idle(Reason::LinkDown));
+        };
+        let Some(item) = self.links.pop_front_at(way) else {
+            return Ok(Outcome::Idle(Reason::EmptyChannel));
+        };
+        self.give(
+            to,
+            Input::Arrive {
+                from,
+                session,
+                item,
+            },
+        )
+    }
+
+    // A delivery: over a way that waits it asks nothing but its channel.
+    fn pass_over(&mut self, from: NodeId, to: NodeId, waiting: &Waiting) -> Result<Outcome, Stop>
+        requires near { linked self.old.topology.value from to ≡ true }
+        requires places { HasPlaces self.old.topology.value (length self.old.nodes.items) }
+        requires flags { HasPlaces self.old.topology.value (length self.old.crashed.items) }
+        requires mails { MayDeliver self.old.topology.value self.old.mails }
+        requires walks { HasWalks self.old.topology.value self.old.walks }
+        ensures others { OnOk result (IsAsWas self.old self.new) }
+        ensures comes { IfOk result (λ outcome. (past : Chronicle) (counts : Counts) →
+            Stands (P.rules self.old.policy) past counts self.old → IsRegular self.old.topology.value past → AreFew counts →
+            AreWaiting self.old.topology.value past (has_way self.old.topology.value waiting.now) →
+            Comes (P.rules self.old.policy) past counts (step (P.rules self.old.policy) self.old.topology.value past (Event.Deliver from to)) self.new outcome) }
+        ensures stopped { IfErr result (λ stop. (past : Chronicle) (counts : Counts) →
+            Stands (P.rules self.old.policy) past counts self.old → IsRegular self.old.topology.value past → AreFew counts →
+            AreWaiting self.old.topology.value past (has_way self.old.topology.value waiting.now) →
+            Stops (P.rules self.old.policy) self.old.topology.value past
+            (step (P.rules self.old.policy) self.old.topology.value past (Event.Deliver from to)) stop) }
+    {
+        let Some(way) = self.links.way_of(from, to) else {
+            return self.happen(&Event::Deliver { from, to });
+        };
+        if !waiting.has(way) {
+            return self.happen(&Event::Deliver { from, to });
+        }
+        self.take(from, to, way)
+    }
+
+    /// Does the event, and answers what came of it, where these ways wait. They are not looked at again. After an `Err`
+    /// the network is of no use.
+    pub fn advance(&mut self, event: &Event, waiting: &Waiting) -> Result<Outcome, Stop>
+        requires fits { IsTrue (fits self.old.topology.value event.now) }
+        requires places { HasPlaces self.old.topology.value (length self.old.nodes.items) }
+        requires flags { HasPlaces self.old.topology.value (length self.old.crashed.items) }
+        requires mails { MayDeliver self.old.topology.value self.old.mails }
+        requires walks { HasWalks self.old.topology.value self.old.walks }
+        ensures others { OnOk result (IsAsWas self.old self.new) }
+        ensures comes { IfOk result (λ outcome. (past : Chronicle) (counts : Counts) →
+            Stands (P.rules self.old.policy) past counts self.old → IsRegular self.old.topology.value past → AreFew counts →
+            AreWaiting self.old.topology.value past (has_way self.old.topology.value waiting.now) →
+            Comes (P.rules self.old.policy) past (counts_after past event.now counts)
+            (step (P.rules self.old.policy) self.old.topology.value past event.now) self.new outcome) }
+        ensures stopped { IfErr result (λ stop. (past : Chronicle) (counts : Counts) →
+            Stands (P.rules self.old.policy) past counts self.old → IsRegular self.old.topology.value past → AreFew counts →
+            AreWaiting self.old.topology.value past (has_way self.old.topology.value waiting.now) →
+            Stops (P.rules self.old.policy) self.old.topology.value past
+            (step (P.rules self.old.policy) self.old.topology.value past event.now) stop) }
+    {
+        if let Event::Deliver { from, to } = event {
+            return self.pass_over(*from, *to, waiting);
+        }
+        self.happen(event)
+    }
+}
