@@ -1,5 +1,5 @@
 -- What a node admits may come to it.
-use Rattle.std.proofs.Common.{ℕ, ◌<◌, ◌≤◌, Bool, true, false, ◌&&◌, nat_lt, nat_le, Option, Some, None, List, [], ◌∷◌, ◌≡◌, ◌≢◌, refl, sym, ◌∙◌, ap, subst, arith, length}
+use Rattle.std.proofs.Common.{ℕ, ◌^◌, ◌<◌, Bool, true, false, ◌&&◌, nat_lt, nat_le, Option, Some, None, List, [], ◌∷◌, ◌≡◌, ◌≢◌, refl, sym, ◌∙◌, ap, subst, arith, length}
 use Rattle.std.proofs.Common.{Box, Global, Vec}
 use Rattle.std.specs.Prelude.{IfSome}
 use Rattle.std.proofs.lemmas.Bool.Decides.{nat_tests}
@@ -22,7 +22,7 @@ use Rattle.node_core.specs.declared.inputs.Input.TheVariants as given
 use Rattle.node_core.specs.Inputs.{input_of}
 use Rattle.node_core.specs.Coming.{MayCome}
 use Rattle.node_core.specs.ControlFits.{epoch_fits, message_fits}
-use Rattle.node_core.specs.Names.{are_nodes, triggers_fit}
+use Rattle.node_core.specs.Names.{are_nodes, is_number, triggers_fit}
 use Rattle.node_core.specs.PacketFits.{carried_fits, packet_fits, are_links}
 use Rattle.node_core.specs.Fits.{begins_with, path_fits, item_fits, fits}
 
@@ -63,7 +63,7 @@ item : (net : Net) (u v s : ℕ) (x : Item) → has (neighbours net u) v ≡ tru
 item net u v s (Marker e) near ok = (near, tt, tt)
 item net u v s (Hello e) near ok = (near, tt, tt)
 item net u v s (News n x) near ok =
-    let after = and_right (nat_le 1 n) (nat_lt x.prefix (length net.prefixes) && (triggers_fit net x.triggers && path_fits net v x.path)) ok in
+    let after = and_right (is_number n) (nat_lt x.prefix (length net.prefixes) && (triggers_fit net x.triggers && path_fits net v x.path)) ok in
     let last = and_right (nat_lt x.prefix (length net.prefixes)) (triggers_fit net x.triggers && path_fits net v x.path) after in (
       near,
       below x.prefix (length net.prefixes) (and_left (nat_lt x.prefix (length net.prefixes)) (triggers_fit net x.triggers && path_fits net v x.path) after),
@@ -77,9 +77,9 @@ item net u v s (News n x) near ok =
 placed : (net : Net) (packet : Packet) → packet_fits net packet ≡ true → packet.prefix < length net.prefixes
 placed net packet e =
     let lists = carried_fits net packet.trail && carried_fits net packet.route in
-    let rest = nat_le packet.epoch 32 && lists in
+    let rest = nat_le packet.epoch 32 && (nat_lt packet.budget (2 ^ 16) && (nat_lt packet.visited (2 ^ 64) && lists)) in
     below packet.prefix (length net.prefixes)
-    (and_left (nat_lt packet.prefix (length net.prefixes)) rest (and_right (nat_le 1 packet.id) (nat_lt packet.prefix (length net.prefixes) && rest) e))
+    (and_left (nat_lt packet.prefix (length net.prefixes)) rest (and_right (is_number packet.id) (nat_lt packet.prefix (length net.prefixes) && rest) e))
 
 pub may_come : (net : Net) (u : ℕ) (input : Input) → fits net u input ≡ true → MayCome net u input
 unfolding fits
@@ -87,14 +87,14 @@ may_come net u (Originate p) e = below p (length net.prefixes) e
 may_come net u (Withdraw p) e = below p (length net.prefixes) e
 may_come net u (Prefer v value) e = and_left (has (neighbours net u) v) (nat_le value 1000000) e
 may_come net u (Arrive v s x) e =
-    item net u v s x (and_left (has (neighbours net u) v) (nat_le 1 s && item_fits net v x) e)
-    (and_right (nat_le 1 s) (item_fits net v x) (and_right (has (neighbours net u) v) (nat_le 1 s && item_fits net v x) e))
+    item net u v s x (and_left (has (neighbours net u) v) (is_number s && item_fits net v x) e)
+    (and_right (is_number s) (item_fits net v x) (and_right (has (neighbours net u) v) (is_number s && item_fits net v x) e))
 may_come net u (Notice v) e = e
-may_come net u (OpenSession v s) e = and_left (has (neighbours net u) v) (nat_le 1 s) e
+may_come net u (OpenSession v s) e = and_left (has (neighbours net u) v) (is_number s) e
 may_come net u Snap e = tt
 may_come net u (Propose d) e = tt
 may_come net u (Control from m) e = tt
-may_come net u (Inject id p) e = below p (length net.prefixes) (and_right (nat_le 1 id) (nat_lt p (length net.prefixes)) e)
+may_come net u (Inject id p) e = below p (length net.prefixes) (and_right (is_number id) (nat_lt p (length net.prefixes)) e)
 may_come net u (Hop packet up) e = placed net packet (and_left (packet_fits net packet) (are_links net u up) e)
 
 -- ---- the tests of a node
@@ -137,14 +137,14 @@ module _ (net : Net) (u : ℕ) (input : Given) where
   unfolding fits
   fits_notice v near is of = fits_as near (given.Notice v) is of
 
-  pub fits_opening : (v s n : ℕ) (near : Bool) → input ≡ given.OpenSession v s → near ≡ has (neighbours net u) v → n ≡ s → near ≡ true → nat_le 1 n ≡ fits net u (input_of input)
+  pub fits_opening : (v s n : ℕ) (near : Bool) → input ≡ given.OpenSession v s → near ≡ has (neighbours net u) v → n ≡ s → near ≡ true → is_number n ≡ fits net u (input_of input)
   unfolding fits
   fits_opening v s n near is of same so =
-      fits_as (nat_le 1 n) (given.OpenSession v s) is (ap (nat_le 1) same ∙ both_yes (has (neighbours net u) v) (nat_le 1 s) (sym of ∙ so))
+      fits_as (is_number n) (given.OpenSession v s) is (ap is_number same ∙ both_yes (has (neighbours net u) v) (is_number s) (sym of ∙ so))
 
   pub fits_opening_far : (v s : ℕ) (near : Bool) → input ≡ given.OpenSession v s → near ≡ has (neighbours net u) v → near ≡ false → near ≡ fits net u (input_of input)
   unfolding fits
-  fits_opening_far v s near is of off = fits_as near (given.OpenSession v s) is (both_no (has (neighbours net u) v) (nat_le 1 s) near (sym of ∙ off) off)
+  fits_opening_far v s near is of off = fits_as near (given.OpenSession v s) is (both_no (has (neighbours net u) v) (is_number s) near (sym of ∙ off) off)
 
   pub fits_snap : input ≡ given.Snap → true ≡ fits net u (input_of input)
   unfolding fits
@@ -158,16 +158,15 @@ module _ (net : Net) (u : ℕ) (input : Given) where
   unfolding fits
   fits_control from m r n is so same = fits_as r (given.Control from m) is (so ∙ ap (λ k. message_fits k from (message_seen m)) same)
 
-  pub fits_inject : (id p place count : ℕ) (n : Net) → input ≡ given.Inject id p → place ≡ p → count ≡ length n.prefixes → n ≡ net → 1 ≤ id → nat_lt place count ≡ fits net u (input_of input)
+  pub fits_inject : (id p place count : ℕ) (n : Net) → input ≡ given.Inject id p → place ≡ p → count ≡ length n.prefixes → n ≡ net → is_number id ≡ true → nat_lt place count ≡ fits net u (input_of input)
   unfolding fits
   fits_inject id p place count n is at many same one =
-      fits_as (nat_lt place count) (given.Inject id p) is (below_as p place count n at many same ∙ both_yes (nat_le 1 id) (nat_lt p (length net.prefixes)) (grind (arith, nat_tests, one)))
+      fits_as (nat_lt place count) (given.Inject id p) is (below_as p place count n at many same ∙ both_yes (is_number id) (nat_lt p (length net.prefixes)) one)
 
-  pub fits_inject_zero : (id p : ℕ) → input ≡ given.Inject id p → id < 1 → nat_le 1 id ≡ fits net u (input_of input)
+  pub fits_inject_zero : (id p : ℕ) (test : Bool) → input ≡ given.Inject id p → test ≡ is_number id → test ≡ false → test ≡ fits net u (input_of input)
   unfolding fits
-  fits_inject_zero id p is below_one =
-      let zero : nat_le 1 id ≡ false = grind (arith, nat_tests, below_one) in
-      fits_as (nat_le 1 id) (given.Inject id p) is (both_no (nat_le 1 id) (nat_lt p (length net.prefixes)) (nat_le 1 id) zero zero)
+  fits_inject_zero id p test is of off =
+      fits_as test (given.Inject id p) is (both_no (is_number id) (nat_lt p (length net.prefixes)) test (sym of ∙ off) off)
 
   module _ (packet : Box Packet Global) (up : Vec ℕ Global) (is : input ≡ given.Hop packet up) (k : Packet) (inner : k ≡ packet.value) where
     pub fits_hop : (r test : Bool) (n m : Net) (me : ℕ) (links : List ℕ) → test ≡ packet_fits n k → n ≡ net → test ≡ true → r ≡ are_links m me links → m ≡ net → me ≡ u → links ≡ up.items → r ≡ fits net u (input_of input)
@@ -184,21 +183,21 @@ module _ (net : Net) (u : ℕ) (input : Given) where
         (both_no (packet_fits net packet.value) (are_links net u up.items) test (subst (λ j. packet_fits net j ≡ false) inner (subst (λ j. packet_fits j k ≡ false) here (sym of ∙ off))) off)
 
   module _ (v s : ℕ) (x : Message) (near : Bool) (is : input ≡ given.Arrive v s x) (of : near ≡ has (neighbours net u) v) where
-    pub fits_arrive : (n : ℕ) (r : Bool) (m : Net) → n ≡ s → near ≡ true → nat_le 1 n ≡ true → r ≡ item_fits m v (item_of x) → m ≡ net → r ≡ fits net u (input_of input)
+    pub fits_arrive : (n : ℕ) (r : Bool) (m : Net) → n ≡ s → near ≡ true → is_number n ≡ true → r ≡ item_fits m v (item_of x) → m ≡ net → r ≡ fits net u (input_of input)
     unfolding fits
     fits_arrive n r m same so one e here =
         fits_as r (given.Arrive v s x) is
         ((e ∙ ap (λ k. item_fits k v (item_of x)) here)
-        ∙ (both_yes (nat_le 1 s) (item_fits net v (item_of x)) (ap (nat_le 1) (sym same) ∙ one)
-        ∙ both_yes (has (neighbours net u) v) (nat_le 1 s && item_fits net v (item_of x)) (sym of ∙ so)))
+        ∙ (both_yes (is_number s) (item_fits net v (item_of x)) (ap is_number (sym same) ∙ one)
+        ∙ both_yes (has (neighbours net u) v) (is_number s && item_fits net v (item_of x)) (sym of ∙ so)))
 
-    pub fits_arrive_zero : (n : ℕ) (r : Bool) → n ≡ s → near ≡ true → nat_le 1 n ≡ false → r ≡ false → r ≡ fits net u (input_of input)
+    pub fits_arrive_zero : (n : ℕ) (r : Bool) → n ≡ s → near ≡ true → is_number n ≡ false → r ≡ false → r ≡ fits net u (input_of input)
     unfolding fits
     fits_arrive_zero n r same so zero off =
         fits_as r (given.Arrive v s x) is
-        (second_no (has (neighbours net u) v) (nat_le 1 s) (item_fits net v (item_of x)) r (sym of ∙ so) (ap (nat_le 1) (sym same) ∙ zero) off)
+        (second_no (has (neighbours net u) v) (is_number s) (item_fits net v (item_of x)) r (sym of ∙ so) (ap is_number (sym same) ∙ zero) off)
 
     pub fits_arrive_far : (r : Bool) → near ≡ false → r ≡ false → r ≡ fits net u (input_of input)
     unfolding fits
     fits_arrive_far r far off =
-        fits_as r (given.Arrive v s x) is (both_no (has (neighbours net u) v) (nat_le 1 s && item_fits net v (item_of x)) r (sym of ∙ far) off)
+        fits_as r (given.Arrive v s x) is (both_no (has (neighbours net u) v) (is_number s && item_fits net v (item_of x)) r (sym of ∙ far) off)

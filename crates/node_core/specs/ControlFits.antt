@@ -1,5 +1,5 @@
 -- Which ballots and control messages a node admits.
-use Rattle.std.specs.Prelude.{ℕ, Bool, true, ◌&&◌, ◌||◌, ◌==◌, nat_lt, nat_le, Option, Some, None, List, [], ◌∷◌, length}
+use Rattle.std.specs.Prelude.{ℕ, ◌^◌, Bool, true, ◌&&◌, ◌||◌, ◌==◌, nat_lt, nat_le, Option, Some, None, List, [], ◌∷◌, length}
 use Rattle.std.specs.List.{list_all, flat_map}
 use Rattle.topology.specs.declared.ballots.Ballot.{Ballot}
 use Rattle.topology.specs.declared.names.Scope.{Scope}
@@ -13,7 +13,7 @@ use Rattle.incomplete_closure.specs.declared.values.Value.{Value}
 use Rattle.paxos_core.specs.Facts.{Message as Ballots, Prepare, Promise, Accept, Accepted, Decision}
 use Rattle.consolidator.specs.Messages.{Message, Reports, Agrees, epoch_of}
 use Rattle.node_core.specs.declared.limits.TheConstants.{MOST_EPOCHS, MOST_TRIGGERS, MOST_ENTRIES, MOST_UPDATES, MOST_SESSIONS}
-use Rattle.node_core.specs.Names.{are_nodes, trigger_fits, triggers_fit}
+use Rattle.node_core.specs.Names.{are_nodes, is_number, trigger_fits, triggers_fit}
 
 -- an epoch that a cut may be of
 abbrev pub epoch_fits : ℕ → Bool
@@ -48,7 +48,7 @@ value_fits net v = nodes_fit net v.responding && incomplete_fits net v.incomplet
 
 -- a ballot of a node of the network, with a round from 1
 abbrev pub ballot_fits : Net → Ballot → Bool
-ballot_fits net b = nat_le 1 b.round && has net.nodes b.node
+ballot_fits net b = is_number b.round && has net.nodes b.node
 
 -- what a promise names, if it names something
 abbrev pub named_fits : Net → Option (Ballot × Value) → Bool
@@ -76,11 +76,17 @@ scope_fits net All = true
 
 -- an item for a node of the network, in a session and with a number from 1
 abbrev pub listed_fits : Net → Listed → Bool
-listed_fits net item = has net.nodes item.to && (nat_le 1 item.session && nat_le 1 item.seq)
+listed_fits net item = has net.nodes item.to && (is_number item.session && is_number item.seq)
 
--- the row of an entry: its triggers, its scope and its items name what the network has
+-- what an item lists
+abbrev pub item_lists_fit : Net → Listed → Bool
+item_lists_fit net item = triggers_fit net item.triggers
+
+-- the row of an entry: its triggers, its scope and its items name what the network has, and so do the triggers of the items
 abbrev pub row_fits : Net → Row → Bool
-row_fits net row = triggers_fit net row.triggers && (scope_fits net row.scope && list_all (listed_fits net) row.sent)
+row_fits net row =
+    triggers_fit net row.triggers
+    && ((scope_fits net row.scope && list_all (listed_fits net) row.sent) && list_all (item_lists_fit net) row.sent)
 
 -- all items of the rows
 abbrev pub items_of : List Row → List Listed
@@ -100,7 +106,8 @@ down_fits net (Some triggers) = triggers_fit net triggers
 
 -- the row of a session with a node of the network, from 1
 abbrev pub session_fits : Net → SessionRow → Bool
-session_fits net row = has net.nodes row.nbr && (nat_le 1 row.session && down_fits net row.down)
+session_fits net row =
+    has net.nodes row.nbr && (is_number row.session && (nat_lt row.received (2 ^ 32) && down_fits net row.down))
 
 -- by neighbour, then by session
 abbrev pub sooner : SessionRow → SessionRow → Bool

@@ -1,5 +1,5 @@
--- Names of a network.
-use Rattle.std.specs.Prelude.{ℕ, Bool, true, false, ◌&&◌, nat_le, List, [], ◌∷◌}
+-- Names of a network, and numbers.
+use Rattle.std.specs.Prelude.{ℕ, ◌^◌, Bool, true, false, ◌&&◌, nat_le, nat_lt, List, [], ◌∷◌}
 use Rattle.topology.specs.declared.names.Trigger.{Trigger}
 use Rattle.topology.specs.Lists.{has}
 use Rattle.topology.specs.Net.{Net}
@@ -9,9 +9,13 @@ abbrev pub are_nodes : Net → List ℕ → Bool
 are_nodes net [] = true
 are_nodes net (n ∷ ns) = has net.nodes n && are_nodes net ns
 
+-- a number that is counted from 1, of four bytes
+abbrev pub is_number : ℕ → Bool
+is_number n = nat_le 1 n && nat_lt n (2 ^ 32)
+
 -- a trigger is one of a node of the network, counted from 1
 abbrev pub trigger_fits : Net → Trigger → Bool
-trigger_fits net t = has net.nodes t.node && nat_le 1 t.count
+trigger_fits net t = has net.nodes t.node && is_number t.count
 
 -- some triggers, and each such a one
 abbrev pub triggers_fit : Net → List Trigger → Bool

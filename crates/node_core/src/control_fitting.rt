@@ -1,5 +1,5 @@
 //! Which ballots and control messages a node admits.
-ghost use Rattle.std.specs.Prelude.{◌≡◌, ◌&&◌, nat_lt, nat_le, List, length, map};
+ghost use Rattle.std.specs.Prelude.{◌≡◌, ◌^◌, ◌&&◌, nat_lt, nat_le, List, length, map};
 ghost use Rattle.std.specs.List.{list_all};
 ghost use Rattle.topology.specs.Lists.{has};
 ghost use Rattle.topology.specs.Triggers.{earlier};
@@ -8,9 +8,9 @@ ghost use Rattle.incomplete_closure.specs.Seen.{item_seen, report_seen, row_seen
 ghost use Rattle.consolidator.specs.Messages.{Reports, epoch_of};
 ghost use Rattle.consolidator.specs.Seen.{message_seen};
 ghost use Rattle.node_core.specs.ControlFits.{all_fit, ballot_fits, body_fits, down_fits, epoch_fits, in_order, incomplete_fits, items_of, listed_fits, message_fits, named_fits, nodes_fit, row_fits, rows_are_few, rows_fit, scope_fits, sender_fits, session_fits, sessions_ascend, sessions_fit, sooner, value_fits};
-ghost use Rattle.node_core.specs.Names.{trigger_fits};
+ghost use Rattle.node_core.specs.Names.{is_number, trigger_fits};
 
-use crate::fitting::{are_nodes, is_among, is_node, trigger_fits};
+use crate::fitting::{are_nodes, is_among, is_node, is_number, trigger_fits};
 use crate::limits::{MOST_ENTRIES, MOST_EPOCHS, MOST_SESSIONS, MOST_TRIGGERS, MOST_UPDATES};
 use consolidator::Message;
 use incomplete_closure::{Report, Row, SessionRow, Value};
@@ -98,7 +98,7 @@ fn value_fits(topology: &Topology, value: &Value) -> bool
 fn ballot_fits(topology: &Topology, ballot: Ballot) -> bool
     ensures { result ≡ ballot_fits topology.now ballot }
 {
-    ballot.round >= 1 && is_node(topology, ballot.node)
+    is_number(ballot.round) && is_node(topology, ballot.node)
 }
 
 // Whether what a promise names fits.
@@ -136,9 +136,9 @@ fn scope_fits(topology: &Topology, scope: &Scope) -> bool
 }
 
 fn is_numbered(item: &Sent) -> bool
-    ensures { result ≡ (nat_le 1 item.now.session && nat_le 1 item.now.seq) }
+    ensures { result ≡ (is_number item.now.session && is_number item.now.seq) }
 {
-    item.session.number() >= 1 && item.seq >= 1
+    is_number(item.session.number()) && is_number(item.seq)
 }
 
 // Whether an item is for a node of the network, and numbered from 1.
@@ -226,9 +226,12 @@ fn down_fits(topology: &Topology, row: &SessionRow) -> bool
 }
 
 fn ending_fits(topology: &Topology, row: &SessionRow) -> bool
-    ensures { result ≡ (nat_le 1 row.now.session && down_fits topology.now (session_seen row.now).down) }
+    ensures { result ≡ (is_number row.now.session && (nat_lt row.now.received (2 ^ 32)
+        && down_fits topology.now (session_seen row.now).down)) }
 {
-    row.session.number() >= 1 && down_fits(topology, row)
+    // that it has four bytes is said where it is read
+    let _received = row.received;
+    is_number(row.session.number()) && down_fits(topology, row)
 }
 
 // Whether the row of a session names what the network has.

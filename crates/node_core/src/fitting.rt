@@ -6,7 +6,7 @@ ghost use Rattle.trigger_log.specs.Going.{item_of};
 ghost use Rattle.chronicle.specs.Facts.{Chronicle};
 ghost use Rattle.node_core.specs.Fits.{fits, item_fits, path_fits};
 ghost use Rattle.node_core.specs.Inputs.{input_of};
-ghost use Rattle.node_core.specs.Names.{are_nodes, trigger_fits};
+ghost use Rattle.node_core.specs.Names.{are_nodes, is_number, trigger_fits};
 ghost use Rattle.node_core.specs.Standing.{StandsFor};
 
 use crate::control_fitting::{epoch_fits, message_fits};
@@ -50,10 +50,17 @@ fn path_fits(topology: &Topology, from: NodeId, path: &Option<Path>) -> bool
     path.nodes().first() == Some(&from) && are_nodes(topology, path.nodes())
 }
 
+// Whether the number is counted from 1.
+pub(crate) fn is_number(number: u32) -> bool
+    ensures { result ≡ is_number number }
+{
+    number >= 1
+}
+
 pub(crate) fn trigger_fits(topology: &Topology, trigger: &Trigger) -> bool
     ensures { result ≡ trigger_fits topology.now trigger.now }
 {
-    is_node(topology, trigger.node) && trigger.count >= 1
+    is_node(topology, trigger.node) && is_number(trigger.count)
 }
 
 // Whether an item of a neighbour has names of the network, and numbers in their ranges.
@@ -67,7 +74,7 @@ fn item_fits(topology: &Topology, from: NodeId, item: &Item) -> bool
             trigger,
             path,
         } => {
-            *seq >= 1
+            is_number(*seq)
                 && prefix.place() < topology.prefix_count()
                 && trigger_fits(topology, trigger)
                 && path_fits(topology, from, path)
@@ -96,16 +103,17 @@ impl<P: Policy + Copy> Node<P> {
                 item,
             } => {
                 self.is_near(*from)
-                    && session.number() >= 1
+                    && is_number(session.number())
                     && item_fits(&self.topology, *from, item)
             }
             Input::Notice(nbr) => self.is_near(*nbr),
-            Input::OpenSession { nbr, session } => self.is_near(*nbr) && session.number() >= 1,
+            Input::OpenSession { nbr, session } => self.is_near(*nbr)
+                && is_number(session.number()),
             Input::Snap => true,
             Input::Propose(epoch) => epoch_fits(*epoch),
             Input::Control { from, message } => message_fits(&self.topology, *from, message),
             Input::Inject { id, prefix } => {
-                *id >= 1 && prefix.place() < self.topology.prefix_count()
+                is_number(*id) && prefix.place() < self.topology.prefix_count()
             }
             Input::Hop { packet, up } => {
                 packet_fits(&self.topology, packet) && are_links(&self.topology, self.id, up)

@@ -6,7 +6,7 @@ ghost use Rattle.topology.specs.Net.{neighbours};
 ghost use Rattle.node_core.specs.PacketFits.{are_links, carried_fits, packet_fits};
 
 use crate::control_fitting::nodes_ascend;
-use crate::fitting::{are_nodes, is_among};
+use crate::fitting::{are_nodes, is_among, is_number};
 use crate::limits::{MOST_EPOCHS, MOST_TRAIL};
 use epoch_packet::{Nodes, Packet};
 use topology::{NodeId, Topology};
@@ -23,7 +23,9 @@ fn carried_fits(topology: &Topology, nodes: &Nodes) -> bool
 pub(crate) fn packet_fits(topology: &Topology, packet: &Packet) -> bool
     ensures { result ≡ packet_fits topology.now packet.now }
 {
-    packet.id >= 1
+    // that they have two and eight bytes is said where they are read
+    let (_budget, _visited) = (packet.budget, packet.visited);
+    is_number(packet.id)
         && packet.prefix.place() < topology.prefix_count()
         && packet.epoch.number() <= MOST_EPOCHS
         && carried_fits(topology, &packet.trail)

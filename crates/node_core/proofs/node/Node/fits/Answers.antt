@@ -29,28 +29,28 @@ returns-else-is_near g c = record {
       fits_prefer_far net u c.args.input.now c.in-Prefer.nbr c.in-Prefer.value c.is_near.result c.in-Prefer.is (c.is_near.ensures policy net u past was) c.if-is_near.false;
 }
 
-pub returns-then-number-ge1 : goal.returns-then-number-ge1
-returns-then-number-ge1 g c = record {
+pub returns-then-is_number : goal.returns-then-is_number
+returns-then-is_number g c = record {
   fits = λ policy net u past was.
       elim c.if-is_near-2.branch [
         | then-is_near-2 w ↦
             fits_arrive net u c.args.input.now c.in-Arrive.from c.in-Arrive.session c.in-Arrive.item c.is_near-in-Arrive.result c.in-Arrive.is (c.is_near-in-Arrive.ensures policy net u past was)
-            w.number.result c.item_fits.result c.deref-then-number-ge1.result.now w.number.ensures w.if-is_near-2.true (sym w.value-is ∙ c.if-number-ge1.true) c.item_fits.ensures
-            (c.deref-then-number-ge1.ensures ∙ was.keeps.same_net)
-        | else-is_near-2 w ↦ absurd (true≢false (sym c.if-number-ge1.true ∙ (w.value-is ∙ w.if-is_near-2.false)))
+            w.number.result c.item_fits.result c.deref-then-is_number.result.now w.number.ensures w.if-is_near-2.true (sym w.is_number.ensures ∙ (sym w.value-is ∙ c.if-is_number.true)) c.item_fits.ensures
+            (c.deref-then-is_number.ensures ∙ was.keeps.same_net)
+        | else-is_near-2 w ↦ absurd (true≢false (sym c.if-is_number.true ∙ (w.value-is ∙ w.if-is_near-2.false)))
       ];
 }
 
-pub returns-else-number-ge1 : goal.returns-else-number-ge1
-returns-else-number-ge1 g c = record {
+pub returns-else-is_number : goal.returns-else-is_number
+returns-else-is_number g c = record {
   fits = λ policy net u past was.
       elim c.if-is_near-2.branch [
         | then-is_near-2 w ↦
             fits_arrive_zero net u c.args.input.now c.in-Arrive.from c.in-Arrive.session c.in-Arrive.item c.is_near-in-Arrive.result c.in-Arrive.is (c.is_near-in-Arrive.ensures policy net u past was)
-            w.number.result c.if-is_near-2.value w.number.ensures w.if-is_near-2.true (sym w.value-is ∙ c.if-number-ge1.false) c.if-number-ge1.false
+            w.number.result c.if-is_near-2.value w.number.ensures w.if-is_near-2.true (sym w.is_number.ensures ∙ (sym w.value-is ∙ c.if-is_number.false)) c.if-is_number.false
         | else-is_near-2 w ↦
             fits_arrive_far net u c.args.input.now c.in-Arrive.from c.in-Arrive.session c.in-Arrive.item c.is_near-in-Arrive.result c.in-Arrive.is (c.is_near-in-Arrive.ensures policy net u past was)
-            c.if-is_near-2.value w.if-is_near-2.false c.if-number-ge1.false
+            c.if-is_near-2.value w.if-is_near-2.false c.if-is_number.false
       ];
 }
 
@@ -63,7 +63,8 @@ returns-in-Notice g c = record {
 pub returns-then-is_near-3 : goal.returns-then-is_near-3
 returns-then-is_near-3 g c = record {
   fits = λ policy net u past was.
-      fits_opening net u c.args.input.now c.in-OpenSession.nbr c.in-OpenSession.session c.number-then-is_near-3.result c.is_near-in-OpenSession.result c.in-OpenSession.is
+      c.is_number-then-is_near-3.ensures
+      ∙ fits_opening net u c.args.input.now c.in-OpenSession.nbr c.in-OpenSession.session c.number-then-is_near-3.result c.is_near-in-OpenSession.result c.in-OpenSession.is
       (c.is_near-in-OpenSession.ensures policy net u past was) c.number-then-is_near-3.ensures c.if-is_near-3.true;
 }
 
@@ -89,15 +90,18 @@ returns-in-Control g c = record {
       (c.deref-in-Control.ensures ∙ was.keeps.same_net);
 }
 
-pub returns-then-id-ge1 : goal.returns-then-id-ge1
-returns-then-id-ge1 g c = record {
+pub returns-then-is_number-2 : goal.returns-then-is_number-2
+returns-then-is_number-2 g c = record {
   fits = λ policy net u past was.
-      fits_inject net u c.args.input.now c.in-Inject.id c.in-Inject.prefix c.place-then-id-ge1.result c.prefix_count-then-id-ge1.result c.deref-then-id-ge1.result.now c.in-Inject.is
-      c.place-then-id-ge1.ensures c.prefix_count-then-id-ge1.ensures.count (c.deref-then-id-ge1.ensures ∙ was.keeps.same_net) c.if-id-ge1.true;
+      fits_inject net u c.args.input.now c.in-Inject.id c.in-Inject.prefix c.place-then-is_number-2.result c.prefix_count-then-is_number-2.result c.deref-then-is_number-2.result.now c.in-Inject.is
+      c.place-then-is_number-2.ensures c.prefix_count-then-is_number-2.ensures.count (c.deref-then-is_number-2.ensures ∙ was.keeps.same_net) (sym c.is_number-in-Inject.ensures ∙ c.if-is_number-2.true);
 }
 
-pub returns-else-id-ge1 : goal.returns-else-id-ge1
-returns-else-id-ge1 g c = record { fits = λ policy net u past was. fits_inject_zero net u c.args.input.now c.in-Inject.id c.in-Inject.prefix c.in-Inject.is c.if-id-ge1.false }
+pub returns-else-is_number-2 : goal.returns-else-is_number-2
+returns-else-is_number-2 g c = record {
+  fits = λ policy net u past was.
+      fits_inject_zero net u c.args.input.now c.in-Inject.id c.in-Inject.prefix c.is_number-in-Inject.result c.in-Inject.is c.is_number-in-Inject.ensures c.if-is_number-2.false;
+}
 
 pub returns-then-packet_fits : goal.returns-then-packet_fits
 returns-then-packet_fits g c = record {
