@@ -1,0 +1,87 @@
+-- Numbers that fit, and what is counted of a log.
+use Rattle.std.proofs.Common.{ℕ, suc, ◌+◌, ◌^◌, ◌<◌, ◌≤◌, Bool, true, false, cond, Some, List, [], ◌∷◌, length, ◌≡◌, ap, arith, filter}
+use Rattle.std.specs.Prelude.{nat_lt, nat_le}
+use Rattle.std.proofs.lemmas.Bool.Decides.{nat_tests}
+use Rattle.std.proofs.lemmas.List.{length-append, length-map}
+use Rattle.std.proofs.lemmas.List.FromFn.{length-range_with_len}
+use Rattle.topology.specs.declared.items.Sent.{Sent}
+use Rattle.topology.specs.Lists.{has}
+use Rattle.topology.specs.Net.{Net, IsValid, neighbours}
+use Rattle.path_vector.specs.Rules.{Rules}
+use Rattle.path_vector.specs.History.{held}
+use Rattle.trigger_log.specs.Entries.{Entry, reads}
+use Rattle.trigger_log.specs.Sending.{outbox, news, sent_count, sent_by, sent_of, is_sent_in}
+use Rattle.trigger_log.specs.Fits.{Fits}
+use Rattle.trigger_log.proofs.Closings.{outbox_held}
+use Rattle.trigger_log.proofs.Numbering.{numbered_from_one}
+use Rattle.node_core.specs.Names.{is_number}
+use Rattle.node_core.specs.declared.limits.TheConstants.{MOST_ENTRIES, MOST_UPDATES}
+
+-- a number from 1 that has four bytes
+pub number_is : (n : ℕ) → 1 ≤ n → n < 2 ^ 32 → is_number n ≡ true
+number_is n one few = grind (arith, nat_tests)
+
+-- the test of two numbers of which the first is below the second
+pub below_is : (m n : ℕ) → m < n → nat_lt m n ≡ true
+below_is m n low = grind (arith, nat_tests)
+
+-- and what the test says
+pub below_from : (m n : ℕ) → nat_lt m n ≡ true → m < n
+below_from m n is = grind (arith, nat_tests)
+
+-- the same of two numbers of which the first is not above the second
+pub most_is : (m n : ℕ) → m ≤ n → nat_le m n ≡ true
+most_is m n low = grind (arith, nat_tests)
+
+-- and what that test says
+pub most_from : (m n : ℕ) → nat_le m n ≡ true → m ≤ n
+most_from m n is = grind (arith, nat_tests)
+
+-- a log that is within the limits of a node
+pub record Within (rules : Rules) (net : Net) (u : ℕ) (h : List Entry) : Type 0 where
+  pub entries : length h ≤ MOST_ENTRIES
+  pub updates : length (sent_of rules net u h) ≤ MOST_UPDATES
+
+-- a part of a list is no longer
+kept_few : {A : Type 0} (test : A → Bool) (xs : List A) → length (filter test xs) ≤ length xs
+kept_few test [] = omega arith
+kept_few test (x ∷ xs) =
+    let rest = kept_few test xs in
+    elim (test x) as (λ t. length (cond t (x ∷ filter test xs) (filter test xs)) ≤ suc (length xs)) [ true ↦ omega arith | false ↦ omega arith ]
+
+-- what stands before an entry lists no more
+pub fewer_before : (rules : Rules) (net : Net) (u : ℕ) (k : Entry) (h : List Entry) → length (sent_of rules net u h) ≤ length (sent_of rules net u (k ∷ h))
+unfolding sent_of
+fewer_before rules net u k h = omega (arith, length-append (sent_of rules net u h) (sent_by rules net u h k))
+
+-- so that what stands before is within the limits too
+pub within_before : (rules : Rules) (net : Net) (u : ℕ) (k : Entry) (h : List Entry) → Within rules net u (k ∷ h) → Within rules net u h
+within_before rules net u k h in_it = record {
+  entries = let few = in_it.entries in omega arith;
+  updates = let few = in_it.updates in let less = fewer_before rules net u k h in omega arith;
+}
+
+module _ (rules : Rules) (net : Net) (u : ℕ) (valid : IsValid net) where
+  -- no session has more items than there are
+  count_few : (h : List Entry) (w s : ℕ) → Fits h → has (neighbours net u) w ≡ true → sent_count rules net u h w s ≤ length (sent_of rules net u h)
+  count_few h w s fits near =
+      let count = sent_count rules net u h w s in
+      let kept = filter (is_sent_in w s) (sent_of rules net u h) in
+      let same = ap length (numbered_from_one rules net u h w s valid fits near) in
+      let as_many = length-map kept (λ (item : Sent). item.seq) in
+      let up_to = length-range_with_len 1 count in
+      let less = kept_few (is_sent_in w s) (sent_of rules net u h) in
+      omega arith
+
+  -- nor more updates
+  pub outbox_few : (h : List Entry) (w s : ℕ) → Fits h → has (neighbours net u) w ≡ true → length (outbox rules net u h w s) ≤ length (sent_of rules net u h)
+  outbox_few h w s fits near = let few = count_few h w s fits near in omega arith
+
+  -- what an entry says in the session that is held after it is among them
+  pub said_few : (k : Entry) (h : List Entry) (w s : ℕ) → Fits (k ∷ h) → has (neighbours net u) w ≡ true → held (k.read ∷ reads h) w ≡ Some s
+      → length (outbox rules net u h w s) + length (news rules net u h k w) ≤ length (sent_of rules net u (k ∷ h))
+  said_few k h w s fits near holds =
+      let all = outbox_few (k ∷ h) w s fits near in
+      let more = ap length (outbox_held rules net u k h w s holds) in
+      let both = length-append (outbox rules net u h w s) (news rules net u h k w) in
+      omega arith

@@ -1,0 +1,49 @@
+-- What every fact of a node's own run is.
+use Rattle.std.proofs.Common.{ℕ, ◌^◌, ◌≡◌, Bool, true, ◌&&◌, ◌==◌, nat_lt}
+use Rattle.std.specs.List.{list_all}
+use Rattle.topology.specs.Lists.{has}
+use Rattle.topology.specs.Net.{Net, neighbours}
+use Rattle.path_vector.specs.declared.causes.Cause.{Cause}
+use Rattle.path_vector.specs.declared.causes.Cause.TheVariants.{Originate, Withdraw, Recv, Down, Up, Ready, Prefer}
+use Rattle.trigger_log.specs.Entries.{Entry}
+use Rattle.chronicle.specs.Facts.{Fact, Chronicle, Log, Sent, Took, Fail, Restore, Raise, Start, Mail, Heard, Crash, Restart, Publish, Visit, End}
+use Rattle.node_core.specs.ControlFits.{epoch_fits, ballot_fits, message_fits, scope_fits, value_fits}
+use Rattle.node_core.specs.Fits.{item_fits, path_fits}
+use Rattle.node_core.specs.Names.{is_number, triggers_fit}
+use Rattle.node_core.specs.PacketFits.{packet_fits}
+use Rattle.admission_laws.specs.Handing.{table_fits, is_short}
+
+-- the neighbour, the session and the path of a cause
+abbrev pub cause_fits : Net → ℕ → Cause → Bool
+cause_fits net u Originate = true
+cause_fits net u Withdraw = true
+cause_fits net u (Recv v s seq path) = has (neighbours net u) v && (is_number s && path_fits net v path)
+cause_fits net u (Down v s) = has (neighbours net u) v && is_number s
+cause_fits net u (Up v s) = has (neighbours net u) v && is_number s
+cause_fits net u (Ready v s) = has (neighbours net u) v && is_number s
+cause_fits net u (Prefer v value) = has (neighbours net u) v
+
+-- an entry of u
+abbrev pub entry_fits : Net → ℕ → Entry → Bool
+entry_fits net u k = triggers_fit net k.triggers && (scope_fits net k.read.scope && cause_fits net u k.read.cause)
+
+-- a fact of u's own run
+abbrev pub fact_fits : Net → ℕ → Fact → Bool
+fact_fits net u (Log w k) = w == u && entry_fits net u k
+fact_fits net u (Sent from to s item queued) = from == u && (has (neighbours net u) to && (is_number s && item_fits net u item))
+fact_fits net u (Took from to s item) = to == u && (has (neighbours net u) from && (is_number s && item_fits net from item))
+fact_fits net u (Fail a b) = true
+fact_fits net u (Restore a b) = true
+fact_fits net u (Raise w e) = w == u && epoch_fits e
+fact_fits net u (Start w e b) = w == u && (epoch_fits e && ballot_fits net b)
+fact_fits net u (Mail from to m) = from == u && (has net.nodes to && (message_fits net u m && is_short m))
+fact_fits net u (Heard w from m) = w == u && message_fits net from m
+fact_fits net u (Crash w) = true
+fact_fits net u (Restart w) = true
+fact_fits net u (Publish w e value paths) = w == u && (epoch_fits e && (value_fits net value && table_fits net u paths))
+fact_fits net u (Visit w packet) = has net.nodes w && packet_fits net packet
+fact_fits net u (End id ending) = nat_lt id (2 ^ 32)
+
+-- all facts of the run are such
+abbrev pub AllFacts : Net → ℕ → Chronicle → Type 0
+AllFacts net u past = list_all (fact_fits net u) past ≡ true

@@ -1,0 +1,126 @@
+-- The run of a node that admits each input: every fact of it fits, and so does all that the node hands out.
+use Rattle.std.proofs.Common.{ℕ, ◌^◌, ◌≤◌, true, ◌&&◌, ◌==◌, None, List, [], ◌∷◌, ◌≡◌, refl, sym, ◌∙◌, ap, subst, arith}
+use Rattle.std.specs.Prelude.{nat_lt}
+use Rattle.std.specs.List.{list_all}
+use Rattle.std.proofs.lemmas.Bool.Decides.{nat_tests}
+use Rattle.topology.specs.Lists.{has}
+use Rattle.topology.specs.Net.{Net, IsValid, neighbours}
+use Rattle.topology.proofs.Tests.{and_right, and_both}
+use Rattle.path_vector.specs.Rules.{Rules}
+use Rattle.chronicle.specs.Facts.{Fact, Chronicle, Log, Sent, Took, Fail, Restore, Raise, Start, Mail, Heard, Crash, Restart, Publish, Visit, End}
+use Rattle.chronicle.specs.Epochs.{epoch}
+use Rattle.chronicle.specs.Inputs.{Input}
+use Rattle.chronicle.specs.Inputs as input
+use Rattle.chronicle.specs.Logs.{log_of}
+use Rattle.chronicle.specs.Run.{chronicle_of}
+use Rattle.chronicle.specs.Steps.{Step, Idle, Goes}
+use Rattle.chronicle.proofs.Publishing.{log_publish, epoch_publish}
+use Rattle.cut_laws.specs.Own.{Own, MayReach}
+use Rattle.cut_laws.proofs.Owning.{own_given, start_own}
+use Rattle.node_core.specs.ControlFits.{epoch_fits, message_fits, value_fits}
+use Rattle.node_core.specs.Fits.{item_fits, fits}
+use Rattle.node_core.specs.Names.{is_number}
+use Rattle.node_core.specs.NodeLimits.{node_above, node_limit}
+use Rattle.node_core.specs.Outputs.{output_by, outputs}
+use Rattle.node_core.specs.PacketFits.{packet_fits}
+use Rattle.node_core.specs.declared.limits.TheConstants.{MOST_EPOCHS}
+use Rattle.node_core.proofs.Admitting.{may_come}
+use Rattle.admission_laws.specs.Handing.{table_fits, is_short, output_fits}
+use Rattle.admission_laws.specs.NodeRuns.{each_link, gives, alone, AllAdmitted}
+use Rattle.admission_laws.proofs.Facts.{fact_fits, AllFacts}
+use Rattle.admission_laws.proofs.Each.{each_append}
+use Rattle.admission_laws.proofs.Bounds.{Within}
+use Rattle.admission_laws.proofs.Logs.{first_fact, facts_before}
+use Rattle.admission_laws.proofs.Answering.{Fine, IsPlain, answer_fine}
+use Rattle.admission_laws.proofs.Replying.{ReportsAscend, alone_ascends, within, given_facts, propose_given, control_given}
+
+-- ---- one input
+
+-- of an input that fits is known what the laws of a node alone ask
+reaches : (net : Net) (u : ℕ) (i : Input) → fits net u i ≡ true → MayReach net i
+reaches net u (input.Arrive v s x) is = (may_come net u (input.Arrive v s x) is).2
+reaches net u other is = tt
+
+-- a log is within the limits where no count is above its number
+log_within : (rules : Rules) (net : Net) (u : ℕ) (now : Chronicle) → node_above rules net u now ≡ None → Within rules net u (log_of u now)
+log_within rules net u now none = record {
+  entries = let count = (within rules net u now none).2 in grind (arith, nat_tests);
+  updates = let count = (within rules net u now none).3 in grind (arith, nat_tests);
+}
+
+-- and so is the epoch
+epoch_within : (rules : Rules) (net : Net) (u : ℕ) (now : Chronicle) → node_above rules net u now ≡ None → epoch u now ≤ MOST_EPOCHS
+epoch_within rules net u now none = let count = (within rules net u now none).0 in grind (arith, nat_tests)
+
+module _ (rules : Rules) (net : Net) (u : ℕ) (valid : IsValid net) (here : has net.nodes u ≡ true) where
+  module _ (past : Chronicle) (own : Own rules net past u) (all : AllFacts net u past) where
+    -- an input that is no ballot and no control message
+    plain_facts : (i : Input) (now : Chronicle) → IsPlain i → fits net u i ≡ true → node_above rules net u now ≡ None → gives rules net u past i ≡ Goes now → AllFacts net u now
+    plain_facts i now plain is few goes =
+        given_facts rules net valid each_link u here past own all i now (reaches net u i is) goes
+        (λ c answered published.
+        let fine : Fine rules net u (Goes c) = subst (Fine rules net u) answered (answer_fine rules net u valid here each_link past all own.alone.fits i plain is) in
+        let log : log_of u c ≡ log_of u now = sym (log_publish rules net u past c u) ∙ ap (log_of u) published in
+        let low : epoch u c ≡ epoch u now = sym (epoch_publish rules net u past c u) ∙ ap (epoch u) published in
+        fine (subst (Within rules net u) (sym log) (log_within rules net u now few)) (subst (λ e. e ≤ MOST_EPOCHS) (sym low) (epoch_within rules net u now few)))
+
+    -- each input keeps that every fact fits
+    gives_facts : (i : Input) (now : Chronicle) → ReportsAscend u past → fits net u i ≡ true → node_above rules net u now ≡ None → gives rules net u past i ≡ Goes now → AllFacts net u now
+    gives_facts (input.Propose e) now up is few goes = propose_given rules net valid each_link u here past own all e now is goes
+    gives_facts (input.Control from m) now up is few goes = control_given rules net valid each_link u here past own all from m now up is few goes
+    gives_facts other now up is few goes = plain_facts other now tt is few goes
+
+    -- whether it goes on or is idle
+    then_facts : (i : Input) (s : Step) → ReportsAscend u past → fits net u i ≡ true → node_limit rules net u s ≡ None → gives rules net u past i ≡ s → AllFacts net u (chronicle_of past s)
+    then_facts i (Idle why) up is few goes = all
+    then_facts i (Goes now) up is few goes = gives_facts i now up is few goes
+
+  -- ---- all inputs
+
+  -- what holds of a node alone
+  alone_own : (inputs : List Input) → AllAdmitted rules net u inputs → Own rules net (alone rules net u inputs) u
+  unfolding alone
+  alone_own [] admitted = start_own rules net u
+  alone_own (i ∷ before) admitted = own_given rules net u each_link (alone rules net u before) i valid (alone_own before admitted.2) (reaches net u i admitted.0)
+
+  -- every fact of its run fits
+  alone_facts : (inputs : List Input) → AllAdmitted rules net u inputs → AllFacts net u (alone rules net u inputs)
+  unfolding alone
+  alone_facts [] admitted = refl
+  alone_facts (i ∷ before) admitted =
+      let past = alone rules net u before in
+      then_facts past (alone_own before admitted.2) (alone_facts before admitted.2) i (gives rules net u past i) (alone_ascends rules net u before) admitted.0 admitted.1 refl
+
+-- ---- what is handed out
+
+module _ (net : Net) (u : ℕ) where
+  -- what a fact that fits shows
+  shown_fits : (f : Fact) (past : Chronicle) → fact_fits net u f ≡ true → list_all (output_fits net u) (output_by f past) ≡ true
+  shown_fits (Log w k) past is = refl
+  shown_fits (Sent from to s item queued) past is =
+      let sent = has (neighbours net u) to && (is_number s && item_fits net u item) in and_both sent true (and_right (from == u) sent is) refl
+  shown_fits (Took from to s item) past is = refl
+  shown_fits (Fail a b) past is = refl
+  shown_fits (Restore a b) past is = refl
+  shown_fits (Raise w e) past is = and_both (epoch_fits e) true (and_right (w == u) (epoch_fits e) is) refl
+  shown_fits (Start w e b) past is = refl
+  shown_fits (Mail from to m) past is =
+      let mailed = has net.nodes to && (message_fits net u m && is_short m) in and_both mailed true (and_right (from == u) mailed is) refl
+  shown_fits (Heard w from m) past is = refl
+  shown_fits (Crash w) past is = refl
+  shown_fits (Restart w) past is = refl
+  shown_fits (Publish w e value paths) past is =
+      let table = epoch_fits e && (value_fits net value && table_fits net u paths) in and_both table true (and_right (w == u) table is) refl
+  shown_fits (Visit w packet) past is = and_both (has net.nodes w && packet_fits net packet) true is refl
+  shown_fits (End id ending) past is = and_both (nat_lt id (2 ^ 32)) true is refl
+
+  -- so does what all facts show
+  outputs_fit : (past : Chronicle) → AllFacts net u past → list_all (output_fits net u) (outputs past) ≡ true
+  outputs_fit [] all = refl
+  outputs_fit (f ∷ past) all =
+      each_append (output_fits net u) (outputs past) (output_by f past) (outputs_fit past (facts_before net u f past all)) (shown_fits f past (first_fact net u f past all))
+
+-- all that a node hands out is what its addressees admit
+pub all_fit : (rules : Rules) (net : Net) (u : ℕ) (inputs : List Input) → IsValid net → has net.nodes u ≡ true → AllAdmitted rules net u inputs
+    → list_all (output_fits net u) (outputs (alone rules net u inputs)) ≡ true
+all_fit rules net u inputs valid here admitted = outputs_fit net u (alone rules net u inputs) (alone_facts rules net u valid here inputs admitted)

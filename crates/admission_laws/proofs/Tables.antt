@@ -1,0 +1,78 @@
+-- The paths of a table fit.
+use Rattle.std.proofs.Common.{ℕ, Bool, true, false, ◌&&◌, ◌==◌, Option, Some, None, List, [], ◌∷◌, map, filter, length, ◌≡◌, refl, sym, subst, if◌then◌else◌, option_and_then, IfSome}
+use Rattle.std.specs.List.{list_all, range_with_len}
+use Rattle.std.proofs.lemmas.List.FromFn.{length-map-range_with_len}
+use Rattle.topology.specs.Lists.{has}
+use Rattle.topology.specs.Paths.{differ, IsPath}
+use Rattle.topology.specs.Triggers.{lists}
+use Rattle.topology.specs.Net.{Net, places}
+use Rattle.topology.proofs.Tests.{and_both, same_refl}
+use Rattle.path_vector.specs.Rules.{Rules}
+use Rattle.path_vector.specs.Selection.{best, path_of}
+use Rattle.path_vector.specs.Simple.{BringsAll, BringsPaths, BringsPathsIn, AreIn, IsPathFrom}
+use Rattle.path_vector.proofs.Simple.{best_path, best_in}
+use Rattle.trigger_log.specs.Entries.{Entry, reads}
+use Rattle.incomplete_closure.specs.declared.values.Value.{Value}
+use Rattle.stable_table.specs.Tables.{is_complete, complete_in, all_responded, answered, table_path, table}
+use Rattle.node_core.specs.Fits.{begins_with, path_fits}
+use Rattle.node_core.specs.Names.{are_nodes}
+use Rattle.admission_laws.specs.Handing.{table_fits}
+
+-- ---- paths
+
+-- nodes of the network
+nodes_in : (net : Net) (ns : List ℕ) → AreIn net ns → are_nodes net ns ≡ true
+nodes_in net [] inside = refl
+nodes_in net (n ∷ ns) inside = and_both (has net.nodes n) (are_nodes net ns) inside.0 (nodes_in net ns inside.1)
+
+-- a path that begins with u, repeats no node and stays in the network
+pub path_of_fits : (net : Net) (u : ℕ) (path : Option (List ℕ)) → IfSome path (IsPathFrom u) → IfSome path (AreIn net) → path_fits net u path ≡ true
+path_of_fits net u None from inside = refl
+path_of_fits net u (Some path) from inside =
+    let begins : begins_with u path ≡ true = subst (λ ns. begins_with u ns ≡ true) (sym from.own.1) (same_refl u) in
+    and_both (begins_with u path) (differ path && are_nodes net path) begins
+    (and_both (differ path) (are_nodes net path) from.simple.different (nodes_in net path inside))
+
+-- what the updates of a log bring, those of some of its entries bring
+some_bring : (IsKind : List ℕ → Type 0) (test : Entry → Bool) (h : List Entry) → BringsAll IsKind (reads h) → BringsAll IsKind (reads (filter test h))
+some_bring IsKind test [] all = tt
+some_bring IsKind test (k ∷ h) all =
+    elim (test k) as (λ t. BringsAll IsKind (reads (if t then k ∷ filter test h else filter test h))) [
+      | true ↦ (all.0, some_bring IsKind test h all.1)
+      | false ↦ some_bring IsKind test h all.1
+    ]
+
+-- a path that all answered
+answered_fits : (net : Net) (u : ℕ) (value : Value) (path : Option (List ℕ)) → path_fits net u path ≡ true → path_fits net u (option_and_then (answered value u) path) ≡ true
+answered_fits net u value None fit = refl
+answered_fits net u value (Some path) fit =
+    elim (has value.responding u && all_responded value path) as (λ t. path_fits net u (if t then Some path else None) ≡ true) [ true ↦ fit | false ↦ refl ]
+
+-- ---- tables
+
+module _ (rules : Rules) (net : Net) (u : ℕ) (here : has net.nodes u ≡ true) (value : Value) (cut : List Entry) (simple : BringsPaths (reads cut)) (inside : BringsPathsIn net (reads cut)) where
+  -- the path of a prefix
+  one_path : (p : ℕ) → path_fits net u (table_path rules net u value cut p) ≡ true
+  unfolding table_path
+  one_path p =
+      let h = reads (complete_in value p cut) in
+      answered_fits net u value (path_of u (best rules net u h p))
+      (path_of_fits net u (path_of u (best rules net u h p))
+      (best_path rules net u h p (some_bring IsPath (is_complete (lists value.incomplete) p) cut simple))
+      (best_in rules net u h p here (some_bring (AreIn net) (is_complete (lists value.incomplete) p) cut inside)))
+
+  -- the paths of all of them
+  all_paths : (ps : List ℕ) → list_all (path_fits net u) (map (table_path rules net u value cut) ps) ≡ true
+  all_paths [] = refl
+  all_paths (p ∷ ps) =
+      and_both (path_fits net u (table_path rules net u value cut p)) (list_all (path_fits net u) (map (table_path rules net u value cut) ps)) (one_path p) (all_paths ps)
+
+  -- the table of u over a cut that brought paths of its neighbours
+  pub table_of_fits : table_fits net u (table rules net u value cut) ≡ true
+  unfolding table places
+  table_of_fits =
+      let ps = range_with_len 0 (length net.prefixes) in
+      let paths = map (table_path rules net u value cut) ps in
+      and_both (length paths == length net.prefixes) (list_all (path_fits net u) paths)
+      (subst (λ n. (n == length net.prefixes) ≡ true) (sym (length-map-range_with_len (table_path rules net u value cut) 0 (length net.prefixes))) (same_refl (length net.prefixes)))
+      (all_paths ps)
