@@ -1,0 +1,176 @@
+-- A node that answers a frame.
+use Rattle.std.proofs.Common.{ℕ, ◌+◌, ◌≡◌, ◌<◌, ◌≤◌, true, Option, Some, None, List, ◌∷◌, ◌++◌, length, drop, refl, sym, ap, ◌∙◌, subst, append_assoc, arith}
+use Rattle.std.specs.Prelude.{nat_lt, filter_map, if◌then◌else◌}
+use Rattle.std.specs.Io.KnownBytes.{Appends, prepend_known}
+use Rattle.std.proofs.lemmas.Bool.Decides.{nat_tests}
+use Rattle.std.proofs.lemmas.List.{length-append, length-drop}
+use Rattle.topology.specs.declared.frame_faults.FrameFault.{FrameFault}
+use Rattle.topology.specs.declared.status.LimitKind.TheVariants as kind
+use Rattle.topology.specs.declared.status.Status.{Status}
+use Rattle.topology.specs.declared.status.Status.TheVariants.{Done, Usage, NoMemory, BadSchedule, Limit, ReadFault, WriteFault, LinkFault, BadFrame, NoSuchNode}
+use Rattle.topology.specs.Lists.{Begins}
+use Rattle.route_io.specs.Causes.{Rose}
+use Rattle.route_io.specs.Views.{LinkView}
+use Rattle.route_io.proofs.Bytes.{appends_on}
+use Rattle.path_vector.specs.Rules.{Rules}
+use Rattle.chronicle.specs.Inputs.{Input}
+use Rattle.chronicle.specs.Run.{chronicle_of}
+use Rattle.node_core.specs.NodeLimits.{Reached, node_limit}
+use Rattle.node_core.specs.Outputs.{Answers}
+use Rattle.node_core.specs.Standing.{StandsFor}
+use Rattle.node_core.specs.declared.node.Node.{Node}
+use Rattle.node_core.specs.declared.outputs.Outputs.{Outputs}
+use Rattle.admission_laws.specs.NodeRuns.{gives}
+use Rattle.wire_frames.specs.declared.frames.Frame.{Frame}
+use Rattle.wire_frames.specs.Frames.{spell}
+use Rattle.wire_frames.specs.Reading.{Whole, found}
+use Rattle.wire_frames.proofs.Found.{spelled_found}
+use Rattle.route_node.specs.declared.limits.TheConstants.{MAX_FRAMES}
+use Rattle.route_node.specs.declared.serving.Process.{Process}
+use Rattle.route_node.specs.Frames.{telling}
+use Rattle.route_node.specs.Fronts.{Holds, Admits, EndsFrame}
+use Rattle.route_node.specs.Running.{Setting, Runs, GoesOn, IsWithin, left_of}
+use Rattle.route_node.specs.Served.{ends_serving, status_of, Served}
+use Rattle.route_node.specs.Streams.{stream, run_over, replies, out_of_turn, refusal, frame_limit, AreTaken, Ending, Refused, Stopped, found_fault, StopsAt, EndsAt, Comes}
+use Rattle.route_node.specs.Told.{handed}
+use Rattle.route_node.specs.Writing.{spelled, OneWriteEach, Writes, Breaks}
+use Rattle.route_node.proofs.Ending.{served_by_ending, served_by_break}
+use Rattle.route_node.proofs.Stopping.{limit_ends}
+use Rattle.route_node.proofs.Taking.{run_more, refusal_is, limit_as, within_limit, replies_more}
+use Rattle.route_node.proofs.Waiting.{told_as, answered_as, served_without_memory}
+use Rattle.route_node.proofs.Written.{spelled_both, one_write_behind}
+
+-- a front of what is written behind
+begins_behind : (xs ys some : List ℕ) → Begins some ys → Begins (xs ++ some) (xs ++ ys)
+begins_behind xs ys some begins = (begins.0, append_assoc xs some begins.0 ∙ ap (λ l. xs ++ l) begins.1)
+
+module _ {P : Type 0} (rules : Rules) (at : Setting P) (frames : List Frame) (process : Process P) (old : LinkView) (runs : Runs rules at process old frames)
+    (frame : Frame) (size : ℕ) (holds : Holds process.received frame size) (i : Input) (admits : Admits at.net at.node frame i) where
+  -- the bytes that are left begin with the frame
+  left_as : (t : List ℕ) → process.received ++ t ≡ spell frame ++ (drop size process.received ++ t)
+  left_as t = ap (λ l. l ++ t) holds.splits ∙ append_assoc (spell frame) (drop size process.received) t
+
+  whole : (more : List ℕ) → found (spell frame ++ more) ≡ Whole frame (length (spell frame))
+  whole more = spelled_found frame more holds.fit
+
+  same_fault : refusal rules at.net at.node frames frame ≡ out_of_turn (gives rules at.net at.node (run_over rules at.net at.node frames) i)
+  same_fault = refusal_is rules at.net at.node frame frames i admits.brings admits.fit
+
+  refused_front : (more : List ℕ) (fault : FrameFault) → refusal rules at.net at.node frames frame ≡ Some fault → EndsAt rules at.net at.node frames (spell frame ++ more) (Refused fault)
+  unfolding spell
+  refused_front more fault e = ap (found_fault rules at.net at.node frames) (whole more) ∙ e
+
+  stopped_front : (more : List ℕ) (reached : Reached) → refusal rules at.net at.node frames frame ≡ None → frame_limit rules at.net at.node frames frame ≡ Some reached → EndsAt rules at.net at.node frames (spell frame ++ more) (Stopped reached)
+  stopped_front more reached none limit = subst (StopsAt rules at.net at.node frames reached) (sym (whole more)) (none, limit)
+
+  comes_to : (ending : Ending) → ((more : List ℕ) → EndsAt rules at.net at.node frames (spell frame ++ more) ending) → (bytes : List ℕ) → at.first.incoming ≡ Some bytes → Comes rules at.net at.node bytes frames ending
+  comes_to ending ends bytes told =
+      let known = told_as rules at frames process old old runs bytes told in
+      record {
+        rest = spell frame ++ (drop size process.received ++ known.0);
+        in_front = known.2 ∙ ap (λ l. stream frames ++ l) (left_as known.0);
+        taken = runs.taken;
+        ends = ends (drop size process.received ++ known.0);
+      }
+
+  served_here : (status : Status) (ending : Ending) → status ≡ status_of (length (stream frames)) ending → ends_serving status ≡ true → ((more : List ℕ) → EndsAt rules at.net at.node frames (spell frame ++ more) ending) → (status ≡ Done → ⊥) → Served rules at.net at.node at.first old status
+  served_here status ending is formed ends never =
+      served_by_ending rules at.net at.node at.first old status frames runs.taken runs.same_room ending is formed (comes_to ending ends) (answered_as rules at frames process old old runs refl refl) runs.quiet (λ e. absurd (never e))
+
+  -- the run ends at the frame
+  pub served_at_frame : (status : Status) → EndsFrame process.offset process.frames (out_of_turn (gives rules at.net at.node (run_over rules at.net at.node frames) i))
+      (node_limit rules at.net at.node (gives rules at.net at.node (run_over rules at.net at.node frames) i)) status → Served rules at.net at.node at.first old status
+  served_at_frame NoMemory e = served_without_memory rules at frames process old old runs refl
+  served_at_frame (BadFrame offset fault) e =
+      served_here (BadFrame offset fault) (Refused fault) (ap (λ n. BadFrame n fault) (e.0 ∙ runs.offset)) refl (λ more. refused_front more fault (same_fault ∙ e.1)) (λ d. absurd (cc d))
+  served_at_frame (Limit what number) e =
+      served_here (Limit what number) (Stopped (record { kind = what; number = number })) refl
+      (limit_ends rules at.net at.node frames frame (record { kind = what; number = number }) (limit_as rules at.net at.node frame frames i process.frames admits.brings runs.count ∙ e.1))
+      (λ more. stopped_front more (record { kind = what; number = number }) (same_fault ∙ e.0) (limit_as rules at.net at.node frame frames i process.frames admits.brings runs.count ∙ e.1)) (λ d. absurd (cc d))
+  served_at_frame Done e = absurd e
+  served_at_frame Usage e = absurd e
+  served_at_frame (BadSchedule line kind) e = absurd e
+  served_at_frame ReadFault e = absurd e
+  served_at_frame WriteFault e = absurd e
+  served_at_frame LinkFault e = absurd e
+  served_at_frame (NoSuchNode node) e = absurd e
+
+  -- ---- the node handled what the frame brought
+
+  module _ (node : Node P) (told : Outputs) (stands : StandsFor at.policy rules at.net at.node node (chronicle_of (run_over rules at.net at.node frames) (gives rules at.net at.node (run_over rules at.net at.node frames) i)))
+      (answers' : Answers (run_over rules at.net at.node frames) (gives rules at.net at.node (run_over rules at.net at.node frames) i) told)
+      (turn : out_of_turn (gives rules at.net at.node (run_over rules at.net at.node frames) i) ≡ None) (few : process.frames < MAX_FRAMES) where
+    no_limit : frame_limit rules at.net at.node frames frame ≡ None
+    no_limit =
+        let test : nat_lt process.frames MAX_FRAMES ≡ true = grind (arith, nat_tests, few) in
+        limit_as rules at.net at.node frame frames i process.frames admits.brings runs.count
+        ∙ (ap (λ b. if b then node_limit rules at.net at.node (gives rules at.net at.node (run_over rules at.net at.node frames) i) else Some (record { kind = kind.Frames; number = MAX_FRAMES })) test
+        ∙ within_limit rules at.net at.node (gives rules at.net at.node (run_over rules at.net at.node frames) i) (run_over rules at.net at.node frames) stands.within)
+
+    taken_now : AreTaken rules at.net at.node (frame ∷ frames)
+    taken_now = (holds.fit, same_fault ∙ turn, no_limit, runs.taken)
+
+    replies_now : replies rules at.net at.node (frame ∷ frames) ≡ replies rules at.net at.node frames ++ filter_map telling (handed told)
+    replies_now = replies_more rules at.net at.node frame frames i told admits.brings answers'
+
+    spelled_now : spelled (replies rules at.net at.node (frame ∷ frames)) ≡ spelled (replies rules at.net at.node frames) ++ spelled (filter_map telling (handed told))
+    spelled_now = ap spelled replies_now ∙ spelled_both (replies rules at.net at.node frames) (filter_map telling (handed told))
+
+    -- the replies broke off
+    pub served_by_replies : (new : LinkView) (status : Status) → Breaks (filter_map telling (handed told)) old new status → Served rules at.net at.node at.first new status
+    served_by_replies new status breaks =
+        let later : old.faults ≤ new.faults = breaks.link_fault.later in
+        served_by_break rules at.net at.node at.first new status (frame ∷ frames) taken_now (ap (λ (l : LinkView). l.room) breaks.others ∙ runs.same_room) breaks.why
+        (record {
+          later = subst (λ n. n ≤ new.faults) runs.quiet later;
+          rose = λ e. subst (λ n. Rose n new.faults) runs.quiet (breaks.link_fault.rose e);
+          quiet = λ no. breaks.link_fault.quiet no ∙ runs.quiet;
+        })
+        (λ bytes known.
+        let seen = told_as rules at frames process old old runs bytes known in
+        record {
+          frames = frame ∷ frames;
+          rest = drop size process.received ++ seen.0;
+          in_front = seen.2 ∙ (ap (λ l. stream frames ++ l) (left_as seen.0) ∙ sym (append_assoc (stream frames) (spell frame) (drop size process.received ++ seen.0)));
+          taken = taken_now;
+          some = spelled (replies rules at.net at.node frames) ++ breaks.some;
+          begins = subst (λ l. Begins (spelled (replies rules at.net at.node frames) ++ breaks.some) l) (sym spelled_now)
+              (begins_behind (spelled (replies rules at.net at.node frames)) (spelled (filter_map telling (handed told))) breaks.some breaks.begins);
+          wrote = appends_on at.first.outgoing old.outgoing new.outgoing (spelled (replies rules at.net at.node frames)) breaks.some runs.wrote breaks.wrote;
+        })
+
+    bytes_then : (known : Option (List ℕ)) → prepend_known (stream (frame ∷ frames)) (prepend_known (drop size process.received) known) ≡ prepend_known (stream frames) (prepend_known process.received known)
+    bytes_then None = refl
+    bytes_then (Some t) = ap Some (append_assoc (stream frames) (spell frame) (drop size process.received ++ t) ∙ ap (λ l. stream frames ++ l) (sym (left_as t)))
+
+    -- the frame was taken, and its replies were written
+    pub goes_on_taken : IsWithin process → (new : LinkView) (received : List ℕ) → received ≡ drop size process.received → Writes (filter_map telling (handed told)) old new
+        → GoesOn rules at (record process { node = node; received = received; frames = process.frames + 1; offset = process.offset + size }) new (left_of process)
+    goes_on_taken within new received is writes =
+        let shorter = ap (λ (l : List ℕ). length l) is ∙ length-drop size process.received in
+        let in_all = within.0 in
+        record {
+          frames = frame ∷ frames;
+          runs = record {
+            valid = runs.valid;
+            is_node = runs.is_node;
+            same_net = runs.same_net;
+            same_id = runs.same_id;
+            stands = subst (λ c. StandsFor at.policy rules at.net at.node node c) (sym (run_more rules at.net at.node frame frames i admits.brings)) stands;
+            taken = taken_now;
+            count = let before = runs.count in omega (arith, before);
+            offset = let before = runs.offset in let more = holds.size in omega (arith, before, more, length-append (stream frames) (spell frame));
+            bytes =
+                ap (λ l. prepend_known (stream (frame ∷ frames)) (prepend_known l new.incoming)) is
+                ∙ (ap (λ k. prepend_known (stream (frame ∷ frames)) (prepend_known (drop size process.received) k)) (ap (λ (l : LinkView). l.incoming) writes.others)
+                ∙ (bytes_then old.incoming ∙ runs.bytes));
+            wrote = subst (λ l. Appends at.first.outgoing new.outgoing l) (sym spelled_now)
+                (appends_on at.first.outgoing old.outgoing new.outgoing (spelled (replies rules at.net at.node frames)) (spelled (filter_map telling (handed told))) runs.wrote writes.wrote);
+            one_write_each = subst (λ l. OneWriteEach l at.first new) (sym replies_now)
+                (one_write_behind (replies rules at.net at.node frames) (filter_map telling (handed told)) at.first old new runs.wrote runs.same_room runs.one_write_each writes.one_write_each);
+            same_room = ap (λ (l : LinkView). l.room) writes.others ∙ runs.same_room;
+            quiet = writes.quiet ∙ runs.quiet;
+          };
+          within = (omega (arith, shorter, in_all), omega (arith, few));
+          less = omega (arith, shorter, in_all, few);
+        }

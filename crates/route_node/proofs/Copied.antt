@@ -1,0 +1,102 @@
+-- Reports and tables as frames have them.
+use Rattle.std.proofs.Common.{ℕ, ◌+◌, ◌≤◌, ◌<◌, true, false, ◌&&◌, ◌==◌, Option, Some, None, List, [], ◌∷◌, ◌++◌, ◌≡◌, ◌↔◌, map, length, take, get_or, refl, sym, ap, ap₂, ◌∙◌, subst, arith, slice_get, option_map, option_and_then, IfSome, IsSome}
+use Rattle.std.specs.List.{list_all}
+use Rattle.std.proofs.lemmas.Option.{slice_get_within, slice_get-get_or, get_or_from_slice_get}
+use Rattle.std.proofs.lemmas.List.{take_more, take_all}
+use Rattle.std.proofs.lemmas.List.Folds.{list_all_at}
+use Rattle.topology.specs.Paths.{differ, IsPath}
+use Rattle.topology.specs.Net.{Net}
+use Rattle.topology.specs.declared.names.Trigger.{Trigger}
+use Rattle.topology.specs.declared.items.Sent.{Sent}
+use Rattle.topology.proofs.Tests.{and_left, and_right, same_is}
+use Rattle.incomplete_closure.specs.declared.cut_rows.Row.{Row as TheRow}
+use Rattle.incomplete_closure.specs.declared.session_rows.SessionRow.{SessionRow as TheSessionRow}
+use Rattle.incomplete_closure.specs.declared.reports.Report.{Report as TheReport}
+use Rattle.incomplete_closure.specs.Seen.{item_seen, row_seen, session_seen, report_seen}
+use Rattle.node_core.specs.Fits.{begins_with, path_fits}
+use Rattle.node_core.specs.Names.{are_nodes}
+use Rattle.admission_laws.specs.Handing.{table_fits}
+use Rattle.route_node.specs.Frames.{first_of, item_told, row_told, session_told, report_told}
+
+-- ---- what is told of a report of the node is that report
+
+items_back : (ts : List Trigger) (items : List Sent) → map item_told (map (item_seen ts) items) ≡ items
+items_back ts [] = refl
+items_back ts (i ∷ items) = ap (λ l. i ∷ l) (items_back ts items)
+
+-- the row with other items
+abbrev row_with : TheRow → List Sent → TheRow
+row_with r items = record { trigger = r.trigger; scope = r.scope; sent = items }
+
+rows_back : (rows : List TheRow) → map row_told (map row_seen rows) ≡ rows
+rows_back [] = refl
+rows_back (r ∷ rows) =
+    let here : row_told (row_seen r) ≡ r = ap (row_with r) (items_back (r.trigger ∷ []) r.sent) in
+    ap₂ (λ x l. x ∷ l) here (rows_back rows)
+
+down_back : (d : Option Trigger) → option_map first_of (option_map (λ (t : Trigger). t ∷ []) d) ≡ d
+down_back None = refl
+down_back (Some t) = refl
+
+-- the session row with another Down
+abbrev session_with : TheSessionRow → Option Trigger → TheSessionRow
+session_with r down = record { nbr = r.nbr; session = r.session; received = r.received; down = down }
+
+sessions_back : (rows : List TheSessionRow) → map session_told (map session_seen rows) ≡ rows
+sessions_back [] = refl
+sessions_back (r ∷ rows) =
+    let here : session_told (session_seen r) ≡ r = ap (session_with r) (down_back r.down) in
+    ap₂ (λ x l. x ∷ l) here (sessions_back rows)
+
+-- the report with other rows
+abbrev report_with : TheReport → List TheRow → List TheSessionRow → TheReport
+report_with r rows sessions = record { node = r.node; epoch = r.epoch; rows = rows; sessions = sessions }
+
+pub report_back : (r : TheReport) → report_told (report_seen r) ≡ r
+report_back r = ap₂ (report_with r) (rows_back r.rows) (sessions_back r.sessions)
+
+-- ---- the paths of a table
+
+-- the path at a place that has one fits
+fits_at : (net : Net) (u i : ℕ) (paths : List (Option (List ℕ))) (o : Option (Option (List ℕ))) (path : List ℕ) → list_all (path_fits net u) paths ≡ true
+    → slice_get paths i ≡ o → Some path ≡ option_and_then (λ p. p) o → path_fits net u (Some path) ≡ true
+fits_at net u i paths None path all at is = absurd (cc is)
+fits_at net u i paths (Some None) path all at is = absurd (cc is)
+fits_at net u i paths (Some (Some other)) path all at is =
+    let there = get_or_from_slice_get paths i (Some other) None at ∙ sym is in
+    (elim (path_fits net u (get_or paths i None)) as (λ b. path_fits net u (get_or paths i None) ≡ b → path_fits net u (Some path) ≡ true) [
+      | true ↦ λ e. subst (λ (o : Option (List ℕ)). path_fits net u o ≡ true) there e
+      | false ↦ λ e. absurd (cc (list_all_at (path_fits net u) paths i None (slice_get_within paths i (Some other) at) e, all))
+    ]) refl
+
+-- such a path is made anew of its nodes
+path_made : (net : Net) (u : ℕ) (path : List ℕ) (made : Option (List ℕ)) → path_fits net u (Some path) ≡ true → IfSome made (λ p. p ≡ path) → (IsSome made ↔ IsPath path) → made ≡ Some path
+path_made net u [] made fit some is_path = absurd (cc fit)
+path_made net u (n ∷ ns) None fit some is_path =
+    let different = and_left (differ (n ∷ ns)) (are_nodes net (n ∷ ns)) (and_right (begins_with u (n ∷ ns)) (differ (n ∷ ns) && are_nodes net (n ∷ ns)) fit) in
+    let never : false ≡ true = is_path.1 (record { some = omega arith; different = different }) in absurd (cc never)
+path_made net u (n ∷ ns) (Some p) fit some is_path = ap (λ (l : List ℕ). Some l) some
+
+pub path_copied : (net : Net) (u i : ℕ) (paths : List (Option (List ℕ))) (path copy : List ℕ) (made : Option (List ℕ)) → list_all (path_fits net u) paths ≡ true
+    → Some path ≡ option_and_then (λ p. p) (slice_get paths i) → copy ≡ path → IfSome made (λ p. p ≡ copy) → (IsSome made ↔ IsPath copy)
+    → made ≡ option_and_then (λ p. p) (slice_get paths i)
+path_copied net u i paths path copy made all is same some is_path =
+    let fit = fits_at net u i paths (slice_get paths i) path all refl is in
+    path_made net u path made fit (subst (λ l. IfSome made (λ p. p ≡ l)) same some) (subst (λ l. IsSome made ↔ IsPath l) same is_path) ∙ is
+
+-- one path more
+pub paths_more : (net : Net) (u i : ℕ) (paths list more : List (Option (List ℕ))) (path : Option (List ℕ)) → table_fits net u paths ≡ true → i < length net.prefixes
+    → list ≡ take i paths → ((net : Net) (u : ℕ) → list_all (path_fits net u) paths ≡ true → path ≡ option_and_then (λ p. p) (slice_get paths i))
+    → more ≡ list ++ path ∷ [] → more ≡ take (i + 1) paths
+paths_more net u i paths list more path fit inside so_far is e =
+    let count = same_is (length paths) (length net.prefixes) (and_left (length paths == length net.prefixes) (list_all (path_fits net u) paths) fit) in
+    let within : i < length paths = omega (arith, count, inside) in
+    let path_is : path ≡ get_or paths i None =
+    is net u (and_right (length paths == length net.prefixes) (list_all (path_fits net u) paths) fit) ∙ ap (option_and_then (λ (p : Option (List ℕ)). p)) (slice_get-get_or paths i None within) in
+    e ∙ (ap₂ (λ l x. l ++ x ∷ []) so_far path_is ∙ sym (take_more paths i None within))
+
+-- all of them
+pub paths_all : (net : Net) (u i : ℕ) (paths list : List (Option (List ℕ))) → table_fits net u paths ≡ true → length net.prefixes ≤ i → list ≡ take i paths → list ≡ paths
+paths_all net u i paths list fit past so_far =
+    let count = same_is (length paths) (length net.prefixes) (and_left (length paths == length net.prefixes) (list_all (path_fits net u) paths) fit) in
+    so_far ∙ take_all i paths (omega (arith, count, past))

@@ -1,0 +1,17 @@
+pub mod Spellable
+pub mod Told
+pub mod Copied
+pub mod Fronted
+pub mod Written
+pub mod Replied
+pub mod Unique
+pub mod Ending
+pub mod Waiting
+pub mod Stopped
+pub mod Stopping
+pub mod Taking
+pub mod Answered
+pub mod Refusing
+pub mod Going
+pub mod Networks
+pub mod Beginning

@@ -1,0 +1,258 @@
+-- What each end of a node over a source and a link gives of the promise.
+use Rattle.std.proofs.Common.{ℕ, suc, ◌≡◌, ◌≤◌, ◌<◌, inl, inr, Option, Some, None, Result, Ok, Err, is_err, IsNone, IfSome, ◌↔◌, List, [], length, Bool, true, false, not, true≢false, refl, sym, ap, ◌∙◌, subst, arith}
+use Rattle.std.specs.Prelude.{is_some}
+use Rattle.std.specs.Io.KnownBytes.{IsAtEnd}
+use Rattle.topology.specs.declared.status.Status.{Status}
+use Rattle.topology.specs.declared.status.Status.TheVariants.{Done, Usage, NoMemory, BadSchedule, Limit, ReadFault, WriteFault, LinkFault, BadFrame, NoSuchNode}
+use Rattle.topology.specs.declared.status.BadKind.{BadKind}
+use Rattle.topology.specs.declared.status.LimitKind.TheVariants as kind
+use Rattle.topology.specs.Lists.{has}
+use Rattle.topology.specs.Net.{Net}
+use Rattle.route_io.specs.Causes.{HasCause, RoseIf}
+use Rattle.route_io.specs.Links.{OnlyCounts}
+use Rattle.route_io.specs.Views.{SourceView, LinkView}
+use Rattle.route_io.proofs.Bytes.{stays_quiet, has_risen}
+use Rattle.path_vector.specs.GaoRexford.{gao_rexford}
+use Rattle.schedule_file.specs.declared.parser.TheConstants.{MAX_BYTES}
+use Rattle.schedule_file.specs.declared.table.Part.TheVariants.{Over}
+use Rattle.schedule_file.specs.Spelling.{words_by_line}
+use Rattle.schedule_file.specs.Grammar.{IsTopologyFile, net_of}
+use Rattle.schedule_file.specs.Refusals.{FirstBadOfTopology}
+use Rattle.schedule_file.proofs.Readings.{one_list, no_bad, one_bad}
+use Rattle.route_node.specs.Served.{ends_serving, Served}
+use Rattle.route_node.specs.Attended.{IsNetwork, Gives, ends_undialled, Attended}
+
+-- ---- a file is of one network, or has one first bad line
+
+same_network : (bytes : List ℕ) (net other : Net) → IsTopologyFile bytes net → IsTopologyFile bytes other → net ≡ other
+same_network bytes net other file again = file.2 ∙ (ap net_of (one_list Over bytes file.0 again.0 file.1 again.1) ∙ sym again.2)
+
+no_network : (bytes : List ℕ) (net : Net) (line : ℕ) (bad : BadKind) → IsTopologyFile bytes net → FirstBadOfTopology bytes line bad → ⊥
+no_network bytes net line bad file first = no_bad Over [] (words_by_line bytes) file.0 first.0 bad file.1 first.2
+
+same_refusal : (bytes : List ℕ) (line other : ℕ) (bad last : BadKind) → FirstBadOfTopology bytes line bad → FirstBadOfTopology bytes other last → BadSchedule line bad ≡ BadSchedule other last
+same_refusal bytes line other bad last first again =
+    let same = one_bad Over [] (words_by_line bytes) first.0 again.0 bad last first.2 again.2 in
+    let lines : line ≡ other = first.1 ∙ (ap suc same.0 ∙ sym again.1) in
+    ap (λ n. BadSchedule n bad) lines ∙ ap (BadSchedule other) same.1
+
+-- a node is there or not
+not_both : (net other : Net) (id : ℕ) → net ≡ other → has net.nodes id ≡ true → has other.nodes id ≡ false → ⊥
+not_both net other id same there none = true≢false (sym there ∙ (ap (λ (n : Net). has n.nodes id) same ∙ none))
+
+-- what a told source gave is what it told
+pub known : (told : Option (List ℕ)) (items : List ℕ) → IfSome told (λ bytes. items ≡ bytes) → (bytes : List ℕ) → told ≡ Some bytes → items ≡ bytes
+known None items given bytes e = absurd (cc e)
+known (Some some) items given bytes e = let same : some ≡ bytes = cc e in given ∙ same
+
+-- ---- what calls tell
+
+-- what is said to be none is none
+pub no_place : {T : Type 0} (place : Option T) (answer : Bool) → is_some place ≡ not answer → answer ≡ true → IsNone place
+no_place place answer is says = is ∙ ap not says
+
+-- a node that has a place is there
+pub has_place : {T : Type 0} (there : Bool) (place : Option T) (answer : Bool) → (IsNone place ↔ (there ≡ false)) → is_some place ≡ not answer → answer ≡ false → there ≡ true
+has_place true place answer gone is says = refl
+has_place false place answer gone is says = absurd (true≢false (sym (is ∙ ap not says) ∙ gone.1 refl))
+
+-- the address was not dialled
+pub dial_fails : {T E : Type 0} (r : Result T E) (before now : ℕ) → is_err r ≡ true → HasCause before now r → RoseIf (LinkFault ≡ LinkFault) before now
+dial_fails (Ok x) before now failed cause = absurd (cc failed)
+dial_fails (Err e) before now failed cause = has_risen before now refl cause.later cause.failed
+
+-- it was, and the link is as it was
+pub dialled : {T E : Type 0} (r : Result T E) (link link' : LinkView) → is_err r ≡ false → OnlyCounts link link' → HasCause link.faults link'.faults r → link' ≡ link
+dialled (Ok x) link link' done only cause = only ∙ ap (λ n. record link { faults = n }) cause.quiet
+dialled (Err e) link link' done only cause = absurd (cc done)
+
+-- ---- before anything was read
+
+pub ends_no_memory : (id : ℕ) (source source' : SourceView) (link : LinkView) → source'.faults ≡ source.faults → Attended id source source' link link NoMemory
+ends_no_memory id source source' link quiet = record {
+  formed = (λ e. cc e, λ e. cc e);
+  served = λ bytes told net is there. inr (inl refl, refl);
+  missing = λ bytes told net is none. inr (inl refl);
+  refused = λ bytes told short line bad first. inr (inl refl);
+  too_long = λ bytes told long. inr (inl refl);
+  over = λ e. absurd (cc e);
+  bad_schedule = λ line bad e. absurd (cc e);
+  no_such_node = λ node e. absurd (cc e);
+  limit = λ number e. absurd (cc e);
+  read_fault = stays_quiet source.faults source'.faults (λ e. cc e) quiet;
+  link_fault = stays_quiet link.faults link.faults (λ e. cc e) refl;
+  undialled = λ e. refl;
+  read = λ e. absurd (cc e);
+}
+
+pub ends_read_fault : (id : ℕ) (source source' : SourceView) (link : LinkView) → RoseIf (ReadFault ≡ ReadFault) source.faults source'.faults → Attended id source source' link link ReadFault
+ends_read_fault id source source' link rose = record {
+  formed = (λ e. cc e, λ e. cc e);
+  served = λ bytes told net is there. inr (inr (inl refl), refl);
+  missing = λ bytes told net is none. inr (inr refl);
+  refused = λ bytes told short line bad first. inr (inr refl);
+  too_long = λ bytes told long. inr (inr refl);
+  over = λ e. absurd (cc e);
+  bad_schedule = λ line bad e. absurd (cc e);
+  no_such_node = λ node e. absurd (cc e);
+  limit = λ number e. absurd (cc e);
+  read_fault = rose;
+  link_fault = stays_quiet link.faults link.faults (λ e. cc e) refl;
+  undialled = λ e. refl;
+  read = λ e. absurd (cc e);
+}
+
+pub ends_too_long : (id : ℕ) (source source' : SourceView) (link : LinkView) → IfSome source.left (λ bytes. MAX_BYTES < length bytes) → source'.faults ≡ source.faults
+    → Attended id source source' link link (Limit kind.Bytes MAX_BYTES)
+ends_too_long id source source' link long quiet = record {
+  formed = (λ e. cc e, λ e. cc e);
+  served = λ bytes told net is there. absurd (over bytes told is.short);
+  missing = λ bytes told net is none. absurd (over bytes told is.short);
+  refused = λ bytes told short line bad first. absurd (over bytes told short);
+  too_long = λ bytes told more. inl refl;
+  over = λ e. absurd (cc e);
+  bad_schedule = λ line bad e. absurd (cc e);
+  no_such_node = λ node e. absurd (cc e);
+  limit = λ number e bytes told. (let same : MAX_BYTES ≡ number = cc e in sym same, above source.left long bytes told);
+  read_fault = stays_quiet source.faults source'.faults (λ e. cc e) quiet;
+  link_fault = stays_quiet link.faults link.faults (λ e. cc e) refl;
+  undialled = λ e. refl;
+  read = λ e. absurd (cc e);
+}
+  where
+    above : (left : Option (List ℕ)) → IfSome left (λ bytes. MAX_BYTES < length bytes) → (bytes : List ℕ) → left ≡ Some bytes → MAX_BYTES < length bytes
+    above None more bytes e = absurd (cc e)
+    above (Some some) more bytes e = let same : some ≡ bytes = cc e in subst (λ l. MAX_BYTES < length l) same more
+
+    over : (bytes : List ℕ) → source.left ≡ Some bytes → length bytes ≤ MAX_BYTES → ⊥
+    over bytes told short = let more = above source.left long bytes told in omega (arith, short, more)
+
+-- ---- behind the file
+
+-- the source was read to its end, and gave these bytes
+pub record Got (source source' : SourceView) (bytes : List ℕ) : Type 0 where
+  pub known : (told : List ℕ) → source.left ≡ Some told → bytes ≡ told
+  pub short : length bytes ≤ MAX_BYTES
+  pub at_end : IsAtEnd source'.left
+  pub quiet : source'.faults ≡ source.faults
+
+pub gives_network : (source source' : SourceView) (bytes : List ℕ) (net : Net) → Got source source' bytes → IsTopologyFile bytes net → Gives source source' net
+gives_network source source' bytes net got file =
+    record { bytes = bytes; known = got.known; network = record { short = got.short; file = file }; at_end = got.at_end; quiet = got.quiet }
+
+module _ (source source' : SourceView) (bytes : List ℕ) (read : (told : List ℕ) → source.left ≡ Some told → bytes ≡ told) where
+  not_long : length bytes ≤ MAX_BYTES → (told : List ℕ) → source.left ≡ Some told → MAX_BYTES < length told → ⊥
+  not_long short told is long = let same = ap length (read told is) in omega (arith, short, same, long)
+
+  -- the same of the bytes that were told
+  as_read : (P : List ℕ → Type 0) (told : List ℕ) → source.left ≡ Some told → P told → P bytes
+  as_read P told is holds = subst P (sym (read told is)) holds
+
+  as_told : (P : List ℕ → Type 0) (told : List ℕ) → source.left ≡ Some told → P bytes → P told
+  as_told P told is holds = subst P (read told is) holds
+
+  pub ends_bad : Got source source' bytes → (id : ℕ) (link : LinkView) (line : ℕ) (bad : BadKind) → FirstBadOfTopology bytes line bad → Attended id source source' link link (BadSchedule line bad)
+  ends_bad got id link line bad first = record {
+    formed = (λ e. cc e, λ e. cc e);
+    served = λ told t net is there. absurd (no_network bytes net line bad (as_read (λ b. IsTopologyFile b net) told t is.file) first);
+    missing = λ told t net is none. absurd (no_network bytes net line bad (as_read (λ b. IsTopologyFile b net) told t is.file) first);
+    refused = λ told t short other last again. inl (same_refusal bytes line other bad last first (as_read (λ b. FirstBadOfTopology b other last) told t again));
+    too_long = λ told t long. absurd (not_long got.short told t long);
+    over = λ e. absurd (cc e);
+    bad_schedule = λ other last e told t.
+        let lines : line ≡ other = cc e in let kinds : bad ≡ last = cc e in
+        as_told (λ b. FirstBadOfTopology b other last) told t (subst (λ n. FirstBadOfTopology bytes n last) lines (subst (FirstBadOfTopology bytes line) kinds first));
+    no_such_node = λ node e. absurd (cc e);
+    limit = λ number e. absurd (cc e);
+    read_fault = stays_quiet source.faults source'.faults (λ e. cc e) got.quiet;
+    link_fault = stays_quiet link.faults link.faults (λ e. cc e) refl;
+    undialled = λ e. refl;
+    read = λ e. absurd (cc e);
+  }
+
+module _ (id : ℕ) (source source' : SourceView) (net : Net) (gives : Gives source source' net) where
+  -- any network of the file is this one
+  is_it : (told : List ℕ) → source.left ≡ Some told → (other : Net) → IsNetwork told other → net ≡ other
+  is_it told t other is = same_network gives.bytes net other gives.network.file (as_read source source' gives.bytes gives.known (λ b. IsTopologyFile b other) told t is.file)
+
+  -- the bytes that were told are a file of it
+  of_it : (told : List ℕ) → source.left ≡ Some told → IsNetwork told net
+  of_it told t = as_told source source' gives.bytes gives.known (λ b. IsNetwork b net) told t gives.network
+
+  not_bad : (told : List ℕ) → source.left ≡ Some told → (line : ℕ) (bad : BadKind) → FirstBadOfTopology told line bad → ⊥
+  not_bad told t line bad first = no_network gives.bytes net line bad gives.network.file (as_read source source' gives.bytes gives.known (λ b. FirstBadOfTopology b line bad) told t first)
+
+  pub ends_missing : (link : LinkView) → has net.nodes id ≡ false → Attended id source source' link link (NoSuchNode id)
+  ends_missing link none = record {
+    formed = (λ e. cc e, λ e. cc e);
+    served = λ told t other is there. absurd (not_both other net id (sym (is_it told t other is)) there none);
+    missing = λ told t other is gone. inl refl;
+    refused = λ told t short line bad first. absurd (not_bad told t line bad first);
+    too_long = λ told t long. absurd (not_long source source' gives.bytes gives.known gives.network.short told t long);
+    over = λ e. absurd (cc e);
+    bad_schedule = λ line bad e. absurd (cc e);
+    no_such_node = λ node e. (let same : id ≡ node = cc e in sym same, λ told t. (net, of_it told t, none));
+    limit = λ number e. absurd (cc e);
+    read_fault = stays_quiet source.faults source'.faults (λ e. cc e) gives.quiet;
+    link_fault = stays_quiet link.faults link.faults (λ e. cc e) refl;
+    undialled = λ e. refl;
+    read = λ e. absurd (cc e);
+  }
+
+  module _ (there : has net.nodes id ≡ true) where
+    pub ends_undialled_fault : (link link' : LinkView) → OnlyCounts link link' → RoseIf (LinkFault ≡ LinkFault) link.faults link'.faults → Attended id source source' link link' LinkFault
+    ends_undialled_fault link link' only rose = record {
+      formed = (λ e. cc e, λ e. cc e);
+      served = λ told t other is has_it. inr (inr (inr refl), only);
+      missing = λ told t other is gone. absurd (not_both net other id (is_it told t other is) there gone);
+      refused = λ told t short line bad first. absurd (not_bad told t line bad first);
+      too_long = λ told t long. absurd (not_long source source' gives.bytes gives.known gives.network.short told t long);
+      over = λ e. absurd (cc e);
+      bad_schedule = λ line bad e. absurd (cc e);
+      no_such_node = λ node e. absurd (cc e);
+      limit = λ number e. absurd (cc e);
+      read_fault = stays_quiet source.faults source'.faults (λ e. cc e) gives.quiet;
+      link_fault = rose;
+      undialled = λ e. absurd (cc e);
+      read = λ e. absurd (cc e);
+    }
+
+    pub ends_served : (link link' : LinkView) (status : Status) → Served gao_rexford net id link link' status → Attended id source source' link link' status
+    ends_served link link' status is_served = record {
+      formed = (λ e. never (sym (ap ends_serving e) ∙ is_served.formed), λ e. never (sym (ap ends_serving e) ∙ is_served.formed));
+      served = λ told t other is has_it. inl (subst (λ n. Served gao_rexford n id link link' status) (is_it told t other is) is_served);
+      missing = λ told t other is gone. absurd (not_both net other id (is_it told t other is) there gone);
+      refused = λ told t short line bad first. absurd (not_bad told t line bad first);
+      too_long = λ told t long. absurd (not_long source source' gives.bytes gives.known gives.network.short told t long);
+      over = λ e told t. (net, of_it told t, there);
+      bad_schedule = λ line bad e. absurd (never (sym (ap ends_serving e) ∙ is_served.formed));
+      no_such_node = λ node e. absurd (never (sym (ap ends_serving e) ∙ is_served.formed));
+      limit = λ number e. absurd (never (sym (ap ends_serving e) ∙ is_served.formed));
+      read_fault = stays_quiet source.faults source'.faults (λ e. never (sym (ap ends_serving e) ∙ is_served.formed)) gives.quiet;
+      link_fault = is_served.link_fault;
+      undialled = λ e. absurd (not_over status e is_served.formed);
+      read = λ e. gives.at_end;
+    }
+      where
+        never : false ≡ true → ⊥
+        never e = true≢false (sym e)
+
+        not_over : (s : Status) → ends_undialled s ≡ true → ends_serving s ≡ true → ⊥
+        not_over Done e f = cc e
+        not_over Usage e f = cc f
+        not_over NoMemory e f = cc e
+        not_over (BadSchedule line bad) e f = cc f
+        not_over (Limit kind.Bytes number) e f = cc f
+        not_over (Limit kind.Events number) e f = cc e
+        not_over (Limit kind.Epochs number) e f = cc e
+        not_over (Limit kind.Triggers number) e f = cc e
+        not_over (Limit kind.Entries number) e f = cc e
+        not_over (Limit kind.Updates number) e f = cc e
+        not_over (Limit kind.Control number) e f = cc e
+        not_over (Limit kind.Packets number) e f = cc e
+        not_over (Limit kind.Frames number) e f = cc e
+        not_over ReadFault e f = cc f
+        not_over WriteFault e f = cc f
+        not_over LinkFault e f = cc e
+        not_over (BadFrame at fault) e f = cc e
+        not_over (NoSuchNode node) e f = cc f

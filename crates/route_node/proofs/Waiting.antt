@@ -1,0 +1,222 @@
+-- A process that waits for more bytes.
+use Rattle.std.proofs.Common.{ℕ, ◌≡◌, ◌<◌, ◌≤◌, true, false, Option, Some, None, List, [], ◌∷◌, ◌++◌, length, take, drop, ◌==◌, Result, Ok, Err, refl, sym, ap, ◌∙◌, subst, inl, inr, arith}
+use Rattle.std.specs.Prelude.{nat_lt, IfSome, OnOk, ◌↔◌, if◌then◌else◌}
+use Rattle.std.specs.Int.{w32, from_be_bytes}
+use Rattle.std.specs.Io.KnownBytes.{Appends, IsAtEnd, prepend_known}
+use Rattle.std.proofs.lemmas.Bool.Decides.{nat_tests}
+use Rattle.std.proofs.lemmas.List.{append-nil, length-append, length-drop}
+use Rattle.topology.specs.declared.frame_faults.FrameKind.{FrameKind}
+use Rattle.topology.specs.declared.frame_faults.FrameKind.TheVariants as fault
+use Rattle.wire_frames.specs.declared.tags.Tag.{Tag}
+use Rattle.wire_frames.specs.declared.frames.Frame.{Frame}
+use Rattle.wire_frames.specs.Formats.{word_at}
+use Rattle.wire_frames.specs.Frames.{tag_in, limit_of}
+use Rattle.wire_frames.specs.Reading.{body_at, Found, Partial, Wrong, found_by, sized, behind_kind, of_kind, behind_version, found}
+use Rattle.wire_frames.proofs.Found.{limit_small}
+use Rattle.topology.specs.declared.frame_faults.FrameFault.TheVariants.{Truncated}
+use Rattle.topology.specs.declared.status.Status.TheVariants.{Done, NoMemory, LinkFault, BadFrame}
+use Rattle.route_io.specs.Causes.{RoseIf, Rose}
+use Rattle.route_io.specs.Links.{ahead, GrowsWithin, OnlyReads}
+use Rattle.route_io.specs.Views.{LinkView}
+use Rattle.route_io.specs.declared.received.TheConstants.{PORTION}
+use Rattle.route_io.specs.declared.received.Filled.{Filled}
+use Rattle.route_io.specs.declared.received.Filled.TheVariants as filled
+use Rattle.route_io.specs.declared.received.NotFilled.{NotFilled}
+use Rattle.path_vector.specs.Rules.{Rules}
+use Rattle.route_node.specs.declared.serving.Process.{Process}
+use Rattle.route_node.specs.Writing.{spelled}
+use Rattle.route_node.specs.Streams.{stream, replies, End, Refused, found_fault, EndsAt}
+use Rattle.route_node.specs.Running.{Setting, Runs, GoesOn, IsWithin, left_of}
+use Rattle.route_node.specs.Served.{Answered, WroteFront, Served}
+use Rattle.route_node.proofs.Ending.{served_by_ending, served_by_break}
+
+-- ---- the front of a frame is no longer than a frame
+
+not_partial : (n : ℕ) (r : Result Frame FrameKind) → found_by n r ≡ Partial → ⊥
+not_partial n (Ok f) e = absurd (cc e)
+not_partial n (Err k) e = absurd (cc e)
+
+by_length : (limit n size : ℕ) (r : Result Frame FrameKind) (there : Found) → limit ≤ 1048576 → there ≡ (if nat_lt limit n then Wrong fault.Length else if nat_lt size n then Partial else found_by n r) → there ≡ Partial → size < 1048576
+by_length limit n size r there small is e =
+    (elim (nat_lt limit n) as (λ t. nat_lt limit n ≡ t → there ≡ (if t then Wrong fault.Length else if nat_lt size n then Partial else found_by n r) → size < 1048576) [
+      | true ↦ λ long d. absurd (cc (e, d))
+      | false ↦ λ within d. (elim (nat_lt size n) as (λ t. nat_lt size n ≡ t → there ≡ (if t then Partial else found_by n r) → size < 1048576) [
+        | true ↦ λ short c. grind (arith, nat_tests, small, within, short)
+        | false ↦ λ all c. absurd (not_partial n r (sym c ∙ e))
+      ]) refl d
+    ]) refl is
+
+sized_short : (tag : Tag) (n : ℕ) (rest : List ℕ) → sized tag n rest ≡ Partial → length rest < 1048576
+sized_short tag n rest e = by_length (limit_of tag) n (length rest) (body_at tag (take n rest)) (sized tag n rest) (limit_small tag) refl e
+
+kind_short : (tag : Tag) (bytes : List ℕ) → behind_kind tag (word_at w32 bytes) ≡ Partial → length bytes < 1048580
+kind_short tag bytes e =
+    (elim (nat_lt (length bytes) 4) as (λ t. nat_lt (length bytes) 4 ≡ t → behind_kind tag (if t then Err fault.Length else Ok (from_be_bytes w32 (take 4 bytes), drop 4 bytes)) ≡ Partial → length bytes < 1048580) [
+      | true ↦ λ short d. grind (arith, nat_tests, short)
+      | false ↦ λ there d. let rest = sized_short tag (from_be_bytes w32 (take 4 bytes)) (drop 4 bytes) d in omega (arith, rest, length-drop 4 bytes)
+    ]) refl e
+
+of_kind_short : (tag : Option Tag) (bytes : List ℕ) → of_kind tag bytes ≡ Partial → length bytes < 1048580
+of_kind_short None bytes e = absurd (cc e)
+of_kind_short (Some tag) bytes e = kind_short tag bytes e
+
+version_short : (bytes : List ℕ) → behind_version bytes ≡ Partial → length bytes < 1048581
+version_short [] e = omega arith
+version_short (b ∷ bytes) e = let rest = of_kind_short (tag_in b) bytes e in omega (arith, rest)
+
+pub partial_short : (bytes : List ℕ) → found bytes ≡ Partial → length bytes < 1048582
+unfolding found
+partial_short [] e = omega arith
+partial_short (v ∷ bytes) e =
+    (elim (v == 1) as (λ t. (if t then behind_version bytes else Wrong fault.Version) ≡ Partial → length (v ∷ bytes) < 1048582) [
+      | true ↦ λ d. let rest = version_short bytes d in omega (arith, rest)
+      | false ↦ λ d. absurd (cc d)
+    ]) e
+
+-- ---- one more read
+
+module _ {P : Type 0} (rules : Rules) (at : Setting P) (frames : List Frame) (process : Process P) (old new : LinkView) (runs : Runs rules at process old frames) where
+  -- what is told of the bytes
+  pub told_as : (bytes : List ℕ) → at.first.incoming ≡ Some bytes → (t : List ℕ) × (old.incoming ≡ Some t) × (bytes ≡ stream frames ++ (process.received ++ t))
+  told_as bytes told = go old.incoming refl (runs.bytes ∙ told)
+    where
+      go : (known : Option (List ℕ)) → old.incoming ≡ known → prepend_known (stream frames) (prepend_known process.received old.incoming) ≡ Some bytes
+          → (t : List ℕ) × (old.incoming ≡ Some t) × (bytes ≡ stream frames ++ (process.received ++ t))
+      go None is e = let none = ap (λ k. prepend_known (stream frames) (prepend_known process.received k)) (sym is) ∙ e in absurd (cc none)
+      go (Some t) is e =
+          let some : Some (stream frames ++ (process.received ++ t)) ≡ Some bytes = ap (λ k. prepend_known (stream frames) (prepend_known process.received k)) (sym is) ∙ e in
+          (t, is, cc some)
+
+  -- nothing was written since
+  pub front_as : new.outgoing ≡ old.outgoing → (bytes : List ℕ) → at.first.incoming ≡ Some bytes → WroteFront rules at.net at.node bytes at.first new
+  front_as same bytes told =
+      let known = told_as bytes told in
+      record {
+        frames = frames;
+        rest = process.received ++ known.0;
+        in_front = known.2;
+        taken = runs.taken;
+        some = spelled (replies rules at.net at.node frames);
+        begins = ([], append-nil (spelled (replies rules at.net at.node frames)));
+        wrote = subst (λ o. Appends at.first.outgoing o (spelled (replies rules at.net at.node frames))) (sym same) runs.wrote;
+      }
+
+  pub answered_as : new.outgoing ≡ old.outgoing → new.writes ≡ old.writes → Answered rules at.net at.node frames at.first new
+  answered_as same writes = record {
+    wrote = subst (λ o. Appends at.first.outgoing o (spelled (replies rules at.net at.node frames))) (sym same) runs.wrote;
+    one_write_each = λ left room small. writes ∙ runs.one_write_each left room small;
+  }
+
+  pub goes_on : IsWithin process → found process.received ≡ Partial → (received : List ℕ) → ahead received new ≡ ahead process.received old → GrowsWithin PORTION process.received received → length process.received < length received
+      → OnlyReads old new → new.faults ≡ old.faults → GoesOn rules at (record process { received = received }) new (left_of process)
+  goes_on within partial received same grows longer others quiet =
+      let short = partial_short process.received partial in
+      let small = grows.2 in
+      let size = ap (λ (l : List ℕ). length l) grows.1 ∙ length-append process.received grows.0 in
+      record {
+        frames = frames;
+        runs = record {
+          valid = runs.valid;
+          is_node = runs.is_node;
+          same_net = runs.same_net;
+          same_id = runs.same_id;
+          stands = runs.stands;
+          taken = runs.taken;
+          count = runs.count;
+          offset = runs.offset;
+          bytes = ap (prepend_known (stream frames)) same ∙ runs.bytes;
+          wrote = subst (λ o. Appends at.first.outgoing o (spelled (replies rules at.net at.node frames))) (sym (ap (λ (l : LinkView). l.outgoing) others)) runs.wrote;
+          one_write_each = λ left room few. ap (λ (l : LinkView). l.writes) others ∙ runs.one_write_each left room few;
+          same_room = ap (λ (l : LinkView). l.room) others ∙ runs.same_room;
+          quiet = quiet ∙ runs.quiet;
+        };
+        within = (omega (arith, short, small, size), within.1);
+        less = omega (arith, short, small, size, longer);
+      }
+
+  module _ (r : Result Filled NotFilled) (received : List ℕ) (is : r ≡ Ok filled.End) (grows : GrowsWithin PORTION process.received received) (more : (r ≡ Ok filled.More) ↔ (length process.received < length received)) where
+    -- an end brings nothing
+    pub same_received : received ≡ process.received
+    same_received = go grows.0 grows.1
+      where
+        go : (m : List ℕ) → received ≡ process.received ++ m → received ≡ process.received
+        go [] e = e ∙ append-nil process.received
+        go (b ∷ m) e =
+            let size = ap (λ (l : List ℕ). length l) e ∙ length-append process.received (b ∷ m) in
+            let no : r ≡ Ok filled.More = more.1 (omega (arith, size)) in absurd (cc (sym is ∙ no))
+
+    -- nothing is left to come
+    pub nothing_left : IfSome old.incoming (λ t. OnOk r ((r ≡ Ok filled.End) ↔ (t ≡ []))) → (t : List ℕ) → old.incoming ≡ Some t → t ≡ []
+    nothing_left end t some =
+        let here : OnOk r ((r ≡ Ok filled.End) ↔ (t ≡ [])) = subst (λ k. IfSome k (λ t. OnOk r ((r ≡ Ok filled.End) ↔ (t ≡ [])))) some end in
+        let both : (r ≡ Ok filled.End) ↔ (t ≡ []) = subst (λ q. OnOk q ((r ≡ Ok filled.End) ↔ (t ≡ []))) is here in both.0 is
+
+    at_end : IfSome old.incoming (λ t. OnOk r ((r ≡ Ok filled.End) ↔ (t ≡ []))) → ahead received new ≡ ahead process.received old → received ≡ [] → IsAtEnd new.incoming
+    at_end end same empty = go new.incoming refl old.incoming refl
+      where
+        whole : prepend_known [] new.incoming ≡ prepend_known [] old.incoming
+        whole = subst (λ l. prepend_known l new.incoming ≡ prepend_known [] old.incoming) empty (subst (λ l. prepend_known received new.incoming ≡ prepend_known l old.incoming) (sym same_received ∙ empty) same)
+
+        go : (a : Option (List ℕ)) → new.incoming ≡ a → (b : Option (List ℕ)) → old.incoming ≡ b → IsAtEnd new.incoming
+        go None e b f = subst IsAtEnd (sym e) tt
+        go (Some xs) e None f = let no : Some xs ≡ None = ap (prepend_known []) (sym e) ∙ (whole ∙ ap (prepend_known []) f) in absurd (cc no)
+        go (Some xs) e (Some ys) f =
+            let yes : Some xs ≡ Some ys = ap (prepend_known []) (sym e) ∙ (whole ∙ ap (prepend_known []) f) in
+            let none : xs ≡ [] = let one : xs ≡ ys = cc yes in one ∙ nothing_left end ys f in
+            subst IsAtEnd (sym e) none
+
+    -- the end of the link between two frames
+    pub served_at_end : IfSome old.incoming (λ t. OnOk r ((r ≡ Ok filled.End) ↔ (t ≡ []))) → ahead received new ≡ ahead process.received old → received ≡ [] → OnlyReads old new → new.faults ≡ old.faults
+        → Served rules at.net at.node at.first new Done
+    served_at_end end same empty others quiet =
+        served_by_ending rules at.net at.node at.first new Done frames runs.taken (ap (λ (l : LinkView). l.room) others ∙ runs.same_room) End refl refl
+        (λ bytes told.
+        let known = told_as bytes told in
+        record {
+          rest = [];
+          in_front = known.2 ∙ ap (λ l. stream frames ++ l) (ap (λ l. l ++ known.0) (sym same_received ∙ empty) ∙ nothing_left end known.0 known.1);
+          taken = runs.taken;
+          ends = refl;
+        })
+        (answered_as (ap (λ (l : LinkView). l.outgoing) others) (ap (λ (l : LinkView). l.writes) others)) (quiet ∙ runs.quiet) (λ _. at_end end same empty)
+
+    truncated : (rest : List ℕ) → found rest ≡ Partial → (rest ≡ [] → ⊥) → EndsAt rules at.net at.node frames rest (Refused Truncated)
+    truncated [] partial some = some refl
+    truncated (b ∷ rest) partial some = ap (found_fault rules at.net at.node frames) partial
+
+    -- the end of the link within a frame
+    pub served_within : IfSome old.incoming (λ t. OnOk r ((r ≡ Ok filled.End) ↔ (t ≡ []))) → found process.received ≡ Partial → (received ≡ [] → ⊥) → OnlyReads old new → new.faults ≡ old.faults
+        → Served rules at.net at.node at.first new (BadFrame process.offset Truncated)
+    served_within end partial some others quiet =
+        served_by_ending rules at.net at.node at.first new (BadFrame process.offset Truncated) frames runs.taken (ap (λ (l : LinkView). l.room) others ∙ runs.same_room) (Refused Truncated) (ap (λ n. BadFrame n Truncated) runs.offset) refl
+        (λ bytes told.
+        let known = told_as bytes told in
+        record {
+          rest = process.received;
+          in_front = known.2 ∙ ap (λ l. stream frames ++ l) (ap (λ l. process.received ++ l) (nothing_left end known.0 known.1) ∙ append-nil process.received);
+          taken = runs.taken;
+          ends = truncated process.received partial (λ none. some (same_received ∙ none));
+        })
+        (answered_as (ap (λ (l : LinkView). l.outgoing) others) (ap (λ (l : LinkView). l.writes) others)) (quiet ∙ runs.quiet) (λ e. absurd (cc e))
+
+  -- memory ran out before the link was asked
+  pub served_without_memory : new ≡ old → Served rules at.net at.node at.first new NoMemory
+  served_without_memory same =
+      served_by_break rules at.net at.node at.first new NoMemory frames runs.taken (ap (λ (l : LinkView). l.room) same ∙ runs.same_room) (inl refl)
+      (record {
+        later = let e = ap (λ (l : LinkView). l.faults) same ∙ runs.quiet in omega (arith, e);
+        rose = λ e. absurd (cc e);
+        quiet = λ _. ap (λ (l : LinkView). l.faults) same ∙ runs.quiet;
+      })
+      (front_as (ap (λ (l : LinkView). l.outgoing) same))
+
+  -- a read failed
+  pub served_by_fault : OnlyReads old new → {failed : Type 0} → RoseIf failed old.faults new.faults → failed → Served rules at.net at.node at.first new LinkFault
+  served_by_fault others cause failed =
+      served_by_break rules at.net at.node at.first new LinkFault frames runs.taken (ap (λ (l : LinkView). l.room) others ∙ runs.same_room) (inr refl)
+      (record {
+        later = subst (λ n. n ≤ new.faults) runs.quiet cause.later;
+        rose = λ _. subst (λ n. Rose n new.faults) runs.quiet (cause.rose failed);
+        quiet = λ no. absurd (no refl);
+      })
+      (front_as (ap (λ (l : LinkView). l.outgoing) others))

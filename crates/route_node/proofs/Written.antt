@@ -1,0 +1,135 @@
+-- What was written over a link, one frame after the other.
+use Rattle.std.proofs.Common.{ℕ, zero, suc, ◌+◌, ◌-◌, ◌≡◌, ◌≤◌, ◌<◌, inr, true, false, Option, Some, None, Result, Ok, Err, is_err, IsErr, IsErrAnd, IfErr, OnOk, OnErr, List, [], ◌∷◌, ◌++◌, take, drop, length, refl, sym, ap, ◌∙◌, subst, append_assoc, option_map, arith}
+use Rattle.std.specs.Io.KnownBytes.{Appends}
+use Rattle.std.proofs.lemmas.Result.{err_from_is_err_and}
+use Rattle.std.proofs.lemmas.List.{append-nil, length-append, take-append-drop}
+use Rattle.std.proofs.lemmas.Grind.{flat_map-append}
+use Rattle.topology.specs.declared.status.Status.{Status}
+use Rattle.topology.specs.declared.status.Status.TheVariants.{LinkFault}
+use Rattle.route_io.specs.Causes.{AppendsFront, HasCause, next_count}
+use Rattle.route_io.specs.Links.{HasRoom, OnlyWrites, WritesOnce, room_left, room_behind}
+use Rattle.route_io.specs.Views.{LinkView}
+use Rattle.route_io.proofs.Bytes.{appends_none, appends_on, risen_after}
+use Rattle.route_io.proofs.Links.{only_writes_on}
+use Rattle.wire_frames.specs.declared.frames.Frame.{Frame}
+use Rattle.wire_frames.specs.Frames.{spell}
+use Rattle.route_node.specs.Writing.{spelled, counted_on, OneWriteEach, Writes, Breaks}
+
+-- an error that a `?` hands on
+pub handed_on : {T E : Type 0} (r : Result T E) (Q P : E → Type 0) → IsErr r × IsErrAnd r Q → ((e : E) → Q e → P e) → IfErr r P
+handed_on r Q P h step =
+    let e = err_from_is_err_and r h.1 in
+    rw e.1 (step e.0 e.2)
+
+-- ---- spellings
+
+spelled_one : (f : Frame) → spelled (f ∷ []) ≡ spell f
+spelled_one f = append-nil (spell f)
+
+pub spelled_both : (fs gs : List Frame) → spelled (fs ++ gs) ≡ spelled fs ++ spelled gs
+spelled_both fs gs = flat_map-append spell fs gs
+
+-- ---- one write for each frame
+
+-- so many after so many
+counted_both : (n m count : ℕ) → counted_on n (counted_on m count) ≡ counted_on (n + m) count
+counted_both zero m count = let same : m ≡ 0 + m = omega arith in ap (λ k. counted_on k count) same
+counted_both (suc n) m count = let same : suc (n + m) ≡ suc n + m = omega arith in ap next_count (counted_both n m count) ∙ ap (λ k. counted_on k count) same
+
+counts_both : (n m : ℕ) (was : Option ℕ) → option_map (counted_on n) (option_map (counted_on m) was) ≡ option_map (counted_on (n + m)) was
+counts_both n m None = refl
+counts_both n m (Some count) = ap (λ (k : ℕ). Some k) (counted_both n m count)
+
+-- what is left of a room behind more bytes
+room_after : (room : Option ℕ) (old now : Option (List ℕ)) (bytes : List ℕ) (left : ℕ) → Appends old now bytes → room_behind room old ≡ Some left → room_behind room now ≡ Some (left - length bytes)
+room_after None old now bytes left e is = absurd (cc is)
+room_after (Some size) None now bytes left e is = absurd (cc is)
+room_after (Some size) (Some old) None bytes left e is = absurd e
+room_after (Some size) (Some old) (Some now) bytes left e is =
+    let same : size - length old ≡ left = cc is in
+    let more = ap length e ∙ length-append old bytes in
+    let less : size - length now ≡ left - length bytes = omega (arith, same, more) in
+    ap (λ (k : ℕ). Some k) less
+
+-- ---- no frame, one, and those behind others
+
+pub writes_none : (link : LinkView) → Writes [] link link
+writes_none link = record {
+  wrote = appends_none link.outgoing;
+  one_write_each = λ left room small. kept link.writes;
+  others = refl;
+  quiet = refl;
+}
+  where
+    kept : (was : Option ℕ) → was ≡ option_map (counted_on 0) was
+    kept None = refl
+    kept (Some count) = refl
+
+pub writes_one : {T E : Type 0} (r : Result T E) (f : Frame) (bytes : List ℕ) (link link' : LinkView) → is_err r ≡ false → bytes ≡ spell f → OnOk r (Appends link.outgoing link'.outgoing bytes)
+    → (HasRoom link bytes → WritesOnce link link') → OnlyWrites link link' → HasCause link.faults link'.faults r → Writes (f ∷ []) link link'
+unfolding spell
+writes_one (Err e) f bytes link link' ok is wrote once only cause = absurd (cc ok)
+writes_one (Ok x) f bytes link link' ok is wrote once only cause =
+    let same : bytes ≡ spelled (f ∷ []) = is ∙ sym (spelled_one f) in
+    record {
+      wrote = subst (Appends link.outgoing link'.outgoing) same wrote;
+      one_write_each = λ left room small.
+          let some : 0 < length bytes = subst (λ l. 0 < length l) (sym is) (omega arith) in
+          let within : length bytes ≤ left = subst (λ l. length l ≤ left) (sym same) small in
+          once (left, room, some, within) ∙ counts link.writes;
+      others = only;
+      quiet = cause.quiet;
+    }
+  where
+    counts : (was : Option ℕ) → option_map next_count was ≡ option_map (counted_on 1) was
+    counts None = refl
+    counts (Some count) = refl
+
+pub breaks_one : {T E : Type 0} (r : Result T E) (f : Frame) (bytes : List ℕ) (link link' : LinkView) → is_err r ≡ true → bytes ≡ spell f → OnErr r (AppendsFront link.outgoing link'.outgoing bytes)
+    → OnlyWrites link link' → HasCause link.faults link'.faults r → Breaks (f ∷ []) link link' LinkFault
+breaks_one (Ok x) f bytes link link' failed is wrote only cause = absurd (cc failed)
+breaks_one (Err e) f bytes link link' failed is wrote only cause =
+    let same : bytes ≡ spelled (f ∷ []) = is ∙ sym (spelled_one f) in
+    record {
+      why = inr refl;
+      link_fault = record { later = cause.later; rose = λ is_fault. cause.failed; quiet = λ other. absurd (other refl) };
+      some = take wrote.0 bytes;
+      begins = (drop wrote.0 bytes, take-append-drop wrote.0 bytes ∙ same);
+      wrote = wrote.2;
+      others = only;
+    }
+
+-- frames that are written behind others, each by one write
+pub one_write_behind : (fs gs : List Frame) (link mid link' : LinkView) → Appends link.outgoing mid.outgoing (spelled fs) → mid.room ≡ link.room → OneWriteEach fs link mid → OneWriteEach gs mid link' → OneWriteEach (fs ++ gs) link link'
+one_write_behind fs gs link mid link' wrote same_room first second = λ left room small.
+    let sizes = ap length (spelled_both fs gs) ∙ length-append (spelled fs) (spelled gs) in
+    let behind : room_left mid ≡ Some (left - length (spelled fs)) =
+    ap (λ r. room_behind r mid.outgoing) same_room ∙ room_after link.room link.outgoing mid.outgoing (spelled fs) left wrote room in
+    let before = first left room (omega (arith, small, sizes)) in
+    let after = second (left - length (spelled fs)) behind (omega (arith, small, sizes)) in
+    let count : length gs + length fs ≡ length (fs ++ gs) = omega (arith, length-append fs gs) in
+    after ∙ (ap (option_map (counted_on (length gs))) before ∙ (counts_both (length gs) (length fs) link.writes ∙ ap (λ k. option_map (counted_on k) link.writes) count))
+
+pub writes_more : (fs gs : List Frame) (link mid link' : LinkView) → Writes fs link mid → Writes gs mid link' → Writes (fs ++ gs) link link'
+writes_more fs gs link mid link' first second = record {
+  wrote = subst (Appends link.outgoing link'.outgoing) (sym (spelled_both fs gs)) (appends_on link.outgoing mid.outgoing link'.outgoing (spelled fs) (spelled gs) first.wrote second.wrote);
+  one_write_each = one_write_behind fs gs link mid link' first.wrote (ap (λ (l : LinkView). l.room) first.others) first.one_write_each second.one_write_each;
+  others = only_writes_on link mid link' first.others second.others;
+  quiet = second.quiet ∙ first.quiet;
+}
+
+pub breaks_more : (all fs gs hs : List Frame) (link mid link' : LinkView) (status : Status) → Writes fs link mid → Breaks gs mid link' status → all ≡ fs ++ (gs ++ hs) → Breaks all link link' status
+breaks_more all fs gs hs link mid link' status first second is =
+    let spelling : spelled all ≡ spelled fs ++ (spelled gs ++ spelled hs) = ap spelled is ∙ (spelled_both fs (gs ++ hs) ∙ ap (λ l. spelled fs ++ l) (spelled_both gs hs)) in
+    record {
+      why = second.why;
+      link_fault = risen_after link.faults mid.faults link'.faults first.quiet second.link_fault;
+      some = spelled fs ++ second.some;
+      begins = (
+        second.begins.0 ++ spelled hs,
+        append_assoc (spelled fs) second.some (second.begins.0 ++ spelled hs)
+            ∙ (ap (λ l. spelled fs ++ l) (sym (append_assoc second.some second.begins.0 (spelled hs)) ∙ ap (λ l. l ++ spelled hs) second.begins.1) ∙ sym spelling),
+      );
+      wrote = appends_on link.outgoing mid.outgoing link'.outgoing (spelled fs) second.some first.wrote second.wrote;
+      others = only_writes_on link mid link' first.others second.others;
+    }

@@ -1,0 +1,11 @@
+use Rattle.route_node.specs.Running.{left_of}
+use Rattle.route_node.proofs.Going.{Keeps}
+use Rattle.route_node.proofs.serving.ends.Given as goal
+
+-- it runs, and from wherever it began it has gone on
+abbrev pub invariant-loop-next : goal.invariant-loop-next
+invariant-loop-next g l = Keeps (λ policy. g.P.Policy.rules policy) l.initial.process (g.L.Link.seen l.initial.link) l.process (g.L.Link.seen l.link)
+
+-- what is left to do
+abbrev pub decreases-loop-next : goal.decreases-loop-next
+decreases-loop-next g l = left_of l.process

@@ -1,0 +1,97 @@
+-- What a user is promised of a node of a network that a source holds.
+use Rattle.std.specs.Prelude.{ℕ, Bool, true, false, ◌≡◌, ◌≢◌, ◌≤◌, ◌<◌, ◌⊎◌, Some, List, length}
+use Rattle.std.specs.Io.KnownBytes.{IsAtEnd}
+use Rattle.topology.specs.declared.status.Status.{Status}
+use Rattle.topology.specs.declared.status.Status.TheVariants.{Done, Usage, NoMemory, BadSchedule, Limit, ReadFault, WriteFault, LinkFault, BadFrame, NoSuchNode}
+use Rattle.topology.specs.declared.status.BadKind.{BadKind}
+use Rattle.topology.specs.declared.status.LimitKind.TheVariants as kind
+use Rattle.topology.specs.Lists.{has}
+use Rattle.topology.specs.Net.{Net}
+use Rattle.route_io.specs.Causes.{RoseIf}
+use Rattle.route_io.specs.Views.{SourceView, LinkView}
+use Rattle.path_vector.specs.GaoRexford.{gao_rexford}
+use Rattle.schedule_file.specs.declared.parser.TheConstants.{MAX_BYTES}
+use Rattle.schedule_file.specs.Grammar.{IsTopologyFile}
+use Rattle.schedule_file.specs.Refusals.{FirstBadOfTopology}
+use Rattle.route_node.specs.Served.{Served}
+
+-- the bytes are a file of this network, and no more than a file may have
+pub record IsNetwork (bytes : List ℕ) (net : Net) : Type 0 where
+  pub short : length bytes ≤ MAX_BYTES
+  pub file : IsTopologyFile bytes net
+
+-- the source was read to its end, no read failed, and what it gave is a file of this network
+pub record Gives (source source' : SourceView) (net : Net) : Type 0 where
+  pub bytes : List ℕ
+  pub known : (told : List ℕ) → source.left ≡ Some told → bytes ≡ told
+  pub network : IsNetwork bytes net
+  pub at_end : IsAtEnd source'.left
+  pub quiet : source'.faults ≡ source.faults
+
+-- the run ended before the first frame: nothing came over the link, and nothing went
+abbrev pub EndsBefore : Status → LinkView → LinkView → Type 0
+EndsBefore status link link' =
+    ((status ≡ NoMemory) ⊎ ((status ≡ ReadFault) ⊎ (status ≡ LinkFault))) × (link' ≡ record link { faults = link'.faults })
+
+-- the statuses with which it ends before the address is dialled
+abbrev pub ends_undialled : Status → Bool
+ends_undialled Done = false
+ends_undialled Usage = true
+ends_undialled NoMemory = false
+ends_undialled (BadSchedule line bad) = true
+ends_undialled (Limit kind.Bytes number) = true
+ends_undialled (Limit other number) = false
+ends_undialled ReadFault = true
+ends_undialled WriteFault = true
+ends_undialled LinkFault = false
+ends_undialled (BadFrame offset fault) = false
+ends_undialled (NoSuchNode node) = true
+
+-- the statuses with which it ends over the link
+abbrev pub ends_over : Status → Bool
+ends_over Done = true
+ends_over Usage = false
+ends_over NoMemory = false
+ends_over (BadSchedule line bad) = false
+ends_over (Limit kind.Bytes number) = false
+ends_over (Limit other number) = true
+ends_over ReadFault = false
+ends_over WriteFault = false
+ends_over LinkFault = false
+ends_over (BadFrame offset fault) = true
+ends_over (NoSuchNode node) = false
+
+-- how the node with this number ends, on a source and a link as they were and as they are then
+pub record Attended (id : ℕ) (source source' : SourceView) (link link' : LinkView) (status : Status) : Type 0 where
+  pub formed : (status ≢ Usage) × (status ≢ WriteFault)
+  -- a network that has the node: its frames are answered, unless a read or the dial fails or memory runs out before
+  pub served : (bytes : List ℕ) → source.left ≡ Some bytes → (net : Net) → IsNetwork bytes net → has net.nodes id ≡ true
+      → Served gao_rexford net id link link' status ⊎ EndsBefore status link link'
+  -- one that has not: it is named, unless a read fails or memory runs out
+  pub missing : (bytes : List ℕ) → source.left ≡ Some bytes → (net : Net) → IsNetwork bytes net → has net.nodes id ≡ false
+      → (status ≡ NoSuchNode id) ⊎ ((status ≡ NoMemory) ⊎ (status ≡ ReadFault))
+  -- a file outside the grammar is refused by its first bad line
+  pub refused : (bytes : List ℕ) → source.left ≡ Some bytes → length bytes ≤ MAX_BYTES → (line : ℕ) (bad : BadKind)
+      → FirstBadOfTopology bytes line bad → (status ≡ BadSchedule line bad) ⊎ ((status ≡ NoMemory) ⊎ (status ≡ ReadFault))
+  -- so is a file that is too long, by its length
+  pub too_long : (bytes : List ℕ) → source.left ≡ Some bytes → MAX_BYTES < length bytes
+      → (status ≡ Limit kind.Bytes MAX_BYTES) ⊎ ((status ≡ NoMemory) ⊎ (status ≡ ReadFault))
+  -- what ends over the link is the answer of a node of the network
+  pub over : ends_over status ≡ true → (bytes : List ℕ) → source.left ≡ Some bytes
+      → (net : Net) × IsNetwork bytes net × (has net.nodes id ≡ true)
+  -- BadSchedule: the line is the first outside the grammar, and this is what is wrong with it
+  pub bad_schedule : (line : ℕ) (bad : BadKind) → status ≡ BadSchedule line bad
+      → (bytes : List ℕ) → source.left ≡ Some bytes → FirstBadOfTopology bytes line bad
+  -- NoSuchNode: the network has no node with the number
+  pub no_such_node : (node : ℕ) → status ≡ NoSuchNode node
+      → (node ≡ id) × ((bytes : List ℕ) → source.left ≡ Some bytes → (net : Net) × IsNetwork bytes net × (has net.nodes id ≡ false))
+  -- Limit on bytes: the file is too long
+  pub limit : (number : ℕ) → status ≡ Limit kind.Bytes number
+      → (bytes : List ℕ) → source.left ≡ Some bytes → (number ≡ MAX_BYTES) × (MAX_BYTES < length bytes)
+  -- ReadFault, LinkFault: a call of that side failed; after every other answer none has
+  pub read_fault : RoseIf (status ≡ ReadFault) source.faults source'.faults
+  pub link_fault : RoseIf (status ≡ LinkFault) link.faults link'.faults
+  -- nothing is done with the link before the network and the number are known
+  pub undialled : ends_undialled status ≡ true → link' ≡ link
+  -- nothing is left of the file once the link is dialled
+  pub read : ends_over status ≡ true → IsAtEnd source'.left

@@ -1,0 +1,9 @@
+pub mod Frames
+pub mod Kinds
+pub mod Told
+pub mod Writing
+pub mod Fronts
+pub mod Running
+pub mod Streams
+pub mod Served
+pub mod Attended

@@ -1,0 +1,78 @@
+-- What a user is promised of a node that answers the frames of a link.
+use Rattle.std.specs.Prelude.{ℕ, Bool, true, false, ◌≡◌, ◌⊎◌, Some, List, ◌++◌, length}
+use Rattle.std.specs.Io.KnownBytes.{Appends, IsAtEnd}
+use Rattle.topology.specs.declared.status.Status.{Status}
+use Rattle.topology.specs.declared.status.Status.TheVariants.{Done, Usage, NoMemory, BadSchedule, Limit, ReadFault, WriteFault, LinkFault, BadFrame, NoSuchNode}
+use Rattle.topology.specs.declared.status.LimitKind.{LimitKind}
+use Rattle.topology.specs.declared.status.LimitKind.TheVariants as count
+use Rattle.topology.specs.declared.frame_faults.FrameFault.{FrameFault}
+use Rattle.topology.specs.Lists.{Begins}
+use Rattle.topology.specs.Net.{Net}
+use Rattle.route_io.specs.Causes.{RoseIf}
+use Rattle.route_io.specs.Views.{LinkView}
+use Rattle.path_vector.specs.Rules.{Rules}
+use Rattle.wire_frames.specs.declared.frames.Frame.{Frame}
+use Rattle.route_node.specs.Writing.{OneWriteEach}
+use Rattle.route_node.specs.Streams.{stream, replies, answers, AreTaken, Ending, End, Refused, Stopped, Comes}
+
+-- the statuses with which a node over a link may end
+abbrev pub ends_serving : Status → Bool
+ends_serving Done = true
+ends_serving Usage = false
+ends_serving NoMemory = true
+ends_serving (BadSchedule line kind) = false
+ends_serving (Limit count.Bytes number) = false
+ends_serving (Limit kind number) = true
+ends_serving ReadFault = false
+ends_serving WriteFault = false
+ends_serving LinkFault = true
+ends_serving (BadFrame offset fault) = true
+ends_serving (NoSuchNode node) = false
+
+-- the status of a stream that ends so at this offset
+abbrev pub status_of : ℕ → Ending → Status
+status_of offset End = Done
+status_of offset (Refused fault) = BadFrame offset fault
+status_of offset (Stopped reached) = Limit reached.kind reached.number
+
+-- all answers to the frames were written, and each reply by one write where the link had room for them all
+pub record Answered (rules : Rules) (net : Net) (u : ℕ) (frames : List Frame) (link link' : LinkView) : Type 0 where
+  pub wrote : Appends link.outgoing link'.outgoing (answers rules net u frames)
+  pub one_write_each : OneWriteEach (replies rules net u frames) link link'
+
+-- some of the answers to frames that stand in front of the bytes and are taken were written, from the first on
+pub record WroteFront (rules : Rules) (net : Net) (u : ℕ) (bytes : List ℕ) (link link' : LinkView) : Type 0 where
+  pub frames : List Frame
+  pub rest : List ℕ
+  pub in_front : bytes ≡ stream frames ++ rest
+  pub taken : AreTaken rules net u frames
+  pub some : List ℕ
+  pub begins : Begins some (answers rules net u frames)
+  pub wrote : Appends link.outgoing link'.outgoing some
+
+-- how node u ends, on a link as it was and as it is then
+pub record Served (rules : Rules) (net : Net) (u : ℕ) (link link' : LinkView) (status : Status) : Type 0 where
+  pub formed : ends_serving status ≡ true
+  -- Done: what came over the link was a list of frames that the node took, and its answers to them were written
+  pub done : status ≡ Done → (bytes : List ℕ) → link.incoming ≡ Some bytes
+      → (frames : List Frame) × Comes rules net u bytes frames End × Answered rules net u frames link link'
+  -- BadFrame: what begins at this offset is refused for this, and the answers to the frames before were written
+  pub bad_frame : (offset : ℕ) (fault : FrameFault) → status ≡ BadFrame offset fault → (bytes : List ℕ) → link.incoming ≡ Some bytes
+      → (frames : List Frame) × Comes rules net u bytes frames (Refused fault) × (offset ≡ length (stream frames))
+      × Answered rules net u frames link link'
+  -- Limit: the next frame would take this count above its number, and the answers to the frames before were written
+  pub limit : (kind : LimitKind) (number : ℕ) → status ≡ Limit kind number → (bytes : List ℕ) → link.incoming ≡ Some bytes
+      → (frames : List Frame) × Comes rules net u bytes frames (Stopped (record { kind = kind; number = number }))
+      × Answered rules net u frames link link'
+  -- LinkFault: a call of the link failed; after every other answer none has
+  pub link_fault : RoseIf (status ≡ LinkFault) link.faults link'.faults
+  -- whatever the end, what was written is a front of the answers
+  pub front : (bytes : List ℕ) → link.incoming ≡ Some bytes → WroteFront rules net u bytes link link'
+  -- what the bytes come to is how it ends, unless the link fails or memory runs out
+  pub complete : (bytes : List ℕ) → link.incoming ≡ Some bytes → (frames : List Frame) (ending : Ending)
+      → Comes rules net u bytes frames ending
+      → (status ≡ status_of (length (stream frames)) ending) ⊎ ((status ≡ NoMemory) ⊎ (status ≡ LinkFault))
+  -- nothing is left to come once it is done
+  pub read : status ≡ Done → IsAtEnd link'.incoming
+  -- no call changes how much the link can take
+  pub same_room : link'.room ≡ link.room

@@ -1,0 +1,43 @@
+-- What was written over a link.
+use Rattle.std.specs.Prelude.{ℕ, ◌≡◌, ◌≤◌, ◌⊎◌, Some, List, length, option_map, zero, suc}
+use Rattle.std.specs.List.{flat_map}
+use Rattle.std.specs.Io.KnownBytes.{Appends}
+use Rattle.topology.specs.declared.status.Status.{Status}
+use Rattle.topology.specs.declared.status.Status.TheVariants.{NoMemory, LinkFault}
+use Rattle.topology.specs.Lists.{Begins}
+use Rattle.route_io.specs.Causes.{RoseIf, next_count}
+use Rattle.route_io.specs.Links.{OnlyWrites, room_left}
+use Rattle.route_io.specs.Views.{LinkView}
+use Rattle.wire_frames.specs.declared.frames.Frame.{Frame}
+use Rattle.wire_frames.specs.Frames.{spell}
+
+-- the frames, one behind the other
+abbrev pub spelled : List Frame → List ℕ
+spelled frames = flat_map spell frames
+
+-- a count after so many more
+abbrev pub counted_on : ℕ → ℕ → ℕ
+counted_on zero count = count
+counted_on (suc n) count = next_count (counted_on n count)
+
+-- each frame by one write, where the link had room for them all
+abbrev pub OneWriteEach : List Frame → LinkView → LinkView → Type 0
+OneWriteEach frames link link' =
+    (left : ℕ) → room_left link ≡ Some left → length (spelled frames) ≤ left
+    → link'.writes ≡ option_map (counted_on (length frames)) link.writes
+
+-- the frames were written whole, and no call failed
+pub record Writes (frames : List Frame) (link link' : LinkView) : Type 0 where
+  pub wrote : Appends link.outgoing link'.outgoing (spelled frames)
+  pub one_write_each : OneWriteEach frames link link'
+  pub others : OnlyWrites link link'
+  pub quiet : link'.faults ≡ link.faults
+
+-- a front of the frames was written, and then memory ran out or a call failed
+pub record Breaks (frames : List Frame) (link link' : LinkView) (status : Status) : Type 0 where
+  pub why : (status ≡ NoMemory) ⊎ (status ≡ LinkFault)
+  pub link_fault : RoseIf (status ≡ LinkFault) link.faults link'.faults
+  pub some : List ℕ
+  pub begins : Begins some (spelled frames)
+  pub wrote : Appends link.outgoing link'.outgoing some
+  pub others : OnlyWrites link link'

@@ -1,0 +1,105 @@
+//! What a node makes of an input that a frame brought.
+ghost use Rattle.std.specs.Prelude.{◌≡◌, ℕ, ◌<◌, true, None, filter_map, OnOk, IfOk, IfErr};
+ghost use Rattle.std.specs.List.{list_all};
+ghost use Rattle.topology.specs.Net.{Net};
+ghost use Rattle.chronicle.specs.Facts.{Chronicle};
+ghost use Rattle.chronicle.specs.Giving.{give};
+ghost use Rattle.chronicle.specs.Run.{chronicle_of};
+ghost use Rattle.chronicle.specs.Steps.{Carried, Step};
+ghost use Rattle.node_core.specs.Coming.{MayCome};
+ghost use Rattle.node_core.specs.Inputs.{input_of as input_seen};
+ghost use Rattle.node_core.specs.NodeLimits.{node_limit};
+ghost use Rattle.node_core.specs.Outputs.{Answers};
+ghost use Rattle.node_core.specs.Standing.{StandsFor};
+ghost use Rattle.admission_laws.specs.Handing.{output_fits};
+ghost use Rattle.route_node.specs.Frames.{telling};
+ghost use Rattle.route_node.specs.Fronts.{EndsFrame, StopsFrame};
+ghost use Rattle.route_node.specs.Streams.{out_of_turn};
+ghost use Rattle.route_node.specs.Told.{handed};
+ghost use Rattle.route_node.specs.Writing.{Breaks, Writes};
+
+use crate::limits::MAX_FRAMES;
+use crate::replies::write_replies;
+use node_core::{Input, Node, Outputs, Stop};
+use path_vector::Policy;
+use route_io::Link;
+use std::alloc::Global;
+use topology::{FrameFault, LimitKind, NodeId, Reason, Status, Topology};
+
+// Why a frame is refused whose input came to this: it is out of turn.
+fn fault_of(outputs: &Outputs) -> Option<FrameFault>
+    ensures { (past : Chronicle) (step : Step) → Answers past step outputs.now → result ≡ out_of_turn step }
+{
+    match outputs {
+        Outputs::Idle(Reason::WrongSeq { expected, got }) => Some(FrameFault::Sequence {
+            expected: *expected,
+            got: *got,
+        }),
+        _ => None,
+    }
+}
+
+// How the run ends where the node stopped: the frames are counted before all that the node counts.
+fn stopped(frames: u32, stop: Stop) -> Status
+    ensures { StopsFrame frames stop result }
+{
+    match stop {
+        Stop::NoMemory => Status::NoMemory,
+        Stop::Limit(_, _) if frames >= MAX_FRAMES => Status::Limit(LimitKind::Frames, MAX_FRAMES),
+        Stop::Limit(kind, number) => Status::Limit(kind, number),
+    }
+}
+
+/// Gives the input of a frame to the node. An update out of turn refuses the frame, before the frames are counted.
+pub(crate) fn hear<P: Policy + Copy>(
+    node: Node<P>,
+    input: Input,
+    frames: u32,
+    offset: u64,
+) -> Result<(Node<P>, Outputs), Status>
+    ensures node { IfOk result (λ r. (policy : P) (net : Net) (u : ℕ) (carried : Carried) (past : Chronicle) →
+        StandsFor policy (P.rules policy) net u node past → MayCome net u (input_seen input) →
+        StandsFor policy (P.rules policy) net u r.0 (chronicle_of past (give (P.rules policy) net carried u past (input_seen input)))) }
+    ensures outputs { IfOk result (λ r. (policy : P) (net : Net) (u : ℕ) (carried : Carried) (past : Chronicle) →
+        StandsFor policy (P.rules policy) net u node past → MayCome net u (input_seen input) →
+        Answers past (give (P.rules policy) net carried u past (input_seen input)) r.1) }
+    ensures in_turn { IfOk result (λ r. (policy : P) (net : Net) (u : ℕ) (carried : Carried) (past : Chronicle) →
+        StandsFor policy (P.rules policy) net u node past → MayCome net u (input_seen input) →
+        out_of_turn (give (P.rules policy) net carried u past (input_seen input)) ≡ None) }
+    ensures counted { OnOk result (frames < MAX_FRAMES) }
+    ensures err { IfErr result (λ status. (policy : P) (net : Net) (u : ℕ) (carried : Carried) (past : Chronicle) →
+        StandsFor policy (P.rules policy) net u node past → MayCome net u (input_seen input) →
+        EndsFrame offset frames (out_of_turn (give (P.rules policy) net carried u past (input_seen input)))
+        (node_limit (P.rules policy) net u (give (P.rules policy) net carried u past (input_seen input))) status) }
+{
+    let answered = match node.handle(input) {
+        Ok(answered) => answered,
+        Err(stop) => return Err(stopped(frames, stop)),
+    };
+    let (node, outputs) = answered;
+    if let Some(fault) = fault_of(&outputs) {
+        return Err(Status::BadFrame(offset, fault));
+    }
+    if frames >= MAX_FRAMES {
+        return Err(Status::Limit(LimitKind::Frames, MAX_FRAMES));
+    }
+    Ok((node, outputs))
+}
+
+/// Writes a frame for each output that has one; nothing, where the node did nothing.
+pub(crate) fn write_outputs<L: Link>(
+    alloc: Global,
+    topology: &Topology,
+    id: NodeId,
+    outputs: Outputs,
+    link: &mut L,
+) -> Result<(), Status>
+    requires { list_all (output_fits topology.now id) (handed outputs) ≡ true }
+    ensures ok { OnOk result (Writes (filter_map telling (handed outputs)) (L.seen link.old) (L.seen link.new)) }
+    ensures err { IfErr result (Breaks (filter_map telling (handed outputs)) (L.seen link.old) (L.seen link.new)) }
+{
+    match outputs {
+        Outputs::Did(list) => write_replies(alloc, topology, id, list, link),
+        Outputs::Idle(_) => Ok(()),
+    }
+}

@@ -1,0 +1,58 @@
+//! A node of a network that a source holds.
+ghost use Rattle.std.specs.Prelude.{ℕ, IfOk, IfErr};
+ghost use Rattle.route_io.specs.Views.{LinkView};
+ghost use Rattle.route_node.specs.Attended.{Attended, Gives};
+
+use crate::serving::serve;
+use route_io::{Link, ReadEnd, Source, read_all};
+use schedule_file::{MAX_BYTES, ParseEnd, parse_topology};
+use std::alloc::Global;
+use std::rc::Rc;
+use topology::{LimitKind, NodeId, Status, Topology};
+
+// The network that a source holds.
+fn network_of<I: Source>(alloc: Global, source: &mut I) -> Result<Rc<Topology>, Status>
+    ensures ok { IfOk result (λ network. Gives (I.seen source.old) (I.seen source.new) network.value) }
+    ensures err { IfErr result (λ status. (id : ℕ) (link : LinkView) →
+        Attended id (I.seen source.old) (I.seen source.new) link link status) }
+{
+    let bytes = match read_all(alloc, source, MAX_BYTES as usize) {
+        Ok(bytes) => bytes,
+        Err(ReadEnd::NoMemory) => return Err(Status::NoMemory),
+        Err(ReadEnd::Fault) => return Err(Status::ReadFault),
+        Err(ReadEnd::TooLong) => return Err(Status::Limit(LimitKind::Bytes, MAX_BYTES)),
+    };
+    let topology = match parse_topology(alloc, &bytes) {
+        Ok(topology) => topology,
+        Err(ParseEnd::NoMemory) => return Err(Status::NoMemory),
+        Err(ParseEnd::Bad { line, kind }) => return Err(Status::BadSchedule(line, kind)),
+    };
+    match Rc::new(alloc, topology) {
+        Ok(network) => Ok(network),
+        Err(_) => Err(Status::NoMemory),
+    }
+}
+
+/// Reads a network from the source, dials the address, and answers the frames as the node with this number. What a user may
+/// rely on stands in `specs/Attended.antt`.
+pub fn attend<I: Source, L: Link>(
+    alloc: Global,
+    id: NodeId,
+    address: &str,
+    source: &mut I,
+    link: &mut L,
+) -> Status
+    ensures { Attended id (I.seen source.old) (I.seen source.new) (L.seen link.old) (L.seen link.new) result }
+{
+    let network = match network_of(alloc, source) {
+        Ok(network) => network,
+        Err(status) => return status,
+    };
+    if network.rank_of(id).is_none() {
+        return Status::NoSuchNode(id);
+    }
+    if link.dial(address).is_err() {
+        return Status::LinkFault;
+    }
+    serve(alloc, id, network, link)
+}
