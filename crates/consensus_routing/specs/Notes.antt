@@ -3,20 +3,30 @@ use Rattle.std.specs.Prelude.{ℕ, ◌≡◌, ◌≤◌, ◌⊎◌, List, [], �
 use Rattle.std.specs.Fmt.{decimal}
 use Rattle.std.specs.Io.KnownBytes.{Appends}
 use Rattle.topology.specs.declared.status.Status.{Status}
-use Rattle.topology.specs.declared.status.Status.TheVariants.{Done, Usage, NoMemory, BadSchedule, Limit, ReadFault, WriteFault}
-use Rattle.topology.specs.Words.{bad_words, limit_words}
+use Rattle.topology.specs.declared.status.Status.TheVariants.{Done, Usage, NoMemory, BadSchedule, Limit, ReadFault, WriteFault, LinkFault, BadFrame, NoSuchNode}
+use Rattle.topology.specs.declared.frame_faults.FrameFault.{FrameFault}
+use Rattle.topology.specs.declared.frame_faults.FrameFault.TheVariants.{Sequence}
+use Rattle.topology.specs.Words.{bad_words, fault_words, limit_words}
 use Rattle.route_io.specs.Causes.{Rose, AppendsFront}
 use Rattle.route_io.specs.Views.{SinkView}
+
+-- the number that an update out of turn was to have, and the one that it has; nothing of other faults
+abbrev pub fault_numbers : FrameFault → List ℕ
+fault_numbers (Sequence expected got) = codes " expected " ++ decimal expected ++ codes " got " ++ decimal got
+fault_numbers other = []
 
 -- the words of the line, without its end
 abbrev pub note_words : Status → List ℕ
 note_words Done = []
-note_words Usage = codes "usage: consensus_routing replay | load NUMBER"
+note_words Usage = codes "usage: consensus_routing replay | load NUMBER | node ID ADDRESS"
 note_words NoMemory = codes "no memory"
 note_words (BadSchedule line kind) = codes "bad schedule: line " ++ decimal line ++ codes ": " ++ bad_words kind
 note_words (Limit kind number) = codes "limit: " ++ limit_words kind ++ codes " " ++ decimal number
 note_words ReadFault = codes "read fault"
 note_words WriteFault = codes "write fault"
+note_words LinkFault = codes "link fault"
+note_words (BadFrame offset fault) = codes "bad frame: offset " ++ decimal offset ++ codes ": " ++ fault_words fault ++ fault_numbers fault
+note_words (NoSuchNode node) = codes "no such node: " ++ decimal node
 
 -- a line and its end, where there are words
 abbrev pub line_of : List ℕ → List ℕ

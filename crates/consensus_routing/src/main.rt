@@ -1,4 +1,5 @@
-//! Replays schedules of a network whose routers agree on stable tables, and makes loads of them.
+//! Replays schedules of a network whose routers agree on stable tables, makes loads of them, and runs one
+//! router over a link.
 #![tactic(auto)]
 
 mod exit;
@@ -9,7 +10,7 @@ mod run;
 mod tests;
 
 use exit::exit_of;
-use route_io::{StdSink, StdSource};
+use route_io::{StdSink, StdSource, TcpLink};
 use std::process::ExitCode;
 use std::{env, io};
 use topology::Status;
@@ -40,7 +41,15 @@ fn main(rt: HostRuntime) -> ExitCode {
         Ok(words) => {
             let mut source = StdSource::new(rt.stdin());
             let mut sink = StdSink::new(rt.stdout());
-            run::run(rt.alloc(), &words, &mut source, &mut sink, &mut notes)
+            let mut link = TcpLink::new(&rt);
+            run::run(
+                rt.alloc(),
+                &words,
+                &mut source,
+                &mut sink,
+                &mut notes,
+                &mut link,
+            )
         }
     };
     exit_of(&status)

@@ -1,14 +1,16 @@
 //! Runs over memory: words, notes, room, and each side failing in turn. What whole files come to stands
 //! in the crate `scenarios`.
+mod over_links;
+
 use crate::exit::exit_of;
 use crate::notes::tell;
 use crate::run::run;
 use itoa::Buffer;
-use route_io::{MemSink, MemSource, PlainSink, PlainSource};
+use route_io::{MemLink, MemSink, MemSource, PlainLink, PlainSink, PlainSource};
 use std::alloc::Global;
 use std::process::ExitCode;
 use std::test::Fail;
-use topology::{BadKind, LimitKind, Status};
+use topology::{BadKind, FrameFault, LimitKind, NodeId, Status};
 
 // A route goes out along three nodes, and is taken back.
 const FILE: &str = "\
@@ -59,7 +61,7 @@ stuck 1
 moving 0
 ";
 
-const USAGE_NOTE: &str = "usage: consensus_routing replay | load NUMBER\n";
+const USAGE_NOTE: &str = "usage: consensus_routing replay | load NUMBER | node ID ADDRESS\n";
 
 fn words_of(alloc: Global, words: &[&str]) -> Result<Vec<String>, Fail> {
     let mut given = Vec::new(alloc);
@@ -67,6 +69,18 @@ fn words_of(alloc: Global, words: &[&str]) -> Result<Vec<String>, Fail> {
         given.push(String::from_str(alloc, word)?)?;
     }
     Ok(given)
+}
+
+// A link on which nothing comes, and that takes nothing.
+fn no_link(alloc: Global) -> MemLink {
+    let none = Vec::new(alloc);
+    MemLink::new(
+        Vec::new(alloc),
+        Vec::new(alloc),
+        true,
+        none,
+        Vec::new(alloc),
+    )
 }
 
 // A sink with room for so many bytes.
@@ -92,7 +106,8 @@ fn status_of(
     let given = words_of(alloc, words)?;
     let content = Vec::from_slice(alloc, file.as_bytes())?;
     let mut source = MemSource::new(content, Vec::from_slice(alloc, reads)?);
-    Ok(run(alloc, &given, &mut source, sink, notes))
+    let mut link = no_link(alloc);
+    Ok(run(alloc, &given, &mut source, sink, notes, &mut link))
 }
 
 // The status of a run of the file, what was written, and what was noted.
@@ -103,7 +118,7 @@ fn outcome(
     writes: &[u64],
 ) -> Result<(Status, String, String), Fail> {
     let mut sink = sink_of(alloc, 4096, writes)?;
-    let mut notes = sink_of(alloc, 64, &[])?;
+    let mut notes = sink_of(alloc, 128, &[])?;
     let status = status_of(alloc, words, FILE, reads, &mut sink, &mut notes)?;
     Ok((status, text_of(alloc, &sink)?, text_of(alloc, &notes)?))
 }
@@ -159,7 +174,7 @@ fn runs_a_file_and_names_each_fault(rt: HostRuntime) -> Result<(), Fail> {
 }
 
 // Words of no form.
-const NO_FORMS: [&[&str]; 9] = [
+const NO_FORMS: [&[&str]; 14] = [
     &["load"],
     &["load", ""],
     &["load", "x"],
@@ -169,6 +184,11 @@ const NO_FORMS: [&[&str]; 9] = [
     &["load", "0", "0"],
     &["replay", "0"],
     &["Load", "0"],
+    &["node", "2"],
+    &["node", "0", "127.0.0.1:1"],
+    &["node", "02", "127.0.0.1:1"],
+    &["node", "65536", "127.0.0.1:1"],
+    &["node", "2", "127.0.0.1:1", "journal"],
 ];
 
 #[test]
@@ -217,9 +237,28 @@ fn notes_why_a_run_ended(rt: HostRuntime) -> Result<(), Fail> {
         ),
         (Status::ReadFault, "read fault\n"),
         (Status::WriteFault, "write fault\n"),
+        (Status::LinkFault, "link fault\n"),
+        (
+            Status::BadFrame(18_446_744_073_709_551_615, FrameFault::Truncated),
+            "bad frame: offset 18446744073709551615: truncated\n",
+        ),
+        (
+            Status::BadFrame(
+                18_446_744_073_709_551_615,
+                FrameFault::Sequence {
+                    expected: 4_294_967_295,
+                    got: 4_294_967_294,
+                },
+            ),
+            "bad frame: offset 18446744073709551615: sequence expected 4294967295 got 4294967294\n",
+        ),
+        (
+            Status::NoSuchNode(NodeId::new(65_535)),
+            "no such node: 65535\n",
+        ),
     ];
     for (status, note) in cases {
-        let mut notes = sink_of(alloc, 64, &[])?;
+        let mut notes = sink_of(alloc, 128, &[])?;
         tell(&mut notes, &status);
         assert_eq!(rt; notes.held(), note.as_bytes(), "{note}");
     }
@@ -229,11 +268,28 @@ fn notes_why_a_run_ended(rt: HostRuntime) -> Result<(), Fail> {
 #[test]
 fn faults_of_the_notes_change_no_status(rt: HostRuntime) -> Result<(), Fail> {
     let alloc = rt.alloc();
-    let bad = Status::BadSchedule(1, BadKind::UnknownWord);
     let cases: [(&str, usize, &[u64], Status, &str); 4] = [
-        ("hello", 64, &[1], bad, ""),
-        ("hello", 23, &[], bad, "bad schedule: line 1: u"),
-        ("hello", 0, &[], bad, ""),
+        (
+            "hello",
+            64,
+            &[1],
+            Status::BadSchedule(1, BadKind::UnknownWord),
+            "",
+        ),
+        (
+            "hello",
+            23,
+            &[],
+            Status::BadSchedule(1, BadKind::UnknownWord),
+            "bad schedule: line 1: u",
+        ),
+        (
+            "hello",
+            0,
+            &[],
+            Status::BadSchedule(1, BadKind::UnknownWord),
+            "",
+        ),
         ("", 0, &[1], Status::Done, ""),
     ];
     for (file, room, failing, status, note) in cases {
@@ -319,7 +375,8 @@ fn takes_no_more_bytes_than_the_limit_says(rt: HostRuntime) -> Result<(), Fail> 
     let mut source = MemSource::new(vec![in alloc; b'\n'; 16_777_217]?, Vec::new(alloc));
     let mut sink = sink_of(alloc, 0, &[])?;
     let mut notes = sink_of(alloc, 64, &[])?;
-    let status = run(alloc, &words, &mut source, &mut sink, &mut notes);
+    let mut link = no_link(alloc);
+    let status = run(alloc, &words, &mut source, &mut sink, &mut notes, &mut link);
     assert_eq!(rt; status, Status::Limit(LimitKind::Bytes, 16_777_216));
     assert_eq!(rt; notes.held(), b"limit: bytes 16777216\n".as_slice());
     Ok(())
@@ -338,7 +395,8 @@ fn fails_over_plain_memory_only_for_room(rt: HostRuntime) -> Result<(), Fail> {
         let mut source = PlainSource::new(Vec::from_slice(alloc, FILE.as_bytes())?);
         let mut sink = PlainSink::new(vec![in alloc; 0; room]?);
         let mut notes = PlainSink::new(vec![in alloc; 0; 64]?);
-        let answer = run(alloc, &words, &mut source, &mut sink, &mut notes);
+        let mut link = PlainLink::new(Vec::new(alloc), Vec::new(alloc));
+        let answer = run(alloc, &words, &mut source, &mut sink, &mut notes, &mut link);
         assert_eq!(rt; answer, status, "{room}");
         assert!(rt; TEXT.as_bytes().starts_with(sink.held()), "{room}");
     }

@@ -1,10 +1,10 @@
-use Rattle.std.proofs.Common.{◌≡◌, true≢false, ℕ, List, [], ◌∷◌, sym, ap, ◌∙◌, subst, ◌≤◌, ◌≢◌}
+use Rattle.std.proofs.Common.{true≢false, ℕ, List, sym, ◌∙◌, subst, ◌≤◌, ◌≢◌}
 use Rattle.std.specs.Fmt.{decimal}
 use Rattle.std.proofs.lemmas.Slice.Eq.{slice_eq-Decides}
 use Rattle.std.proofs.lemmas.Bool.Decides.{Decides-eqb}
 use Rattle.consensus_routing.specs.declared.forms.TheConstants.{MAX_LOAD}
 use Rattle.consensus_routing.proofs.Formed.{not_load, no_number, is_load}
-use Rattle.consensus_routing.proofs.forms.numbered_form.Goals as goal
+use Rattle.consensus_routing.proofs.forms.load_form.Goals as goal
 
 pub returns-in-Some : goal.returns-in-Some
 returns-in-Some c =
