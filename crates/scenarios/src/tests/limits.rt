@@ -82,14 +82,17 @@ fn star(alloc: Global) -> Result<String, Fail> {
 fn sends_as_many_items_as_the_limit_says(rt: HostRuntime) -> Result<(), Fail> {
     let alloc = rt.alloc();
     let front = star(alloc)?;
-    let updates = Status::Limit(LimitKind::Updates, 16_384);
     let cases = [
         (1023, "", Status::Done),
         (1024, "", Status::Done),
         // the close of one session is one item more
-        (1024, "fail 1 2\nnotice 1 2\n", updates),
+        (
+            1024,
+            "fail 1 2\nnotice 1 2\n",
+            Status::Limit(LimitKind::Updates, 16_384),
+        ),
         (1024, "snap 1\nfail 1 2\n", Status::Done),
-        (1025, "", updates),
+        (1025, "", Status::Limit(LimitKind::Updates, 16_384)),
     ];
     check_busy(&rt, alloc, front.as_str(), TURNS, &cases, "")
 }
@@ -152,14 +155,13 @@ const BALLOTS: &str = "node 1 consolidator\nbegin\nsnap 1\nctl 1\n";
 fn sends_as_many_control_messages_as_the_limit_says(rt: HostRuntime) -> Result<(), Fail> {
     let alloc = rt.alloc();
     let propose = ("propose 1 1\n", "propose 1 1\n");
-    let control = Status::Limit(LimitKind::Control, 16_384);
     let cases = [
         (16_382, "", Status::Done),
         (16_383, "", Status::Done),
-        (16_384, "", control),
+        (16_384, "", Status::Limit(LimitKind::Control, 16_384)),
         (16_383, "crash 1\n", Status::Done),
         // the answer to a ballot is one more
-        (16_383, "ctl 2\n", control),
+        (16_383, "ctl 2\n", Status::Limit(LimitKind::Control, 16_384)),
     ];
     check_busy(&rt, alloc, BALLOTS, propose, &cases, "")?;
     // epochs come before control messages
