@@ -1,5 +1,6 @@
 //! Files and runs as tables.
 mod agreement;
+mod chains;
 mod closures;
 mod crashes;
 mod files;
