@@ -247,14 +247,17 @@ fn owned_input(alloc: Global, frame: &FrameRef<'_>) -> Result<Frame, ReadError>
     }
 }
 
-/// The frame that lies in the bytes, with the same fields. A frame with a part that spells nothing, which
-/// no decoded frame has, is answered as if there were no memory.
+/// The frame that lies in the bytes, with the same fields. It takes a decoded frame, whose parts spell
+/// something. Errs for want of memory.
 pub fn to_owned(alloc: Global, frame: &FrameRef<'_>) -> Result<Frame, NoMemory>
+    requires spelled { (f : AnyFrame) × (fits f ≡ true) × IsFrame frame.now f }
     ensures { IfOk result (λ owned. (f : AnyFrame) → fits f ≡ true → IsFrame frame.now f
         → owned ≡ f) }
 {
     match owned_input(alloc, frame) {
         Ok(owned) => Ok(owned),
-        Err(_) => Err(NoMemory),
+        Err(ReadError::NoMemory) => Err(NoMemory),
+        // The condition rules out a part that spells nothing.
+        Err(ReadError::Bad(_)) => Err(NoMemory),
     }
 }
