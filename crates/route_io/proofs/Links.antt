@@ -1,5 +1,5 @@
 -- Writes of a link, one after the other.
-use Rattle.std.proofs.Common.{ℕ, ◌+◌, ◌-◌, ◌<◌, ◌≤◌, ◌≡◌, ◌⊎◌, inl, inr, min, List, length, Option, Some, ap, ap₂, subst, ◌∙◌, arith, IfSome}
+use Rattle.std.proofs.Common.{ℕ, ◌+◌, ◌-◌, ◌<◌, ◌≤◌, ◌≡◌, ◌⊎◌, inl, inr, min, List, length, Option, Some, ap, subst, ◌∙◌, arith, IfSome}
 use Rattle.route_io.specs.Links.{OnlyWrites, HasRoom, WritesOnce, room_left}
 use Rattle.route_io.specs.Views.{LinkView}
 
@@ -44,7 +44,4 @@ onward was now next piece rest done n (inr further) inside size some within fill
 -- what changes by two writes
 pub only_writes_on : (a b c : LinkView) → OnlyWrites a b → OnlyWrites b c → OnlyWrites a c
 only_writes_on a b c h k =
-    k
-    ∙ ap₂
-    (λ i r. record { incoming = i; outgoing = c.outgoing; room = r; writes = c.writes; faults = c.faults })
-    (ap (λ v. v.incoming) h) (ap (λ v. v.room) h)
+    k ∙ ap (λ (v : LinkView). record v { outgoing = c.outgoing; writes = c.writes; faults = c.faults }) h

@@ -1,5 +1,5 @@
 -- What a call of a link leaves, and what is received over one.
-use Rattle.std.specs.Prelude.{ℕ, ◌≡◌, ◌<◌, ◌≤◌, ◌-◌, List, ◌++◌, length, Some, None, option_map}
+use Rattle.std.specs.Prelude.{ℕ, ◌≡◌, ◌<◌, ◌≤◌, ◌-◌, List, ◌∷◌, ◌++◌, length, Some, None, option_map}
 use Rattle.std.specs.declared.option.Option.{Option}
 use Rattle.std.specs.Io.KnownBytes.{prepend_known, Consumes, IsAtEnd}
 use Rattle.route_io.specs.Causes.{next_count}
@@ -9,9 +9,13 @@ use Rattle.route_io.specs.Views.{LinkView, SinkView}
 abbrev pub as_sink : LinkView → SinkView
 as_sink link = record { held = link.outgoing; room = link.room; faults = link.faults }
 
--- nothing but the count of faults changed
-abbrev pub OnlyCounts : LinkView → LinkView → Type 0
-OnlyCounts old new = new ≡ record old { faults = new.faults }
+-- nothing changed but what was dialled and the count of faults
+abbrev pub OnlyDials : LinkView → LinkView → Type 0
+OnlyDials old new = new ≡ record old { dialled = new.dialled; faults = new.faults }
+
+-- the address was dialled: it stands before those that were dialled before, where that is told
+abbrev pub Dials : LinkView → LinkView → List ℕ → Type 0
+Dials old new address = new.dialled ≡ option_map (λ before. address ∷ before) old.dialled
 
 -- nothing changed but what is still to come and the count of faults
 abbrev pub OnlyReads : LinkView → LinkView → Type 0

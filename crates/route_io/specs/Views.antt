@@ -14,10 +14,12 @@ pub record SinkView : Type 0 where
   pub faults : ℕ
 
 -- a link to a peer: the bytes that are still to come from it, those that were taken for it, how many
--- can be taken in all and how many writes were made, where told, and how many of its calls have failed
+-- can be taken in all, how many writes were made and which addresses were dialled, the newest first,
+-- where told, and how many of its calls have failed
 pub record LinkView : Type 0 where
   pub incoming : Option (List ℕ)
   pub outgoing : Option (List ℕ)
   pub room : Option ℕ
   pub writes : Option ℕ
+  pub dialled : Option (List (List ℕ))
   pub faults : ℕ

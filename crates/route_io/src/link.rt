@@ -3,11 +3,12 @@ ghost use Rattle.std.specs.Prelude.{◌≡◌, ◌<◌, ◌≤◌, min, length, 
 ghost use Rattle.std.specs.Io.{ReadsAtMost};
 ghost use Rattle.std.specs.Io.KnownBytes.{ReadConsumes, WriteAppends, Appends};
 ghost use Rattle.route_io.specs.Causes.{HasCause, AppendsFront, StaysTold};
-ghost use Rattle.route_io.specs.Links.{OnlyCounts, OnlyReads, OnlyWrites, WritesOnce, HasRoom, room_left};
+ghost use Rattle.route_io.specs.Links.{Dials, OnlyDials, OnlyReads, OnlyWrites, WritesOnce, HasRoom, room_left};
 ghost use Rattle.route_io.specs.Views.{LinkView};
 
 use crate::outside::Failed;
 
+mod dialled;
 pub mod memory;
 pub mod plain;
 pub mod tcp;
@@ -16,15 +17,18 @@ pub mod tcp;
 /// and raises the count of faults; another leaves that count as it was. The count ends as that of
 /// a [`Source`](crate::Source).
 pub trait Link {
-    /// The bytes that are still to come, the bytes that were taken, how many can be taken in all
-    /// and how many writes were made, where told, and how often a call has failed.
+    /// The bytes that are still to come, the bytes that were taken, how many can be taken in all,
+    /// how many writes were made and which addresses were dialled, where told, and how often a
+    /// call has failed.
     ///
     /// Whoever tells the room takes as much of a piece as it has room for.
     ghost seen: { Self → LinkView };
 
-    /// Connects to the peer at `address`, a host and a port as in `127.0.0.1:179`.
+    /// Connects to the peer at `address`, a host and a port as in `127.0.0.1:179`. An address at
+    /// which no peer is reached counts as dialled too.
     fn dial(&mut self, address: &str) -> Result<(), Failed>
-        ensures others { OnlyCounts (seen self.old) (seen self.new) }
+        ensures dials { Dials (seen self.old) (seen self.new) address.now }
+        ensures others { OnlyDials (seen self.old) (seen self.new) }
         ensures cause { HasCause (seen self.old).faults (seen self.new).faults result };
 
     /// Takes the next bytes into the front of `buf`, and answers how many.

@@ -1,5 +1,5 @@
 //! A link in memory, with calls that are listed to fail.
-ghost use Rattle.std.specs.Prelude.{◌≡◌, ◌+◌, ◌<◌, ◌↔◌, ◌⊎◌, min, length, [], Some, IfOk, IsErr, IsTrue, is_err};
+ghost use Rattle.std.specs.Prelude.{◌≡◌, ◌+◌, ◌<◌, ◌↔◌, ◌⊎◌, min, length, [], ◌∷◌, Some, IfOk, IsErr, IsTrue, is_err};
 ghost use Rattle.std.specs.Io.{ReadsAtMost};
 ghost use Rattle.std.specs.Io.KnownBytes.{ReadConsumes, WriteAppends};
 ghost use Rattle.route_io.specs.Causes.{HasCause, counted};
@@ -7,6 +7,7 @@ ghost use Rattle.route_io.specs.Calls.{Counts, IsFresh, NextIsListed};
 ghost use Rattle.route_io.specs.Shelf.{FindsNoRoom, free};
 
 use crate::link::Link;
+use crate::link::dialled::Dialled;
 use crate::memory::{MemSink, MemSource};
 use crate::outside::{Failed, Sink, Source};
 
@@ -17,11 +18,12 @@ pub struct MemLink {
     sink: MemSink,
     fail_dial: bool,
     dial_faults: u64,
+    dialled: Dialled,
 }
 
 impl MemLink {
     /// All of `incoming` is to come. Nothing was taken, and as many bytes can be taken as `room`
-    /// is long. Each dial fails where `fail_dial` says so, and so do the reads and writes whose
+    /// is long. No address was dialled. Each dial fails where `fail_dial` says so, and so do the reads and writes whose
     /// numbers stand in `fail_reads` and `fail_writes`, each kind counted from 1.
     pub fn new(
         incoming: Vec<u8>,
@@ -35,6 +37,7 @@ impl MemLink {
           outgoing = Some [];
           room = Some (length room.items);
           writes = Some 0;
+          dialled = Some [];
           faults = 0;
         } }
         ensures dials { result.fail_dial ≡ fail_dial }
@@ -46,6 +49,7 @@ impl MemLink {
             sink: MemSink::new(room, fail_writes),
             fail_dial,
             dial_faults: 0,
+            dialled: Dialled::new(),
         }
     }
 
@@ -63,17 +67,20 @@ impl Link for MemLink {
       outgoing = Some s.sink.room.held;
       room = Some s.sink.room.size;
       writes = Some s.sink.calls.made;
+      dialled = Some s.dialled.addresses;
       faults = s.dial_faults + (s.source.calls.faults + s.sink.calls.faults);
     } };
 
-    fn dial(&mut self, _address: &str) -> Result<(), Failed>
+    fn dial(&mut self, address: &str) -> Result<(), Failed>
         ensures cause { HasCause (⟦<MemLink as Link>⟧.seen self.old).faults
             (⟦<MemLink as Link>⟧.seen self.new).faults result }
         ensures listed { IsErr result ↔ IsTrue self.old.fail_dial }
         ensures counted { self.new ≡ record self.old {
           dial_faults = counted (is_err result) self.old.dial_faults;
+          dialled = record { addresses = address.now ∷ self.old.dialled.addresses };
         } }
     {
+        self.dialled = self.dialled.then(address.as_bytes());
         if self.fail_dial {
             self.dial_faults = self.dial_faults.saturating_add(1);
             return Err(Failed);

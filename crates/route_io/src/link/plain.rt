@@ -1,11 +1,12 @@
 //! A link in memory with no call that is listed to fail.
-ghost use Rattle.std.specs.Prelude.{◌≡◌, ◌<◌, ◌↔◌, min, length, [], None, Some, IfOk, IsOk, IsErr, is_err};
+ghost use Rattle.std.specs.Prelude.{◌≡◌, ◌<◌, ◌↔◌, min, length, [], ◌∷◌, None, Some, IfOk, IsOk, IsErr, is_err};
 ghost use Rattle.std.specs.Io.{ReadsAtMost};
 ghost use Rattle.std.specs.Io.KnownBytes.{ReadConsumes, WriteAppends};
 ghost use Rattle.route_io.specs.Causes.{HasCause, counted};
 ghost use Rattle.route_io.specs.Shelf.{FindsNoRoom, free};
 
 use crate::link::Link;
+use crate::link::dialled::Dialled;
 use crate::outside::{Failed, Sink, Source};
 use crate::plain::{PlainSink, PlainSource};
 
@@ -15,23 +16,26 @@ use crate::plain::{PlainSink, PlainSource};
 pub struct PlainLink {
     source: PlainSource,
     sink: PlainSink,
+    dialled: Dialled,
 }
 
 impl PlainLink {
     /// All of `incoming` is to come. Nothing was taken, and as many bytes can be taken as `room`
-    /// is long.
+    /// is long. No address was dialled.
     pub fn new(incoming: Vec<u8>, room: Vec<u8>) -> PlainLink
         ensures { ⟦<PlainLink as Link>⟧.seen result ≡ record {
           incoming = Some incoming.items;
           outgoing = Some [];
           room = Some (length room.items);
           writes = None;
+          dialled = Some [];
           faults = 0;
         } }
     {
         PlainLink {
             source: PlainSource::new(incoming),
             sink: PlainSink::new(room),
+            dialled: Dialled::new(),
         }
     }
 
@@ -49,13 +53,17 @@ impl Link for PlainLink {
       outgoing = Some s.sink.room.held;
       room = Some s.sink.room.size;
       writes = None;
+      dialled = Some s.dialled.addresses;
       faults = s.sink.faults;
     } };
 
-    fn dial(&mut self, _address: &str) -> Result<(), Failed>
+    fn dial(&mut self, address: &str) -> Result<(), Failed>
         ensures never_fails { IsOk result }
-        ensures same { self.new ≡ self.old }
+        ensures same { self.new ≡ record self.old {
+          dialled = record { addresses = address.now ∷ self.old.dialled.addresses };
+        } }
     {
+        self.dialled = self.dialled.then(address.as_bytes());
         Ok(())
     }
 

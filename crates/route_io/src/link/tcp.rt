@@ -1,6 +1,7 @@
 //! The trusted edge: a link over TCP.
 //!
-//! What the system gives and takes is told by no contract, so it tells no content.
+//! What the system gives and takes is told by no contract, so it tells no content, and not what
+//! was dialled.
 ghost use Rattle.std.specs.Prelude.{◌≡◌, ◌<◌, ◌≤◌, length, None, Some, IfOk, IsErr, is_err};
 ghost use Rattle.std.specs.Io.{ReadsAtMost};
 ghost use Rattle.std.specs.Io.KnownBytes.{ReadConsumes, WriteAppends};
@@ -50,6 +51,7 @@ impl<'a, R: Net> Link for TcpLink<'a, R> {
       outgoing = None;
       room = None;
       writes = None;
+      dialled = None;
       faults = s.faults;
     } };
 

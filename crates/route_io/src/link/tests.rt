@@ -1,7 +1,7 @@
 ghost use Rattle.std.specs.Prelude.{◌≡◌, ◌<◌, ◌≤◌, length, None, IfOk, OnErr};
 ghost use Rattle.std.specs.Io.{ReadsAtMost};
 ghost use Rattle.std.specs.Io.KnownBytes.{ReadConsumes, WriteAppends};
-ghost use Rattle.route_io.specs.Links.{as_sink, OnlyCounts, OnlyReads, OnlyWrites, WritesOnce};
+ghost use Rattle.route_io.specs.Links.{as_sink, Dials, OnlyDials, OnlyReads, OnlyWrites, WritesOnce};
 ghost use Rattle.route_io.specs.Shelf.{ExceedsRoom};
 
 use crate::link::Link;
