@@ -1,5 +1,5 @@
 -- What each end of a replay gives of the promise.
-use Rattle.std.proofs.Common.{◌≡◌, ◌≢◌, ℕ, zero, suc, ◌++◌, ◌<◌, ◌≤◌, inl, inr, Option, Some, None, IfSome, List, [], ◌∷◌, length, Result, Ok, Err, Bool, true, false, not, true≢false, cond, nat_lt, nat_le, refl, sym, ap, ◌∙◌, subst, arith}
+use Rattle.std.proofs.Common.{◌≡◌, ℕ, zero, suc, ◌++◌, ◌<◌, ◌≤◌, inl, inr, Option, Some, None, IfSome, List, [], ◌∷◌, length, Result, Ok, Err, Bool, true, false, not, true≢false, cond, nat_lt, nat_le, refl, sym, ap, ◌∙◌, subst, arith}
 use Rattle.std.specs.Prelude.{MatchBool, is_some, if◌then◌else◌}
 use Rattle.std.specs.Io.KnownBytes.{IsAtEnd}
 use Rattle.route_io.specs.Views.{SourceView, SinkView}
@@ -37,7 +37,7 @@ use Rattle.route_replay.specs.Text.{Course, Leads, Stops, unless, with_event, th
 use Rattle.route_replay.specs.Running.{Runs}
 use Rattle.agreement_laws.specs.Agreed.{IsAgreed}
 use Rattle.walk_laws.specs.Walked.{IsWalked}
-use Rattle.route_replay.specs.Replayed.{Replayed, Comes, IsLimit, StopsRun, behind, is_of_run}
+use Rattle.route_replay.specs.Replayed.{Replayed, Comes, IsLimit, StopsRun, behind, is_of_run, ends_replay}
 
 -- what a told source gave is what it told
 pub known : (told : Option (List ℕ)) (items : List ℕ) → IfSome told (λ bytes. items ≡ bytes) → (bytes : List ℕ) → told ≡ Some bytes → items ≡ bytes
@@ -68,7 +68,7 @@ pub ends_bad : (source source' : SourceView) (sink : SinkView) (bytes : List ℕ
     → length bytes ≤ MAX_BYTES → FirstBad bytes line kind → IsAtEnd source'.left → source'.faults ≡ source.faults
     → Replayed source source' sink sink (BadSchedule line kind)
 ends_bad source source' sink bytes line kind read one short bad at_end quiet = record {
-  formed = λ e. absurd (cc e);
+  formed = refl;
   done = λ e. absurd (cc e);
   agreed = λ _ told t run. absurd (one.apart run.lines line kind (subst (λ b. Reads [] (words_by_line b) run.lines) (sym (read told t)) run.is_run.read) bad);
   walked = λ _ told t run. absurd (one.apart run.lines line kind (subst (λ b. Reads [] (words_by_line b) run.lines) (sym (read told t)) run.is_run.read) bad);
@@ -97,126 +97,148 @@ status_of (Err end.NoMemory) = NoMemory
 status_of (Err end.WriteFault) = WriteFault
 status_of (Err (end.Limit kind number)) = Limit kind number
 
--- the limits of a run are not that of the bytes
-abbrev NotBytes : Option Reached → Type 0
-NotBytes None = Unit {0}
-NotBytes (Some reached) = reached.kind ≢ count.Bytes
+-- the limits that stop a run are neither that of the bytes nor that of the frames
+abbrev stops_runs : LimitKind → Bool
+stops_runs count.Bytes = false
+stops_runs count.Events = true
+stops_runs count.Epochs = true
+stops_runs count.Triggers = true
+stops_runs count.Entries = true
+stops_runs count.Updates = true
+stops_runs count.Control = true
+stops_runs count.Packets = true
+stops_runs count.Frames = false
 
-above_not_bytes : (epochs triggers entries updates control packets : Bool) → NotBytes (first_above epochs triggers entries updates control packets)
-above_not_bytes true triggers entries updates control packets = λ e. cc e
-above_not_bytes false true entries updates control packets = λ e. cc e
-above_not_bytes false false true updates control packets = λ e. cc e
-above_not_bytes false false false true control packets = λ e. cc e
-above_not_bytes false false false false true packets = λ e. cc e
-above_not_bytes false false false false false true = λ e. cc e
-above_not_bytes false false false false false false = tt
+abbrev OfRun : Option Reached → Type 0
+OfRun None = Unit {0}
+OfRun (Some reached) = stops_runs reached.kind ≡ true
 
-step_not_bytes : (rules : Rules) (net : Net) (s : Step) → NotBytes (above_by rules net s)
+above_of_run : (epochs triggers entries updates control packets : Bool) → OfRun (first_above epochs triggers entries updates control packets)
+above_of_run true triggers entries updates control packets = refl
+above_of_run false true entries updates control packets = refl
+above_of_run false false true updates control packets = refl
+above_of_run false false false true control packets = refl
+above_of_run false false false false true packets = refl
+above_of_run false false false false false true = refl
+above_of_run false false false false false false = tt
+
+step_of_run : (rules : Rules) (net : Net) (s : Step) → OfRun (above_by rules net s)
 unfolding above
-step_not_bytes rules net (Idle reason) = tt
-step_not_bytes rules net (Goes now) = above_not_bytes (has_more_epochs net now) (nat_lt MOST_TRIGGERS (triggers_of net now)) (has_more_entries net now) (has_more_updates rules net now) (has_more_control now) (has_more_packets now)
+step_of_run rules net (Idle reason) = tt
+step_of_run rules net (Goes now) = above_of_run (has_more_epochs net now) (nat_lt MOST_TRIGGERS (triggers_of net now)) (has_more_entries net now) (has_more_updates rules net now) (has_more_control now) (has_more_packets now)
 
-limit_not_bytes : (rules : Rules) (net : Net) (events : List Event) (e : Event) → NotBytes (limit_of rules net events e)
+limit_of_run : (rules : Rules) (net : Net) (events : List Event) (e : Event) → OfRun (limit_of rules net events e)
 unfolding limit_of
-limit_not_bytes rules net events e =
-    elim (nat_le MOST_EVENTS (length events)) as (λ b. NotBytes (cond b (Some (record { kind = count.Events; number = MOST_EVENTS })) (above_by rules net (step rules net (run rules net events) e)))) [
-      | true ↦ λ same. cc same
-      | false ↦ step_not_bytes rules net (step rules net (run rules net events) e)
+limit_of_run rules net events e =
+    elim (nat_le MOST_EVENTS (length events)) as (λ b. OfRun (cond b (Some (record { kind = count.Events; number = MOST_EVENTS })) (above_by rules net (step rules net (run rules net events) e)))) [
+      | true ↦ refl
+      | false ↦ step_of_run rules net (step rules net (run rules net events) e)
     ]
 
--- nor are those of courses
-abbrev StopsNotBytes : Course → Type 0
-StopsNotBytes (Leads events) = Unit {0}
-StopsNotBytes (Stops at) = at.kind ≢ count.Bytes
+-- so are those of courses
+abbrev StopsOfRun : Course → Type 0
+StopsOfRun (Leads events) = Unit {0}
+StopsOfRun (Stops at) = stops_runs at.kind ≡ true
 
-unless_not_bytes : (o : Option Reached) (events : List Event) → NotBytes o → StopsNotBytes (unless o events)
-unless_not_bytes None events h = tt
-unless_not_bytes (Some reached) events h = h
+unless_of_run : (o : Option Reached) (events : List Event) → OfRun o → StopsOfRun (unless o events)
+unless_of_run None events h = tt
+unless_of_run (Some reached) events h = h
 
-event_not_bytes : (rules : Rules) (net : Net) (events : List Event) (e : Event) → StopsNotBytes (with_event rules net events e)
-event_not_bytes rules net events e = unless_not_bytes (limit_of rules net events e) (events ++ e ∷ []) (limit_not_bytes rules net events e)
+event_of_run : (rules : Rules) (net : Net) (events : List Event) (e : Event) → StopsOfRun (with_event rules net events e)
+event_of_run rules net events e = unless_of_run (limit_of rules net events e) (events ++ e ∷ []) (limit_of_run rules net events e)
 
-then_not_bytes : (led : Course) (next : List Event → Course) → StopsNotBytes led → ((events : List Event) → StopsNotBytes (next events)) → StopsNotBytes (then_on led next)
-then_not_bytes (Leads events) next h k = k events
-then_not_bytes (Stops at) next h k = h
+then_of_run : (led : Course) (next : List Event → Course) → StopsOfRun led → ((events : List Event) → StopsOfRun (next events)) → StopsOfRun (then_on led next)
+then_of_run (Leads events) next h k = k events
+then_of_run (Stops at) next h k = h
 
-drained_not_bytes : (rules : Rules) (net : Net) (n : ℕ) (events : List Event) → StopsNotBytes (drained rules net n events)
-drained_not_bytes rules net zero events = tt
-drained_not_bytes rules net (suc n) events =
-    elim (next_delivery net (run rules net events)) as (λ (o : Option Way). StopsNotBytes (elim o [
+drained_of_run : (rules : Rules) (net : Net) (n : ℕ) (events : List Event) → StopsOfRun (drained rules net n events)
+drained_of_run rules net zero events = tt
+drained_of_run rules net (suc n) events =
+    elim (next_delivery net (run rules net events)) as (λ (o : Option Way). StopsOfRun (elim o [
       | None ↦ Leads events
       | Some way ↦ then_on (with_event rules net events (event.Deliver way.from way.to)) (drained rules net n)
     ])) [
       | None ↦ tt
-      | Some way ↦ then_not_bytes (with_event rules net events (event.Deliver way.from way.to)) (drained rules net n)
-          (event_not_bytes rules net events (event.Deliver way.from way.to)) (drained_not_bytes rules net n)
+      | Some way ↦ then_of_run (with_event rules net events (event.Deliver way.from way.to)) (drained rules net n)
+          (event_of_run rules net events (event.Deliver way.from way.to)) (drained_of_run rules net n)
     ]
 
-controlled_not_bytes : (rules : Rules) (net : Net) (n : ℕ) (events : List Event) → StopsNotBytes (controlled rules net n events)
-controlled_not_bytes rules net zero events = tt
-controlled_not_bytes rules net (suc n) events =
-    elim (next_mail rules net events) as (λ (o : Option ℕ). StopsNotBytes (elim o [
+controlled_of_run : (rules : Rules) (net : Net) (n : ℕ) (events : List Event) → StopsOfRun (controlled rules net n events)
+controlled_of_run rules net zero events = tt
+controlled_of_run rules net (suc n) events =
+    elim (next_mail rules net events) as (λ (o : Option ℕ). StopsOfRun (elim o [
       | None ↦ Leads events
       | Some number ↦ then_on (with_event rules net events (event.Control number)) (controlled rules net n)
     ])) [
       | None ↦ tt
-      | Some number ↦ then_not_bytes (with_event rules net events (event.Control number)) (controlled rules net n)
-          (event_not_bytes rules net events (event.Control number)) (controlled_not_bytes rules net n)
+      | Some number ↦ then_of_run (with_event rules net events (event.Control number)) (controlled rules net n)
+          (event_of_run rules net events (event.Control number)) (controlled_of_run rules net n)
     ]
 
-hopped_not_bytes : (rules : Rules) (net : Net) (k n : ℕ) (events : List Event) → StopsNotBytes (hopped rules net k n events)
-hopped_not_bytes rules net k zero events = tt
-hopped_not_bytes rules net k (suc n) events =
+hopped_of_run : (rules : Rules) (net : Net) (k n : ℕ) (events : List Event) → StopsOfRun (hopped rules net k n events)
+hopped_of_run rules net k zero events = tt
+hopped_of_run rules net k (suc n) events =
     let led = with_event rules net events (event.Hop k) in
     let idle = is_idle (step rules net (run rules net events) (event.Hop k)) in
-    elim (is_some (ending k (run rules net events))) as (λ b. StopsNotBytes (if b then Leads events else then_on led (λ later. if idle then Leads later else hopped rules net k n later))) [
+    elim (is_some (ending k (run rules net events))) as (λ b. StopsOfRun (if b then Leads events else then_on led (λ later. if idle then Leads later else hopped rules net k n later))) [
       | true ↦ tt
-      | false ↦ then_not_bytes led (λ later. if idle then Leads later else hopped rules net k n later) (event_not_bytes rules net events (event.Hop k)) (λ later.
-          elim idle as (λ b. StopsNotBytes (if b then Leads later else hopped rules net k n later)) [
+      | false ↦ then_of_run led (λ later. if idle then Leads later else hopped rules net k n later) (event_of_run rules net events (event.Hop k)) (λ later.
+          elim idle as (λ b. StopsOfRun (if b then Leads later else hopped rules net k n later)) [
             | true ↦ tt
-            | false ↦ hopped_not_bytes rules net k n later
+            | false ↦ hopped_of_run rules net k n later
           ])
     ]
 
-task_not_bytes : (rules : Rules) (net : Net) (events : List Event) (t : Task) → StopsNotBytes (course rules net events t)
-task_not_bytes rules net events (task.Event e) = event_not_bytes rules net events e
-task_not_bytes rules net events (task.Deliveries times) = drained_not_bytes rules net times events
-task_not_bytes rules net events (task.Show view) = tt
-task_not_bytes rules net events (task.ControlMessages times) = controlled_not_bytes rules net times events
-task_not_bytes rules net events (task.ShowClosure epoch) = tt
-task_not_bytes rules net events task.ShowControl = tt
-task_not_bytes rules net events (task.ShowTables epoch) = tt
-task_not_bytes rules net events (task.Hops packet times) = hopped_not_bytes rules net packet times events
-task_not_bytes rules net events (task.ShowWalk packet) = tt
+task_of_run : (rules : Rules) (net : Net) (events : List Event) (t : Task) → StopsOfRun (course rules net events t)
+task_of_run rules net events (task.Event e) = event_of_run rules net events e
+task_of_run rules net events (task.Deliveries times) = drained_of_run rules net times events
+task_of_run rules net events (task.Show view) = tt
+task_of_run rules net events (task.ControlMessages times) = controlled_of_run rules net times events
+task_of_run rules net events (task.ShowClosure epoch) = tt
+task_of_run rules net events task.ShowControl = tt
+task_of_run rules net events (task.ShowTables epoch) = tt
+task_of_run rules net events (task.Hops packet times) = hopped_of_run rules net packet times events
+task_of_run rules net events (task.ShowWalk packet) = tt
 
-either_not_bytes : (led : Course) (rest : List Event → Option Reached) → StopsNotBytes led → ((events : List Event) → NotBytes (rest events)) → NotBytes (stop_by led rest)
-either_not_bytes (Leads events) rest h k = k events
-either_not_bytes (Stops at) rest h k = h
+either_of_run : (led : Course) (rest : List Event → Option Reached) → StopsOfRun led → ((events : List Event) → OfRun (rest events)) → OfRun (stop_by led rest)
+either_of_run (Leads events) rest h k = k events
+either_of_run (Stops at) rest h k = h
 
-stop_not_bytes : (rules : Rules) (net : Net) (events : List Event) (ds : List Numbered) → NotBytes (stop rules net events ds)
-stop_not_bytes rules net events [] = tt
-stop_not_bytes rules net events (d ∷ ds) =
-    either_not_bytes (course rules net events (task_of d.directive)) (λ later. stop rules net later ds)
-    (task_not_bytes rules net events (task_of d.directive)) (λ later. stop_not_bytes rules net later ds)
+stop_of_run : (rules : Rules) (net : Net) (events : List Event) (ds : List Numbered) → OfRun (stop rules net events ds)
+stop_of_run rules net events [] = tt
+stop_of_run rules net events (d ∷ ds) =
+    either_of_run (course rules net events (task_of d.directive)) (λ later. stop rules net later ds)
+    (task_of_run rules net events (task_of d.directive)) (λ later. stop_of_run rules net later ds)
 
-not_bytes_of : (o : Option Reached) (r : Reached) → NotBytes o → o ≡ Some r → r.kind ≢ count.Bytes
-not_bytes_of o r h e = subst NotBytes e h
+run_kind : (o : Option Reached) (r : Reached) → OfRun o → o ≡ Some r → stops_runs r.kind ≡ true
+run_kind o r h e = subst OfRun e h
 
-of_run : (kind : LimitKind) → kind ≢ count.Bytes → is_of_run kind ≡ true
-of_run count.Bytes ne = absurd (ne refl)
-of_run count.Events ne = refl
-of_run count.Epochs ne = refl
-of_run count.Triggers ne = refl
-of_run count.Entries ne = refl
-of_run count.Updates ne = refl
-of_run count.Control ne = refl
-of_run count.Packets ne = refl
-of_run count.Frames ne = refl
+of_run : (kind : LimitKind) → stops_runs kind ≡ true → is_of_run kind ≡ true
+of_run count.Bytes e = e
+of_run count.Events e = refl
+of_run count.Epochs e = refl
+of_run count.Triggers e = refl
+of_run count.Entries e = refl
+of_run count.Updates e = refl
+of_run count.Control e = refl
+of_run count.Packets e = refl
+of_run count.Frames e = refl
 
-is_limit : (bytes : List ℕ) (kind : LimitKind) (number : ℕ) (held held' : Option (List ℕ)) → kind ≢ count.Bytes
+may_end : (kind : LimitKind) (number : ℕ) → stops_runs kind ≡ true → ends_replay (Limit kind number) ≡ true
+may_end count.Bytes number e = refl
+may_end count.Events number e = refl
+may_end count.Epochs number e = refl
+may_end count.Triggers number e = refl
+may_end count.Entries number e = refl
+may_end count.Updates number e = refl
+may_end count.Control number e = refl
+may_end count.Packets number e = refl
+may_end count.Frames number e = e
+
+is_limit : (bytes : List ℕ) (kind : LimitKind) (number : ℕ) (held held' : Option (List ℕ)) → stops_runs kind ≡ true
     → StopsRun bytes (record { kind = kind; number = number }) held held' → IsLimit bytes kind number held held'
-is_limit bytes kind number held held' ne h =
-    subst (λ b. MatchBool b (StopsRun bytes (record { kind = kind; number = number }) held held') ((number ≡ MAX_BYTES) × (MAX_BYTES < length bytes))) (sym (of_run kind ne)) h
+is_limit bytes kind number held held' stops h =
+    subst (λ b. MatchBool b (StopsRun bytes (record { kind = kind; number = number }) held held') ((number ≡ MAX_BYTES) × (MAX_BYTES < length bytes))) (sym (of_run kind stops)) h
 
 same_count : (k l : LimitKind) (m n : ℕ) → Limit k m ≡ Limit l n → (k ≡ l) × (m ≡ n)
 same_count k l m n e = (cc, cc)
@@ -270,7 +292,7 @@ module _ (source source' : SourceView) (sink sink' : SinkView) (bytes : List ℕ
 
   pub ends_run : (result : Result (Unit {0}) RunEnd) → Runs sink sink' written stopped result → Replayed source source' sink sink' (status_of result)
   ends_run (Ok _) runs = record {
-    formed = λ e. absurd (cc e);
+    formed = refl;
     done = λ e told t. (comes told t, runs.whole.1, runs.whole.0);
     agreed = λ _ told t run. run_agreed told t run;
     walked = λ _ told t run. run_walked told t run;
@@ -288,7 +310,7 @@ module _ (source source' : SourceView) (sink sink' : SinkView) (bytes : List ℕ
     same_room = runs.same_room;
   }
   ends_run (Err end.NoMemory) runs = record {
-    formed = λ e. absurd (cc e);
+    formed = refl;
     done = λ e. absurd (cc e);
     agreed = λ e. absurd (cc e);
     walked = λ e. absurd (cc e);
@@ -306,7 +328,7 @@ module _ (source source' : SourceView) (sink sink' : SinkView) (bytes : List ℕ
     same_room = runs.same_room;
   }
   ends_run (Err end.WriteFault) runs = record {
-    formed = λ e. absurd (cc e);
+    formed = refl;
     done = λ e. absurd (cc e);
     agreed = λ _ told t run. run_agreed told t run;
     walked = λ _ told t run. run_walked told t run;
@@ -325,20 +347,20 @@ module _ (source source' : SourceView) (sink sink' : SinkView) (bytes : List ℕ
   }
   ends_run (Err (end.Limit kind number)) runs =
       let stops = (runs.limit kind number refl).1 in
-      let ne = not_bytes_of stopped (record { kind = kind; number = number }) (stop_not_bytes gao_rexford (net_of lines) [] (directives_of lines)) stops in
+      let inside = run_kind stopped (record { kind = kind; number = number }) (stop_of_run gao_rexford (net_of lines) [] (directives_of lines)) stops in
       record {
-        formed = λ e. absurd (cc e);
+        formed = may_end kind number inside;
         done = λ e. absurd (cc e);
         agreed = λ _ told t run. run_agreed told t run;
         walked = λ _ told t run. run_walked told t run;
         front = λ told t. inr (comes told t, runs.front.0, runs.front.1, runs.front.2);
-        silent = λ e. absurd (true≢false (sym e ∙ ap not (of_run kind ne)));
+        silent = λ e. absurd (true≢false (sym e ∙ ap not (of_run kind inside)));
         bad_schedule = λ n k e. absurd (cc e);
         limit = λ k n e told t.
             let same = same_count kind k number n e in
             subst (λ l. IsLimit told l n sink.held sink'.held) same.0
             (subst (λ m. IsLimit told kind m sink.held sink'.held) same.1
-            (is_limit told kind number sink.held sink'.held ne (comes told t, stops, (runs.limit kind number refl).0)));
+            (is_limit told kind number sink.held sink'.held inside (comes told t, stops, (runs.limit kind number refl).0)));
         read_fault = stays_quiet source.faults source'.faults (λ e. cc e) quiet;
         write_fault = stays_quiet sink.faults sink'.faults (λ e. cc e) (runs.cause.quiet (λ e. cc e));
         cut_off = λ e. absurd (cc e);

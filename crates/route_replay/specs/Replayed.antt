@@ -1,5 +1,5 @@
 -- What a user is promised of a schedule that is replayed.
-use Rattle.std.specs.Prelude.{ℕ, Bool, true, false, not, MatchBool, ◌≡◌, ◌≢◌, ◌≤◌, ◌<◌, ◌⊎◌, Option, Some, None, List, [], length}
+use Rattle.std.specs.Prelude.{ℕ, Bool, true, false, not, MatchBool, ◌≡◌, ◌≤◌, ◌<◌, ◌⊎◌, Option, Some, None, List, [], length}
 use Rattle.std.specs.Io.KnownBytes.{Appends, IsAtEnd}
 use Rattle.topology.specs.Lists.{Begins}
 use Rattle.topology.specs.declared.status.Status.{Status}
@@ -57,6 +57,20 @@ is_of_run Control = true
 is_of_run Packets = true
 is_of_run Frames = true
 
+-- the statuses with which a replay may end
+abbrev pub ends_replay : Status → Bool
+ends_replay Done = true
+ends_replay Usage = false
+ends_replay NoMemory = true
+ends_replay (BadSchedule line kind) = true
+ends_replay (Limit Frames number) = false
+ends_replay (Limit kind number) = true
+ends_replay ReadFault = true
+ends_replay WriteFault = true
+ends_replay LinkFault = false
+ends_replay (BadFrame offset fault) = false
+ends_replay (NoSuchNode node) = false
+
 -- the statuses before which nothing is run
 abbrev pub ends_early : Status → Bool
 ends_early Done = false
@@ -95,8 +109,8 @@ IsLimit bytes kind number held held' =
 
 -- how a replay ends, on a source and a sink as they were and as they are then
 pub record Replayed (source source' : SourceView) (sink sink' : SinkView) (status : Status) : Type 0 where
-  -- Usage: never
-  pub formed : status ≢ Usage
+  -- never Usage, and nothing of a link or a frame
+  pub formed : ends_replay status ≡ true
   -- Done: no limit stopped the run of the file, and its whole text was written
   pub done : status ≡ Done → (bytes : List ℕ) → source.left ≡ Some bytes
       → (run : Comes bytes) × (run.stopped ≡ None) × Appends sink.held sink'.held run.written
