@@ -1,6 +1,7 @@
 //! Runs over memory: words, notes, room, and each side failing in turn. What whole files come to stands
 //! in the crate `scenarios`.
 mod over_links;
+mod waiting_peer;
 
 use crate::exit::exit_of;
 use crate::notes::tell;
