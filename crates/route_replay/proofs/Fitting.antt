@@ -91,7 +91,7 @@ module _ (net : Net) where
   instruction_fits (Propose node epoch) r fine =
       and_both _ _ (node_named (has net.nodes node) fine) (and_both _ _ (small 1 epoch r.1) (small epoch _ r.2))
   instruction_fits (Drain times) r fine = tt
-  instruction_fits (Control number) r fine = small 1 number r.0
+  instruction_fits (Control number) r fine = and_both _ _ (small 1 number r.0) (small number _ r.1)
   instruction_fits (ControlAll times) r fine = tt
   instruction_fits (Inject packet node p) r fine = and_both _ _ (small 1 packet r.0) (origin_fits node p fine)
   instruction_fits (Hop packet) r fine = small 1 packet r.0

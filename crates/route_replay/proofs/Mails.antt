@@ -1,9 +1,10 @@
 -- Control messages, one after the other, and their lines.
 use Rattle.std.proofs.Common.{◌≡◌, ℕ, zero, suc, ◌+◌, ◌-◌, ◌<◌, ◌≤◌, Bool, true, false, Option, Some, None, List, [], ◌∷◌, ◌++◌, length, cond, refl, sym, ap, ◌∙◌, arith, nat_le}
-use Rattle.std.specs.Prelude.{find}
+use Rattle.std.specs.Prelude.{find, ◌&&◌}
 use Rattle.std.specs.List.{range_with_len}
 use Rattle.std.proofs.lemmas.Bool.Decides.{nat_tests}
 use Rattle.topology.specs.Net.{Net}
+use Rattle.topology.proofs.Tests.{and_both}
 use Rattle.path_vector.specs.Rules.{Rules}
 use Rattle.chronicle.specs.declared.events.Event.{Event}
 use Rattle.chronicle.specs.declared.events.Event.TheVariants.{Control}
@@ -11,6 +12,7 @@ use Rattle.chronicle.specs.Control.{mailed}
 use Rattle.chronicle.specs.Deliveries.{is_next, next_mail}
 use Rattle.chronicle.specs.Run.{run}
 use Rattle.node_core.specs.NodeLimits.{Reached}
+use Rattle.world_core.specs.declared.bounds.TheConstants.{HIGHEST_MESSAGE, MOST_CONTROL}
 use Rattle.world_core.specs.Limits.{limit_of, StopsAt}
 use Rattle.world_core.specs.declared.outcomes.Stop.{Stop}
 use Rattle.world_core.specs.declared.outcomes.Stop.TheVariants as stop
@@ -26,12 +28,14 @@ found_from test a (suc n) k e =
       | false ↦ λ other. let later = found_from test (a + 1) n k (sym (ap (λ b. cond b (Some a) (find test (range_with_len (a + 1) n))) other) ∙ e) in omega (arith, later)
     ]) refl
 
--- control messages are numbered from 1
-pub mail_fits : (rules : Rules) (net : Net) (events : List Event) (number : ℕ) → next_mail rules net events ≡ Some number → nat_le 1 number ≡ true
+-- the number of the next control message is one that an event may name
+pub mail_fits : (rules : Rules) (net : Net) (events : List Event) (number : ℕ) → next_mail rules net events ≡ Some number → number ≤ MOST_CONTROL → (nat_le 1 number && nat_le number HIGHEST_MESSAGE) ≡ true
 unfolding next_mail
-mail_fits rules net events number e =
+mail_fits rules net events number e few =
     let from_one : 1 ≤ number = found_from (is_next rules net events) 1 (length (mailed (run rules net events))) number e in
-    grind (arith, nat_tests, from_one)
+    let low : nat_le 1 number ≡ true = grind (arith, nat_tests, from_one) in
+    let high : nat_le number HIGHEST_MESSAGE ≡ true = grind (arith, nat_tests, few) in
+    and_both _ _ low high
 
 module _ (rules : Rules) (net : Net) (events : List Event) (n : ℕ) where
   abbrev after_mail : Option ℕ → Course

@@ -1,6 +1,6 @@
 -- What an act changes of the control messages.
-use Rattle.std.proofs.Common.{ℕ, zero, suc, ◌+◌, arith, Bool, true, false, cond, ◌==◌, ◌&&◌, nat_lt, Option, Some, None, List, [], ◌∷◌, ◌++◌, ◌≡◌, refl, sym, ◌∙◌, ap, ap₂, subst, length, find, slice_get}
-use Rattle.std.specs.Prelude.{nat_le, not, if◌then◌else◌}
+use Rattle.std.proofs.Common.{ℕ, zero, suc, ◌+◌, ◌<◌, ◌≤◌, arith, Bool, true, false, cond, ◌==◌, ◌&&◌, nat_lt, Option, Some, None, List, [], ◌∷◌, ◌++◌, ◌≡◌, refl, sym, ◌∙◌, ap, ap₂, subst, length, find, slice_get}
+use Rattle.std.specs.Prelude.{nat_le, not, if◌then◌else◌, IfSome}
 use Rattle.std.specs.List.{range_with_len, AllByRecursion}
 use Rattle.std.proofs.lemmas.List.{length_push}
 use Rattle.topology.specs.Lists.{has}
@@ -19,6 +19,7 @@ use Rattle.chronicle.specs.Crashes.{crashed}
 use Rattle.chronicle.specs.Deliveries.{deliveries, is_next, may_come, next_mail}
 use Rattle.chronicle.specs.Facts.{Chronicle, Mail, Crash, Restart}
 use Rattle.chronicle.specs.Run.{run}
+use Rattle.world_core.specs.declared.bounds.TheConstants.{MOST_CONTROL}
 use Rattle.world_core.specs.Counting.{counts_after, no_deliveries}
 use Rattle.world_core.specs.Matching.{AreMails, Counts, IsInside}
 use Rattle.world_core.proofs.Places.{same_some}
@@ -151,3 +152,21 @@ next_is rules net events mails was =
     (come_same was.acts past (letter k was.acts) was.stopped ∙ ap (may_come past) (letter_is net past (deliveries rules net events) mails was k)) in
     find_same (mail.is_next was.acts) (is_next rules net events) (range_with_len 1 (length (letters was.acts))) same
     ∙ ap (λ n. find (is_next rules net events) (range_with_len 1 n)) (count_is net past (deliveries rules net events) mails was)
+
+-- what is found among so many numbers from a on is below their end
+found_below : (test : ℕ → Bool) (a n k : ℕ) → find test (range_with_len a n) ≡ Some k → k < a + n
+found_below test a zero k e = absurd (cc e)
+found_below test a (suc n) k e =
+    (elim (test a) as (λ b. test a ≡ b → k < a + suc n) [
+      | true ↦ λ here. let found : Some a ≡ Some k = sym (ap (λ b. cond b (Some a) (find test (range_with_len (a + 1) n))) here) ∙ e in let same : a ≡ k = cc in omega (arith, same)
+      | false ↦ λ other. let later = found_below test (a + 1) n k (sym (ap (λ b. cond b (Some a) (find test (range_with_len (a + 1) n))) other) ∙ e) in omega (arith, later)
+    ]) refl
+
+-- the next message is one of few
+pub next_few : (rules : Rules) (net : Net) (events : List Event) (o : Option ℕ) → o ≡ next_mail rules net events
+    → length (mailed (run rules net events)) ≤ MOST_CONTROL → IfSome o (λ number. number ≤ MOST_CONTROL)
+unfolding next_mail
+next_few rules net events None is few = tt
+next_few rules net events (Some number) is few =
+    let below = found_below (is_next rules net events) 1 (length (mailed (run rules net events))) number (sym is) in
+    omega (arith, below, few)

@@ -1,5 +1,5 @@
 //! The world: a network and what happened in it.
-ghost use Rattle.std.specs.Prelude.{◌≡◌, [], ◌∷◌, ◌++◌, ◌&&◌, false, nat_lt, nat_le, length, Some, None, IsTrue, IsNone, IfOk, IfErr, IfSome, option_map, ◌↔◌};
+ghost use Rattle.std.specs.Prelude.{◌≡◌, ◌≤◌, [], ◌∷◌, ◌++◌, ◌&&◌, false, nat_lt, nat_le, length, Some, None, IsTrue, IsNone, IfOk, IfErr, IfSome, option_map, ◌↔◌};
 ghost use Rattle.topology.specs.Lists.{has};
 ghost use Rattle.topology.specs.Net.{linked};
 ghost use Rattle.consolidator.specs.Seen.{message_seen};
@@ -10,6 +10,7 @@ ghost use Rattle.chronicle.specs.Control.{mail_with, mailed};
 ghost use Rattle.chronicle.specs.Deliveries.{deliveries, next_delivery, next_mail};
 ghost use Rattle.chronicle.specs.Run.{run, step};
 ghost use Rattle.node_core.specs.Standing.{StandsFor};
+ghost use Rattle.world_core.specs.declared.bounds.TheConstants.{MOST_CONTROL};
 ghost use Rattle.world_core.specs.Fits.{fits};
 ghost use Rattle.world_core.specs.Effects.{Tells};
 ghost use Rattle.world_core.specs.Limits.{limit_of, StopsAt};
@@ -18,7 +19,7 @@ ghost use Rattle.world_core.specs.Publications.{all_published};
 ghost use Rattle.world_core.specs.Sound.{IsNoStray, IsSound};
 ghost use Rattle.world_core.specs.Walks.{walk_of};
 
-use crate::bounds::MOST_EVENTS;
+use crate::bounds::{HIGHEST_MESSAGE, MOST_EVENTS};
 use crate::laws;
 use crate::network::Network;
 use crate::outcomes::{Outcome, Stop};
@@ -112,8 +113,8 @@ impl<P: Policy + Copy> World<P> {
         &self.network.topology
     }
 
-    /// Whether the names of the event are in the network, a preference is a million at most, an epoch 1 to 32, and
-    /// control messages and packets are numbered from 1.
+    /// Whether the names of the event are in the network, a preference is a million at most, an epoch 1 to 32, the
+    /// number of a control message 1 to a million, and packets are numbered from 1.
     pub fn fits(&self, event: &Event) -> bool
         ensures { result ≡ fits self.now.net event.now }
     {
@@ -131,7 +132,7 @@ impl<P: Policy + Copy> World<P> {
             Event::OpenSession { node, nbr } => joined(topology, *node, *nbr),
             Event::Snap { node } => topology.rank_of(*node).is_some(),
             Event::Propose { node, epoch } => proposes(topology, *node, *epoch),
-            Event::Control { number } => *number >= 1,
+            Event::Control { number } => *number >= 1 && *number <= HIGHEST_MESSAGE,
             Event::Crash { node } => topology.rank_of(*node).is_some(),
             Event::Restart { node } => topology.rank_of(*node).is_some(),
             Event::Inject {
@@ -198,9 +199,10 @@ impl<P: Policy + Copy> World<P> {
     }
 
     /// The number of the next control message: the lowest that was never delivered and whose addressee is not
-    /// crashed. Goes once over the nodes, and takes no memory.
+    /// crashed. It is 16,384 at most. Goes once over the nodes, and takes no memory.
     pub fn next_mail(&self) -> Option<u32>
-        ensures { result ≡ next_mail (P.rules self.now.policy) self.now.net self.now.events }
+        ensures next { result ≡ next_mail (P.rules self.now.policy) self.now.net self.now.events }
+        ensures bound { IfSome result (λ number. number ≤ MOST_CONTROL) }
     {
         self.network.mails.next()
     }

@@ -26,6 +26,8 @@ propose 3 1: no
 propose 1 0: no
 propose 1 33: no
 ctl 9: yes
+ctl 1000000: yes
+ctl 1000001: no
 propose 1 32: yes";
 
 fn fill(topology: &mut Topology) -> Result<(), Fail> {

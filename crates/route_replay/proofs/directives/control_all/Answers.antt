@@ -37,7 +37,7 @@ returns-in_default-clause-world g c =
     let was = c.loop.invariant in
     let rules = g.P.Policy.rules c.args.world.policy in
     let net = c.args.world.net in
-    let none = rw (was.same_policy, was.same_net) at (sym c.next_mail.ensures ∙ c.in_default.is) in
+    let none = rw (was.same_policy, was.same_net) at (sym c.next_mail.ensures.next ∙ c.in_default.is) in
     record {
       same_policy = was.same_policy;
       same_net = was.same_net;
@@ -45,7 +45,7 @@ returns-in_default-clause-world g c =
     }
 
 pub step-requires : goal.step-requires
-step-requires g c = mail_fits _ _ _ c.in-Some.number (sym c.next_mail.ensures ∙ c.in-Some.is)
+step-requires g c = mail_fits _ _ _ c.in-Some.number (sym c.next_mail.ensures.next ∙ c.in-Some.is) c.in-Some.ensures.bound
 
 -- a limit stops it
 pub returns-in_err-next-clause-stopped : goal.returns-in_err-next-clause-stopped
@@ -54,7 +54,7 @@ returns-in_err-next-clause-stopped g c =
     let rules = g.P.Policy.rules c.args.world.policy in
     let net = c.args.world.net in
     let number = c.in-Some.number in
-    let found = rw (was.same_policy, was.same_net) at (sym c.next_mail.ensures ∙ c.in-Some.is) in
+    let found = rw (was.same_policy, was.same_net) at (sym c.next_mail.ensures.next ∙ c.in-Some.is) in
     let stopped = rw (was.same_policy, was.same_net) at c.in_err-next.ensures.stopped in
     let n = c.args.times - (c.loop.counter + 1) in
     handed_on c.from_residual.result _ _ c.from_residual.ensures (λ why same.
@@ -69,7 +69,7 @@ loop-preserved g c =
     let rules = g.P.Policy.rules c.args.world.policy in
     let net = c.args.world.net in
     let number = c.in-Some.number in
-    let found = rw (was.same_policy, was.same_net) at (sym c.next_mail.ensures ∙ c.in-Some.is) in
+    let found = rw (was.same_policy, was.same_net) at (sym c.next_mail.ensures.next ∙ c.in-Some.is) in
     let within = rw (was.same_policy, was.same_net) at c.in_ok-next.ensures.within in
     let next = c.in_ok-next.ensures.world in
     let n = c.args.times - (c.loop.counter + 1) in
