@@ -1,12 +1,15 @@
 -- A world after one more event.
 use Rattle.std.proofs.Common.{ℕ, Bool, List, [], ◌∷◌, ◌++◌, ◌≡◌, sym, ◌∙◌, ap, subst}
+use Rattle.std.specs.Prelude.{◌⊎◌}
 use Rattle.topology.specs.Net.{Net}
 use Rattle.path_vector.specs.Rules.{Rules}
 use Rattle.chronicle.specs.declared.events.Event.{Event}
 use Rattle.chronicle.specs.declared.ways.Way.{Way}
 use Rattle.chronicle.specs.Deliveries.{deliveries}
 use Rattle.chronicle.specs.Facts.{Chronicle}
+use Rattle.chronicle.specs.Publications.{publications}
 use Rattle.chronicle.specs.Run.{after, run, step}
+use Rattle.agreement_laws.specs.Published.{Completes, PublishesLast}
 use Rattle.world_core.specs.declared.network.Network.{Network}
 use Rattle.world_core.specs.declared.outcomes.Outcome.{Outcome}
 use Rattle.world_core.specs.Happening.{Comes, IsAsWas}
@@ -80,3 +83,22 @@ module _ {P : Type 0} (rules : P → Rules) (old new : Network P) (events : List
       let view : P → Net → List Event → WorldView P = λ policy net all. record { policy = policy; net = net; events = all } in
       ap (λ all. view new.policy new.topology.value all) is
       ∙ (ap (λ net. view new.policy net (events ++ event ∷ [])) (sym same_net) ∙ ap (λ policy. view policy old.topology.value (events ++ event ∷ [])) same.policy)
+
+-- what a step publishes, said of the run that it leaves
+module _ (rules : Rules) (net : Net) (events : List Event) (event : Event) where
+  pub completed_last :
+      ((u e : ℕ) → Completes (run rules net events) (after rules net (run rules net events) event) u e → PublishesLast rules net (run rules net events) (after rules net (run rules net events) event) u e)
+      → (u e : ℕ) → Completes (run rules net events) (run rules net (events ++ event ∷ [])) u e → PublishesLast rules net (run rules net events) (run rules net (events ++ event ∷ [])) u e
+  completed_last law =
+      subst (λ now. (u e : ℕ) → Completes (run rules net events) now u e → PublishesLast rules net (run rules net events) now u e) (sym (run-push rules net events event)) law
+
+  pub published_then :
+      ((u : ℕ) → (publications u (after rules net (run rules net events) event) ≡ publications u (run rules net events))
+      ⊎ ((e : ℕ) × Completes (run rules net events) (after rules net (run rules net events) event) u e × PublishesLast rules net (run rules net events) (after rules net (run rules net events) event) u e))
+      → (u : ℕ) → (publications u (run rules net (events ++ event ∷ [])) ≡ publications u (run rules net events))
+      ⊎ ((e : ℕ) × Completes (run rules net events) (run rules net (events ++ event ∷ [])) u e × PublishesLast rules net (run rules net events) (run rules net (events ++ event ∷ [])) u e)
+  published_then law =
+      subst
+      (λ now. (u : ℕ) → (publications u now ≡ publications u (run rules net events))
+      ⊎ ((e : ℕ) × Completes (run rules net events) now u e × PublishesLast rules net (run rules net events) now u e))
+      (sym (run-push rules net events event)) law

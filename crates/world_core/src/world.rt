@@ -1,5 +1,5 @@
 //! The world: a network and what happened in it.
-ghost use Rattle.std.specs.Prelude.{◌≡◌, ◌≤◌, [], ◌∷◌, ◌++◌, ◌&&◌, false, nat_lt, nat_le, length, Some, None, IsTrue, IsNone, IfOk, IfErr, IfSome, option_map, ◌↔◌};
+ghost use Rattle.std.specs.Prelude.{ℕ, ◌≡◌, ◌⊎◌, ◌≤◌, [], ◌∷◌, ◌++◌, ◌&&◌, false, nat_lt, nat_le, length, Some, None, IsTrue, IsNone, IfOk, IfErr, IfSome, option_map, ◌↔◌};
 ghost use Rattle.topology.specs.Lists.{has};
 ghost use Rattle.topology.specs.Net.{linked};
 ghost use Rattle.consolidator.specs.Seen.{message_seen};
@@ -8,7 +8,9 @@ ghost use Rattle.chronicle.specs.declared.ways.Way.{Way};
 ghost use Rattle.chronicle.specs.Crashes.{crashed};
 ghost use Rattle.chronicle.specs.Control.{mail_with, mailed};
 ghost use Rattle.chronicle.specs.Deliveries.{deliveries, next_delivery, next_mail};
+ghost use Rattle.chronicle.specs.Publications.{publications};
 ghost use Rattle.chronicle.specs.Run.{run, step};
+ghost use Rattle.agreement_laws.specs.Published.{Completes, PublishesLast};
 ghost use Rattle.node_core.specs.Standing.{StandsFor};
 ghost use Rattle.world_core.specs.declared.bounds.TheConstants.{MOST_CONTROL};
 ghost use Rattle.world_core.specs.Fits.{fits};
@@ -225,8 +227,10 @@ impl<P: Policy + Copy> World<P> {
     }
 
     /// The world after one more event, and what came of it. Stops at a limit exactly where the
-    /// event would take a count above its number, unless memory is wanted first. The cost is that of
-    /// what the event touches: the node's neighbours, and the prefix.
+    /// event would take a count above its number, unless memory is wanted first. A node that published lower
+    /// epochs alone publishes the table of an epoch in the step that completes its cut and the decision, as the last
+    /// thing of that step; in no other step does it publish. The cost is that of what the event touches: the node's
+    /// neighbours, and the prefix.
     pub fn step(self, event: Event) -> Result<(World<P>, Outcome), Stop>
         requires { IsTrue (fits self.net event) }
         ensures world { IfOk result (λ r. r.0 ≡ record self { events = self.events ++ event ∷ [] }) }
@@ -236,6 +240,15 @@ impl<P: Policy + Copy> World<P> {
         ensures reasons { IfOk result (λ r. IsNoStray r.1) }
         ensures run { IfOk result (λ r. IsSound (P.rules self.policy) self.net
             (run (P.rules self.policy) self.net (self.events ++ event ∷ []))) }
+        ensures at_once { IfOk result (λ r.
+            let past = run (P.rules self.policy) self.net self.events in
+            let now = run (P.rules self.policy) self.net (self.events ++ event ∷ []) in
+            (u e : ℕ) → Completes past now u e → PublishesLast (P.rules self.policy) self.net past now u e) }
+        ensures only_then { IfOk result (λ r.
+            let past = run (P.rules self.policy) self.net self.events in
+            let now = run (P.rules self.policy) self.net (self.events ++ event ∷ []) in
+            (u : ℕ) → (publications u now ≡ publications u past)
+            ⊎ ((e : ℕ) × Completes past now u e × PublishesLast (P.rules self.policy) self.net past now u e)) }
         ensures within { IfOk result (λ r. limit_of (P.rules self.policy) self.net self.events event ≡ None) }
         ensures stopped { IfErr result (StopsAt (limit_of (P.rules self.policy) self.net self.events event)) }
     {
@@ -254,6 +267,7 @@ impl<P: Policy + Copy> World<P> {
         cut_laws::laws::no_world_is_out_of_turn();
         agreement_laws::laws::rounds_are_few();
         agreement_laws::laws::values_have_few_triggers();
+        agreement_laws::laws::a_table_is_published_in_time();
         let outcome = network.advance(&event, &waiting)?;
         network.refresh(&event, &outcome, &mut waiting);
         let Ok(()) = events.push(event) else {

@@ -12,7 +12,7 @@ use Rattle.world_core.proofs.Delivered.{few_deliveries, one_more}
 use Rattle.world_core.proofs.Nodes.{places_of}
 use Rattle.world_core.proofs.Lawful.{no_stray, regular_of, rounds_left}
 use Rattle.world_core.proofs.Proposing.{values_after}
-use Rattle.world_core.proofs.Stepped.{comes_new, stands_new, view_new, waiting_new, waits_new}
+use Rattle.world_core.proofs.Stepped.{comes_new, completed_last, published_then, stands_new, view_new, waiting_new, waits_new}
 use Rattle.world_core.proofs.Stopping.{handed_on, limit_events, limit_later, stands_within, stops_later}
 use Rattle.world_core.proofs.world.World.step.Goals as goal
 
@@ -138,6 +138,22 @@ returns-clause-run g c =
     let rules = g.P.Policy.rules network.policy in
     let net = network.topology.value in
     rw (← c.self.view_is) (c.every_run_is_sound.ensures rules net (c.self.inside.events.items ++ c.args.event ∷ []) c.self.invariant.0.are_nodes.valid)
+
+pub returns-clause-at_once : goal.returns-clause-at_once
+returns-clause-at_once g c =
+    let network = c.self.inside.network.value in
+    let rules = g.P.Policy.rules network.policy in
+    let net = network.topology.value in
+    let events = c.self.inside.events.items in
+    rw (← c.self.view_is) (completed_last rules net events c.args.event (c.a_table_is_published_in_time.ensures.at_once rules net events c.args.event))
+
+pub returns-clause-only_then : goal.returns-clause-only_then
+returns-clause-only_then g c =
+    let network = c.self.inside.network.value in
+    let rules = g.P.Policy.rules network.policy in
+    let net = network.topology.value in
+    let events = c.self.inside.events.items in
+    rw (← c.self.view_is) (published_then rules net events c.args.event (c.a_table_is_published_in_time.ensures.only_then rules net events c.args.event))
 
 pub returns-clause-within : goal.returns-clause-within
 returns-clause-within g c =
