@@ -1,6 +1,6 @@
 //! Text is gathered and written by the page, so that many short lines cost few writes and a long
 //! text little memory.
-ghost use Rattle.std.specs.Prelude.{◌≡◌, [], OnOk, IfErr};
+ghost use Rattle.std.specs.Prelude.{◌≡◌, [], OnOk, OnErr, IfErr};
 ghost use Rattle.std.specs.String.{string_bytes};
 ghost use Rattle.route_replay.specs.Gathering.{Gathers, Breaks, page_view};
 
@@ -39,12 +39,14 @@ impl<'a, O: Sink> Page<'a, String, O> {
         }
     }
 
-    /// Writes what is pending, where it fills a page.
+    /// Writes what is pending, where it fills a page. After an `Err` it is pending as it was, though a front of it
+    /// may have been written.
     pub fn spill(&mut self) -> Result<(), RunEnd>
         ensures gathers { OnOk result
             (Gathers (page_view O.seen self.old) (page_view O.seen self.new) []) }
         ensures breaks { IfErr result (Breaks (O.seen self.old.sink.now) (O.seen self.new.sink.now)
             (string_bytes self.old.text)) }
+        ensures kept { OnErr result (self.new.text ≡ self.old.text) }
         ensures same_sink { self.new.sink.ghost_name ≡ self.old.sink.ghost_name }
     {
         if self.text.len() < PAGE {
@@ -53,13 +55,15 @@ impl<'a, O: Sink> Page<'a, String, O> {
         self.flush()
     }
 
-    /// Writes what is pending, if anything is.
+    /// Writes what is pending, if anything is. After an `Err` it is pending as it was, though a front of it may have
+    /// been written.
     pub fn flush(&mut self) -> Result<(), RunEnd>
         ensures gathers { OnOk result
             (Gathers (page_view O.seen self.old) (page_view O.seen self.new) []) }
         ensures empty { OnOk result (string_bytes self.new.text ≡ []) }
         ensures breaks { IfErr result (Breaks (O.seen self.old.sink.now) (O.seen self.new.sink.now)
             (string_bytes self.old.text)) }
+        ensures kept { OnErr result (self.new.text ≡ self.old.text) }
         ensures same_sink { self.new.sink.ghost_name ≡ self.old.sink.ghost_name }
     {
         if self.text.is_empty() {

@@ -151,7 +151,8 @@ impl Walks {
     // A packet with a new number enters the network.
     fn enter(&mut self, node: NodeId, packet: Box<Packet>) -> Result<(), NoMemory>
         requires { find (is_of packet.value.id) self.old ≡ None }
-        ensures { OnOk result (self.new ≡ self.old ++ record { node = node; packet = packet.value; visits = visit_of node packet.value ∷ []; ending = None } ∷ []) }
+        ensures ok { OnOk result (self.new ≡ self.old ++ record { node = node; packet = packet.value; visits = visit_of node packet.value ∷ []; ending = None } ∷ []) }
+        ensures err { OnErr result (self.new ≡ self.old) }
     {
         let number = packet.id;
         let journey = Journey::begin(*self.journeys.allocator(), node, packet)?;
@@ -161,10 +162,11 @@ impl Walks {
         Ok(())
     }
 
-    /// The packet comes to a node, or leaves the tables there. After want of memory the walks are of no use.
+    /// The packet comes to a node, or leaves the tables there. After want of memory the walks are as they were.
     pub fn visit(&mut self, node: NodeId, packet: Box<Packet>) -> Result<(), NoMemory>
-        ensures { OnOk result ((net : Net) (past : Chronicle) → AreWalks net past self.old →
+        ensures ok { OnOk result ((net : Net) (past : Chronicle) → AreWalks net past self.old →
             IsPassing net node packet.value → AreWalks net (Came node packet.value ∷ past) self.new) }
+        ensures err { OnErr result (self.new ≡ self.old) }
     {
         let Some(place) = self.numbers.get_index_of(&packet.id) else {
             self.enter(node, packet)?;

@@ -6,7 +6,7 @@ use Rattle.world_core.proofs.sending.forward.Goals as goal
 
 pub returns : goal.returns
 returns c net past was passing = (
-  c.in_ok-visit.ensures net past was passing,
+  c.in_ok-visit.ensures.ok net past was passing,
   c.in_ok-push.ensures.items
       ∙ ap₂ (λ (p : Packet) v. c.args.effects.now.items ++ Visited p.id v ∷ []) c.deref.ensures (c.visit_of-visit.ensures ∙ ap (visit_of c.args.next) c.deref-2.ensures),
 )

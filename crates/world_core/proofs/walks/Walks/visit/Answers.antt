@@ -20,14 +20,14 @@ enter-requires c =
     (subst (λ (p : Packet). list_any (λ n. p.id == n) c.self.inside.numbers.keys ≡ false) c.deref.ensures (sym c.in_default.ensures.found)) in
     rw (← c.self.view_is) new
 
-pub returns-in_default : goal.returns-in_default
-returns-in_default c net past was passing =
+pub returns-in_default-clause-ok : goal.returns-in_default-clause-ok
+returns-in_default-clause-ok c net past was passing =
     let new =
     none_kept c.self.inside.numbers.keys c.self.inside.journeys.items c.args.packet.value.id c.self.invariant
     (subst (λ (p : Packet). list_any (λ n. p.id == n) c.self.inside.numbers.keys ≡ false) c.deref.ensures (sym c.in_default.ensures.found)) in
     let js = c.self.inside.journeys.items in
     let was_here = subst (AreWalks net past) (sym c.self.view_is) was in
-    rw (c.in_ok-enter.ensures, ← c.self.view_is) (visit_new net past js was_here c.args.node c.args.packet.value new passing)
+    rw (c.in_ok-enter.ensures.ok, ← c.self.view_is) (visit_new net past js was_here c.args.node c.args.packet.value new passing)
 
 pub invariant_of-self-2 : goal.invariant_of-self-2
 invariant_of-self-2 c =
@@ -38,8 +38,8 @@ invariant_of-self-2 c =
     ∙ sym (numbers_stay js c.in-Some.place x c.go_on.new.self kept.here
     (ap (λ j. j.packet.id) c.in_ok-go_on.ensures.ok ∙ sym (has_number js c.args.packet.value.id c.in-Some.place x kept)))
 
-pub returns : goal.returns
-returns c net past was passing =
+pub returns-clause-ok : goal.returns-clause-ok
+returns-clause-ok c net past was passing =
     let js = c.self.inside.journeys.items in
     subst (λ y. AreWalks net (Visit c.args.node c.args.packet.value ∷ past) (set js c.in-Some.place y)) (sym c.in_ok-go_on.ensures.ok)
     (visit_known net past js (subst (AreWalks net past) (sym c.self.view_is) was) c.args.node c.args.packet.value c.in-Some.place c.index_mut.result.now (known_number c) passing)
