@@ -24,5 +24,5 @@ pub mod views;
 pub mod walk_text;
 
 pub use loading::load;
-pub use plain::replay_plain;
+pub use plain::{load_plain, replay_plain};
 pub use runner::replay;
