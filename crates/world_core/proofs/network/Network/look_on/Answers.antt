@@ -1,4 +1,4 @@
-use Rattle.std.proofs.Common.{ℕ, ◌≡◌, Some, [], ◌∷◌, refl, sym, ◌∙◌, ap, true≢false, slice_get}
+use Rattle.std.proofs.Common.{ℕ, ◌≡◌, Some, [], refl, sym, ◌∙◌, ap, true≢false, slice_get}
 use Rattle.std.proofs.lemmas.Option.{slice_get_within}
 use Rattle.link_model.specs.Tables.{ends, ways_of}
 use Rattle.link_model.proofs.Standing.{ways_after, keeps_of}
