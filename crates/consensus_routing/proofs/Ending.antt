@@ -4,13 +4,13 @@ use Rattle.std.specs.Borrow.{Bor}
 use Rattle.topology.specs.declared.status.Status.{Status}
 use Rattle.topology.specs.declared.status.Status.TheVariants.{Usage}
 use Rattle.route_io.specs.Views.{SourceView, SinkView, LinkView}
-use Rattle.route_node.specs.Attended.{Attended}
+use Rattle.route_node.specs.Attended.{Attended, ends_attending}
 use Rattle.route_replay.specs.Loaded.{Loaded, ends_load}
-use Rattle.route_replay.specs.Replayed.{Replayed}
+use Rattle.route_replay.specs.Replayed.{Replayed, ends_replay}
 use Rattle.consensus_routing.specs.declared.forms.Form.TheVariants.{Replay, Load, Node}
 use Rattle.consensus_routing.specs.Forms.{HasNoForm, IsForm}
 use Rattle.consensus_routing.specs.Headline.{Headline, Sides, sides}
-use Rattle.consensus_routing.proofs.Formed.{replay_or_load, replay_or_node, load_or_node, same_number, same_node}
+use Rattle.consensus_routing.proofs.Formed.{replay_or_load, replay_or_node, load_or_node, same_number, same_id, same_address}
 
 pub of_none : (words : List (List ℕ)) (old : Sides) → HasNoForm words → Headline words old old Usage
 of_none words old none = record {
@@ -25,7 +25,7 @@ of_none words old none = record {
 pub of_replay : (words : List (List ℕ)) (source source' : SourceView) (sink sink' : SinkView) (link : LinkView) (status : Status) → IsForm words Replay → Replayed source source' sink sink' status
     → Headline words (sides source sink link) (sides source' sink' link) status
 of_replay words source source' sink sink' link status is replayed = record {
-  usage = (λ e. absurd (replayed.formed e), λ none. absurd (none Replay is));
+  usage = (λ e. absurd (true≢false (sym replayed.formed ∙ ap ends_replay e)), λ none. absurd (none Replay is));
   formed = λ _. (Replay, is);
   untouched = λ none. absurd (none Replay is);
   replayed = λ _. (replayed, refl);
@@ -48,12 +48,16 @@ of_load words number source sink sink' link status is loaded = record {
 }
 
 pub of_node : (words : List (List ℕ)) (id : ℕ) (address : Bor (List ℕ)) (source source' : SourceView) (sink : SinkView) (link link' : LinkView) (status : Status) → IsForm words (Node id address)
-    → Attended id source source' link link' status → Headline words (sides source sink link) (sides source' sink link') status
+    → Attended id address.now source source' link link' status → Headline words (sides source sink link) (sides source' sink link') status
 of_node words id address source source' sink link link' status is attended = record {
-  usage = (λ e. absurd (attended.formed.0 e), λ none. absurd (none (Node id address) is));
+  usage = (λ e. absurd (true≢false (sym attended.formed ∙ ap ends_attending e)), λ none. absurd (none (Node id address) is));
   formed = λ _. (Node id address, is);
   untouched = λ none. absurd (none (Node id address) is);
   replayed = λ other. absurd (replay_or_node words id address other is);
   loaded = λ number other. absurd (load_or_node words number id address other is);
-  attended = λ other place it. (subst (λ n. Attended n source source' link link' status) (same_node words id other address place is it) attended, refl);
+  attended = λ other place it. (
+    subst (λ n. Attended n place.now source source' link link' status) (same_id words id other address place is it)
+        (subst (λ a. Attended id a source source' link link' status) (same_address words id other address place is it) attended),
+    refl,
+  );
 }

@@ -36,6 +36,9 @@ head_of a b xs ys e = cc
 next_of : (a b c d : List ℕ) (xs ys : List (List ℕ)) → ◌≡◌ {A = List (List ℕ)} (a ∷ c ∷ xs) (b ∷ d ∷ ys) → c ≡ d
 next_of a b c d xs ys e = cc
 
+last_of : (a b c d e f : List ℕ) → ◌≡◌ {A = List (List ℕ)} (a ∷ c ∷ e ∷ []) (b ∷ d ∷ f ∷ []) → e ≡ f
+last_of a b c d e f same = cc
+
 counts : (xs ys : List (List ℕ)) → xs ≡ ys → length xs ≡ length ys
 counts xs ys e = ap (λ (l : List (List ℕ)). length l) e
 
@@ -96,11 +99,14 @@ same_number words m n is other =
     let high = other.in_range in
     decimal_injective m n (omega (arith, low)) (omega (arith, high)) (next_of (codes "load") (codes "load") (decimal m) (decimal n) [] [] (sym is.spelled ∙ other.spelled))
 
-pub same_node : (words : List (List ℕ)) (m n : ℕ) (a b : Bor (List ℕ)) → IsForm words (Node m a) → IsForm words (Node n b) → m ≡ n
-same_node words m n a b is other =
+pub same_id : (words : List (List ℕ)) (m n : ℕ) (a b : Bor (List ℕ)) → IsForm words (Node m a) → IsForm words (Node n b) → m ≡ n
+same_id words m n a b is other =
     let low = is.in_range.1 in
     let high = other.in_range.1 in
     decimal_injective m n (omega (arith, low)) (omega (arith, high)) (next_of (codes "node") (codes "node") (decimal m) (decimal n) (a.now ∷ []) (b.now ∷ []) (sym is.spelled ∙ other.spelled))
+
+pub same_address : (words : List (List ℕ)) (m n : ℕ) (a b : Bor (List ℕ)) → IsForm words (Node m a) → IsForm words (Node n b) → a.now ≡ b.now
+same_address words m n a b is other = last_of (codes "node") (codes "node") (decimal m) (decimal n) a.now b.now (sym is.spelled ∙ other.spelled)
 
 -- a word that spells zero spells no number from 1
 pub not_zero : (word : List ℕ) (number : ℕ) → word ≡ decimal number → number ≡ 0 → (n : ℕ) → 1 ≤ n → n ≤ MAX_NODE → word ≢ decimal n

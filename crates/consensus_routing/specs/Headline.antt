@@ -34,7 +34,7 @@ pub record Headline (words : List (List ℕ)) (old new : Sides) (status : Status
   -- the word load and a number: the load of that number is run, and the source and the link are left as they were
   pub loaded : (number : ℕ) → IsForm words (Load number)
       → Loaded number old.sink new.sink status × (new.source ≡ old.source) × (new.link ≡ old.link)
-  -- the word node, a number and an address: the node of the network that the source holds answers the frames of the link, and
-  -- the sink is left as it was
+  -- the word node, a number and an address: the address is dialled, the node of the network that the source holds answers
+  -- the frames of the link, and the sink is left as it was
   pub attended : (id : ℕ) (address : Bor (List ℕ)) → IsForm words (Node id address)
-      → Attended id old.source new.source old.link new.link status × (new.sink ≡ old.sink)
+      → Attended id address.now old.source new.source old.link new.link status × (new.sink ≡ old.sink)

@@ -75,7 +75,7 @@ module _ {P : Type 0} (rules : Rules) (at : Setting P) (frames : List Frame) (pr
 
   served_here : (status : Status) (ending : Ending) → status ≡ status_of (length (stream frames)) ending → ends_serving status ≡ true → ((more : List ℕ) → EndsAt rules at.net at.node frames (spell frame ++ more) ending) → (status ≡ Done → ⊥) → Served rules at.net at.node at.first old status
   served_here status ending is formed ends never =
-      served_by_ending rules at.net at.node at.first old status frames runs.taken runs.same_room ending is formed (comes_to ending ends) (answered_as rules at frames process old old runs refl refl) runs.quiet (λ e. absurd (never e))
+      served_by_ending rules at.net at.node at.first old status frames runs.taken runs.same_room runs.same_dialled ending is formed (comes_to ending ends) (answered_as rules at frames process old old runs refl refl) runs.quiet (λ e. absurd (never e))
 
   -- the run ends at the frame
   pub served_at_frame : (status : Status) → EndsFrame process.offset process.frames (out_of_turn (gives rules at.net at.node (run_over rules at.net at.node frames) i))
@@ -120,7 +120,7 @@ module _ {P : Type 0} (rules : Rules) (at : Setting P) (frames : List Frame) (pr
     pub served_by_replies : (new : LinkView) (status : Status) → Breaks (filter_map telling (handed told)) old new status → Served rules at.net at.node at.first new status
     served_by_replies new status breaks =
         let later : old.faults ≤ new.faults = breaks.link_fault.later in
-        served_by_break rules at.net at.node at.first new status (frame ∷ frames) taken_now (ap (λ (l : LinkView). l.room) breaks.others ∙ runs.same_room) breaks.why
+        served_by_break rules at.net at.node at.first new status (frame ∷ frames) taken_now (ap (λ (l : LinkView). l.room) breaks.others ∙ runs.same_room) (ap (λ (l : LinkView). l.dialled) breaks.others ∙ runs.same_dialled) breaks.why
         (record {
           later = subst (λ n. n ≤ new.faults) runs.quiet later;
           rose = λ e. subst (λ n. Rose n new.faults) runs.quiet (breaks.link_fault.rose e);
@@ -169,6 +169,7 @@ module _ {P : Type 0} (rules : Rules) (at : Setting P) (frames : List Frame) (pr
             one_write_each = subst (λ l. OneWriteEach l at.first new) (sym replies_now)
                 (one_write_behind (replies rules at.net at.node frames) (filter_map telling (handed told)) at.first old new runs.wrote runs.same_room runs.one_write_each writes.one_write_each);
             same_room = ap (λ (l : LinkView). l.room) writes.others ∙ runs.same_room;
+            same_dialled = ap (λ (l : LinkView). l.dialled) writes.others ∙ runs.same_dialled;
             quiet = writes.quiet ∙ runs.quiet;
           };
           within = (omega (arith, shorter, in_all), omega (arith, few));

@@ -51,6 +51,7 @@ module _ (rules : Rules) (net : Net) (u : ℕ) where
     wrote = appends_none at.first.outgoing;
     one_write_each = λ left room small. writes_as at.first.writes;
     same_room = refl;
+    same_dialled = refl;
     quiet = refl;
   }
 
@@ -60,7 +61,7 @@ module _ (rules : Rules) (net : Net) (u : ℕ) where
   -- memory ran out before the first frame
   pub served_nothing : (link : LinkView) → Served rules net u link link NoMemory
   served_nothing link =
-      served_by_break rules net u link link NoMemory [] tt refl (inl refl)
+      served_by_break rules net u link link NoMemory [] tt refl refl (inl refl)
       (record { later = omega arith; rose = λ e. absurd (cc e); quiet = λ _. refl })
       (λ bytes told. record {
         frames = [];

@@ -44,7 +44,7 @@ is_limit offset kind number (Stopped reached) e =
 
 -- ---- the two ways to end
 
-module _ (rules : Rules) (net : Net) (u : ℕ) (first link : LinkView) (status : Status) (frames : List Frame) (taken : AreTaken rules net u frames) (same_room : link.room ≡ first.room) where
+module _ (rules : Rules) (net : Net) (u : ℕ) (first link : LinkView) (status : Status) (frames : List Frame) (taken : AreTaken rules net u frames) (same_room : link.room ≡ first.room) (same_dialled : link.dialled ≡ first.dialled) where
   -- the stream has come to its end
   pub served_by_ending : (ending : Ending) → status ≡ status_of (length (stream frames)) ending → ends_serving status ≡ true → ((bytes : List ℕ) → first.incoming ≡ Some bytes → Comes rules net u bytes frames ending) → Answered rules net u frames first link
       → link.faults ≡ first.faults → (status ≡ Done → IsAtEnd link.incoming) → Served rules net u first link status
@@ -77,6 +77,7 @@ module _ (rules : Rules) (net : Net) (u : ℕ) (first link : LinkView) (status :
         inl (is ∙ subst (λ g. status_of (length (stream frames)) ending ≡ status_of (length (stream g)) other) both.0 (ap (status_of (length (stream frames))) both.1));
     read = read;
     same_room = same_room;
+    same_dialled = same_dialled;
   }
     where
       omega_le : first.faults ≡ link.faults → first.faults ≤ link.faults
@@ -94,6 +95,7 @@ module _ (rules : Rules) (net : Net) (u : ℕ) (first link : LinkView) (status :
     complete = λ bytes told others other come. inr why;
     read = λ e. absurd (never Done why (λ d. absurd (cc d)) (λ d. absurd (cc d)) e);
     same_room = same_room;
+    same_dialled = same_dialled;
   }
     where
       formed : (status ≡ NoMemory) ⊎ (status ≡ LinkFault) → ends_serving status ≡ true

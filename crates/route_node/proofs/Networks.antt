@@ -1,5 +1,5 @@
 -- What each end of a node over a source and a link gives of the promise.
-use Rattle.std.proofs.Common.{ℕ, suc, ◌≡◌, ◌≤◌, ◌<◌, inl, inr, Option, Some, None, Result, Ok, Err, is_err, IsNone, IfSome, ◌↔◌, List, [], length, Bool, true, false, not, true≢false, refl, sym, ap, ◌∙◌, subst, arith}
+use Rattle.std.proofs.Common.{ℕ, suc, ◌≡◌, ◌≤◌, ◌<◌, inl, inr, Option, Some, None, Result, Ok, Err, is_err, IsNone, IfSome, ◌↔◌, List, [], length, Bool, true, false, not, true≢false, refl, sym, ap, ap₂, ◌∙◌, subst, arith}
 use Rattle.std.specs.Prelude.{is_some}
 use Rattle.std.specs.Io.KnownBytes.{IsAtEnd}
 use Rattle.topology.specs.declared.status.Status.{Status}
@@ -9,7 +9,7 @@ use Rattle.topology.specs.declared.status.LimitKind.TheVariants as kind
 use Rattle.topology.specs.Lists.{has}
 use Rattle.topology.specs.Net.{Net}
 use Rattle.route_io.specs.Causes.{HasCause, RoseIf}
-use Rattle.route_io.specs.Links.{OnlyCounts}
+use Rattle.route_io.specs.Links.{Dials, OnlyDials}
 use Rattle.route_io.specs.Views.{SourceView, LinkView}
 use Rattle.route_io.proofs.Bytes.{stays_quiet, has_risen}
 use Rattle.path_vector.specs.GaoRexford.{gao_rexford}
@@ -20,7 +20,7 @@ use Rattle.schedule_file.specs.Grammar.{IsTopologyFile, net_of}
 use Rattle.schedule_file.specs.Refusals.{FirstBadOfTopology}
 use Rattle.schedule_file.proofs.Readings.{one_list, no_bad, one_bad}
 use Rattle.route_node.specs.Served.{ends_serving, Served}
-use Rattle.route_node.specs.Attended.{IsNetwork, Gives, ends_undialled, Attended}
+use Rattle.route_node.specs.Attended.{IsNetwork, Gives, once_dialled, ends_attending, ends_undialled, Attended}
 
 -- ---- a file is of one network, or has one first bad line
 
@@ -61,16 +61,16 @@ pub dial_fails : {T E : Type 0} (r : Result T E) (before now : ℕ) → is_err r
 dial_fails (Ok x) before now failed cause = absurd (cc failed)
 dial_fails (Err e) before now failed cause = has_risen before now refl cause.later cause.failed
 
--- it was, and the link is as it was
-pub dialled : {T E : Type 0} (r : Result T E) (link link' : LinkView) → is_err r ≡ false → OnlyCounts link link' → HasCause link.faults link'.faults r → link' ≡ link
-dialled (Ok x) link link' done only cause = only ∙ ap (λ n. record link { faults = n }) cause.quiet
-dialled (Err e) link link' done only cause = absurd (cc done)
+-- it was, and nothing else was done with the link
+pub dialled : {T E : Type 0} (r : Result T E) (address : List ℕ) (link link' : LinkView) → is_err r ≡ false → Dials link link' address → OnlyDials link link' → HasCause link.faults link'.faults r → link' ≡ once_dialled link address
+dialled (Ok x) address link link' done dials only cause = only ∙ ap₂ (λ d n. record link { dialled = d; faults = n }) dials cause.quiet
+dialled (Err e) address link link' done dials only cause = absurd (cc done)
 
 -- ---- before anything was read
 
-pub ends_no_memory : (id : ℕ) (source source' : SourceView) (link : LinkView) → source'.faults ≡ source.faults → Attended id source source' link link NoMemory
-ends_no_memory id source source' link quiet = record {
-  formed = (λ e. cc e, λ e. cc e);
+pub ends_no_memory : (id : ℕ) (address : List ℕ) (source source' : SourceView) (link : LinkView) → source'.faults ≡ source.faults → Attended id address source source' link link NoMemory
+ends_no_memory id address source source' link quiet = record {
+  formed = refl;
   served = λ bytes told net is there. inr (inl refl, refl);
   missing = λ bytes told net is none. inr (inl refl);
   refused = λ bytes told short line bad first. inr (inl refl);
@@ -82,12 +82,14 @@ ends_no_memory id source source' link quiet = record {
   read_fault = stays_quiet source.faults source'.faults (λ e. cc e) quiet;
   link_fault = stays_quiet link.faults link.faults (λ e. cc e) refl;
   undialled = λ e. refl;
+  dialled = λ e. absurd (cc e);
+  dialled_at_most = inr refl;
   read = λ e. absurd (cc e);
 }
 
-pub ends_read_fault : (id : ℕ) (source source' : SourceView) (link : LinkView) → RoseIf (ReadFault ≡ ReadFault) source.faults source'.faults → Attended id source source' link link ReadFault
-ends_read_fault id source source' link rose = record {
-  formed = (λ e. cc e, λ e. cc e);
+pub ends_read_fault : (id : ℕ) (address : List ℕ) (source source' : SourceView) (link : LinkView) → RoseIf (ReadFault ≡ ReadFault) source.faults source'.faults → Attended id address source source' link link ReadFault
+ends_read_fault id address source source' link rose = record {
+  formed = refl;
   served = λ bytes told net is there. inr (inr (inl refl), refl);
   missing = λ bytes told net is none. inr (inr refl);
   refused = λ bytes told short line bad first. inr (inr refl);
@@ -99,13 +101,15 @@ ends_read_fault id source source' link rose = record {
   read_fault = rose;
   link_fault = stays_quiet link.faults link.faults (λ e. cc e) refl;
   undialled = λ e. refl;
+  dialled = λ e. absurd (cc e);
+  dialled_at_most = inr refl;
   read = λ e. absurd (cc e);
 }
 
-pub ends_too_long : (id : ℕ) (source source' : SourceView) (link : LinkView) → IfSome source.left (λ bytes. MAX_BYTES < length bytes) → source'.faults ≡ source.faults
-    → Attended id source source' link link (Limit kind.Bytes MAX_BYTES)
-ends_too_long id source source' link long quiet = record {
-  formed = (λ e. cc e, λ e. cc e);
+pub ends_too_long : (id : ℕ) (address : List ℕ) (source source' : SourceView) (link : LinkView) → IfSome source.left (λ bytes. MAX_BYTES < length bytes) → source'.faults ≡ source.faults
+    → Attended id address source source' link link (Limit kind.Bytes MAX_BYTES)
+ends_too_long id address source source' link long quiet = record {
+  formed = refl;
   served = λ bytes told net is there. absurd (over bytes told is.short);
   missing = λ bytes told net is none. absurd (over bytes told is.short);
   refused = λ bytes told short line bad first. absurd (over bytes told short);
@@ -117,6 +121,8 @@ ends_too_long id source source' link long quiet = record {
   read_fault = stays_quiet source.faults source'.faults (λ e. cc e) quiet;
   link_fault = stays_quiet link.faults link.faults (λ e. cc e) refl;
   undialled = λ e. refl;
+  dialled = λ e. absurd (cc e);
+  dialled_at_most = inr refl;
   read = λ e. absurd (cc e);
 }
   where
@@ -151,9 +157,9 @@ module _ (source source' : SourceView) (bytes : List ℕ) (read : (told : List �
   as_told : (P : List ℕ → Type 0) (told : List ℕ) → source.left ≡ Some told → P bytes → P told
   as_told P told is holds = subst P (read told is) holds
 
-  pub ends_bad : Got source source' bytes → (id : ℕ) (link : LinkView) (line : ℕ) (bad : BadKind) → FirstBadOfTopology bytes line bad → Attended id source source' link link (BadSchedule line bad)
-  ends_bad got id link line bad first = record {
-    formed = (λ e. cc e, λ e. cc e);
+  pub ends_bad : Got source source' bytes → (id : ℕ) (address : List ℕ) (link : LinkView) (line : ℕ) (bad : BadKind) → FirstBadOfTopology bytes line bad → Attended id address source source' link link (BadSchedule line bad)
+  ends_bad got id address link line bad first = record {
+    formed = refl;
     served = λ told t net is there. absurd (no_network bytes net line bad (as_read (λ b. IsTopologyFile b net) told t is.file) first);
     missing = λ told t net is none. absurd (no_network bytes net line bad (as_read (λ b. IsTopologyFile b net) told t is.file) first);
     refused = λ told t short other last again. inl (same_refusal bytes line other bad last first (as_read (λ b. FirstBadOfTopology b other last) told t again));
@@ -167,10 +173,12 @@ module _ (source source' : SourceView) (bytes : List ℕ) (read : (told : List �
     read_fault = stays_quiet source.faults source'.faults (λ e. cc e) got.quiet;
     link_fault = stays_quiet link.faults link.faults (λ e. cc e) refl;
     undialled = λ e. refl;
+    dialled = λ e. absurd (cc e);
+    dialled_at_most = inr refl;
     read = λ e. absurd (cc e);
   }
 
-module _ (id : ℕ) (source source' : SourceView) (net : Net) (gives : Gives source source' net) where
+module _ (id : ℕ) (address : List ℕ) (source source' : SourceView) (net : Net) (gives : Gives source source' net) where
   -- any network of the file is this one
   is_it : (told : List ℕ) → source.left ≡ Some told → (other : Net) → IsNetwork told other → net ≡ other
   is_it told t other is = same_network gives.bytes net other gives.network.file (as_read source source' gives.bytes gives.known (λ b. IsTopologyFile b other) told t is.file)
@@ -182,9 +190,9 @@ module _ (id : ℕ) (source source' : SourceView) (net : Net) (gives : Gives sou
   not_bad : (told : List ℕ) → source.left ≡ Some told → (line : ℕ) (bad : BadKind) → FirstBadOfTopology told line bad → ⊥
   not_bad told t line bad first = no_network gives.bytes net line bad gives.network.file (as_read source source' gives.bytes gives.known (λ b. FirstBadOfTopology b line bad) told t first)
 
-  pub ends_missing : (link : LinkView) → has net.nodes id ≡ false → Attended id source source' link link (NoSuchNode id)
+  pub ends_missing : (link : LinkView) → has net.nodes id ≡ false → Attended id address source source' link link (NoSuchNode id)
   ends_missing link none = record {
-    formed = (λ e. cc e, λ e. cc e);
+    formed = refl;
     served = λ told t other is there. absurd (not_both other net id (sym (is_it told t other is)) there none);
     missing = λ told t other is gone. inl refl;
     refused = λ told t short line bad first. absurd (not_bad told t line bad first);
@@ -196,13 +204,15 @@ module _ (id : ℕ) (source source' : SourceView) (net : Net) (gives : Gives sou
     read_fault = stays_quiet source.faults source'.faults (λ e. cc e) gives.quiet;
     link_fault = stays_quiet link.faults link.faults (λ e. cc e) refl;
     undialled = λ e. refl;
+    dialled = λ e. absurd (cc e);
+    dialled_at_most = inr refl;
     read = λ e. absurd (cc e);
   }
 
   module _ (there : has net.nodes id ≡ true) where
-    pub ends_undialled_fault : (link link' : LinkView) → OnlyCounts link link' → RoseIf (LinkFault ≡ LinkFault) link.faults link'.faults → Attended id source source' link link' LinkFault
-    ends_undialled_fault link link' only rose = record {
-      formed = (λ e. cc e, λ e. cc e);
+    pub ends_at_dial : (link link' : LinkView) → Dials link link' address → OnlyDials link link' → RoseIf (LinkFault ≡ LinkFault) link.faults link'.faults → Attended id address source source' link link' LinkFault
+    ends_at_dial link link' dials only rose = record {
+      formed = refl;
       served = λ told t other is has_it. inr (inr (inr refl), only);
       missing = λ told t other is gone. absurd (not_both net other id (is_it told t other is) there gone);
       refused = λ told t short line bad first. absurd (not_bad told t line bad first);
@@ -214,13 +224,15 @@ module _ (id : ℕ) (source source' : SourceView) (net : Net) (gives : Gives sou
       read_fault = stays_quiet source.faults source'.faults (λ e. cc e) gives.quiet;
       link_fault = rose;
       undialled = λ e. absurd (cc e);
+      dialled = λ e. dials;
+      dialled_at_most = inl dials;
       read = λ e. absurd (cc e);
     }
 
-    pub ends_served : (link link' : LinkView) (status : Status) → Served gao_rexford net id link link' status → Attended id source source' link link' status
+    pub ends_served : (link link' : LinkView) (status : Status) → Served gao_rexford net id (once_dialled link address) link' status → Attended id address source source' link link' status
     ends_served link link' status is_served = record {
-      formed = (λ e. never (sym (ap ends_serving e) ∙ is_served.formed), λ e. never (sym (ap ends_serving e) ∙ is_served.formed));
-      served = λ told t other is has_it. inl (subst (λ n. Served gao_rexford n id link link' status) (is_it told t other is) is_served);
+      formed = may_end status is_served.formed;
+      served = λ told t other is has_it. inl (subst (λ n. Served gao_rexford n id (once_dialled link address) link' status) (is_it told t other is) is_served);
       missing = λ told t other is gone. absurd (not_both net other id (is_it told t other is) there gone);
       refused = λ told t short line bad first. absurd (not_bad told t line bad first);
       too_long = λ told t long. absurd (not_long source source' gives.bytes gives.known gives.network.short told t long);
@@ -231,11 +243,25 @@ module _ (id : ℕ) (source source' : SourceView) (net : Net) (gives : Gives sou
       read_fault = stays_quiet source.faults source'.faults (λ e. never (sym (ap ends_serving e) ∙ is_served.formed)) gives.quiet;
       link_fault = is_served.link_fault;
       undialled = λ e. absurd (not_over status e is_served.formed);
+      dialled = λ e. is_served.same_dialled;
+      dialled_at_most = inl is_served.same_dialled;
       read = λ e. gives.at_end;
     }
       where
         never : false ≡ true → ⊥
         never e = true≢false (sym e)
+
+        may_end : (s : Status) → ends_serving s ≡ true → ends_attending s ≡ true
+        may_end Done f = refl
+        may_end Usage f = f
+        may_end NoMemory f = refl
+        may_end (BadSchedule line bad) f = refl
+        may_end (Limit what number) f = refl
+        may_end ReadFault f = refl
+        may_end WriteFault f = f
+        may_end LinkFault f = refl
+        may_end (BadFrame at fault) f = refl
+        may_end (NoSuchNode node) f = refl
 
         not_over : (s : Status) → ends_undialled s ≡ true → ends_serving s ≡ true → ⊥
         not_over Done e f = cc e

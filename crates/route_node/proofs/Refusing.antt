@@ -80,7 +80,7 @@ module _ {P : Type 0} (rules : Rules) (at : Setting P) (frames : List Frame) (pr
   -- what is found in front of all that is left is refused for this
   refused_by : (fault : FrameFault) → ((t : List ℕ) → EndsAt rules at.net at.node frames (process.received ++ t) (Refused fault)) → Served rules at.net at.node at.first old (BadFrame process.offset fault)
   refused_by fault ends =
-      served_by_ending rules at.net at.node at.first old (BadFrame process.offset fault) frames runs.taken runs.same_room (Refused fault) (ap (λ n. BadFrame n fault) runs.offset) refl
+      served_by_ending rules at.net at.node at.first old (BadFrame process.offset fault) frames runs.taken runs.same_room runs.same_dialled (Refused fault) (ap (λ n. BadFrame n fault) runs.offset) refl
       (λ bytes told.
       let known = told_as rules at frames process old old runs bytes told in
       record { rest = process.received ++ known.0; in_front = known.2; taken = runs.taken; ends = ends known.0 })

@@ -128,6 +128,7 @@ module _ {P : Type 0} (rules : Rules) (at : Setting P) (frames : List Frame) (pr
           wrote = subst (λ o. Appends at.first.outgoing o (spelled (replies rules at.net at.node frames))) (sym (ap (λ (l : LinkView). l.outgoing) others)) runs.wrote;
           one_write_each = λ left room few. ap (λ (l : LinkView). l.writes) others ∙ runs.one_write_each left room few;
           same_room = ap (λ (l : LinkView). l.room) others ∙ runs.same_room;
+          same_dialled = ap (λ (l : LinkView). l.dialled) others ∙ runs.same_dialled;
           quiet = quiet ∙ runs.quiet;
         };
         within = (omega (arith, short, small, size), within.1);
@@ -169,7 +170,7 @@ module _ {P : Type 0} (rules : Rules) (at : Setting P) (frames : List Frame) (pr
     pub served_at_end : IfSome old.incoming (λ t. OnOk r ((r ≡ Ok filled.End) ↔ (t ≡ []))) → ahead received new ≡ ahead process.received old → received ≡ [] → OnlyReads old new → new.faults ≡ old.faults
         → Served rules at.net at.node at.first new Done
     served_at_end end same empty others quiet =
-        served_by_ending rules at.net at.node at.first new Done frames runs.taken (ap (λ (l : LinkView). l.room) others ∙ runs.same_room) End refl refl
+        served_by_ending rules at.net at.node at.first new Done frames runs.taken (ap (λ (l : LinkView). l.room) others ∙ runs.same_room) (ap (λ (l : LinkView). l.dialled) others ∙ runs.same_dialled) End refl refl
         (λ bytes told.
         let known = told_as bytes told in
         record {
@@ -188,7 +189,7 @@ module _ {P : Type 0} (rules : Rules) (at : Setting P) (frames : List Frame) (pr
     pub served_within : IfSome old.incoming (λ t. OnOk r ((r ≡ Ok filled.End) ↔ (t ≡ []))) → found process.received ≡ Partial → (received ≡ [] → ⊥) → OnlyReads old new → new.faults ≡ old.faults
         → Served rules at.net at.node at.first new (BadFrame process.offset Truncated)
     served_within end partial some others quiet =
-        served_by_ending rules at.net at.node at.first new (BadFrame process.offset Truncated) frames runs.taken (ap (λ (l : LinkView). l.room) others ∙ runs.same_room) (Refused Truncated) (ap (λ n. BadFrame n Truncated) runs.offset) refl
+        served_by_ending rules at.net at.node at.first new (BadFrame process.offset Truncated) frames runs.taken (ap (λ (l : LinkView). l.room) others ∙ runs.same_room) (ap (λ (l : LinkView). l.dialled) others ∙ runs.same_dialled) (Refused Truncated) (ap (λ n. BadFrame n Truncated) runs.offset) refl
         (λ bytes told.
         let known = told_as bytes told in
         record {
@@ -202,7 +203,7 @@ module _ {P : Type 0} (rules : Rules) (at : Setting P) (frames : List Frame) (pr
   -- memory ran out before the link was asked
   pub served_without_memory : new ≡ old → Served rules at.net at.node at.first new NoMemory
   served_without_memory same =
-      served_by_break rules at.net at.node at.first new NoMemory frames runs.taken (ap (λ (l : LinkView). l.room) same ∙ runs.same_room) (inl refl)
+      served_by_break rules at.net at.node at.first new NoMemory frames runs.taken (ap (λ (l : LinkView). l.room) same ∙ runs.same_room) (ap (λ (l : LinkView). l.dialled) same ∙ runs.same_dialled) (inl refl)
       (record {
         later = let e = ap (λ (l : LinkView). l.faults) same ∙ runs.quiet in omega (arith, e);
         rose = λ e. absurd (cc e);
@@ -213,7 +214,7 @@ module _ {P : Type 0} (rules : Rules) (at : Setting P) (frames : List Frame) (pr
   -- a read failed
   pub served_by_fault : OnlyReads old new → {failed : Type 0} → RoseIf failed old.faults new.faults → failed → Served rules at.net at.node at.first new LinkFault
   served_by_fault others cause failed =
-      served_by_break rules at.net at.node at.first new LinkFault frames runs.taken (ap (λ (l : LinkView). l.room) others ∙ runs.same_room) (inr refl)
+      served_by_break rules at.net at.node at.first new LinkFault frames runs.taken (ap (λ (l : LinkView). l.room) others ∙ runs.same_room) (ap (λ (l : LinkView). l.dialled) others ∙ runs.same_dialled) (inr refl)
       (record {
         later = subst (λ n. n ≤ new.faults) runs.quiet cause.later;
         rose = λ _. subst (λ n. Rose n new.faults) runs.quiet (cause.rose failed);

@@ -1,5 +1,5 @@
 -- What a user is promised of a node of a network that a source holds.
-use Rattle.std.specs.Prelude.{ℕ, Bool, true, false, ◌≡◌, ◌≢◌, ◌≤◌, ◌<◌, ◌⊎◌, Some, List, length}
+use Rattle.std.specs.Prelude.{ℕ, Bool, true, false, ◌≡◌, ◌≤◌, ◌<◌, ◌⊎◌, Some, option_map, List, ◌∷◌, length}
 use Rattle.std.specs.Io.KnownBytes.{IsAtEnd}
 use Rattle.topology.specs.declared.status.Status.{Status}
 use Rattle.topology.specs.declared.status.Status.TheVariants.{Done, Usage, NoMemory, BadSchedule, Limit, ReadFault, WriteFault, LinkFault, BadFrame, NoSuchNode}
@@ -8,6 +8,7 @@ use Rattle.topology.specs.declared.status.LimitKind.TheVariants as kind
 use Rattle.topology.specs.Lists.{has}
 use Rattle.topology.specs.Net.{Net}
 use Rattle.route_io.specs.Causes.{RoseIf}
+use Rattle.route_io.specs.Links.{Dials, OnlyDials}
 use Rattle.route_io.specs.Views.{SourceView, LinkView}
 use Rattle.path_vector.specs.GaoRexford.{gao_rexford}
 use Rattle.schedule_file.specs.declared.parser.TheConstants.{MAX_BYTES}
@@ -31,7 +32,24 @@ pub record Gives (source source' : SourceView) (net : Net) : Type 0 where
 -- the run ended before the first frame: nothing came over the link, and nothing went
 abbrev pub EndsBefore : Status → LinkView → LinkView → Type 0
 EndsBefore status link link' =
-    ((status ≡ NoMemory) ⊎ ((status ≡ ReadFault) ⊎ (status ≡ LinkFault))) × (link' ≡ record link { faults = link'.faults })
+    ((status ≡ NoMemory) ⊎ ((status ≡ ReadFault) ⊎ (status ≡ LinkFault))) × OnlyDials link link'
+
+-- a link once the address was dialled, and nothing else was done with it
+abbrev pub once_dialled : LinkView → List ℕ → LinkView
+once_dialled link address = record link { dialled = option_map (λ before. address ∷ before) link.dialled }
+
+-- the statuses with which it may end
+abbrev pub ends_attending : Status → Bool
+ends_attending Done = true
+ends_attending Usage = false
+ends_attending NoMemory = true
+ends_attending (BadSchedule line bad) = true
+ends_attending (Limit what number) = true
+ends_attending ReadFault = true
+ends_attending WriteFault = false
+ends_attending LinkFault = true
+ends_attending (BadFrame offset fault) = true
+ends_attending (NoSuchNode node) = true
 
 -- the statuses with which it ends before the address is dialled
 abbrev pub ends_undialled : Status → Bool
@@ -61,12 +79,28 @@ ends_over LinkFault = false
 ends_over (BadFrame offset fault) = true
 ends_over (NoSuchNode node) = false
 
--- how the node with this number ends, on a source and a link as they were and as they are then
-pub record Attended (id : ℕ) (source source' : SourceView) (link link' : LinkView) (status : Status) : Type 0 where
-  pub formed : (status ≢ Usage) × (status ≢ WriteFault)
-  -- a network that has the node: its frames are answered, unless a read or the dial fails or memory runs out before
+-- the statuses with which it ends once the address was dialled
+abbrev pub ends_dialled : Status → Bool
+ends_dialled Done = true
+ends_dialled Usage = false
+ends_dialled NoMemory = false
+ends_dialled (BadSchedule line bad) = false
+ends_dialled (Limit kind.Bytes number) = false
+ends_dialled (Limit other number) = true
+ends_dialled ReadFault = false
+ends_dialled WriteFault = false
+ends_dialled LinkFault = true
+ends_dialled (BadFrame offset fault) = true
+ends_dialled (NoSuchNode node) = false
+
+-- how the node with this number, whose peer has this address, ends, on a source and a link as they were and as they are then
+pub record Attended (id : ℕ) (address : List ℕ) (source source' : SourceView) (link link' : LinkView) (status : Status) : Type 0 where
+  -- never Usage, and nothing of a sink
+  pub formed : ends_attending status ≡ true
+  -- a network that has the node: the address is dialled, and the frames are answered, unless a read or the dial fails or
+  -- memory runs out before
   pub served : (bytes : List ℕ) → source.left ≡ Some bytes → (net : Net) → IsNetwork bytes net → has net.nodes id ≡ true
-      → Served gao_rexford net id link link' status ⊎ EndsBefore status link link'
+      → Served gao_rexford net id (once_dialled link address) link' status ⊎ EndsBefore status link link'
   -- one that has not: it is named, unless a read fails or memory runs out
   pub missing : (bytes : List ℕ) → source.left ≡ Some bytes → (net : Net) → IsNetwork bytes net → has net.nodes id ≡ false
       → (status ≡ NoSuchNode id) ⊎ ((status ≡ NoMemory) ⊎ (status ≡ ReadFault))
@@ -93,5 +127,9 @@ pub record Attended (id : ℕ) (source source' : SourceView) (link link' : LinkV
   pub link_fault : RoseIf (status ≡ LinkFault) link.faults link'.faults
   -- nothing is done with the link before the network and the number are known
   pub undialled : ends_undialled status ≡ true → link' ≡ link
+  -- the address is dialled, once, before the first frame
+  pub dialled : ends_dialled status ≡ true → Dials link link' address
+  -- and nothing else is, whatever the end
+  pub dialled_at_most : Dials link link' address ⊎ (link'.dialled ≡ link.dialled)
   -- nothing is left of the file once the link is dialled
   pub read : ends_over status ≡ true → IsAtEnd source'.left

@@ -37,6 +37,7 @@ pub record Runs {P : Type 0} (rules : Rules) (at : Setting P) (process : Process
   pub wrote : Appends at.first.outgoing link.outgoing (spelled (replies rules at.net at.node frames))
   pub one_write_each : OneWriteEach (replies rules at.net at.node frames) at.first link
   pub same_room : link.room ≡ at.first.room
+  pub same_dialled : link.dialled ≡ at.first.dialled
   pub quiet : link.faults ≡ at.first.faults
 
 -- no frame is longer than this with its six bytes in front

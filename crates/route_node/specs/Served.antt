@@ -76,3 +76,5 @@ pub record Served (rules : Rules) (net : Net) (u : ℕ) (link link' : LinkView) 
   pub read : status ≡ Done → IsAtEnd link'.incoming
   -- no call changes how much the link can take
   pub same_room : link'.room ≡ link.room
+  -- no call dials
+  pub same_dialled : link'.dialled ≡ link.dialled

@@ -1,5 +1,5 @@
 //! A node of a network that a source holds.
-ghost use Rattle.std.specs.Prelude.{ℕ, IfOk, IfErr};
+ghost use Rattle.std.specs.Prelude.{ℕ, List, IfOk, IfErr};
 ghost use Rattle.route_io.specs.Views.{LinkView};
 ghost use Rattle.route_node.specs.Attended.{Attended, Gives};
 
@@ -13,8 +13,8 @@ use topology::{LimitKind, NodeId, Status, Topology};
 // The network that a source holds.
 fn network_of<I: Source>(alloc: Global, source: &mut I) -> Result<Rc<Topology>, Status>
     ensures ok { IfOk result (λ network. Gives (I.seen source.old) (I.seen source.new) network.value) }
-    ensures err { IfErr result (λ status. (id : ℕ) (link : LinkView) →
-        Attended id (I.seen source.old) (I.seen source.new) link link status) }
+    ensures err { IfErr result (λ status. (id : ℕ) (address : List ℕ) (link : LinkView) →
+        Attended id address (I.seen source.old) (I.seen source.new) link link status) }
 {
     let bytes = match read_all(alloc, source, MAX_BYTES as usize) {
         Ok(bytes) => bytes,
@@ -42,7 +42,7 @@ pub fn attend<I: Source, L: Link>(
     source: &mut I,
     link: &mut L,
 ) -> Status
-    ensures { Attended id (I.seen source.old) (I.seen source.new) (L.seen link.old) (L.seen link.new) result }
+    ensures { Attended id address.now (I.seen source.old) (I.seen source.new) (L.seen link.old) (L.seen link.new) result }
 {
     let network = match network_of(alloc, source) {
         Ok(network) => network,
