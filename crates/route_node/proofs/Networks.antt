@@ -175,7 +175,7 @@ module _ (source source' : SourceView) (bytes : List ℕ) (read : (told : List �
     undialled = λ e. refl;
     dialled = λ e. absurd (cc e);
     dialled_at_most = inr refl;
-    read = λ e. absurd (cc e);
+    read = λ e. got.at_end;
   }
 
 module _ (id : ℕ) (address : List ℕ) (source source' : SourceView) (net : Net) (gives : Gives source source' net) where
@@ -206,7 +206,7 @@ module _ (id : ℕ) (address : List ℕ) (source source' : SourceView) (net : Ne
     undialled = λ e. refl;
     dialled = λ e. absurd (cc e);
     dialled_at_most = inr refl;
-    read = λ e. absurd (cc e);
+    read = λ e. gives.at_end;
   }
 
   module _ (there : has net.nodes id ≡ true) where
@@ -226,7 +226,7 @@ module _ (id : ℕ) (address : List ℕ) (source source' : SourceView) (net : Ne
       undialled = λ e. absurd (cc e);
       dialled = λ e. dials;
       dialled_at_most = inl dials;
-      read = λ e. absurd (cc e);
+      read = λ e. gives.at_end;
     }
 
     pub ends_served : (link link' : LinkView) (status : Status) → Served gao_rexford net id (once_dialled link address) link' status → Attended id address source source' link link' status

@@ -93,6 +93,20 @@ ends_dialled LinkFault = true
 ends_dialled (BadFrame offset fault) = true
 ends_dialled (NoSuchNode node) = false
 
+-- the statuses before which the file was read to its end
+abbrev pub ends_read : Status → Bool
+ends_read Done = true
+ends_read Usage = false
+ends_read NoMemory = false
+ends_read (BadSchedule line bad) = true
+ends_read (Limit kind.Bytes number) = false
+ends_read (Limit other number) = true
+ends_read ReadFault = false
+ends_read WriteFault = false
+ends_read LinkFault = true
+ends_read (BadFrame offset fault) = true
+ends_read (NoSuchNode node) = true
+
 -- how the node with this number, whose peer has this address, ends, on a source and a link as they were and as they are then
 pub record Attended (id : ℕ) (address : List ℕ) (source source' : SourceView) (link link' : LinkView) (status : Status) : Type 0 where
   -- never Usage, and nothing of a sink
@@ -131,5 +145,5 @@ pub record Attended (id : ℕ) (address : List ℕ) (source source' : SourceView
   pub dialled : ends_dialled status ≡ true → Dials link link' address
   -- and nothing else is, whatever the end
   pub dialled_at_most : Dials link link' address ⊎ (link'.dialled ≡ link.dialled)
-  -- nothing is left of the file once the link is dialled
-  pub read : ends_over status ≡ true → IsAtEnd source'.left
+  -- nothing is left of the file once it was parsed
+  pub read : ends_read status ≡ true → IsAtEnd source'.left
