@@ -37,6 +37,7 @@ use Rattle.route_node.specs.Writing.{spelled, OneWriteEach, Writes, Breaks}
 use Rattle.route_node.proofs.Ending.{served_by_ending, served_by_break}
 use Rattle.route_node.proofs.Stopping.{limit_ends}
 use Rattle.route_node.proofs.Taking.{run_more, refusal_is, limit_as, within_limit, replies_more}
+use Rattle.route_node.proofs.Told.{replies_spelled}
 use Rattle.route_node.proofs.Waiting.{told_as, answered_as, served_without_memory}
 use Rattle.route_node.proofs.Written.{spelled_both, one_write_behind}
 
@@ -133,6 +134,7 @@ module _ {P : Type 0} (rules : Rules) (at : Setting P) (frames : List Frame) (pr
           rest = drop size process.received ++ seen.0;
           in_front = seen.2 ∙ (ap (λ l. stream frames ++ l) (left_as seen.0) ∙ sym (append_assoc (stream frames) (spell frame) (drop size process.received ++ seen.0)));
           taken = taken_now;
+          spelled = replies_spelled rules at.net at.node (frame ∷ frames) runs.valid runs.is_node taken_now;
           some = spelled (replies rules at.net at.node frames) ++ breaks.some;
           begins = subst (λ l. Begins (spelled (replies rules at.net at.node frames) ++ breaks.some) l) (sym spelled_now)
               (begins_behind (spelled (replies rules at.net at.node frames)) (spelled (filter_map telling (handed told))) breaks.some breaks.begins);

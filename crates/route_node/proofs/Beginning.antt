@@ -1,6 +1,7 @@
 -- A process that begins.
 use Rattle.std.proofs.Common.{ℕ, ◌≡◌, ◌≤◌, true, Option, Some, None, List, [], length, refl, sym, ap, ◌∙◌, subst, inl, arith}
 use Rattle.std.specs.Prelude.{option_map}
+use Rattle.std.specs.List.{list_all}
 use Rattle.std.specs.Io.KnownBytes.{Appends, prepend_known}
 use Rattle.topology.specs.declared.status.Status.TheVariants.{NoMemory}
 use Rattle.topology.specs.Lists.{has}
@@ -10,6 +11,7 @@ use Rattle.route_io.proofs.Bytes.{appends_none}
 use Rattle.path_vector.specs.Rules.{Rules}
 use Rattle.node_core.specs.Standing.{StandsFor}
 use Rattle.admission_laws.specs.NodeRuns.{alone}
+use Rattle.wire_frames.specs.Frames.{fits as has_spelling}
 use Rattle.route_node.specs.declared.serving.Process.{Process}
 use Rattle.route_node.specs.declared.limits.TheConstants.{MAX_FRAMES}
 use Rattle.route_node.specs.Running.{Setting, Runs}
@@ -68,6 +70,7 @@ module _ (rules : Rules) (net : Net) (u : ℕ) where
         rest = bytes;
         in_front = refl;
         taken = tt;
+        spelled = subst (λ fs. list_all has_spelling fs ≡ true) (sym nothing_replied) refl;
         some = [];
         begins = (spelled (replies rules net u []), refl);
         wrote = appends_none link.outgoing;

@@ -68,6 +68,7 @@ module _ (rules : Rules) (net : Net) (u : ℕ) (first link : LinkView) (status :
           rest = all.rest;
           in_front = all.in_front;
           taken = taken;
+          spelled = answered.spelled;
           some = answers rules net u frames;
           begins = ([], append-nil (answers rules net u frames));
           wrote = answered.wrote;

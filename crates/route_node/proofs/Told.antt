@@ -1,13 +1,14 @@
 -- The frames that tell what a node hands out have a spelling.
 use Rattle.std.proofs.Common.{ℕ, ◌+◌, ◌*◌, ◌≡◌, ◌≤◌, true, ◌&&◌, ◌==◌, Option, Some, None, List, [], ◌∷◌, map, length, refl, sym, ap, ◌∙◌, subst, arith}
-use Rattle.std.specs.Prelude.{nat_le, nat_lt, option_map}
-use Rattle.std.specs.List.{list_all, flat_map}
+use Rattle.std.specs.Prelude.{nat_le, nat_lt, option_map, filter_map}
+use Rattle.std.specs.List.{list_all, flat_map, cons_option}
 use Rattle.std.proofs.lemmas.Bool.Decides.{nat_tests}
 use Rattle.std.proofs.lemmas.List.{length-map, length-append}
 use Rattle.topology.specs.declared.names.Trigger.{Trigger}
 use Rattle.topology.specs.Lists.{has}
 use Rattle.topology.specs.Net.{Net, IsValid, neighbours}
 use Rattle.topology.proofs.Tests.{and_left, and_right, and_both, same_is}
+use Rattle.path_vector.specs.Rules.{Rules}
 use Rattle.trigger_log.specs.Entries.{Update}
 use Rattle.trigger_log.specs.Going.{Item, News, Marker, Hello}
 use Rattle.incomplete_closure.specs.Reports.{Row, SessionRow, Report}
@@ -21,8 +22,10 @@ use Rattle.node_core.specs.ControlFits.{epoch_fits, sender_fits, ballot_fits, na
 use Rattle.node_core.specs.Fits.{item_fits, path_fits}
 use Rattle.node_core.specs.Names.{is_number, triggers_fit}
 use Rattle.node_core.specs.PacketFits.{packet_fits}
-use Rattle.node_core.specs.Outputs.{Output, Logged, Cut, Send, Mail, Published, Forward, Ended}
+use Rattle.node_core.specs.Outputs.{Output, Logged, Cut, Send, Mail, Published, Forward, Ended, outputs}
 use Rattle.admission_laws.specs.Handing.{is_short, table_fits, output_fits}
+use Rattle.admission_laws.proofs.Handed.{all_fit}
+use Rattle.admission_laws.proofs.Sessions.{neighbour_is}
 use Rattle.wire_frames.specs.declared.frames.Frame.{Frame}
 use Rattle.wire_frames.specs.declared.frames.Frame.TheVariants as frame
 use Rattle.wire_frames.specs.Fields.{node, prefix, positive, epoch, epoch_or_none, trigger, ballot, path, paths, value, named, packet, any32, end, row, session_row, report}
@@ -30,7 +33,9 @@ use Rattle.wire_frames.specs.Frames.{limit_of, tag_of, fields_fit, body}
 use Rattle.wire_frames.specs.Frames.{fits as has_spelling}
 use Rattle.wire_frames.proofs.Short.{short_unless_report, row_wide, session_open, session_down, report_wide}
 use Rattle.route_node.specs.Frames.{first_of, item_told, row_told, session_told, report_told, item_frame, ballot_frame, mail_frame, telling}
+use Rattle.route_node.specs.Streams.{inputs, run_over, replies, AreTaken}
 use Rattle.route_node.proofs.Spellable.{at_most, node_fits, positive_fits, prefix_fits, epoch_as, epoch_or_none_as, any32_fits, trigger_as, triggers_first, ballot_as, path_as, paths_as, value_as, named_as, packet_as, report_as}
+use Rattle.route_node.proofs.Taking.{all_admitted}
 
 -- ---- how long a report is
 
@@ -175,3 +180,19 @@ module _ (net : Net) (valid : IsValid net) where
       let same : frame.Ended id ending ≡ f = cc is in
       subst (λ g. has_spelling g ≡ true) same
       (spelled (frame.Ended id ending) (λ n r d. absurd (cc d)) (and_both (any32.fits id) (end.fits ending) (any32_fits id fit) (end_fits ending)))
+
+  -- the frames that tell what is handed out
+  each_told : (u : ℕ) (os : List Output) → list_all (output_fits net u) os ≡ true → list_all has_spelling (filter_map telling os) ≡ true
+  each_told u [] fit = refl
+  each_told u (o ∷ os) fit = with_first (telling o) refl (each_told u os (and_right (output_fits net u o) (list_all (output_fits net u) os) fit))
+    where
+      with_first : (t : Option Frame) → telling o ≡ t → list_all has_spelling (filter_map telling os) ≡ true → list_all has_spelling (cons_option t (filter_map telling os)) ≡ true
+      with_first None is rest = rest
+      with_first (Some f) is rest =
+          and_both (has_spelling f) (list_all has_spelling (filter_map telling os))
+          (telling_fits u o f (λ w near. neighbour_is net u w valid near) (and_left (output_fits net u o) (list_all (output_fits net u) os) fit) is) rest
+
+-- the replies to frames that were taken
+pub replies_spelled : (rules : Rules) (net : Net) (u : ℕ) (frames : List Frame) → IsValid net → has net.nodes u ≡ true → AreTaken rules net u frames → list_all has_spelling (replies rules net u frames) ≡ true
+replies_spelled rules net u frames valid here taken =
+    each_told net valid u (outputs (run_over rules net u frames)) (all_fit rules net u (inputs frames) valid here (all_admitted rules net u frames taken))

@@ -29,6 +29,7 @@ use Rattle.route_node.specs.Streams.{stream, replies, End, Refused, found_fault,
 use Rattle.route_node.specs.Running.{Setting, Runs, GoesOn, IsWithin, left_of}
 use Rattle.route_node.specs.Served.{Answered, WroteFront, Served}
 use Rattle.route_node.proofs.Ending.{served_by_ending, served_by_break}
+use Rattle.route_node.proofs.Told.{replies_spelled}
 
 -- ---- the front of a frame is no longer than a frame
 
@@ -96,6 +97,7 @@ module _ {P : Type 0} (rules : Rules) (at : Setting P) (frames : List Frame) (pr
         rest = process.received ++ known.0;
         in_front = known.2;
         taken = runs.taken;
+        spelled = replies_spelled rules at.net at.node frames runs.valid runs.is_node runs.taken;
         some = spelled (replies rules at.net at.node frames);
         begins = ([], append-nil (spelled (replies rules at.net at.node frames)));
         wrote = subst (λ o. Appends at.first.outgoing o (spelled (replies rules at.net at.node frames))) (sym same) runs.wrote;
@@ -103,6 +105,7 @@ module _ {P : Type 0} (rules : Rules) (at : Setting P) (frames : List Frame) (pr
 
   pub answered_as : new.outgoing ≡ old.outgoing → new.writes ≡ old.writes → Answered rules at.net at.node frames at.first new
   answered_as same writes = record {
+    spelled = replies_spelled rules at.net at.node frames runs.valid runs.is_node runs.taken;
     wrote = subst (λ o. Appends at.first.outgoing o (spelled (replies rules at.net at.node frames))) (sym same) runs.wrote;
     one_write_each = λ left room small. writes ∙ runs.one_write_each left room small;
   }

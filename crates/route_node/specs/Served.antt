@@ -1,5 +1,6 @@
 -- What a user is promised of a node that answers the frames of a link.
 use Rattle.std.specs.Prelude.{ℕ, Bool, true, false, ◌≡◌, ◌⊎◌, Some, List, ◌++◌, length}
+use Rattle.std.specs.List.{list_all}
 use Rattle.std.specs.Io.KnownBytes.{Appends, IsAtEnd}
 use Rattle.topology.specs.declared.status.Status.{Status}
 use Rattle.topology.specs.declared.status.Status.TheVariants.{Done, Usage, NoMemory, BadSchedule, Limit, ReadFault, WriteFault, LinkFault, BadFrame, NoSuchNode}
@@ -12,6 +13,7 @@ use Rattle.route_io.specs.Causes.{RoseIf}
 use Rattle.route_io.specs.Views.{LinkView}
 use Rattle.path_vector.specs.Rules.{Rules}
 use Rattle.wire_frames.specs.declared.frames.Frame.{Frame}
+use Rattle.wire_frames.specs.Frames.{fits as has_spelling}
 use Rattle.route_node.specs.Writing.{OneWriteEach}
 use Rattle.route_node.specs.Streams.{stream, replies, answers, AreTaken, Ending, End, Refused, Stopped, Comes}
 
@@ -35,17 +37,21 @@ status_of offset End = Done
 status_of offset (Refused fault) = BadFrame offset fault
 status_of offset (Stopped reached) = Limit reached.kind reached.number
 
--- all answers to the frames were written, and each reply by one write where the link had room for them all
+-- all answers to the frames were written, each of them has a spelling, and each went by one write where the link had room for
+-- them all
 pub record Answered (rules : Rules) (net : Net) (u : ℕ) (frames : List Frame) (link link' : LinkView) : Type 0 where
+  pub spelled : list_all has_spelling (replies rules net u frames) ≡ true
   pub wrote : Appends link.outgoing link'.outgoing (answers rules net u frames)
   pub one_write_each : OneWriteEach (replies rules net u frames) link link'
 
--- some of the answers to frames that stand in front of the bytes and are taken were written, from the first on
+-- some of the answers to frames that stand in front of the bytes and are taken were written, from the first on, and each of
+-- these answers has a spelling
 pub record WroteFront (rules : Rules) (net : Net) (u : ℕ) (bytes : List ℕ) (link link' : LinkView) : Type 0 where
   pub frames : List Frame
   pub rest : List ℕ
   pub in_front : bytes ≡ stream frames ++ rest
   pub taken : AreTaken rules net u frames
+  pub spelled : list_all has_spelling (replies rules net u frames) ≡ true
   pub some : List ℕ
   pub begins : Begins some (answers rules net u frames)
   pub wrote : Appends link.outgoing link'.outgoing some
