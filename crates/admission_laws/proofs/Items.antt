@@ -142,7 +142,7 @@ module _ (rules : Rules) (net : Net) (u : ℕ) (valid : IsValid net) (own : has 
   news_fit : (k : Entry) (h : List Entry) (w : ℕ) → AllFit net u (k ∷ h) → list_all (update_fits net u) (news rules net u h k w) ≡ true
   unfolding news places
   news_fit k h w all =
-      let test = changed rules net u (reads h) k.read w in
+      let test = changed rules net u (k.read ∷ reads h) w in
       each_map (update_fits net u) (update_of (making rules net u h k) w) (filter test (range_with_len 0 (length net.prefixes)))
       (λ p there. let low = among_range 0 (length net.prefixes) p (among_filter test (range_with_len 0 (length net.prefixes)) p there) in update_is k h w p all (omega arith))
 

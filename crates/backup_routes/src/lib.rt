@@ -1,5 +1,5 @@
-//! The choice of a backup: a second path of a node's newest table, along which a packet goes on that
-//! has left the stable tables, and along which it visits no node again.
+//! The choice of a backup: one of the paths that a node had to choose from when it published its newest table,
+//! the published one among them. A packet that has left the stable tables goes on along it, and visits no node again.
 #![tactic(auto)]
 
 ghost use Rattle.std.specs.Prelude.{◌≡◌};

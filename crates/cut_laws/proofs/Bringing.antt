@@ -104,7 +104,7 @@ module _ (rules : Rules) (net : Net) (v : ℕ) (inside : has net.nodes v ≡ tru
   -- so have all that an entry sends
   news_have : (h : List Entry) (k : Entry) (w : ℕ) → BringsFrom net (k.read ∷ reads h) → AllByRecursion (HasRoute net v) (news rules net v h k w)
   unfolding news
-  news_have h k w b = updates_have h k w (filter (changed rules net v (reads h) k.read w) (places net)) b
+  news_have h k w b = updates_have h k w (filter (changed rules net v (k.read ∷ reads h) w) (places net)) b
 
   -- what a log sends has paths of its node
   pub outbox_has : (h : List Entry) (w s : ℕ) → BringsFrom net (reads h) → AllByRecursion (HasRoute net v) (outbox rules net v h w s)

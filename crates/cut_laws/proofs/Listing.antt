@@ -57,7 +57,7 @@ module _ (rules : Rules) (net : Net) (u : ℕ) where
   news_tell : (h : List Entry) (k : Entry) (w : ℕ) → k.triggers ≢ [] → AllByRecursion (IsNews net) (news rules net u h k w)
   unfolding news places
   news_tell h k w some =
-      let changes = changed rules net u (reads h) k.read w in
+      let changes = changed rules net u (k.read ∷ reads h) w in
       updates_tell h k w (filter changes (places net)) some (kept (λ p. p < length net.prefixes) changes (places net) (below 0 (length net.prefixes) (length net.prefixes) (omega arith)))
 
   -- so do all that a log sends

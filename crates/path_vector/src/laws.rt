@@ -31,7 +31,7 @@ pub fn prefixes_are_apart()
 pub fn other_prefixes_change_nothing()
     ensures { (rules : Rules) (net : Net) (u : ℕ) (h : History) (k : Change) (w p : ℕ) →
         Scoped (k ∷ h) →
-        concerns p k.scope ≡ false → changed rules net u h k w p ≡ false }
+        concerns p k.scope ≡ false → changed rules net u (k ∷ h) w p ≡ false }
 {}
 
 /// Opening a session, above all that were named and where none is held, changes no offer.
@@ -39,7 +39,7 @@ pub fn other_prefixes_change_nothing()
 pub fn opening_changes_nothing()
     ensures { (rules : Rules) (net : Net) (u : ℕ) (h : History) (w s x p : ℕ) → held h w ≡ None →
         highest h w < s →
-        changed rules net u h (change All (Up w s)) x p ≡ false }
+        changed rules net u (change All (Up w s) ∷ h) x p ≡ false }
 {}
 
 /// A node offers nothing at the start.

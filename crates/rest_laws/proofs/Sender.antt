@@ -68,23 +68,23 @@ last_ok blocked p (x ∷ xs) all =
 
 -- what holds of the update of each prefix whose offer changed holds of all that an entry sends
 pub news_each : (P : Update → Type 0) (rules : Rules) (net : Net) (u : ℕ) (h : List Entry) (k : Entry) (w : ℕ)
-    → ((q : ℕ) → changed rules net u (reads h) k.read w q ≡ true → P (update_of (making rules net u h k) w q)) → AllByRecursion P (news rules net u h k w)
+    → ((q : ℕ) → changed rules net u (k.read ∷ reads h) w q ≡ true → P (update_of (making rules net u h k) w q)) → AllByRecursion P (news rules net u h k w)
 unfolding news
 news_each P rules net u h k w each = over (places net)
   where
-    over : (ps : List ℕ) → AllByRecursion P (map (update_of (making rules net u h k) w) (filter (changed rules net u (reads h) k.read w) ps))
+    over : (ps : List ℕ) → AllByRecursion P (map (update_of (making rules net u h k) w) (filter (changed rules net u (k.read ∷ reads h) w) ps))
     over [] = tt
     over (q ∷ ps) =
-        (elim (changed rules net u (reads h) k.read w q) as (λ b. changed rules net u (reads h) k.read w q ≡ b
-        → AllByRecursion P (map (update_of (making rules net u h k) w) (cond b (q ∷ filter (changed rules net u (reads h) k.read w) ps) (filter (changed rules net u (reads h) k.read w) ps)))) [
+        (elim (changed rules net u (k.read ∷ reads h) w q) as (λ b. changed rules net u (k.read ∷ reads h) w q ≡ b
+        → AllByRecursion P (map (update_of (making rules net u h k) w) (cond b (q ∷ filter (changed rules net u (k.read ∷ reads h) w) ps) (filter (changed rules net u (k.read ∷ reads h) w) ps)))) [
           | true ↦ λ e. (each q e, over ps)
           | false ↦ λ e. over ps
         ]) refl
 
 -- an entry whose offer of p changed concerns p
-about : (rules : Rules) (net : Net) (u : ℕ) (h : List Entry) (k : Entry) (w p q : ℕ) → Scoped (reads (k ∷ h)) → changed rules net u (reads h) k.read w q ≡ true → (q == p) ≡ true → concerns p k.read.scope ≡ true
+about : (rules : Rules) (net : Net) (u : ℕ) (h : List Entry) (k : Entry) (w p q : ℕ) → Scoped (reads (k ∷ h)) → changed rules net u (k.read ∷ reads h) w q ≡ true → (q == p) ≡ true → concerns p k.read.scope ≡ true
 about rules net u h k w p q fits now same =
-    let changes : changed rules net u (reads h) k.read w p ≡ true = subst (λ x. changed rules net u (reads h) k.read w x ≡ true) (same_is q p same) now in
+    let changes : changed rules net u (k.read ∷ reads h) w p ≡ true = subst (λ x. changed rules net u (k.read ∷ reads h) w x ≡ true) (same_is q p same) now in
     true_from_ne_false (concerns p k.read.scope) (λ off. true≢false (sym changes ∙ other_prefix rules net u (reads h) k.read w p fits off))
 
 -- an entry that is not complete sends no update that is right
@@ -92,7 +92,7 @@ news_off : (rules : Rules) (net : Net) (u : ℕ) (blocked : Trigger → Bool) (p
     → filter (is_ok blocked p) (news rules net u h k w) ≡ []
 news_off rules net u blocked p w k h fits off = none_ok blocked p (news rules net u h k w) (news_each (λ x. is_ok blocked p x ≡ false) rules net u h k w each)
   where
-    each : (q : ℕ) → changed rules net u (reads h) k.read w q ≡ true → (q == p && not (some_in blocked k.triggers)) ≡ false
+    each : (q : ℕ) → changed rules net u (k.read ∷ reads h) w q ≡ true → (q == p && not (some_in blocked k.triggers)) ≡ false
     each q now =
         (elim (q == p) as (λ b. (q == p) ≡ b → (b && not (some_in blocked k.triggers)) ≡ false) [
           | true ↦ λ same. let on = about rules net u h k w p q fits now same in subst (λ b. (b && not (some_in blocked k.triggers)) ≡ false) on off

@@ -1,4 +1,4 @@
-//! Backups: along a second path, which leads over no node that was visited.
+//! Backups: along the first path of the newest table, by rank, that leads over no node that was visited.
 ghost use Rattle.std.specs.Prelude.{◌≡◌, IfOk, OnErr};
 ghost use Rattle.topology.specs.declared.names.Scheme.TheVariants as scheme;
 ghost use Rattle.transient_mode.specs.TransientHops.{answered, GoesOn, new_backup, by_backup};

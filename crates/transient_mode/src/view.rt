@@ -14,7 +14,8 @@ pub struct View<'a> {
     pub up: &'a [NodeId],
     /// The path of the prefix in the newest table that the node published.
     pub stable: Option<&'a [NodeId]>,
-    /// The backups beside that path, by rank.
+    /// The paths of the prefix that the node had to choose from then, by rank: that path is among them, unless the
+    /// prefix is the node's own.
     pub backups: &'a [Path],
 }
 

@@ -56,7 +56,7 @@ module _ (rules : Rules) (net : Net) (u : ℕ) (h : List Entry) (k : Entry) (fit
   news_due w s now =
       ap (map (update_of (making rules net u h k) w))
       (sym (passing rules net u h k w s fits now k.read.scope refl placed)
-      ∙ filter_within (changed rules net u (reads h) k.read w) (differs_from_said (making rules net u h k) w s) (places_of net k.read.scope)
+      ∙ filter_within (changed rules net u (k.read ∷ reads h) w) (differs_from_said (making rules net u h k) w s) (places_of net k.read.scope)
       (λ p known. changed_where_it_differs rules net u h k w s p fits (placed_known net k.read.scope p placed known) now))
 
   owed_by : (w s : ℕ) → IsValid net → has (neighbours net u) w ≡ true → ready (k.read ∷ reads h) w ≡ Some s

@@ -32,7 +32,7 @@ prefixes_are rules net u h k w (p ∷ ps) = rw (prefixes_are rules net u h k w p
 pub news_in_order : (rules : Rules) (net : Net) (u : ℕ) (h : List Entry) (k : Entry) (w : ℕ) → IsStrictlyIncreasing (map (λ (x : Update). x.prefix) (news rules net u h k w))
 unfolding news places
 news_in_order rules net u h k w =
-    let test = changed rules net u (reads h) k.read w in
+    let test = changed rules net u (k.read ∷ reads h) w in
     subst IsStrictlyIncreasing (sym (prefixes_are rules net u h k w (filter test (places net))))
     (IsStrictlyIncreasing-filter test (places net) (increasing_range (length net.prefixes)))
 

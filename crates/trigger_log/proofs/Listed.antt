@@ -27,7 +27,7 @@ among_updates rules net u h k w (p ∷ ps) x t a b = ⊎_elim
 -- an update of an entry lists what the entry lists
 news_listed : (rules : Rules) (net : Net) (u : ℕ) (h : List Entry) (k : Entry) (w : ℕ) (x : Update) (t : Trigger) → Among x (news rules net u h k w) → Among t x.triggers → Among t k.triggers
 unfolding news
-news_listed rules net u h k w x t a b = among_updates rules net u h k w (filter (changed rules net u (reads h) k.read w) (places net)) x t a b
+news_listed rules net u h k w x t a b = among_updates rules net u h k w (filter (changed rules net u (k.read ∷ reads h) w) (places net)) x t a b
 
 pub outbox_listed : (rules : Rules) (net : Net) (u : ℕ) (h : List Entry) (w s : ℕ) (x : Update) (t : Trigger) → Among x (outbox rules net u h w s) → Among t x.triggers → Lists h t
 unfolding outbox

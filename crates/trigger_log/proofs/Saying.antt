@@ -66,10 +66,10 @@ last_passing p triggers path test [] = refl
 last_passing p triggers path test (q ∷ ps) = passing_step p q triggers path test ps (test q) (q == p) refl refl (last_passing p triggers path test ps)
 
 last_news : (rules : Rules) (net : Net) (u : ℕ) (h : List Entry) (k : Entry) (w p : ℕ) → has (places net) p ≡ true
-    → last_said p (news rules net u h k w) ≡ (if changed rules net u (reads h) k.read w p then Some (offer rules net u (k.read ∷ reads h) p w) else None)
+    → last_said p (news rules net u h k w) ≡ (if changed rules net u (k.read ∷ reads h) w p then Some (offer rules net u (k.read ∷ reads h) p w) else None)
 unfolding news
 last_news rules net u h k w p known =
-    last_passing p k.triggers (λ q. offer rules net u (k.read ∷ reads h) q w) (changed rules net u (reads h) k.read w) (places net)
+    last_passing p k.triggers (λ q. offer rules net u (k.read ∷ reads h) q w) (changed rules net u (k.read ∷ reads h) w) (places net)
     ∙ rw known refl
 
 -- ---- where w is ready after an entry
@@ -130,7 +130,7 @@ unfolding offered
 not_offered rules net u h w p e = rw e refl
 
 change_is : (rules : Rules) (net : Net) (u : ℕ) (h : List Entry) (k : Entry) (w s p : ℕ) → ready (k.read ∷ reads h) w ≡ Some s
-    → changed rules net u (reads h) k.read w p ≡ false → offer rules net u (k.read ∷ reads h) p w ≡ offered rules net u (reads h) p w
+    → changed rules net u (k.read ∷ reads h) w p ≡ false → offer rules net u (k.read ∷ reads h) p w ≡ offered rules net u (reads h) p w
 unfolding changed
 change_is rules net u h k w s p r e = not_changed (ready (k.read ∷ reads h) w) s (offer rules net u (k.read ∷ reads h) p w) (offered rules net u (reads h) p w) r e
 
@@ -153,7 +153,7 @@ said_is_offered rules net u (k ∷ h) w s p f known r =
     let holds : held (k.read ∷ reads h) w ≡ Some s = ready_held (held (k.read ∷ reads h) w) (opened (k.read ∷ reads h) w) s r in
     let before : said p (outbox rules net u h w s) ≡ offered rules net u (reads h) p w = said_before rules net u k h w s p f r (said_is_offered rules net u h w s p f.1 known) in
     ap (said p) (outbox_held rules net u k h w s holds)
-    ∙ said_by p (outbox rules net u h w s) (news rules net u h k w) (offer rules net u (k.read ∷ reads h) p w) (offered rules net u (reads h) p w) (changed rules net u (reads h) k.read w p)
+    ∙ said_by p (outbox rules net u h w s) (news rules net u h k w) (offer rules net u (k.read ∷ reads h) p w) (offered rules net u (reads h) p w) (changed rules net u (k.read ∷ reads h) w p)
     (last_news rules net u h k w p known) (change_is rules net u h k w s p r) before
 
 changed_by : (now : Option ℕ) (s : ℕ) (new old before : Option (List ℕ)) → now ≡ Some s → before ≡ old → (is_some now && not (same_path new old)) ≡ not (same_path new before)
@@ -161,7 +161,7 @@ changed_by now s new old before r e = rw (r, e) refl
 
 -- an update of p goes out exactly where the offer is another than what was said
 pub changed_where_it_differs : (rules : Rules) (net : Net) (u : ℕ) (h : List Entry) (k : Entry) (w s p : ℕ) → Fits (k ∷ h) → has (places net) p ≡ true → ready (k.read ∷ reads h) w ≡ Some s
-    → changed rules net u (reads h) k.read w p ≡ not (same_path (offer rules net u (k.read ∷ reads h) p w) (said p (outbox rules net u h w s)))
+    → changed rules net u (k.read ∷ reads h) w p ≡ not (same_path (offer rules net u (k.read ∷ reads h) p w) (said p (outbox rules net u h w s)))
 unfolding changed
 changed_where_it_differs rules net u h k w s p f known r =
     let before : said p (outbox rules net u h w s) ≡ offered rules net u (reads h) p w = said_before rules net u k h w s p f r (said_is_offered rules net u h w s p f.1 known) in

@@ -24,9 +24,9 @@ filter_none test [] none = refl
 filter_none test (x ∷ xs) none = rw (none x) (filter_none test xs none)
 
 -- an entry that changes no offer sends nothing
-no_news : (rules : Rules) (net : Net) (u : ℕ) (h : List Entry) (k : Entry) (w : ℕ) → ((p : ℕ) → changed rules net u (reads h) k.read w p ≡ false) → news rules net u h k w ≡ []
+no_news : (rules : Rules) (net : Net) (u : ℕ) (h : List Entry) (k : Entry) (w : ℕ) → ((p : ℕ) → changed rules net u (k.read ∷ reads h) w p ≡ false) → news rules net u h k w ≡ []
 unfolding news
-no_news rules net u h k w none = ap (map (update_of (making rules net u h k) w)) (filter_none (changed rules net u (reads h) k.read w) (places net) none)
+no_news rules net u h k w none = ap (map (update_of (making rules net u h k) w)) (filter_none (changed rules net u (k.read ∷ reads h) w) (places net) none)
 
 -- an opening sends nothing
 pub opening_says_nothing : (rules : Rules) (net : Net) (u : ℕ) (h : List Entry) (triggers : List Trigger) (w s x : ℕ) → Fits h → held (reads h) w ≡ None → last (reads h) w < s

@@ -142,7 +142,7 @@ scoped (k ∷ h) f = ((accepted h k.read.scope k.read.cause f.1 f.0).scoped, sco
 
 module _ (rules : Rules) (net : Net) (u : ℕ) (h : List Entry) (k : Entry) (w s : ℕ) (fits : Fits (k ∷ h)) (now : ready (k.read ∷ reads h) w ≡ Some s) where
   abbrev pub moved : ℕ → Bool
-  moved = changed rules net u (reads h) k.read w
+  moved = changed rules net u (k.read ∷ reads h) w
 
   moves : (p : ℕ) → differs (making rules net u h k) (is_some (ready (reads h) w)) w p ≡ moved p
   unfolding changed offered
@@ -185,7 +185,7 @@ filter_none f (x ∷ xs) none = rw (none x) (filter_none f xs none)
 pub unready_news : (rules : Rules) (net : Net) (u : ℕ) (h : List Entry) (k : Entry) (w : ℕ) → ready (k.read ∷ reads h) w ≡ None → news rules net u h k w ≡ []
 unfolding news changed
 unready_news rules net u h k w e =
-    ap (map (update_of (making rules net u h k) w)) (filter_none (changed rules net u (reads h) k.read w) (places net) (λ p. rw e refl))
+    ap (map (update_of (making rules net u h k) w)) (filter_none (changed rules net u (k.read ∷ reads h) w) (places net) (λ p. rw e refl))
 
 pub not_closed : (cause : Cause) (w t : ℕ) → ends_with cause w ≡ false → closes cause w t ≡ false
 not_closed Originate w t e = refl

@@ -80,7 +80,7 @@ pub fn what_was_said_is_offered()
 pub fn an_update_goes_out_where_the_offer_differs()
     ensures { (m : Making) (w s p : ℕ) → Fits (m.entry ∷ m.before) →
         has (places m.net) p ≡ true → ready (m.entry.read ∷ reads m.before) w ≡ Some s →
-        changed m.rules m.net m.node (reads m.before) m.entry.read w p ≡ differs_from_said m w s p }
+        changed m.rules m.net m.node (m.entry.read ∷ reads m.before) w p ≡ differs_from_said m w s p }
 {}
 
 /// Each trigger of an item is listed by an entry.
