@@ -1,5 +1,5 @@
 -- What a set of triggers lists after one was put in.
-use Rattle.std.proofs.Common.{ℕ, Bool, true, false, ◌&&◌, ◌||◌, ◌==◌, List, [], ◌∷◌, Ordering, Less, Equal, Greater, nat_lt, nat_cmp, take, drop, length, ◌≡◌, refl, sym, ◌∙◌, ap, arith}
+use Rattle.std.proofs.Common.{ℕ, Bool, true, false, ◌&&◌, ◌||◌, ◌==◌, List, [], ◌∷◌, Ordering, Less, Equal, Greater, nat_cmp, ◌≡◌, refl, sym, ◌∙◌, ap, arith}
 use Rattle.std.specs.Ordering.{ordering_then, match_ordering}
 use Rattle.std.specs.BTreeSet.{insert_key}
 use Rattle.std.proofs.lemmas.Bool.Decides.{nat_tests}
