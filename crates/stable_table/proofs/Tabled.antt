@@ -19,7 +19,7 @@ use Rattle.trigger_log.proofs.Zips.{zip_push}
 use Rattle.incomplete_closure.specs.declared.values.Value.{Value}
 use Rattle.stable_table.specs.declared.rows.Row.{Row}
 use Rattle.stable_table.specs.Keeping.{kept}
-use Rattle.stable_table.specs.Rows.{IsRow}
+use Rattle.stable_table.specs.Rows.{RowView, IsRow, prefix_row}
 use Rattle.stable_table.specs.Tables.{View, all_responded, answered, complete_in, table_path, table, backups, table_of}
 use Rattle.stable_table.proofs.Keeping.{reads_kept, kept_is, cut_shown, kept_accepted, scoped_of, complete_reads}
 
@@ -62,6 +62,10 @@ zip_same R f g same (x ∷ xs) (y ∷ ys) z = ap₂ (λ a b. a ∷ b) (same x y 
 made : ℕ → Value → List (Option (List ℕ)) → List (List (List ℕ)) → View
 made epoch value paths backups = record { epoch = epoch; value = value; paths = paths; backups = backups }
 
+-- what the row of p has over what is kept of these entries
+abbrev pub kept_row : Rules → Net → ℕ → Value → List Entry → ℕ → RowView
+kept_row rules net u value entries p = prefix_row rules net u value (reads_kept value.incomplete entries) p
+
 module _ (rules : Rules) (net : Net) (u : ℕ) (value : Value) (entries : List Entry) (fits : Fits entries) where
   scoped : Scoped (reads_kept value.incomplete entries)
   scoped = scoped_of (reads_kept value.incomplete entries) (kept_accepted value.incomplete entries fits)
@@ -72,22 +76,22 @@ module _ (rules : Rules) (net : Net) (u : ℕ) (value : Value) (entries : List E
   ranks_are : (p : ℕ) → by_rank rules net u (reads_kept value.incomplete entries) p ≡ by_rank rules net u (reads (complete_in value p entries)) p
   ranks_are p = sym (ap (λ h. by_rank rules net u h p) (complete_reads value p entries) ∙ by_rank_local rules net u p (reads_kept value.incomplete entries) scoped)
 
-  path_is : (p : ℕ) (row : Row) → IsRow rules net u value (reads_kept value.incomplete entries) p row → row.path ≡ table_path rules net u value entries p
+  path_is : (p : ℕ) (row : Row) → IsRow (kept_row rules net u value entries p) row → row.path ≡ table_path rules net u value entries p
   unfolding table_path
   path_is p row r = r.path ∙ ap (λ (b : Route). option_and_then (answered value u) (path_of u b)) (best_is p)
 
-  backups_is : (p : ℕ) (row : Row) → IsRow rules net u value (reads_kept value.incomplete entries) p row → row.backups.items ≡ backups rules net u value entries p
+  backups_is : (p : ℕ) (row : Row) → IsRow (kept_row rules net u value entries p) row → row.backups.items ≡ backups rules net u value entries p
   unfolding backups
   backups_is p row r = r.backups ∙ ap (λ (cs : List Choice). if has value.responding u then filter (all_responded value) (map (λ (c : Choice). c.path) cs) else []) (ranks_are p)
 
-  pub table_is : (epoch : ℕ) (copied : Value) (rows : List Row) → copied ≡ value → AllZip (IsRow rules net u value (reads_kept value.incomplete entries)) (places net) rows
+  pub table_is : (epoch : ℕ) (copied : Value) (rows : List Row) → copied ≡ value → AllZip (λ p. IsRow (kept_row rules net u value entries p)) (places net) rows
       → record { epoch = epoch; value = copied; paths = map (λ (r : Row). r.path) rows; backups = map (λ (r : Row). r.backups.items) rows } ≡ table_of rules net u epoch value entries
   unfolding made table
   table_is epoch copied rows same z =
       ap (λ v. made epoch v (map (λ (r : Row). r.path) rows) (map (λ (r : Row). r.backups.items) rows)) same
       ∙ ap₂ (made epoch value)
-      (zip_same (IsRow rules net u value (reads_kept value.incomplete entries)) (table_path rules net u value entries) (λ (r : Row). r.path) path_is (places net) rows z)
-      (zip_same (IsRow rules net u value (reads_kept value.incomplete entries)) (backups rules net u value entries) (λ (r : Row). r.backups.items) backups_is (places net) rows z)
+      (zip_same (λ p. IsRow (kept_row rules net u value entries p)) (table_path rules net u value entries) (λ (r : Row). r.path) path_is (places net) rows z)
+      (zip_same (λ p. IsRow (kept_row rules net u value entries p)) (backups rules net u value entries) (λ (r : Row). r.backups.items) backups_is (places net) rows z)
 
 -- what is kept of the first entries that are shown is read of the cut
 pub cut_kept : (rules : Rules) (net : Net) (u cut : ℕ) (value : Value) (newer entries : List Entry) (incomplete : List Trigger) (all shown : List Shown)

@@ -8,7 +8,7 @@ ghost use Rattle.path_vector.specs.Selection.{best, path_of};
 ghost use Rattle.path_vector.specs.Simple.{BringsPaths};
 ghost use Rattle.path_vector.specs.Standing.{StandsFor};
 ghost use Rattle.stable_table.specs.Tables.{answered};
-ghost use Rattle.stable_table.specs.Rows.{IsRow};
+ghost use Rattle.stable_table.specs.Rows.{IsRow, prefix_row};
 
 use crate::backups::backups_of;
 use crate::responders::{all_responded, responded};
@@ -54,7 +54,7 @@ fn row_of<P: Policy + Copy>(
 ) -> Result<Row, NoMemory>
     ensures { IfOk result (λ row. (policy : P) (net : Net) (h : History) →
         StandsFor policy net node state.now h → BringsPaths h → prefix < length net.prefixes →
-        IsRow (P.rules policy) net node value.now h prefix row) }
+        IsRow (prefix_row (P.rules policy) net node value.now h prefix) row) }
 {
     if !responded(value, node) {
         return Ok(Row {
@@ -78,7 +78,8 @@ pub(crate) fn rows_of<P: Policy + Copy>(
 ) -> Result<Vec<Row>, NoMemory>
     ensures { IfOk result (λ rows. (policy : P) (h : History) →
         StandsFor policy topology.now node state.now h → BringsPaths h →
-        AllZip (IsRow (P.rules policy) topology.now node value.now h) (places topology.now) rows.items) }
+        AllZip (λ p. IsRow (prefix_row (P.rules policy) topology.now node value.now h p))
+        (places topology.now) rows.items) }
 {
     let mut rows = Vec::with_capacity(alloc, topology.prefix_count() as usize)?;
     for place in 0..topology.prefix_count() {

@@ -1,13 +1,13 @@
-use Rattle.std.proofs.Common.{◌≡◌, length, subst, arith}
+use Rattle.std.proofs.Common.{ℕ, ◌≡◌, length, subst, arith}
 use Rattle.std.specs.List.{AllZip, range_with_len}
 use Rattle.topology.specs.Net.{places}
-use Rattle.stable_table.specs.Rows.{IsRow}
+use Rattle.stable_table.specs.Rows.{IsRow, prefix_row}
 use Rattle.stable_table.proofs.Tabled.{rows_more}
 use Rattle.stable_table.proofs.rows.rows_of.Goals as goal
 
 pub loop-place-preserved : goal.loop-place-preserved
 loop-place-preserved g c = λ policy h stands brings.
-    let IsRowAt = IsRow (g.P.Policy.rules policy) c.args.topology.now c.args.node c.args.value.now h in
+    let IsRowAt = λ (p : ℕ). IsRow (prefix_row (g.P.Policy.rules policy) c.args.topology.now c.args.node c.args.value.now h p) in
     let row = c.in_ok-row_of.field-0 in
     rw c.in_ok-push.ensures.items
     (rows_more IsRowAt c.loop-place.rows.items c.loop-place.place row (c.loop-place.invariant policy h stands brings)
@@ -17,4 +17,4 @@ pub returns : goal.returns
 unfolding places
 returns g c = λ policy h stands brings.
     let end : c.loop-place.place ≡ length c.args.topology.now.prefixes = omega arith in
-    subst (λ n. AllZip (IsRow (g.P.Policy.rules policy) c.args.topology.now c.args.node c.args.value.now h) (range_with_len 0 n) c.loop-place.rows.items) end (c.loop-place.invariant policy h stands brings)
+    subst (λ n. AllZip (λ p. IsRow (prefix_row (g.P.Policy.rules policy) c.args.topology.now c.args.node c.args.value.now h p)) (range_with_len 0 n) c.loop-place.rows.items) end (c.loop-place.invariant policy h stands brings)

@@ -4,9 +4,9 @@ use Rattle.topology.specs.declared.names.Trigger.{Trigger}
 use Rattle.topology.specs.Net.{places}
 use Rattle.path_vector.specs.History.{History}
 use Rattle.path_vector.specs.Parts.{Accepted}
-use Rattle.stable_table.specs.Rows.{IsRow}
-use Rattle.stable_table.proofs.Keeping.{fits_before, kept_accepted, kept_alike, reads_kept}
-use Rattle.stable_table.proofs.Tabled.{table_is, cut_kept}
+use Rattle.stable_table.specs.Rows.{IsRow, prefix_row}
+use Rattle.stable_table.proofs.Keeping.{fits_before, kept_accepted, kept_alike}
+use Rattle.stable_table.proofs.Tabled.{kept_row, table_is, cut_kept}
 use Rattle.stable_table.proofs.tables.table_of.Goals as goal
 
 pub returns : goal.returns
@@ -25,5 +25,5 @@ returns g c = λ u newer entries stands is.
     let routes = c.in_ok-state.ensures.stands (subst Accepted (sym same) (kept_accepted value.incomplete entries fits)) in
     let rows = c.in_ok-rows.ensures policy _ routes c.in_ok-state.ensures.paths in
     table_is rules net u value entries fits c.args.epoch c.in_ok-copy.field-0 c.in_ok-rows.rows.items c.in_ok-copy.ensures
-    (subst (λ w. AllZip (IsRow rules net w value (reads_kept value.incomplete entries)) (places net) c.in_ok-rows.rows.items) own
-    (subst (λ (h : History). AllZip (IsRow rules net node value h) (places net) c.in_ok-rows.rows.items) same rows))
+    (subst (λ w. AllZip (λ p. IsRow (kept_row rules net w value entries p)) (places net) c.in_ok-rows.rows.items) own
+    (subst (λ (h : History). AllZip (λ p. IsRow (prefix_row rules net node value h p)) (places net) c.in_ok-rows.rows.items) same rows))
