@@ -17,7 +17,7 @@ use Rattle.stable_table.specs.Tables.{complete}
 use Rattle.cut_laws.specs.Older.{Older, whole, less}
 use Rattle.cut_laws.proofs.Listing.{IsNews, outbox_tells}
 use Rattle.rest_laws.specs.Families.{Family, Closed, AllIn, AllInFrom}
-use Rattle.rest_laws.specs.Rest.{Agrees, led_by}
+use Rattle.rest_laws.specs.Rest.{Agrees, led_by, log_part}
 use Rattle.rest_laws.proofs.Complete.{Ordered, all_some, Listing, listing}
 use Rattle.rest_laws.proofs.Sender.{is_ok, none_ok, Says, CloseIn, sender}
 use Rattle.rest_laws.proofs.Receiver.{candidate_complete, held_none, held_is_still}
@@ -69,10 +69,10 @@ module _ (rules : Rules) (net : Net) (nodes : List ℕ) (log : ℕ → List Entr
   ordered u m (k ∷ h) o l = (λ j a near some. all_some blocked k.triggers l.0 (closed.order u h j k m o a near some), ordered u m h (less o) l.1)
 
   -- over the complete entries each candidate is what its neighbour offers
-  pub rest : (u v p : ℕ) → Among u nodes → Among v nodes → has (neighbours net u) v ≡ true → has (places net) p ≡ true → Agrees rules net u v (complete blocked p (log u)) (complete blocked p (log v)) p
+  pub rest : (u v p : ℕ) → Among u nodes → Among v nodes → has (neighbours net u) v ≡ true → has (places net) p ≡ true → Agrees rules net (log_part u (complete blocked p (log u))) (log_part v (complete blocked p (log v))) p
   rest u v p mu mv near known = by (held (reads (complete blocked p (log u))) v) refl
     where
-      by : (session : Option ℕ) → held (reads (complete blocked p (log u))) v ≡ session → Agrees rules net u v (complete blocked p (log u)) (complete blocked p (log v)) p
+      by : (session : Option ℕ) → held (reads (complete blocked p (log u))) v ≡ session → Agrees rules net (log_part u (complete blocked p (log u))) (log_part v (complete blocked p (log v))) p
       by None e = held_none u p v (complete blocked p (log u)) e ∙ sym (rw e refl)
       by (Some s) e =
           let holds = held_is_still blocked p v s (log u) (family.fits u mu) e in

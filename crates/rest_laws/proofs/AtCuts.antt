@@ -22,7 +22,7 @@ use Rattle.cut_laws.proofs.Olden.{older_fits}
 use Rattle.cut_laws.proofs.Concluding.{alone, marks}
 use Rattle.cut_laws.proofs.Keeping.{run_consistent}
 use Rattle.rest_laws.specs.Families.{Family}
-use Rattle.rest_laws.specs.Rest.{Agrees, AtRest, reports}
+use Rattle.rest_laws.specs.Rest.{Agrees, AtRest, log_part, reports}
 use Rattle.rest_laws.proofs.AtComplete.{rest}
 use Rattle.rest_laws.proofs.ValueClosed.{closed_of_value}
 
@@ -64,7 +64,7 @@ module _ (rules : Rules) (net : Net) (events : List Event) (e : ℕ) (nodes : Li
   -- two of the nodes that have cuts are at rest, by the value of the reports of all of them
   pair_rests : (value : Value) → IsValue (reports rules net (run rules net events) e nodes) value → (log : ℕ → List Entry) (u v p : ℕ) → AreCuts (run rules net events) e (u ∷ v ∷ []) log
       → Among u nodes → Among v nodes → has (neighbours net u) v ≡ true → has (places net) p ≡ true
-      → Agrees rules net u v (complete (lists value.incomplete) p (log u)) (complete (lists value.incomplete) p (log v)) p
+      → Agrees rules net (log_part u (complete (lists value.incomplete) p (log u))) (log_part v (complete (lists value.incomplete) p (log v))) p
   pair_rests value is log u v p cuts mu mv near known =
       let past = run rules net events in
       let told = reports rules net past e nodes in

@@ -15,7 +15,7 @@ ghost use Rattle.chronicle.specs.declared.events.Event.{Event};
 ghost use Rattle.chronicle.specs.Epochs.{cut};
 ghost use Rattle.chronicle.specs.Run.{run};
 ghost use Rattle.rest_laws.specs.Families.{Family, Closed};
-ghost use Rattle.rest_laws.specs.Rest.{Agrees, AtRest, TablesContinue};
+ghost use Rattle.rest_laws.specs.Rest.{Agrees, AtRest, TablesContinue, log_part};
 
 /// In logs that fit together, over the entries that list no trigger of a set that no step leaves, what a node
 /// has of a neighbour is what the neighbour offers.
@@ -24,7 +24,7 @@ pub fn a_closed_set_leaves_the_rest_at_rest()
     ensures { (rules : Rules) (net : Net) (nodes : List ℕ) (log : ℕ → List Entry) (blocked : Trigger → Bool)
         (u v p : ℕ) → Family rules net nodes log → Closed rules net nodes log blocked → Among u nodes →
         Among v nodes → has (neighbours net u) v ≡ true → has (places net) p ≡ true →
-        Agrees rules net u v (complete blocked p (log u)) (complete blocked p (log v)) p }
+        Agrees rules net (log_part u (complete blocked p (log u))) (log_part v (complete blocked p (log v))) p }
 {}
 
 /// The incomplete triggers of the value of reports are such a set, for logs that are reported and fit together.
