@@ -12,7 +12,7 @@ use Rattle.paxos_core.proofs.Refusing.{majority_is, finds, finds_not, found_in, 
 use Rattle.paxos_core.specs.Answers.{answers, gathering, just_majority, named_value, or_fresh, posted, preparing, refusal, to_each}
 use Rattle.topology.specs.Ballots.{same_ballot}
 use Rattle.paxos_core.specs.Facts.{Accept, Accepted, Chronicle, Crash, Decision, Fact, Heard, Mail, Message, Other, Pair, Promise, Start}
-use Rattle.paxos_core.specs.ProposerCalls.{LetsAccept, LetsDecide, SaysPromise, SaysVote, forgotten, gathers, opened, prepares}
+use Rattle.paxos_core.specs.ProposerCalls.{LetsAccept, LetsDecide, SaysPromise, SaysVote, forgotten, gathers, opened, prepares, promise_delivery, vote_delivery}
 use Rattle.paxos_core.specs.Readings.{Prepares, Proposed, open_by, open_ballot, promisers, promises, started, voters}
 use Rattle.paxos_core.specs.Rules.{MaySend, higher, highest, round_of}
 use Rattle.paxos_core.specs.Tallying.{CountsIn, CountsPromises, CountsVotes, NothingOf, SameMembers, StandsFor, Tallying}
@@ -154,7 +154,7 @@ false_by false h = refl
 
 -- the four answers to a Promise
 pub promise_stale : {V : Type 0} (past : Chronicle V) (u from n : ℕ) (kept : Tallying V) (b : Ballot) (named : Option (Pair V)) → StandsFor n kept past u → prepares kept.phase b ≡ false
-    → SaysPromise tally.Stale n kept kept past u from b named
+    → SaysPromise tally.Stale n kept kept past (promise_delivery u from b named)
 unfolding refusal
 promise_stale past u from n kept b named h off = record {
   refused = rw (false_by (preparing past u b) (not_preparing past u n kept b kept.phase h.phase off)) refl;
@@ -162,7 +162,7 @@ promise_stale past u from n kept b named h off = record {
 }
 
 pub promise_again : {V : Type 0} (past : Chronicle V) (u from n : ℕ) (kept : Tallying V) (b : Ballot) (named : Option (Pair V)) → StandsFor n kept past u → prepares kept.phase b ≡ true
-    → has kept.counted from ≡ true → SaysPromise tally.Duplicate n kept kept past u from b named
+    → has kept.counted from ≡ true → SaysPromise tally.Duplicate n kept kept past (promise_delivery u from b named)
 unfolding refusal
 promise_again past u from n kept b named h on found =
     let was = counts_promises past u n kept b h on in
@@ -216,7 +216,7 @@ won_stays n k w e few = grind (arith, nat_tests)
 
 pub promise_counted : {V : Type 0} (past : Chronicle V) (u from n : ℕ) (kept : Tallying V) (b : Ballot) (named : Option (Pair V)) → StandsFor n kept past u → prepares kept.phase b ≡ true
     → has kept.counted from ≡ false → just_majority n (suc (length kept.counted)) ≡ false
-    → SaysPromise tally.Counted n kept (record kept { counted = kept.counted ++ from ∷ []; best = higher named kept.best }) past u from b named
+    → SaysPromise tally.Counted n kept (record kept { counted = kept.counted ++ from ∷ []; best = higher named kept.best }) past (promise_delivery u from b named)
 unfolding answers
 promise_counted {V = V} past u from n kept b named h on fresh few =
     let was = counts_promises past u n kept b h on in
@@ -266,7 +266,7 @@ won_now n k e = (grind (arith, nat_tests), grind (arith, nat_tests))
 
 pub promise_majority : {V : Type 0} (past : Chronicle V) (u from n : ℕ) (kept : Tallying V) (b : Ballot) (named : Option (Pair V)) (value : Option V) → StandsFor n kept past u → prepares kept.phase b ≡ true
     → has kept.counted from ≡ false → just_majority n (suc (length kept.counted)) ≡ true → value ≡ option_map (λ p. p.1) (higher named kept.best)
-    → SaysPromise (tally.Majority value) n kept (record kept { counted = kept.counted ++ from ∷ []; best = None; won = true }) past u from b named
+    → SaysPromise (tally.Majority value) n kept (record kept { counted = kept.counted ++ from ∷ []; best = None; won = true }) past (promise_delivery u from b named)
 unfolding answers
 promise_majority {V = V} past u from n kept b named value h on fresh most is =
     let was = counts_promises past u n kept b h on in
@@ -285,7 +285,7 @@ promise_majority {V = V} past u from n kept b named value h on fresh most is =
 
 -- the four answers to an Accepted
 pub vote_stale : {V : Type 0} (past : Chronicle V) (u from n : ℕ) (kept : Tallying V) (b : Ballot) → StandsFor n kept past u → gathers kept.phase b ≡ false
-    → SaysVote tally.Stale n kept kept past u from b
+    → SaysVote tally.Stale n kept kept past (vote_delivery u from b)
 unfolding refusal
 vote_stale past u from n kept b h off = record {
   refused = rw (false_by (gathering past u b) (not_gathering past u n kept b kept.phase h.phase off)) refl;
@@ -293,7 +293,7 @@ vote_stale past u from n kept b h off = record {
 }
 
 pub vote_again : {V : Type 0} (past : Chronicle V) (u from n : ℕ) (kept : Tallying V) (b : Ballot) → StandsFor n kept past u → gathers kept.phase b ≡ true
-    → has kept.counted from ≡ true → SaysVote tally.Duplicate n kept kept past u from b
+    → has kept.counted from ≡ true → SaysVote tally.Duplicate n kept kept past (vote_delivery u from b)
 unfolding refusal
 vote_again past u from n kept b h on found =
     let was = counts_votes past u n kept b h on in
@@ -329,7 +329,7 @@ vote_stands {V = V} past u from n kept b h on =
 
 pub vote_counted : {V : Type 0} (past : Chronicle V) (u from n : ℕ) (kept : Tallying V) (b : Ballot) → StandsFor n kept past u → gathers kept.phase b ≡ true
     → has kept.counted from ≡ false → just_majority n (suc (length kept.counted)) ≡ false
-    → SaysVote tally.Counted n kept (record kept { counted = kept.counted ++ from ∷ [] }) past u from b
+    → SaysVote tally.Counted n kept (record kept { counted = kept.counted ++ from ∷ [] }) past (vote_delivery u from b)
 unfolding answers
 vote_counted {V = V} past u from n kept b h on fresh few =
     let was = counts_votes past u n kept b h on in
@@ -342,7 +342,7 @@ vote_counted {V = V} past u from n kept b h on fresh few =
 
 pub vote_majority : {V : Type 0} (past : Chronicle V) (u from n : ℕ) (kept : Tallying V) (b : Ballot) (value : Option (Unit {0})) → StandsFor n kept past u → gathers kept.phase b ≡ true
     → has kept.counted from ≡ false → just_majority n (suc (length kept.counted)) ≡ true
-    → SaysVote (tally.Majority value) n kept (record kept { counted = kept.counted ++ from ∷ [] }) past u from b
+    → SaysVote (tally.Majority value) n kept (record kept { counted = kept.counted ++ from ∷ [] }) past (vote_delivery u from b)
 unfolding answers
 vote_majority {V = V} past u from n kept b value h on fresh most =
     let was = counts_votes past u n kept b h on in

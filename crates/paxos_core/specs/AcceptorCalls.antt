@@ -5,7 +5,7 @@ use Rattle.paxos_core.specs.declared.acceptor.Prepared.{Prepared}
 use Rattle.paxos_core.specs.declared.acceptor.Prepared.TheVariants.{Promise, Refused}
 use Rattle.paxos_core.specs.declared.acceptor.Took.{Took}
 use Rattle.paxos_core.specs.declared.acceptor.Took.TheVariants as took
-use Rattle.paxos_core.specs.Facts.{Heard, Fact, Prepare, Accept, Chronicle}
+use Rattle.paxos_core.specs.Facts.{Heard, Fact, Message, Delivery, Chronicle}
 use Rattle.paxos_core.specs.Answers.{Refusal, Promised, Duplicate, refusal}
 use Rattle.paxos_core.specs.Accepting.{Accepting, StandsFor}
 
@@ -27,17 +27,19 @@ abbrev pub GoesOn : {V : Type 0} → Option Refusal → (old new : Accepting V) 
 GoesOn None old new past u f = StandsFor new (f ∷ past) u
 GoesOn (Some why) old new past u f = new ≡ old
 
--- the acceptor of u answers the Prepare of b as it must, and goes on
+-- a node's acceptor answers a Prepare that comes to the node as it must, and goes on
 pub record AnswersPrepare {V : Type 0} (said : Prepared) (old new : Accepting V)
-    (past : Chronicle V) (u from : ℕ) (b : Ballot) : Type 0 where
-  pub answer : SaysPrepared said (refusal past u from (Prepare b))
-  pub state : GoesOn (refusal past u from (Prepare b)) old new past u (Heard u from (Prepare b))
+    (past : Chronicle V) (d : Delivery (Message V)) : Type 0 where
+  pub answer : SaysPrepared said (refusal past d.node d.from d.message)
+  pub state : GoesOn (refusal past d.node d.from d.message) old new past d.node
+      (Heard d.node d.from d.message)
 
--- the acceptor of u answers the Accept of b as it must, and goes on
+-- a node's acceptor answers an Accept that comes to the node as it must, and goes on
 pub record AnswersAccept {V : Type 0} (said : Took) (old new : Accepting V)
-    (past : Chronicle V) (u from : ℕ) (b : Ballot) (v : V) : Type 0 where
-  pub answer : SaysTook said (refusal past u from (Accept b v))
-  pub state : GoesOn (refusal past u from (Accept b v)) old new past u (Heard u from (Accept b v))
+    (past : Chronicle V) (d : Delivery (Message V)) : Type 0 where
+  pub answer : SaysTook said (refusal past d.node d.from d.message)
+  pub state : GoesOn (refusal past d.node d.from d.message) old new past d.node
+      (Heard d.node d.from d.message)
 
 -- what is kept: as before where the message is refused, else the new one
 abbrev pub unless_refused : {V : Type 0} → Option Refusal → (old new : Accepting V) → Accepting V

@@ -7,10 +7,10 @@ use Rattle.paxos_core.specs.declared.proposer.Phase.TheVariants.{Idle, Preparing
 use Rattle.paxos_core.specs.declared.proposer.Tally.{Tally}
 use Rattle.paxos_core.specs.declared.proposer.Tally.TheVariants.{Counted, Majority, Stale, Duplicate}
 use Rattle.topology.specs.Ballots.{same_ballot}
-use Rattle.paxos_core.specs.Facts.{Pair, Heard, Message, Promise, Accept, Accepted, Decision, Chronicle}
+use Rattle.paxos_core.specs.Facts.{Pair, Heard, Message, Promise, Accept, Accepted, Decision, Delivery, delivery, Chronicle}
 use Rattle.paxos_core.specs.Readings.{Proposed}
 use Rattle.paxos_core.specs.Rules.{higher, MaySend}
-use Rattle.paxos_core.specs.Answers.{Refusal, Duplicate as refused_twice, StaleBallot, refusal, just_majority, to_each, or_fresh, announce, proposed, answers}
+use Rattle.paxos_core.specs.Answers.{Refusal, Duplicate as refused_twice, StaleBallot, refusal, just_majority, to_each, or_fresh, announce, proposed, setting_of, answers}
 use Rattle.paxos_core.specs.Tallying.{Tallying, StandsFor}
 
 -- nothing is prepared, gathered or counted
@@ -88,18 +88,18 @@ after_vote (Majority value) kept from = counting kept from
 after_vote Stale kept from = kept
 after_vote Duplicate kept from = kept
 
--- the message is not refused, the proposer goes on with it, and these are the answers to it
-pub record Takes {V : Type 0} (members : ℕ) (new : Tallying V) (past : Chronicle V) (u from : ℕ)
-    (m : Message V) (sent : List ℕ → List ℕ → V → List (ℕ × Message V)) : Type 0 where
-  pub heard : refusal past u from m ≡ None
-  pub stands : StandsFor members new (Heard u from m ∷ past) u
+-- the message that comes is not refused, the proposer goes on with it, and these are the answers to it
+pub record Takes {V : Type 0} (members : ℕ) (new : Tallying V) (past : Chronicle V)
+    (d : Delivery (Message V)) (sent : List ℕ → List ℕ → V → List (ℕ × Message V)) : Type 0 where
+  pub heard : refusal past d.node d.from d.message ≡ None
+  pub stands : StandsFor members new (Heard d.node d.from d.message ∷ past) d.node
   pub sends : (ms nodes : List ℕ) (fresh : V) → length ms ≡ members →
-      answers ms nodes fresh past u from m ≡ sent ms nodes fresh
+      answers (setting_of ms nodes fresh) past d.node d.from d.message ≡ sent ms nodes fresh
 
--- the message is refused for this reason, and nothing changes
-pub record Refuses {V : Type 0} (old new : Tallying V) (past : Chronicle V) (u from : ℕ)
-    (m : Message V) (why : Refusal) : Type 0 where
-  pub refused : refusal past u from m ≡ Some why
+-- the message that comes is refused for this reason, and nothing changes
+pub record Refuses {V : Type 0} (old new : Tallying V) (past : Chronicle V)
+    (d : Delivery (Message V)) (why : Refusal) : Type 0 where
+  pub refused : refusal past d.node d.from d.message ≡ Some why
   pub unchanged : new ≡ old
 
 -- with a majority of promises an Accept may go to each member, of the value that comes with the
@@ -119,30 +119,59 @@ LetsDecide {V} members past u b =
 abbrev pub nothing_sent : {V : Type 0} → List ℕ → List ℕ → V → List (ℕ × Message V)
 nothing_sent ms nodes fresh = []
 
+-- a Promise that comes to a node: its sender, its ballot, and the pair that it names
+pub record PromiseDelivery (V : Type 0) : Type 0 where
+  pub node : ℕ
+  pub from : ℕ
+  pub ballot : Ballot
+  pub named : Option (Pair V)
+
+-- the Promise of b that comes to u
+abbrev pub promise_delivery : {V : Type 0} → (u from : ℕ) → Ballot → Option (Pair V) →
+    PromiseDelivery V
+promise_delivery u from b named = record { node = u; from = from; ballot = b; named = named }
+
+-- it, as a message that comes
+abbrev pub delivery_of_promise : {V : Type 0} → PromiseDelivery V → Delivery (Message V)
+delivery_of_promise p = delivery p.node p.from (Promise p.ballot p.named)
+
+-- an Accepted that comes to a node: its sender, and its ballot
+pub record VoteDelivery : Type 0 where
+  pub node : ℕ
+  pub from : ℕ
+  pub ballot : Ballot
+
+-- the Accepted of b that comes to u
+abbrev pub vote_delivery : (u from : ℕ) → Ballot → VoteDelivery
+vote_delivery u from b = record { node = u; from = from; ballot = b }
+
+-- it, as a message that comes
+abbrev pub delivery_of_vote : {V : Type 0} → VoteDelivery → Delivery (Message V)
+delivery_of_vote vote = delivery vote.node vote.from (Accepted vote.ballot)
+
 -- what the answer to a Promise means: with a majority an Accept goes to each member
-abbrev pub SaysPromise : {V : Type 0} → Tally V → ℕ → (old new : Tallying V) → Chronicle V → ℕ → ℕ →
-    Ballot → Option (Pair V) → Type 0
-SaysPromise Counted members old new past u from b named =
-    Takes members new past u from (Promise b named) nothing_sent
-SaysPromise (Majority value) members old new past u from b named =
-    Takes members new past u from (Promise b named)
-    (λ ms nodes fresh. to_each ms (Accept b (or_fresh value fresh)))
-    × LetsAccept members (Heard u from (Promise b named) ∷ past) u b value
-SaysPromise Stale members old new past u from b named =
-    Refuses old new past u from (Promise b named) StaleBallot
-SaysPromise Duplicate members old new past u from b named =
-    Refuses old new past u from (Promise b named) refused_twice
+abbrev pub SaysPromise : {V : Type 0} → Tally V → ℕ → (old new : Tallying V) → Chronicle V →
+    PromiseDelivery V → Type 0
+SaysPromise Counted members old new past p =
+    Takes members new past (delivery_of_promise p) nothing_sent
+SaysPromise (Majority value) members old new past p =
+    Takes members new past (delivery_of_promise p)
+    (λ ms nodes fresh. to_each ms (Accept p.ballot (or_fresh value fresh)))
+    × LetsAccept members (Heard p.node p.from (Promise p.ballot p.named) ∷ past) p.node p.ballot value
+SaysPromise Stale members old new past p = Refuses old new past (delivery_of_promise p) StaleBallot
+SaysPromise Duplicate members old new past p =
+    Refuses old new past (delivery_of_promise p) refused_twice
 
 -- what the answer to an Accepted means: with a majority a Decision of the proposed value goes to
 -- each node
 abbrev pub SaysVote : {V : Type 0} → Tally (Unit {0}) → ℕ → (old new : Tallying V) → Chronicle V →
-    ℕ → ℕ → Ballot → Type 0
-SaysVote Counted members old new past u from b =
-    Takes members new past u from (Accepted b) nothing_sent
-SaysVote (Majority value) members old new past u from b =
-    Takes members new past u from (Accepted b)
-    (λ ms nodes fresh. announce nodes (proposed past u b))
-    × LetsDecide members (Heard u from (Accepted b) ∷ past) u b
-SaysVote Stale members old new past u from b = Refuses old new past u from (Accepted b) StaleBallot
-SaysVote Duplicate members old new past u from b =
-    Refuses old new past u from (Accepted b) refused_twice
+    VoteDelivery → Type 0
+SaysVote Counted members old new past vote =
+    Takes members new past (delivery_of_vote vote) nothing_sent
+SaysVote (Majority value) members old new past vote =
+    Takes members new past (delivery_of_vote vote)
+    (λ ms nodes fresh. announce nodes (proposed past vote.node vote.ballot))
+    × LetsDecide members (Heard vote.node vote.from (Accepted vote.ballot) ∷ past) vote.node vote.ballot
+SaysVote Stale members old new past vote = Refuses old new past (delivery_of_vote vote) StaleBallot
+SaysVote Duplicate members old new past vote =
+    Refuses old new past (delivery_of_vote vote) refused_twice

@@ -1,6 +1,6 @@
 //! What a member promises and accepts.
 ghost use Rattle.std.specs.Prelude.{ℕ, [], ◌≡◌, Some, None, Option, option_map};
-ghost use Rattle.paxos_core.specs.Facts.{Chronicle};
+ghost use Rattle.paxos_core.specs.Facts.{Chronicle, Prepare, Accept, delivery};
 ghost use Rattle.paxos_core.specs.Readings.{greater};
 ghost use Rattle.paxos_core.specs.Answers.{refuses_prepare, refuses_accept};
 ghost use Rattle.paxos_core.specs.Accepting.{StandsFor};
@@ -82,7 +82,7 @@ impl<V: Drop> Acceptor<V> {
         ensures promised { self.new.promised ≡ greater ballot self.old.promised }
         ensures accepted { self.new.accepted ≡ self.old.accepted }
         ensures stands { (past : Chronicle V) (u from : ℕ) → StandsFor self.old past u →
-            AnswersPrepare result self.old self.new past u from ballot }
+            AnswersPrepare result self.old self.new past (delivery u from (Prepare ballot)) }
     {
         let before = self.promised;
         match before {
@@ -104,7 +104,7 @@ impl<V: Drop> Acceptor<V> {
             (refuses_accept self.old.promised self.old.accepted ballot)
             self.old (accepting ballot value) }
         ensures stands { (past : Chronicle V) (u from : ℕ) → StandsFor self.old past u →
-            AnswersAccept result self.old self.new past u from ballot value }
+            AnswersAccept result self.old self.new past (delivery u from (Accept ballot value)) }
     {
         let before = self.promised;
         match before {

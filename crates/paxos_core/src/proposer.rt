@@ -8,7 +8,7 @@ ghost use Rattle.paxos_core.specs.Readings.{promised};
 ghost use Rattle.paxos_core.specs.Rules.{round_of, higher, MayFollow};
 ghost use Rattle.paxos_core.specs.Answers.{next_ballot, just_majority, to_each, posted};
 ghost use Rattle.paxos_core.specs.Tallying.{StandsFor};
-ghost use Rattle.paxos_core.specs.ProposerCalls.{opened, forgotten, gathered, IsPreparing, prepares, gathers, promise_tally, vote_tally, after_promise, after_vote, SaysPromise, SaysVote};
+ghost use Rattle.paxos_core.specs.ProposerCalls.{opened, forgotten, gathered, IsPreparing, prepares, gathers, promise_tally, vote_tally, after_promise, after_vote, promise_delivery, vote_delivery, SaysPromise, SaysVote};
 
 use std::alloc::Global;
 use std::marker::Model;
@@ -147,7 +147,7 @@ impl<V: Drop> Proposer<V> {
         ensures kept { IfOk result (λ tally. self.new ≡ after_promise tally self.old from named) }
         ensures stands { IfOk result (λ tally. (past : Chronicle V) (u : ℕ) →
             StandsFor members self.old past u →
-            SaysPromise tally members self.old self.new past u from ballot named) }
+            SaysPromise tally members self.old self.new past (promise_delivery u from ballot named)) }
         ensures err { OnErr result (self.new ≡ self.old) }
     {
         if !prepares(&self.phase, ballot) {
@@ -197,7 +197,7 @@ impl<V: Drop> Proposer<V> {
         ensures kept { IfOk result (λ tally. self.new ≡ after_vote tally self.old from) }
         ensures stands { IfOk result (λ tally. (past : Chronicle V) (u : ℕ) →
             StandsFor members self.old past u →
-            SaysVote tally members self.old self.new past u from ballot) }
+            SaysVote tally members self.old self.new past (vote_delivery u from ballot)) }
         ensures err { OnErr result (self.new ≡ self.old) }
     {
         if !gathers(&self.phase, ballot) {
