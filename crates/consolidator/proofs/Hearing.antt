@@ -12,7 +12,7 @@ use Rattle.paxos_core.specs.declared.proposer.Phase.{Phase}
 use Rattle.paxos_core.specs.declared.proposer.Phase.TheVariants.{Idle, Preparing, Gathering}
 use Rattle.paxos_core.specs.declared.proposer.Tally.{Tally}
 use Rattle.paxos_core.specs.declared.proposer.Tally.TheVariants as tally
-use Rattle.paxos_core.specs.Facts.{Pair, Message, Prepare, Promise, Accept, Accepted, Decision, Heard, Chronicle}
+use Rattle.paxos_core.specs.Facts.{Pair, Message, Prepare, Promise, Accept, Accepted, Decision, Heard, delivery, Chronicle}
 use Rattle.paxos_core.specs.Readings.{promised, accepted, started}
 use Rattle.paxos_core.specs.Decisions.{decision}
 use Rattle.paxos_core.specs.Rules.{round_of, higher}
@@ -21,8 +21,8 @@ use Rattle.paxos_core.specs.Accepting as accepting
 use Rattle.paxos_core.specs.AcceptorCalls.{AnswersPrepare, AnswersAccept, GoesOn}
 use Rattle.paxos_core.specs.Tallying.{Tallying, Leaves}
 use Rattle.paxos_core.specs.Tallying as tallying
-use Rattle.paxos_core.specs.ProposerCalls.{IsPreparing, prepares, gathers, tally_of, promise_tally, vote_tally, after_promise, after_vote, SaysPromise, SaysVote}
-use Rattle.paxos_core.specs.Answers.{opened, next_ballot, Refusal, Promised, Decided, refusal, decided, answers, received, received_as, posted, proposed, or_fresh, announce, to_each}
+use Rattle.paxos_core.specs.ProposerCalls.{IsPreparing, prepares, gathers, tally_of, promise_tally, vote_tally, after_promise, after_vote, promise_delivery, vote_delivery, SaysPromise, SaysVote}
+use Rattle.paxos_core.specs.Answers.{opened, next_ballot, Refusal, Promised, Decided, refusal, decided, setting_of, answers, received, received_as, posted, proposed, or_fresh, announce, to_each}
 use Rattle.paxos_core.proofs.Ballots.{same_ballot_true, same_parts}
 use Rattle.incomplete_closure.specs.Reports.{Report}
 use Rattle.incomplete_closure.specs.Marking.{value_of}
@@ -34,7 +34,7 @@ use Rattle.consolidator.specs.Answers.{reason_of, reason_where, of_epoch, refuse
 use Rattle.consolidator.specs.Holding.{Holding}
 use Rattle.consolidator.specs.Messages.{Agrees}
 use Rattle.consolidator.specs.Messages as mail
-use Rattle.consolidator.specs.Parts.{StandsFor, Hears, Keeps, Proposes, opened_as, gone, of_use, after_report}
+use Rattle.consolidator.specs.Parts.{StandsFor, addressees, epoch_past, Hears, Keeps, Proposes, opened_as, gone, of_use, after_report}
 use Rattle.consolidator.specs.Readings.{put_report, nodes_of, is_empty}
 use Rattle.consolidator.specs.Seen.{mails_seen}
 use Rattle.consolidator.proofs.Parting.{answered, tallied, decides, decided_known, leaves_announce}
@@ -50,36 +50,36 @@ each_sent seen e d nodes m sent same = sent ∙ (ap (λ x. map (λ (to : ℕ). (
 -- ---- refused, or not
 
 pub is_refused : (members nodes : List ℕ) (old new : Part) (past : Chronicle Value) (reports : List Report) (u from : ℕ) (m : Message Value) (why : Refusal)
-    → refusal past u from m ≡ Some why → StandsFor (length members) new past reports u → Hears members nodes (told.Idle (reason_of why)) old new past reports u from m
+    → refusal past u from m ≡ Some why → StandsFor (length members) new past reports u → Hears (addressees members nodes) (told.Idle (reason_of why)) old new (epoch_past past reports) (delivery u from m)
 unfolding received
 is_refused members nodes old new past reports u from m why refused h = record {
   answer = ap reason_where refused;
-  stands = subst (λ w. StandsFor (length members) new (received_as w members nodes (value_of reports) past u from m) reports u) (sym refused) h;
+  stands = subst (λ w. StandsFor (length members) new (received_as w (setting_of members nodes (value_of reports)) past u from m) reports u) (sym refused) h;
 }
 
 pub is_heard : (members nodes : List ℕ) (mails : List TheMail) (old new : Part) (past : Chronicle Value) (reports : List Report) (u from : ℕ) (m : Message Value) (out : List (ℕ × Message Value))
-    → refusal past u from m ≡ None → answers members nodes (value_of reports) past u from m ≡ out → mails_seen mails ≡ of_epoch old.reports.epoch out
-    → StandsFor (length members) new (posted u out (Heard u from m ∷ past)) reports u → Hears members nodes (told.Sent mails) old new past reports u from m
+    → refusal past u from m ≡ None → answers (setting_of members nodes (value_of reports)) past u from m ≡ out → mails_seen mails ≡ of_epoch old.reports.epoch out
+    → StandsFor (length members) new (posted u out (Heard u from m ∷ past)) reports u → Hears (addressees members nodes) (told.Sent mails) old new (epoch_past past reports) (delivery u from m)
 unfolding received
 is_heard members nodes mails old new past reports u from m out taken says sent h = record {
   answer = (ap reason_where taken, sent ∙ ap (of_epoch old.reports.epoch) (sym says));
-  stands = subst (λ w. StandsFor (length members) new (received_as w members nodes (value_of reports) past u from m) reports u) (sym taken)
+  stands = subst (λ w. StandsFor (length members) new (received_as w (setting_of members nodes (value_of reports)) past u from m) reports u) (sym taken)
       (subst (λ ms. StandsFor (length members) new (posted u ms (Heard u from m ∷ past)) reports u) (sym says) h);
 }
 
 -- ---- the acceptor
 
-prepare_says : (members nodes : List ℕ) (fresh : Value) (past : Chronicle Value) (u from : ℕ) (b : Ballot) → answers members nodes fresh past u from (Prepare b) ≡ (from, Promise b (accepted past u)) ∷ []
+prepare_says : (members nodes : List ℕ) (fresh : Value) (past : Chronicle Value) (u from : ℕ) (b : Ballot) → answers (setting_of members nodes fresh) past u from (Prepare b) ≡ (from, Promise b (accepted past u)) ∷ []
 unfolding answers
 prepare_says members nodes fresh past u from b = refl
 
-accept_says : (members nodes : List ℕ) (fresh : Value) (past : Chronicle Value) (u from : ℕ) (b : Ballot) (v : Value) → answers members nodes fresh past u from (Accept b v) ≡ (from, Accepted b) ∷ []
+accept_says : (members nodes : List ℕ) (fresh : Value) (past : Chronicle Value) (u from : ℕ) (b : Ballot) (v : Value) → answers (setting_of members nodes fresh) past u from (Accept b v) ≡ (from, Accepted b) ∷ []
 unfolding answers
 accept_says members nodes fresh past u from b v = refl
 
 pub promises : (members nodes : List ℕ) (mails : List TheMail) (old : Part) (a : Accepting Value) (past : Chronicle Value) (reports : List Report) (u from : ℕ) (b : Ballot)
-    → AnswersPrepare prepared.Promise old.acceptor a past u from b → mails_seen mails ≡ (from, Agrees old.reports.epoch (Promise b old.acceptor.accepted)) ∷ []
-    → StandsFor (length members) old past reports u → Hears members nodes (told.Sent mails) old (record old { acceptor = a }) past reports u from (Prepare b)
+    → AnswersPrepare prepared.Promise old.acceptor a past (delivery u from (Prepare b)) → mails_seen mails ≡ (from, Agrees old.reports.epoch (Promise b old.acceptor.accepted)) ∷ []
+    → StandsFor (length members) old past reports u → Hears (addressees members nodes) (told.Sent mails) old (record old { acceptor = a }) (epoch_past past reports) (delivery u from (Prepare b))
 promises members nodes mails old a past reports u from b says sent h =
     let out : List (ℕ × Message Value) = (from, Promise b (accepted past u)) ∷ [] in
     let made : Option (Pair Value) → List (ℕ × mail.Message) = λ named. (from, Agrees old.reports.epoch (Promise b named)) ∷ [] in
@@ -100,8 +100,8 @@ one_accepted seen from e d b sent same =
     sent ∙ ap made same
 
 pub accepts : (members nodes : List ℕ) (mails : List TheMail) (old : Part) (a : Accepting Value) (past : Chronicle Value) (reports : List Report) (u from : ℕ) (b : Ballot) (v : Value)
-    → AnswersAccept took.Accepted old.acceptor a past u from b v → mails_seen mails ≡ (from, Agrees old.reports.epoch (Accepted b)) ∷ []
-    → StandsFor (length members) old past reports u → Hears members nodes (told.Sent mails) old (record old { acceptor = a }) past reports u from (Accept b v)
+    → AnswersAccept took.Accepted old.acceptor a past (delivery u from (Accept b v)) → mails_seen mails ≡ (from, Agrees old.reports.epoch (Accepted b)) ∷ []
+    → StandsFor (length members) old past reports u → Hears (addressees members nodes) (told.Sent mails) old (record old { acceptor = a }) (epoch_past past reports) (delivery u from (Accept b v))
 accepts members nodes mails old a past reports u from b v says sent h =
     let out : List (ℕ × Message Value) = (from, Accepted b) ∷ [] in
     let takes : accepting.StandsFor a (Heard u from (Accept b v) ∷ past) u = subst (λ w. GoesOn w old.acceptor a past u (Heard u from (Accept b v))) says.answer says.state in
@@ -113,15 +113,15 @@ pub keeps_acceptor : (n : ℕ) (old : Part) (a : Accepting Value) (past : Chroni
 keeps_acceptor n old a past reports u same h = let P : Accepting Value → Type 0 = λ z. StandsFor n (record old { acceptor = z }) past reports u in subst P (sym same) h
 
 pub prepare_refused : (members nodes : List ℕ) (old : Part) (a : Accepting Value) (past : Chronicle Value) (reports : List Report) (u from : ℕ) (b c : Ballot)
-    → AnswersPrepare (prepared.Refused c) old.acceptor a past u from b
-    → StandsFor (length members) old past reports u → Hears members nodes (told.Idle (reason.Promised c)) old (record old { acceptor = a }) past reports u from (Prepare b)
+    → AnswersPrepare (prepared.Refused c) old.acceptor a past (delivery u from (Prepare b))
+    → StandsFor (length members) old past reports u → Hears (addressees members nodes) (told.Idle (reason.Promised c)) old (record old { acceptor = a }) (epoch_past past reports) (delivery u from (Prepare b))
 prepare_refused members nodes old a past reports u from b c says h =
     let same : a ≡ old.acceptor = subst (λ w. GoesOn w old.acceptor a past u (Heard u from (Prepare b))) says.answer says.state in
     is_refused members nodes old (record old { acceptor = a }) past reports u from (Prepare b) (Promised c) says.answer (keeps_acceptor (length members) old a past reports u same h)
 
 pub accept_refused : (members nodes : List ℕ) (old : Part) (a : Accepting Value) (past : Chronicle Value) (reports : List Report) (u from : ℕ) (b : Ballot) (v : Value) (why : Refusal)
     → refusal past u from (Accept b v) ≡ Some why → GoesOn (refusal past u from (Accept b v)) old.acceptor a past u (Heard u from (Accept b v))
-    → StandsFor (length members) old past reports u → Hears members nodes (told.Idle (reason_of why)) old (record old { acceptor = a }) past reports u from (Accept b v)
+    → StandsFor (length members) old past reports u → Hears (addressees members nodes) (told.Idle (reason_of why)) old (record old { acceptor = a }) (epoch_past past reports) (delivery u from (Accept b v))
 accept_refused members nodes old a past reports u from b v why refused state h =
     let same : a ≡ old.acceptor = subst (λ w. GoesOn w old.acceptor a past u (Heard u from (Accept b v))) refused state in
     is_refused members nodes old (record old { acceptor = a }) past reports u from (Accept b v) why refused (keeps_acceptor (length members) old a past reports u same h)
@@ -173,25 +173,25 @@ pub keeps_proposer : (n : ℕ) (old : Part) (t : Tallying Value) (past : Chronic
 keeps_proposer n old t past reports u same h = let P : Tallying Value → Type 0 = λ z. StandsFor n (record old { proposer = z }) past reports u in subst P (sym same) h
 
 pub promise_counted : (members nodes : List ℕ) (mails : List TheMail) (old : Part) (t : Tallying Value) (past : Chronicle Value) (reports : List Report) (u from : ℕ) (b : Ballot) (named : Option (Pair Value))
-    → mails ≡ [] → SaysPromise tally.Counted (length members) old.proposer t past u from b named → t.phase ≡ old.proposer.phase
-    → StandsFor (length members) old past reports u → Hears members nodes (told.Sent mails) old (record old { proposer = t }) past reports u from (Promise b named)
+    → mails ≡ [] → SaysPromise tally.Counted (length members) old.proposer t past (promise_delivery u from b named) → t.phase ≡ old.proposer.phase
+    → StandsFor (length members) old past reports u → Hears (addressees members nodes) (told.Sent mails) old (record old { proposer = t }) (epoch_past past reports) (delivery u from (Promise b named))
 promise_counted members nodes mails old t past reports u from b named none says phase h =
     is_heard members nodes mails old (record old { proposer = t }) past reports u from (Promise b named) [] says.heard (says.sends members nodes (value_of reports) refl) (ap mails_seen none)
     (tallied (length members) old t past reports u from (Promise b named) [] (λ d. refl) tt tt says.stands phase h)
 
 pub promise_refused : (members nodes : List ℕ) (old : Part) (t : Tallying Value) (past : Chronicle Value) (reports : List Report) (u from : ℕ) (b : Ballot) (named : Option (Pair Value)) (why : Refusal)
     → refusal past u from (Promise b named) ≡ Some why → t ≡ old.proposer
-    → StandsFor (length members) old past reports u → Hears members nodes (told.Idle (reason_of why)) old (record old { proposer = t }) past reports u from (Promise b named)
+    → StandsFor (length members) old past reports u → Hears (addressees members nodes) (told.Idle (reason_of why)) old (record old { proposer = t }) (epoch_past past reports) (delivery u from (Promise b named))
 promise_refused members nodes old t past reports u from b named why refused same h =
     is_refused members nodes old (record old { proposer = t }) past reports u from (Promise b named) why refused (keeps_proposer (length members) old t past reports u same h)
 
 -- a majority has promised: the value goes out
 pub promise_majority : (members nodes : List ℕ) (mails : List TheMail) (old new : Part) (t : Tallying Value) (past : Chronicle Value) (reports : List Report) (u from : ℕ) (b : Ballot) (named : Option (Pair Value)) (best : Option Value) (v : Value)
-    → SaysPromise (tally.Majority best) (length members) old.proposer t past u from b named → t.phase ≡ old.proposer.phase → old.proposer.phase ≡ Preparing b
+    → SaysPromise (tally.Majority best) (length members) old.proposer t past (promise_delivery u from b named) → t.phase ≡ old.proposer.phase → old.proposer.phase ≡ Preparing b
     → v ≡ or_fresh best (value_of old.reports.reports) → mails_seen mails ≡ of_epoch old.reports.epoch (to_each members (Accept b v))
     → ((decision (Heard u from (Promise b named) ∷ past) u ≡ None) → StandsFor (length members) (record old { proposer = t }) (Heard u from (Promise b named) ∷ past) reports u
     → StandsFor (length members) new (posted u (to_each members (Accept b v)) (Heard u from (Promise b named) ∷ past)) reports u)
-    → StandsFor (length members) old past reports u → Hears members nodes (told.Sent mails) old new past reports u from (Promise b named)
+    → StandsFor (length members) old past reports u → Hears (addressees members nodes) (told.Sent mails) old new (epoch_past past reports) (delivery u from (Promise b named))
 promise_majority members nodes mails old new t past reports u from b named best v says phase preparing is_value sent goes h =
     let still : decision past u ≡ None = undecided (length members) old past reports u b preparing h in
     let part : Part = record old { proposer = t } in
@@ -203,23 +203,23 @@ promise_majority members nodes mails old new t past reports u from b named best 
     (goes (undecided (length members) part (Heard u from (Promise b named) ∷ past) reports u b (phase ∙ preparing) counted) counted)
 
 pub vote_counted : (members nodes : List ℕ) (mails : List TheMail) (old : Part) (t : Tallying Value) (past : Chronicle Value) (reports : List Report) (u from : ℕ) (b : Ballot)
-    → mails_seen mails ≡ [] → SaysVote tally.Counted (length members) old.proposer t past u from b → t.phase ≡ old.proposer.phase
-    → StandsFor (length members) old past reports u → Hears members nodes (told.Sent mails) old (record old { proposer = t }) past reports u from (Accepted b)
+    → mails_seen mails ≡ [] → SaysVote tally.Counted (length members) old.proposer t past (vote_delivery u from b) → t.phase ≡ old.proposer.phase
+    → StandsFor (length members) old past reports u → Hears (addressees members nodes) (told.Sent mails) old (record old { proposer = t }) (epoch_past past reports) (delivery u from (Accepted b))
 vote_counted members nodes mails old t past reports u from b none says phase h =
     is_heard members nodes mails old (record old { proposer = t }) past reports u from (Accepted b) [] says.heard (says.sends members nodes (value_of reports) refl) none
     (tallied (length members) old t past reports u from (Accepted b) [] (λ d. refl) tt tt says.stands phase h)
 
 pub vote_refused : (members nodes : List ℕ) (old : Part) (t : Tallying Value) (past : Chronicle Value) (reports : List Report) (u from : ℕ) (b : Ballot) (why : Refusal)
     → refusal past u from (Accepted b) ≡ Some why → t ≡ old.proposer
-    → StandsFor (length members) old past reports u → Hears members nodes (told.Idle (reason_of why)) old (record old { proposer = t }) past reports u from (Accepted b)
+    → StandsFor (length members) old past reports u → Hears (addressees members nodes) (told.Idle (reason_of why)) old (record old { proposer = t }) (epoch_past past reports) (delivery u from (Accepted b))
 vote_refused members nodes old t past reports u from b why refused same h =
     is_refused members nodes old (record old { proposer = t }) past reports u from (Accepted b) why refused (keeps_proposer (length members) old t past reports u same h)
 
 -- a majority has accepted: the value that was proposed goes to all nodes
 pub vote_majority : (members nodes : List ℕ) (mails : List TheMail) (old : Part) (t : Tallying Value) (past : Chronicle Value) (reports : List Report) (u from : ℕ) (b : Ballot) (v : Option (Unit {0}))
-    → SaysVote (tally.Majority v) (length members) old.proposer t past u from b → t.phase ≡ old.proposer.phase → old.proposer.phase ≡ Gathering b
+    → SaysVote (tally.Majority v) (length members) old.proposer t past (vote_delivery u from b) → t.phase ≡ old.proposer.phase → old.proposer.phase ≡ Gathering b
     → mails_seen mails ≡ of_epoch old.reports.epoch (announce nodes old.proposed)
-    → StandsFor (length members) old past reports u → Hears members nodes (told.Sent mails) old (record old { proposer = t }) past reports u from (Accepted b)
+    → StandsFor (length members) old past reports u → Hears (addressees members nodes) (told.Sent mails) old (record old { proposer = t }) (epoch_past past reports) (delivery u from (Accepted b))
 vote_majority members nodes mails old t past reports u from b v says phase gathering sent h =
     let out : List (ℕ × Message Value) = announce nodes (proposed past u b) in
     is_heard members nodes mails old (record old { proposer = t }) past reports u from (Accepted b) out says.0.heard (says.0.sends members nodes (value_of reports) refl)
@@ -235,12 +235,12 @@ decision_refusal : (past : Chronicle Value) (u from : ℕ) (v : Value) → refus
 unfolding refusal
 decision_refusal past u from v = refl
 
-decision_says : (members nodes : List ℕ) (fresh : Value) (past : Chronicle Value) (u from : ℕ) (v : Value) → answers members nodes fresh past u from (Decision v) ≡ []
+decision_says : (members nodes : List ℕ) (fresh : Value) (past : Chronicle Value) (u from : ℕ) (v : Value) → answers (setting_of members nodes fresh) past u from (Decision v) ≡ []
 unfolding answers
 decision_says members nodes fresh past u from v = refl
 
 pub decided_again : (members nodes : List ℕ) (old : Part) (past : Chronicle Value) (reports : List Report) (u from : ℕ) (v : Value) → is_some old.decision ≡ true
-    → StandsFor (length members) old past reports u → Hears members nodes (told.Idle reason.Decided) old old past reports u from (Decision v)
+    → StandsFor (length members) old past reports u → Hears (addressees members nodes) (told.Idle reason.Decided) old old (epoch_past past reports) (delivery u from (Decision v))
 decided_again members nodes old past reports u from v knows h =
     let is : decided past u ≡ true = decided_known past u ∙ (ap (λ (d : Option Value). is_some d) (sym h.known) ∙ knows) in
     is_refused members nodes old old past reports u from (Decision v) Decided (decision_refusal past u from v ∙ ap refuses_decision is) h
@@ -251,7 +251,7 @@ none_of (Some v) e = absurd (cc e)
 
 pub decided_now : (members nodes : List ℕ) (mails : List TheMail) (old new : Part) (past : Chronicle Value) (reports : List Report) (u from : ℕ) (v : Value) → is_some old.decision ≡ false
     → mails ≡ [] → new ≡ gone (record old { decision = Some v }) → StandsFor (length members) old past reports u
-    → Hears members nodes (told.Sent mails) old new past reports u from (Decision v)
+    → Hears (addressees members nodes) (told.Sent mails) old new (epoch_past past reports) (delivery u from (Decision v))
 decided_now members nodes mails old new past reports u from v unknown none made h =
     let still : decision past u ≡ None = sym h.known ∙ none_of old.decision unknown in
     let is : decided past u ≡ false = decided_known past u ∙ ap (λ (d : Option Value). is_some d) still in
@@ -260,14 +260,14 @@ decided_now members nodes mails old new past reports u from v unknown none made 
 
 -- ---- a report
 
-pub report_decided : (n : ℕ) (old : Part) (past : Chronicle Value) (reports : List Report) (u : ℕ) (r : Report) → is_some old.decision ≡ true → StandsFor n old past reports u → Keeps n (told.Idle reason.Decided) old past reports u r
+pub report_decided : (n : ℕ) (old : Part) (past : Chronicle Value) (reports : List Report) (u : ℕ) (r : Report) → is_some old.decision ≡ true → StandsFor n old past reports u → Keeps n (told.Idle reason.Decided) old (epoch_past past reports) u r
 report_decided n old past reports u r knows h =
     let is : is_some (decision past u) ≡ true = ap (λ (d : Option Value). is_some d) (sym h.known) ∙ knows in
     let why : refuses_report (is_some (decision past u)) (has (nodes_of reports) r.node) ≡ Some reason.Decided = ap (λ d. refuses_report d (has (nodes_of reports) r.node)) is in
     record { answer = why; stands = subst (λ w. StandsFor n old past (after_report w r reports) u) (sym why) h }
 
 pub report_again : (n : ℕ) (old : Part) (past : Chronicle Value) (reports : List Report) (u : ℕ) (r : Report) → is_some old.decision ≡ false → has (nodes_of old.reports.reports) r.node ≡ true
-    → StandsFor n old past reports u → Keeps n (told.Idle reason.Duplicate) old past reports u r
+    → StandsFor n old past reports u → Keeps n (told.Idle reason.Duplicate) old (epoch_past past reports) u r
 report_again n old past reports u r unknown held h =
     let still : decision past u ≡ None = sym h.known ∙ none_of old.decision unknown in
     let is : has (nodes_of reports) r.node ≡ true = ap (λ rs. has (nodes_of rs) r.node) (sym (all_held n old past reports u still h)) ∙ held in
@@ -288,7 +288,7 @@ with_report n old held past reports u r kept still h = record {
 }
 
 pub report_kept : (n : ℕ) (mails : List TheMail) (old : Part) (held : Holding) (past : Chronicle Value) (reports : List Report) (u : ℕ) (r : Report) → is_some old.decision ≡ false → has (nodes_of old.reports.reports) r.node ≡ false
-    → mails ≡ [] → held.reports ≡ put_report r old.reports.reports → StandsFor n old past reports u → Keeps n (told.Sent mails) (record old { reports = held }) past reports u r
+    → mails ≡ [] → held.reports ≡ put_report r old.reports.reports → StandsFor n old past reports u → Keeps n (told.Sent mails) (record old { reports = held }) (epoch_past past reports) u r
 report_kept n mails old held past reports u r unknown new none kept h =
     let still : decision past u ≡ None = sym h.known ∙ none_of old.decision unknown in
     let is : has (nodes_of reports) r.node ≡ false = ap (λ rs. has (nodes_of rs) r.node) (sym (all_held n old past reports u still h)) ∙ new in
@@ -347,7 +347,7 @@ undecided_free past reports u e =
     ]) e
 
 pub not_started : (members : List ℕ) (old : Part) (past : Chronicle Value) (reports : List Report) (u : ℕ) (why : Reason) → Some why ≡ not_proposing past reports u
-    → StandsFor (length members) old past reports u → Proposes members (told.Idle why) old old past reports u
+    → StandsFor (length members) old past reports u → Proposes members (told.Idle why) old old (epoch_past past reports) u
 not_started members old past reports u why is h = record {
   answer = sym is;
   stands = subst (λ w. StandsFor (length members) old (opened_as w members past u) reports u) is h;
@@ -356,7 +356,7 @@ not_started members old past reports u why is h = record {
 pub started_so : (members : List ℕ) (mails : List TheMail) (old new : Part) (past : Chronicle Value) (reports : List Report) (u : ℕ) → None ≡ not_proposing past reports u
     → mails_seen mails ≡ of_epoch old.reports.epoch (to_each members (Prepare (next_ballot past u)))
     → (decision past u ≡ None → StandsFor (length members) new (opened members past u) reports u)
-    → Proposes members (told.Sent mails) old new past reports u
+    → Proposes members (told.Sent mails) old new (epoch_past past reports) u
 started_so members mails old new past reports u is sent goes = record {
   answer = (sym is, sent);
   stands = subst (λ w. StandsFor (length members) new (opened_as w members past u) reports u) is (goes (undecided_free past reports u (sym is)));
@@ -369,18 +369,18 @@ ok_then (Ok x) h f = f x h
 ok_then (Err e) h f = tt
 
 pub says_promise : (k : ℕ) (members : List ℕ) (said this : Tally Value) (old new : Tallying Value) (past : Chronicle Value) (u from : ℕ) (b : Ballot) (named : Option (Pair Value)) → k ≡ length members → said ≡ this
-    → (tallying.StandsFor k old past u → SaysPromise said k old new past u from b named) → tallying.StandsFor (length members) old past u → SaysPromise this (length members) old new past u from b named
+    → (tallying.StandsFor k old past u → SaysPromise said k old new past (promise_delivery u from b named)) → tallying.StandsFor (length members) old past u → SaysPromise this (length members) old new past (promise_delivery u from b named)
 says_promise k members said this old new past u from b named same is f h =
-    let g : tallying.StandsFor (length members) old past u → SaysPromise said (length members) old new past u from b named =
-    subst (λ (n : ℕ). tallying.StandsFor n old past u → SaysPromise said n old new past u from b named) same f in
-    subst (λ (t : Tally Value). SaysPromise t (length members) old new past u from b named) is (g h)
+    let g : tallying.StandsFor (length members) old past u → SaysPromise said (length members) old new past (promise_delivery u from b named) =
+    subst (λ (n : ℕ). tallying.StandsFor n old past u → SaysPromise said n old new past (promise_delivery u from b named)) same f in
+    subst (λ (t : Tally Value). SaysPromise t (length members) old new past (promise_delivery u from b named)) is (g h)
 
 pub says_vote : (k : ℕ) (members : List ℕ) (said this : Tally (Unit {0})) (old new : Tallying Value) (past : Chronicle Value) (u from : ℕ) (b : Ballot) → k ≡ length members → said ≡ this
-    → (tallying.StandsFor k old past u → SaysVote said k old new past u from b) → tallying.StandsFor (length members) old past u → SaysVote this (length members) old new past u from b
+    → (tallying.StandsFor k old past u → SaysVote said k old new past (vote_delivery u from b)) → tallying.StandsFor (length members) old past u → SaysVote this (length members) old new past (vote_delivery u from b)
 says_vote k members said this old new past u from b same is f h =
-    let g : tallying.StandsFor (length members) old past u → SaysVote said (length members) old new past u from b =
-    subst (λ (n : ℕ). tallying.StandsFor n old past u → SaysVote said n old new past u from b) same f in
-    subst (λ (t : Tally (Unit {0})). SaysVote t (length members) old new past u from b) is (g h)
+    let g : tallying.StandsFor (length members) old past u → SaysVote said (length members) old new past (vote_delivery u from b) =
+    subst (λ (n : ℕ). tallying.StandsFor n old past u → SaysVote said n old new past (vote_delivery u from b)) same f in
+    subst (λ (t : Tally (Unit {0})). SaysVote t (length members) old new past (vote_delivery u from b)) is (g h)
 
 phase_after_promise : (t : Tally Value) (old : Tallying Value) (from : ℕ) (named : Option (Pair Value)) → (after_promise t old from named).phase ≡ old.phase
 phase_after_promise tally.Counted old from named = refl

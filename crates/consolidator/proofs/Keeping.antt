@@ -4,6 +4,7 @@ use Rattle.std.proofs.lemmas.Bool.Decides.{nat_tests}
 use Rattle.topology.specs.declared.status.Reason.TheVariants as reason
 use Rattle.topology.specs.Lists.{has, ascending}
 use Rattle.topology.specs.Net.{Net}
+use Rattle.paxos_core.specs.Facts.{delivery}
 use Rattle.consolidator.specs.declared.messages.Reply.{Reply}
 use Rattle.consolidator.specs.declared.messages.Reply.TheVariants as told
 use Rattle.consolidator.specs.declared.parts.Part.{Part}
@@ -98,7 +99,7 @@ part_set node e d (p ∷ ps) x inside is =
 -- ---- all parts, after one of them went on
 
 pub parts_hear : (net : Net) (reply : Reply) (old now : List Part) (new : Part) (past : Chronicle) (u from : ℕ) (m : Message)
-    → ((d : ℕ) → part_in u d now ≡ (if epoch_of m == d then new else part_in u d old)) → AreParts net old past u → Hears net reply new past u from m → HearsAll net reply now past u from m
+    → ((d : ℕ) → part_in u d now ≡ (if epoch_of m == d then new else part_in u d old)) → AreParts net old past u → Hears net reply new past (delivery u from m) → HearsAll net reply now past (delivery u from m)
 parts_hear net reply old now new past u from m is h one = record {
   answer = one.answer;
   stands = λ d. subst (λ (p : Part). IsPart net p (received_as (refused past u from m) net past u from m) u d) (sym (is d))
@@ -110,7 +111,7 @@ parts_hear net reply old now new past u from m is h one = record {
 
 pub parts_propose : (net : Net) (reply : Reply) (old now : List Part) (part_old new : Part) (past : Chronicle) (u e : ℕ)
     → ((d : ℕ) → part_in u d now ≡ (if e == d then new else part_in u d old)) → part_old.reports.epoch ≡ e → AreParts net old past u
-    → part.Proposes (ascending net.consolidators) reply part_old new (agreement e past) (reports_held u e past) u → ProposesAll net reply now past u e
+    → part.Proposes (ascending net.consolidators) reply part_old new (part.epoch_past (agreement e past) (reports_held u e past)) u → ProposesAll net reply now past u e
 parts_propose net reply old now part_old new past u e is epoch h one =
     let why = not_proposing (agreement e past) (reports_held u e past) u in
     record {
@@ -132,7 +133,7 @@ place_epoch node e place mid was at within value =
 -- the part at the place of its epoch heard a message
 pub hears_at : (net : Net) (reply : Reply) (node e place : ℕ) (old mid : List Part) (was new : Part) (past : Chronicle) (from : ℕ) (m : Message)
     → e ≡ epoch_of m → place ≡ place_in e mid → place < length mid → ((d : ℕ) → part_in node d mid ≡ part_in node d old) → was ≡ get_or mid place was → new.reports.epoch ≡ was.reports.epoch
-    → AreParts net old past node → (IsPart net was past node (epoch_of m) → Hears net reply new past node from m) → HearsAll net reply (set mid place new) past node from m
+    → AreParts net old past node → (IsPart net was past node (epoch_of m) → Hears net reply new past (delivery node from m)) → HearsAll net reply (set mid place new) past (delivery node from m)
 hears_at net reply node e place old mid was new past from m is at within same value epoch h hears =
     let placed : place_in e mid < length mid = subst (λ (k : ℕ). k < length mid) at within in
     let found : was ≡ part_in node e mid = at_place node e mid was placed (subst (λ (k : ℕ). was ≡ get_or mid k was) at value) in
@@ -146,7 +147,7 @@ hears_at net reply node e place old mid was new past from m is at within same va
 -- the same of a ballot
 pub proposes_at : (net : Net) (reply : Reply) (node e place : ℕ) (old mid : List Part) (was new : Part) (past : Chronicle)
     → place ≡ place_in e mid → place < length mid → ((d : ℕ) → part_in node d mid ≡ part_in node d old) → was ≡ get_or mid place was → new.reports.epoch ≡ was.reports.epoch
-    → AreParts net old past node → (IsPart net was past node e → part.Proposes (ascending net.consolidators) reply was new (agreement e past) (reports_held node e past) node)
+    → AreParts net old past node → (IsPart net was past node e → part.Proposes (ascending net.consolidators) reply was new (part.epoch_past (agreement e past) (reports_held node e past)) node)
     → ProposesAll net reply (set mid place new) past node e
 proposes_at net reply node e place old mid was new past at within same value epoch h goes =
     let placed : place_in e mid < length mid = subst (λ (k : ℕ). k < length mid) at within in
@@ -169,8 +170,8 @@ not_is_true true e = absurd (cc e)
 not_is_true false e = refl
 
 -- what is for u
-pub handled : (net : Net) (reply : Reply) (parts : List Part) (past : Chronicle) (u from : ℕ) (m : Message) → (has net.consolidators u || is_for_all m) ≡ true → HearsAll net reply parts past u from m
-    → Handles net reply (record { node = u; parts = parts }) past u from m
+pub handled : (net : Net) (reply : Reply) (parts : List Part) (past : Chronicle) (u from : ℕ) (m : Message) → (has net.consolidators u || is_for_all m) ≡ true → HearsAll net reply parts past (delivery u from m)
+    → Handles net reply (record { node = u; parts = parts }) past (delivery u from m)
 unfolding refusal_of received
 handled net reply parts past u from m here one = record {
   answer = subst (λ b. Says reply (if b then refused past u from m else Some reason.NotConsolidator) (replies net past u from m)) (sym here) one.answer;
@@ -182,15 +183,15 @@ handled net reply parts past u from m here one = record {
 
 pub handled_by : (net : Net) (reply : Reply) (node : ℕ) (old now : List Part) (past : Chronicle) (u from : ℕ) (m : Message) → (has net.consolidators node || is_for_all m) ≡ true
     → StandsFor net (record { node = node; parts = old }) past u
-    → ((before : Chronicle) → (has net.consolidators node || is_for_all m) ≡ true → AreParts net old before node → HearsAll net reply now before node from m)
-    → Handles net reply (record { node = node; parts = now }) past u from m
+    → ((before : Chronicle) → (has net.consolidators node || is_for_all m) ≡ true → AreParts net old before node → HearsAll net reply now before (delivery node from m))
+    → Handles net reply (record { node = node; parts = now }) past (delivery u from m)
 handled_by net reply node old now past u from m here h one =
-    subst (λ (w : ℕ). Handles net reply (record { node = node; parts = now }) past w from m) h.number
+    subst (λ (w : ℕ). Handles net reply (record { node = node; parts = now }) past (delivery w from m)) h.number
     (handled net reply now past node from m here (one past here (subst (λ (w : ℕ). AreParts net old past w) (sym h.number) h.each)))
 
 -- what is not
 pub not_handled : (net : Net) (kept : Kept) (past : Chronicle) (u from : ℕ) (m : Message) → (has net.consolidators kept.node || is_for_all m) ≡ false → StandsFor net kept past u
-    → Handles net (told.Idle reason.NotConsolidator) kept past u from m
+    → Handles net (told.Idle reason.NotConsolidator) kept past (delivery u from m)
 unfolding refusal_of received
 not_handled net kept past u from m test h =
     let here : (has net.consolidators u || is_for_all m) ≡ false = ap (λ w. has net.consolidators w || is_for_all m) (sym h.number) ∙ test in

@@ -8,7 +8,7 @@ use Rattle.topology.specs.Lists.{has, ascending}
 use Rattle.topology.specs.Net.{Net, IsValid}
 use Rattle.topology.proofs.Ascending.{has-ascending, length-ascending}
 use Rattle.paxos_core.specs.Facts as paxos
-use Rattle.paxos_core.specs.Answers.{Refusal, refusal, answers, to_each, next_ballot, received, opened}
+use Rattle.paxos_core.specs.Answers.{Refusal, refusal, setting_of, answers, to_each, next_ballot, received, opened}
 use Rattle.paxos_core.specs.Answers as paxos_answers
 use Rattle.incomplete_closure.specs.Reports.{Report}
 use Rattle.incomplete_closure.specs.Marking.{value_of}
@@ -53,7 +53,7 @@ either false x = refl
 
 -- what it sends when it heard the message
 abbrev said : Net → Chronicle → ℕ → ℕ → ℕ → paxos.Message Value → List (ℕ × paxos.Message Value)
-said net past u e from m = answers (ascending net.consolidators) (ascending net.nodes) (value_of (reports_held u e past)) (agreement e past) u from m
+said net past u e from m = answers (setting_of (ascending net.consolidators) (ascending net.nodes) (value_of (reports_held u e past))) (agreement e past) u from m
 
 replies_of : (net : Net) (past : Chronicle) (u e from : ℕ) (m : paxos.Message Value) → replies net past u from (Agrees e m) ≡ of_epoch e (said net past u e from m)
 unfolding replies
@@ -71,7 +71,7 @@ reports_received : (net : Net) (past : Chronicle) (u e from : ℕ) (m : paxos.Me
 reports_received net past u e from m = reports_posted e u u (replies net past u from (Agrees e m)) (Heard u from (Agrees e m) ∷ past) ∙ either (u == u) (reports_held u e past)
 
 received_in : (net : Net) (new : Part) (past : Chronicle) (u e from : ℕ) (m : paxos.Message Value) (why : Option Refusal)
-    → part.StandsFor (length (ascending net.consolidators)) new (paxos_answers.received_as why (ascending net.consolidators) (ascending net.nodes) (value_of (reports_held u e past)) (agreement e past) u from m) (reports_held u e past) u
+    → part.StandsFor (length (ascending net.consolidators)) new (paxos_answers.received_as why (setting_of (ascending net.consolidators) (ascending net.nodes) (value_of (reports_held u e past))) (agreement e past) u from m) (reports_held u e past) u
     → IsPart net new (received_as (reason_where why) net past u from (Agrees e m)) u e
 received_in net new past u e from m (Some why) h = h
 received_in net new past u e from m None h =
@@ -81,21 +81,21 @@ received_in net new past u e from m None h =
     (sym (reports_received net past u e from m)) h)
 
 said_is : (net : Net) (reply : Reply) (why : Option Reason) (past : Chronicle) (u e d from : ℕ) (m : paxos.Message Value) → e ≡ d
-    → Says reply why (of_epoch d (answers (ascending net.consolidators) (ascending net.nodes) (value_of (reports_held u e past)) (agreement e past) u from m))
+    → Says reply why (of_epoch d (answers (setting_of (ascending net.consolidators) (ascending net.nodes) (value_of (reports_held u e past))) (agreement e past) u from m))
     → Says reply why (replies net past u from (Agrees e m))
 said_is net reply why past u e d from m same h =
     subst (λ ms. Says reply why ms) (sym (replies_of net past u e from m))
     (subst (λ x. Says reply why (of_epoch x (said net past u e from m))) (sym same) h)
 
 received_is : (members nodes : List ℕ) (v : Value) (past : paxos.Chronicle Value) (u from : ℕ) (m : paxos.Message Value)
-    → received members nodes v past u from m ≡ paxos_answers.received_as (refusal past u from m) members nodes v past u from m
+    → received (setting_of members nodes v) past u from m ≡ paxos_answers.received_as (refusal past u from m) (setting_of members nodes v) past u from m
 unfolding received
 received_is members nodes v past u from m = refl
 
 -- a message of the agreement of the epoch
 pub hears_agreement : (net : Net) (reply : Reply) (old new : Part) (past : Chronicle) (u e from : ℕ) (m : paxos.Message Value) → e ≡ old.reports.epoch
-    → part.Hears (ascending net.consolidators) (ascending net.nodes) reply old new (agreement e past) (reports_held u e past) u from m
-    → Hears net reply new past u from (Agrees e m)
+    → part.Hears (part.addressees (ascending net.consolidators) (ascending net.nodes)) reply old new (part.epoch_past (agreement e past) (reports_held u e past)) (paxos.delivery u from m)
+    → Hears net reply new past (paxos.delivery u from (Agrees e m))
 hears_agreement net reply old new past u e from m same h = record {
   answer = said_is net reply (reason_where (refusal (agreement e past) u from m)) past u e old.reports.epoch from m same h.answer;
   stands = received_in net new past u e from m (refusal (agreement e past) u from m)
@@ -123,8 +123,8 @@ report_in net new past u from r None h =
 
 -- a report of the epoch
 pub hears_report : (net : Net) (reply : Reply) (new : Part) (past : Chronicle) (u from : ℕ) (r : Report)
-    → part.Keeps (length (ascending net.consolidators)) reply new (agreement r.epoch past) (reports_held u r.epoch past) u r
-    → Hears net reply new past u from (Reports r)
+    → part.Keeps (length (ascending net.consolidators)) reply new (part.epoch_past (agreement r.epoch past) (reports_held u r.epoch past)) u r
+    → Hears net reply new past (paxos.delivery u from (Reports r))
 hears_report net reply new past u from r h = record {
   answer = subst (λ ms. Says reply (refused past u from (Reports r)) ms) (sym (no_replies net past u from r)) h.answer;
   stands = report_in net new past u from r (refuses_report (is_some (known u r.epoch past)) (has (nodes_of (reports_held u r.epoch past)) r.node)) h.stands;
@@ -151,24 +151,24 @@ pub hears_so : (net : Net) (reply : Reply) (old new : Part) (past : Chronicle) (
     → m ≡ Agrees e x → members ≡ ascending net.consolidators → nodes ≡ ascending net.nodes
     → epoch_of m ≡ old.reports.epoch → (has net.consolidators u || is_for_all m) ≡ true → IsPart net old past u (epoch_of m)
     → ((has net.consolidators u || is_decision x) ≡ true → part.StandsFor (length members) old (agreement e past) (reports_held u e past) u
-    → part.Hears members nodes reply old new (agreement e past) (reports_held u e past) u from x)
-    → Hears net reply new past u from m
+    → part.Hears (part.addressees members nodes) reply old new (part.epoch_past (agreement e past) (reports_held u e past)) (paxos.delivery u from x))
+    → Hears net reply new past (paxos.delivery u from m)
 hears_so net reply old new past u from members nodes m e x is are_members are_nodes epoch here h hears =
     let here_too : (has net.consolidators u || is_decision x) ≡ true = subst (λ z. (has net.consolidators u || is_for_all z) ≡ true) is here in
     let stands : part.StandsFor (length (ascending net.consolidators)) old (agreement e past) (reports_held u e past) u = subst (λ z. IsPart net old past u (epoch_of z)) is h in
-    let said_so : part.Hears members nodes reply old new (agreement e past) (reports_held u e past) u from x =
+    let said_so : part.Hears (part.addressees members nodes) reply old new (part.epoch_past (agreement e past) (reports_held u e past)) (paxos.delivery u from x) =
     hears here_too (subst (λ (ms : List ℕ). part.StandsFor (length ms) old (agreement e past) (reports_held u e past) u) (sym are_members) stands) in
-    subst (λ z. Hears net reply new past u from z) (sym is)
+    subst (λ z. Hears net reply new past (paxos.delivery u from z)) (sym is)
     (hears_agreement net reply old new past u e from x (subst (λ z. epoch_of z ≡ old.reports.epoch) is epoch)
-    (subst (λ (ns : List ℕ). part.Hears (ascending net.consolidators) ns reply old new (agreement e past) (reports_held u e past) u from x) are_nodes
-    (subst (λ (ms : List ℕ). part.Hears ms nodes reply old new (agreement e past) (reports_held u e past) u from x) are_members said_so)))
+    (subst (λ (ns : List ℕ). part.Hears (part.addressees (ascending net.consolidators) ns) reply old new (part.epoch_past (agreement e past) (reports_held u e past)) (paxos.delivery u from x)) are_nodes
+    (subst (λ (ms : List ℕ). part.Hears (part.addressees ms nodes) reply old new (part.epoch_past (agreement e past) (reports_held u e past)) (paxos.delivery u from x)) are_members said_so)))
 
 pub hears_report_so : (net : Net) (reply : Reply) (old new : Part) (past : Chronicle) (u from : ℕ) (m : Message) (r : Report) → m ≡ Reports r → IsPart net old past u (epoch_of m)
     → (part.StandsFor (length (ascending net.consolidators)) old (agreement r.epoch past) (reports_held u r.epoch past) u
-    → part.Keeps (length (ascending net.consolidators)) reply new (agreement r.epoch past) (reports_held u r.epoch past) u r)
-    → Hears net reply new past u from m
+    → part.Keeps (length (ascending net.consolidators)) reply new (part.epoch_past (agreement r.epoch past) (reports_held u r.epoch past)) u r)
+    → Hears net reply new past (paxos.delivery u from m)
 hears_report_so net reply old new past u from m r is h keeps =
-    subst (λ z. Hears net reply new past u from z) (sym is)
+    subst (λ z. Hears net reply new past (paxos.delivery u from z)) (sym is)
     (hears_report net reply new past u from r (keeps (subst (λ z. IsPart net old past u (epoch_of z)) is h)))
 
 -- ---- other epochs

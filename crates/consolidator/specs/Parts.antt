@@ -5,13 +5,14 @@ use Rattle.topology.specs.declared.ballots.Ballot.{Ballot}
 use Rattle.topology.specs.declared.status.Reason.{Reason}
 use Rattle.topology.specs.Lists.{has}
 use Rattle.paxos_core.specs.declared.proposer.Phase.TheVariants.{Idle, Gathering}
+use Rattle.paxos_core.specs.Facts.{Delivery}
 use Rattle.paxos_core.specs.Facts as paxos
 use Rattle.paxos_core.specs.Readings.{started}
 use Rattle.paxos_core.specs.Decisions.{decision}
 use Rattle.paxos_core.specs.Accepting as accepting
 use Rattle.paxos_core.specs.Tallying as tallying
 use Rattle.paxos_core.specs.ProposerCalls.{forgotten}
-use Rattle.paxos_core.specs.Answers.{refusal, answers, received, proposed, opened, next_ballot, to_each}
+use Rattle.paxos_core.specs.Answers.{refusal, setting_of, answers, received, proposed, opened, next_ballot, to_each}
 use Rattle.incomplete_closure.specs.Reports.{Report}
 use Rattle.incomplete_closure.specs.Marking.{value_of}
 use Rattle.incomplete_closure.specs.declared.values.Value.{Value}
@@ -56,12 +57,33 @@ pub record StandsFor (members : ℕ) (part : Part) (past : paxos.Chronicle Value
   pub known : part.decision ≡ decision past u
   pub over : is_some (decision past u) ≡ true → part.proposer.phase ≡ Idle
 
--- a message of the agreement came to u: the reply is that of the rules, and the part goes on
-pub record Hears (members nodes : List ℕ) (reply : Reply) (old new : Part) (past : paxos.Chronicle Value)
-    (reports : List Report) (u from : ℕ) (m : paxos.Message Value) : Type 0 where
-  pub answer : Says reply (reason_where (refusal past u from m))
-      (of_epoch old.reports.epoch (answers members nodes (value_of reports) past u from m))
-  pub stands : StandsFor (length members) new (received members nodes (value_of reports) past u from m) reports u
+-- to whom a part writes: the members of the agreement, which are the consolidators, and all nodes
+pub record Addressees : Type 0 where
+  pub members : List ℕ
+  pub nodes : List ℕ
+
+-- these members, and these nodes
+abbrev pub addressees : (members nodes : List ℕ) → Addressees
+addressees members nodes = record { members = members; nodes = nodes }
+
+-- the past of an epoch: what happened in its agreement, and the reports that a node holds
+pub record EpochPast : Type 0 where
+  pub past : paxos.Chronicle Value
+  pub reports : List Report
+
+-- what happened, and these reports
+abbrev pub epoch_past : paxos.Chronicle Value → List Report → EpochPast
+epoch_past past reports = record { past = past; reports = reports }
+
+-- a message of the agreement came to a node: the reply is that of the rules, and the part goes on
+pub record Hears (who : Addressees) (reply : Reply) (old new : Part) (before : EpochPast)
+    (d : Delivery (paxos.Message Value)) : Type 0 where
+  pub answer : Says reply (reason_where (refusal before.past d.node d.from d.message))
+      (of_epoch old.reports.epoch
+      (answers (setting_of who.members who.nodes (value_of before.reports)) before.past d.node d.from d.message))
+  pub stands : StandsFor (length who.members) new
+      (received (setting_of who.members who.nodes (value_of before.reports)) before.past d.node d.from d.message)
+      before.reports d.node
 
 -- the reports after one more that came, where a decision is known, or one of its node is held, or neither
 abbrev pub after_report : Option Reason → Report → List Report → List Report
@@ -69,11 +91,12 @@ after_report None r reports = put_report r reports
 after_report (Some why) r reports = reports
 
 -- a report of the epoch came to u: it is kept, or refused
-pub record Keeps (members : ℕ) (reply : Reply) (new : Part) (past : paxos.Chronicle Value) (reports : List Report)
-    (u : ℕ) (r : Report) : Type 0 where
-  pub answer : Says reply (refuses_report (is_some (decision past u)) (has (nodes_of reports) r.node)) []
-  pub stands : StandsFor members new past
-      (after_report (refuses_report (is_some (decision past u)) (has (nodes_of reports) r.node)) r reports) u
+pub record Keeps (members : ℕ) (reply : Reply) (new : Part) (before : EpochPast) (u : ℕ) (r : Report) : Type 0 where
+  pub answer : Says reply
+      (refuses_report (is_some (decision before.past u)) (has (nodes_of before.reports) r.node)) []
+  pub stands : StandsFor members new before.past
+      (after_report (refuses_report (is_some (decision before.past u)) (has (nodes_of before.reports) r.node)) r
+      before.reports) u
 
 -- the agreement after u was to propose: as before where it does not
 abbrev pub opened_as : Option Reason → List ℕ → paxos.Chronicle Value → ℕ → paxos.Chronicle Value
@@ -81,8 +104,8 @@ opened_as None members past u = opened members past u
 opened_as (Some why) members past u = past
 
 -- u was to propose: it asks each consolidator for a promise, or there is a reason not to
-pub record Proposes (members : List ℕ) (reply : Reply) (old new : Part) (past : paxos.Chronicle Value)
-    (reports : List Report) (u : ℕ) : Type 0 where
-  pub answer : Says reply (not_proposing past reports u)
-      (of_epoch old.reports.epoch (to_each members (paxos.Prepare (next_ballot past u))))
-  pub stands : StandsFor (length members) new (opened_as (not_proposing past reports u) members past u) reports u
+pub record Proposes (members : List ℕ) (reply : Reply) (old new : Part) (before : EpochPast) (u : ℕ) : Type 0 where
+  pub answer : Says reply (not_proposing before.past before.reports u)
+      (of_epoch old.reports.epoch (to_each members (paxos.Prepare (next_ballot before.past u))))
+  pub stands : StandsFor (length members) new
+      (opened_as (not_proposing before.past before.reports u) members before.past u) before.reports u

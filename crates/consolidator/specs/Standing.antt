@@ -2,6 +2,7 @@
 use Rattle.std.specs.Prelude.{ℕ, ◌≡◌, List, length}
 use Rattle.topology.specs.Lists.{ascending}
 use Rattle.topology.specs.Net.{Net}
+use Rattle.paxos_core.specs.Facts.{Delivery}
 use Rattle.consolidator.specs.declared.messages.Reply.{Reply}
 use Rattle.consolidator.specs.declared.parts.Part.{Part}
 use Rattle.consolidator.specs.Messages.{Message, epoch_of}
@@ -25,25 +26,27 @@ pub record StandsFor (net : Net) (kept : Kept) (past : Chronicle) (u : ℕ) : Ty
   pub number : kept.node ≡ u
   pub each : AreParts net kept.parts past u
 
--- a message that is for u came: the reply is that of the rules, and the part of its epoch goes on
-pub record Hears (net : Net) (reply : Reply) (new : Part) (past : Chronicle) (u from : ℕ) (m : Message) : Type 0 where
-  pub answer : Says reply (refused past u from m) (replies net past u from m)
-  pub stands : IsPart net new (received_as (refused past u from m) net past u from m) u (epoch_of m)
+-- a message that is for the node came to it: the reply is that of the rules, and the part of its epoch goes on
+pub record Hears (net : Net) (reply : Reply) (new : Part) (past : Chronicle) (d : Delivery Message) : Type 0 where
+  pub answer : Says reply (refused past d.node d.from d.message) (replies net past d.node d.from d.message)
+  pub stands : IsPart net new
+      (received_as (refused past d.node d.from d.message) net past d.node d.from d.message) d.node (epoch_of d.message)
 
 -- the same, with all parts
-pub record HearsAll (net : Net) (reply : Reply) (new : List Part) (past : Chronicle) (u from : ℕ) (m : Message) : Type 0 where
-  pub answer : Says reply (refused past u from m) (replies net past u from m)
-  pub stands : AreParts net new (received_as (refused past u from m) net past u from m) u
+pub record HearsAll (net : Net) (reply : Reply) (new : List Part) (past : Chronicle) (d : Delivery Message) : Type 0 where
+  pub answer : Says reply (refused past d.node d.from d.message) (replies net past d.node d.from d.message)
+  pub stands : AreParts net new
+      (received_as (refused past d.node d.from d.message) net past d.node d.from d.message) d.node
 
 -- a consolidator u was to propose a value for e: the same
 pub record ProposesAll (net : Net) (reply : Reply) (new : List Part) (past : Chronicle) (u e : ℕ) : Type 0 where
   pub answer : Says reply (not_proposing (agreement e past) (reports_held u e past) u) (asks net past u e)
   pub stands : AreParts net new (proposed_as (not_proposing (agreement e past) (reports_held u e past) u) net past u e) u
 
--- a message came to u: the reply is that of the rules, and what u keeps stands for what happened then
-pub record Handles (net : Net) (reply : Reply) (kept : Kept) (past : Chronicle) (u from : ℕ) (m : Message) : Type 0 where
-  pub answer : Says reply (refusal_of net past u from m) (replies net past u from m)
-  pub stands : StandsFor net kept (received net past u from m) u
+-- a message came to a node: the reply is that of the rules, and what the node keeps stands for what happened then
+pub record Handles (net : Net) (reply : Reply) (kept : Kept) (past : Chronicle) (d : Delivery Message) : Type 0 where
+  pub answer : Says reply (refusal_of net past d.node d.from d.message) (replies net past d.node d.from d.message)
+  pub stands : StandsFor net kept (received net past d.node d.from d.message) d.node
 
 -- u was to propose a value for e: the same
 pub record Proposes (net : Net) (reply : Reply) (kept : Kept) (past : Chronicle) (u e : ℕ) : Type 0 where

@@ -2,6 +2,7 @@
 ghost use Rattle.std.specs.Prelude.{ℕ, ◌≡◌, ◌||◌, ◌<◌, ◌≤◌, ◌∷◌, [], true, map, option_copied, length, IfOk, OnOk};
 ghost use Rattle.topology.specs.Lists.{has};
 ghost use Rattle.topology.specs.Net.{Net};
+ghost use Rattle.paxos_core.specs.Facts.{delivery};
 ghost use Rattle.consolidator.specs.Answers.{is_for_all};
 ghost use Rattle.consolidator.specs.Facts.{Chronicle, Crash};
 ghost use Rattle.consolidator.specs.Keeping.{part_in, place_in};
@@ -82,7 +83,7 @@ fn hear_in(
     ensures { IfOk result (λ reply. (past : Chronicle) →
         (has topology.now.consolidators node || is_for_all (message_seen message)) ≡ true →
         AreParts topology.now parts.old.items past node →
-        HearsAll topology.now reply parts.new.items past node from (message_seen message)) }
+        HearsAll topology.now reply parts.new.items past (delivery node from (message_seen message))) }
 {
     let epoch = message.epoch();
     let place = place_for(alloc, parts, node, epoch)?;
@@ -180,7 +181,7 @@ impl Consolidator {
         message: Message,
     ) -> Result<(Consolidator, Reply), NoMemory>
         ensures { IfOk result (λ done. (past : Chronicle) (u : ℕ) → StandsFor topology.now self past u →
-            Handles topology.now done.1 done.0 past u from (message_seen message)) }
+            Handles topology.now done.1 done.0 past (delivery u from (message_seen message))) }
     {
         let mut consolidator = self;
         let (alloc, node) = (consolidator.alloc, consolidator.node);

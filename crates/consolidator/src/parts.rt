@@ -14,7 +14,7 @@ ghost use Rattle.incomplete_closure.specs.Marking.{value_of};
 ghost use Rattle.consolidator.specs.Answers.{of_epoch, is_for_all, no_round, not_proposing};
 ghost use Rattle.consolidator.specs.Facts.{Chronicle};
 ghost use Rattle.consolidator.specs.Messages.{epoch_of};
-ghost use Rattle.consolidator.specs.Parts.{no_part, gone, StandsFor, Hears, Keeps, Proposes};
+ghost use Rattle.consolidator.specs.Parts.{no_part, gone, StandsFor, addressees, epoch_past, Hears, Keeps, Proposes};
 ghost use Rattle.consolidator.specs.Seen.{message_seen, mails_seen};
 ghost use Rattle.consolidator.specs.Standing.{IsPart, Hears as HearsMessage};
 
@@ -94,7 +94,7 @@ impl Part {
         ensures epoch { OnOk result (self.new.reports.epoch ≡ self.old.reports.epoch) }
         ensures kept { IfOk result (λ reply. (n : ℕ) (past : paxos.Chronicle AnyValue) (reports : List AnyReport)
             (u : ℕ) → StandsFor n self.old past reports u →
-            Keeps n reply self.new past reports u (report_seen report.value)) }
+            Keeps n reply self.new (epoch_past past reports) u (report_seen report.value)) }
     {
         if self.decision.is_some() {
             return Ok(Reply::Idle(Reason::Decided));
@@ -116,7 +116,8 @@ impl Part {
         ensures epoch { OnOk result (self.new.reports.epoch ≡ self.old.reports.epoch) }
         ensures heard { IfOk result (λ reply. (members nodes : List ℕ) (past : paxos.Chronicle AnyValue)
             (reports : List AnyReport) (u : ℕ) → StandsFor (length members) self.old past reports u →
-            Hears members nodes reply self.old self.new past reports u from (paxos.Prepare ballot)) }
+            Hears (addressees members nodes) reply self.old self.new (epoch_past past reports)
+            (paxos.delivery u from (paxos.Prepare ballot))) }
     {
         match self.acceptor.on_prepare(ballot) {
             Prepared::Refused(promised) => Ok(Reply::Idle(Reason::Promised(promised))),
@@ -144,7 +145,8 @@ impl Part {
         ensures epoch { OnOk result (self.new.reports.epoch ≡ self.old.reports.epoch) }
         ensures heard { IfOk result (λ reply. (members nodes : List ℕ) (past : paxos.Chronicle AnyValue)
             (reports : List AnyReport) (u : ℕ) → StandsFor (length members) self.old past reports u →
-            Hears members nodes reply self.old self.new past reports u from (paxos.Accept ballot value)) }
+            Hears (addressees members nodes) reply self.old self.new (epoch_past past reports)
+            (paxos.delivery u from (paxos.Accept ballot value))) }
     {
         match self.acceptor.on_accept(ballot, value) {
             Took::Refused(promised) => Ok(Reply::Idle(Reason::Promised(promised))),
@@ -212,7 +214,8 @@ impl Part {
         ensures heard { IfOk result (λ reply. (nodes : List ℕ) (past : paxos.Chronicle AnyValue)
             (reports : List AnyReport) (u : ℕ) → has members.now u ≡ true →
             StandsFor (length members.now) self.old past reports u →
-            Hears members.now nodes reply self.old self.new past reports u from (paxos.Promise ballot named)) }
+            Hears (addressees members.now nodes) reply self.old self.new (epoch_past past reports)
+            (paxos.delivery u from (paxos.Promise ballot named))) }
     {
         match self
             .proposer
@@ -263,7 +266,8 @@ impl Part {
         ensures heard { IfOk result (λ reply. (all : List ℕ) (past : paxos.Chronicle AnyValue)
             (reports : List AnyReport) (u : ℕ) → length all ≡ members →
             StandsFor (length all) self.old past reports u →
-            Hears all nodes.now reply self.old self.new past reports u from (paxos.Accepted ballot)) }
+            Hears (addressees all nodes.now) reply self.old self.new (epoch_past past reports)
+            (paxos.delivery u from (paxos.Accepted ballot))) }
     {
         match self.proposer.on_accepted(from, ballot, members)? {
             Tally::Stale => Ok(Reply::Idle(Reason::StaleBallot)),
@@ -281,7 +285,8 @@ impl Part {
         ensures epoch { self.new.reports.epoch ≡ self.old.reports.epoch }
         ensures heard { (members nodes : List ℕ) (past : paxos.Chronicle AnyValue) (reports : List AnyReport)
             (u from : ℕ) → StandsFor (length members) self.old past reports u →
-            Hears members nodes result self.old self.new past reports u from (paxos.Decision value) }
+            Hears (addressees members nodes) result self.old self.new (epoch_past past reports)
+            (paxos.delivery u from (paxos.Decision value)) }
     {
         if self.decision.is_some() {
             return Reply::Idle(Reason::Decided);
@@ -337,7 +342,7 @@ impl Part {
         ensures epoch { OnOk result (self.new.reports.epoch ≡ self.old.reports.epoch) }
         ensures proposes { IfOk result (λ reply. (past : paxos.Chronicle AnyValue) (reports : List AnyReport) →
             StandsFor (length members.now) self.old past reports node →
-            Proposes members.now reply self.old self.new past reports node) }
+            Proposes members.now reply self.old self.new (epoch_past past reports) node) }
     {
         match self.reason_not_to_propose(node) {
             Some(reason) => Ok(Reply::Idle(reason)),
@@ -367,7 +372,7 @@ impl Part {
         ensures heard { IfOk result (λ reply. (past : Chronicle) (u : ℕ) →
             (has topology.now.consolidators u || is_for_all (message_seen message)) ≡ true →
             IsPart topology.now self.old past u (epoch_of (message_seen message)) →
-            HearsMessage topology.now reply self.new past u from (message_seen message)) }
+            HearsMessage topology.now reply self.new past (paxos.delivery u from (message_seen message))) }
     {
         let members = topology.consolidators();
         let nodes = topology.nodes();

@@ -11,5 +11,5 @@ returns c past here h =
     let reports = reports_held c.args.node c.args.epoch past in
     proposes_at c.args.topology.now c.in_ok-reply.reply c.args.node c.args.epoch c.in_ok-place.place c.args.parts.now.items c.place_for.new.parts.items c.index_mut.result.now c.propose.new.self past
     c.in_ok-place.ensures.place c.in_ok-place.ensures.within c.in_ok-place.ensures.same c.index_mut.ensures.value c.in_ok-reply.ensures.epoch h
-    (subst (λ (ms : List ℕ). part.StandsFor (length ms) c.index_mut.result.now held reports c.args.node → part.Proposes ms c.in_ok-reply.reply c.index_mut.result.now c.propose.new.self held reports c.args.node)
+    (subst (λ (ms : List ℕ). part.StandsFor (length ms) c.index_mut.result.now held reports c.args.node → part.Proposes ms c.in_ok-reply.reply c.index_mut.result.now c.propose.new.self (part.epoch_past held reports) c.args.node)
     c.consolidators-members.ensures (c.in_ok-reply.ensures.proposes held reports))
