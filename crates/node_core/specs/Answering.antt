@@ -5,6 +5,7 @@ use Rattle.path_vector.specs.Rules.{Rules}
 use Rattle.trigger_log.specs.Entries.{Entry}
 use Rattle.incomplete_closure.specs.declared.values.Value.{Value}
 use Rattle.stable_table.specs.Tables.{View, table_of}
+use Rattle.paxos_core.specs.Facts.{delivery}
 use Rattle.consolidator.specs.declared.messages.Reply.{Reply}
 use Rattle.consolidator.specs.Answers.{is_for_all}
 use Rattle.consolidator.specs.Facts as consolidator
@@ -60,5 +61,5 @@ decided_by other = None
 -- u's part in the agreements was asked about the input: the reply is that of the rules, and the part goes on
 abbrev pub Consults : Net → Reply → Kept → consolidator.Chronicle → ℕ → Input → Type 0
 Consults net reply kept past u (Propose e) = Proposes net reply kept past u e
-Consults net reply kept past u (Control from m) = Handles net reply kept past u from m
+Consults net reply kept past u (Control from m) = Handles net reply kept past (delivery u from m)
 Consults net reply kept past u other = ⊥
