@@ -4,7 +4,7 @@ use Rattle.std.specs.Borrow.{Bor}
 use Rattle.topology.specs.declared.status.Status.{Status}
 use Rattle.topology.specs.declared.status.Status.TheVariants.{Usage}
 use Rattle.route_io.specs.Views.{SourceView, SinkView, LinkView}
-use Rattle.route_node.specs.Attended.{Attended, ends_attending}
+use Rattle.route_node.specs.Attended.{Attended, endpoint, ends_attending}
 use Rattle.route_replay.specs.Loaded.{Loaded, ends_load}
 use Rattle.route_replay.specs.Replayed.{Replayed, ends_replay}
 use Rattle.consensus_routing.specs.declared.forms.Form.TheVariants.{Replay, Load, Node}
@@ -48,7 +48,7 @@ of_load words number source sink sink' link status is loaded = record {
 }
 
 pub of_node : (words : List (List ℕ)) (id : ℕ) (address : Bor (List ℕ)) (source source' : SourceView) (sink : SinkView) (link link' : LinkView) (status : Status) → IsForm words (Node id address)
-    → Attended id address.now source source' link link' status → Headline words (sides source sink link) (sides source' sink link') status
+    → Attended (endpoint id address.now) source source' link link' status → Headline words (sides source sink link) (sides source' sink link') status
 of_node words id address source source' sink link link' status is attended = record {
   usage = (λ e. absurd (true≢false (sym attended.formed ∙ ap ends_attending e)), λ none. absurd (none (Node id address) is));
   formed = λ _. (Node id address, is);
@@ -56,8 +56,8 @@ of_node words id address source source' sink link link' status is attended = rec
   replayed = λ other. absurd (replay_or_node words id address other is);
   loaded = λ number other. absurd (load_or_node words number id address other is);
   attended = λ other place it. (
-    subst (λ n. Attended n place.now source source' link link' status) (same_id words id other address place is it)
-        (subst (λ a. Attended id a source source' link link' status) (same_address words id other address place is it) attended),
+    subst (λ n. Attended (endpoint n place.now) source source' link link' status) (same_id words id other address place is it)
+        (subst (λ a. Attended (endpoint id a) source source' link link' status) (same_address words id other address place is it) attended),
     refl,
   );
 }

@@ -4,7 +4,7 @@ use Rattle.std.specs.Borrow.{Bor}
 use Rattle.topology.specs.declared.status.Status.{Status}
 use Rattle.topology.specs.declared.status.Status.TheVariants.{Usage}
 use Rattle.route_io.specs.Views.{SourceView, SinkView, LinkView}
-use Rattle.route_node.specs.Attended.{Attended}
+use Rattle.route_node.specs.Attended.{Attended, endpoint}
 use Rattle.route_replay.specs.Loaded.{Loaded}
 use Rattle.route_replay.specs.Replayed.{Replayed}
 use Rattle.consensus_routing.specs.declared.forms.Form.{Form}
@@ -37,4 +37,4 @@ pub record Headline (words : List (List ℕ)) (old new : Sides) (status : Status
   -- the word node, a number and an address: the address is dialled, the node of the network that the source holds answers
   -- the frames of the link, and the sink is left as it was
   pub attended : (id : ℕ) (address : Bor (List ℕ)) → IsForm words (Node id address)
-      → Attended id address.now old.source new.source old.link new.link status × (new.sink ≡ old.sink)
+      → Attended (endpoint id address.now) old.source new.source old.link new.link status × (new.sink ≡ old.sink)

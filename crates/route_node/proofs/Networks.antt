@@ -20,7 +20,7 @@ use Rattle.schedule_file.specs.Grammar.{IsTopologyFile, net_of}
 use Rattle.schedule_file.specs.Refusals.{FirstBadOfTopology}
 use Rattle.schedule_file.proofs.Readings.{one_list, no_bad, one_bad}
 use Rattle.route_node.specs.Served.{ends_serving, Served}
-use Rattle.route_node.specs.Attended.{IsNetwork, Gives, once_dialled, ends_attending, ends_undialled, Attended}
+use Rattle.route_node.specs.Attended.{Endpoint, IsNetwork, Gives, once_dialled, ends_attending, ends_undialled, Attended}
 
 -- ---- a file is of one network, or has one first bad line
 
@@ -68,8 +68,8 @@ dialled (Err e) address link link' done dials only cause = absurd (cc done)
 
 -- ---- before anything was read
 
-pub ends_no_memory : (id : ℕ) (address : List ℕ) (source source' : SourceView) (link : LinkView) → source'.faults ≡ source.faults → Attended id address source source' link link NoMemory
-ends_no_memory id address source source' link quiet = record {
+pub ends_no_memory : (here : Endpoint) (source source' : SourceView) (link : LinkView) → source'.faults ≡ source.faults → Attended here source source' link link NoMemory
+ends_no_memory here source source' link quiet = record {
   formed = refl;
   served = λ bytes told net is there. inr (inl refl, refl);
   missing = λ bytes told net is none. inr (inl refl);
@@ -87,8 +87,8 @@ ends_no_memory id address source source' link quiet = record {
   read = λ e. absurd (cc e);
 }
 
-pub ends_read_fault : (id : ℕ) (address : List ℕ) (source source' : SourceView) (link : LinkView) → RoseIf (ReadFault ≡ ReadFault) source.faults source'.faults → Attended id address source source' link link ReadFault
-ends_read_fault id address source source' link rose = record {
+pub ends_read_fault : (here : Endpoint) (source source' : SourceView) (link : LinkView) → RoseIf (ReadFault ≡ ReadFault) source.faults source'.faults → Attended here source source' link link ReadFault
+ends_read_fault here source source' link rose = record {
   formed = refl;
   served = λ bytes told net is there. inr (inr (inl refl), refl);
   missing = λ bytes told net is none. inr (inr refl);
@@ -106,9 +106,9 @@ ends_read_fault id address source source' link rose = record {
   read = λ e. absurd (cc e);
 }
 
-pub ends_too_long : (id : ℕ) (address : List ℕ) (source source' : SourceView) (link : LinkView) → IfSome source.left (λ bytes. MAX_BYTES < length bytes) → source'.faults ≡ source.faults
-    → Attended id address source source' link link (Limit kind.Bytes MAX_BYTES)
-ends_too_long id address source source' link long quiet = record {
+pub ends_too_long : (here : Endpoint) (source source' : SourceView) (link : LinkView) → IfSome source.left (λ bytes. MAX_BYTES < length bytes) → source'.faults ≡ source.faults
+    → Attended here source source' link link (Limit kind.Bytes MAX_BYTES)
+ends_too_long here source source' link long quiet = record {
   formed = refl;
   served = λ bytes told net is there. absurd (over bytes told is.short);
   missing = λ bytes told net is none. absurd (over bytes told is.short);
@@ -157,8 +157,8 @@ module _ (source source' : SourceView) (bytes : List ℕ) (read : (told : List �
   as_told : (P : List ℕ → Type 0) (told : List ℕ) → source.left ≡ Some told → P bytes → P told
   as_told P told is holds = subst P (read told is) holds
 
-  pub ends_bad : Got source source' bytes → (id : ℕ) (address : List ℕ) (link : LinkView) (line : ℕ) (bad : BadKind) → FirstBadOfTopology bytes line bad → Attended id address source source' link link (BadSchedule line bad)
-  ends_bad got id address link line bad first = record {
+  pub ends_bad : Got source source' bytes → (here : Endpoint) (link : LinkView) (line : ℕ) (bad : BadKind) → FirstBadOfTopology bytes line bad → Attended here source source' link link (BadSchedule line bad)
+  ends_bad got here link line bad first = record {
     formed = refl;
     served = λ told t net is there. absurd (no_network bytes net line bad (as_read (λ b. IsTopologyFile b net) told t is.file) first);
     missing = λ told t net is none. absurd (no_network bytes net line bad (as_read (λ b. IsTopologyFile b net) told t is.file) first);
@@ -178,7 +178,7 @@ module _ (source source' : SourceView) (bytes : List ℕ) (read : (told : List �
     read = λ e. got.at_end;
   }
 
-module _ (id : ℕ) (address : List ℕ) (source source' : SourceView) (net : Net) (gives : Gives source source' net) where
+module _ (here : Endpoint) (source source' : SourceView) (net : Net) (gives : Gives source source' net) where
   -- any network of the file is this one
   is_it : (told : List ℕ) → source.left ≡ Some told → (other : Net) → IsNetwork told other → net ≡ other
   is_it told t other is = same_network gives.bytes net other gives.network.file (as_read source source' gives.bytes gives.known (λ b. IsTopologyFile b other) told t is.file)
@@ -190,16 +190,16 @@ module _ (id : ℕ) (address : List ℕ) (source source' : SourceView) (net : Ne
   not_bad : (told : List ℕ) → source.left ≡ Some told → (line : ℕ) (bad : BadKind) → FirstBadOfTopology told line bad → ⊥
   not_bad told t line bad first = no_network gives.bytes net line bad gives.network.file (as_read source source' gives.bytes gives.known (λ b. FirstBadOfTopology b line bad) told t first)
 
-  pub ends_missing : (link : LinkView) → has net.nodes id ≡ false → Attended id address source source' link link (NoSuchNode id)
+  pub ends_missing : (link : LinkView) → has net.nodes here.id ≡ false → Attended here source source' link link (NoSuchNode here.id)
   ends_missing link none = record {
     formed = refl;
-    served = λ told t other is there. absurd (not_both other net id (sym (is_it told t other is)) there none);
+    served = λ told t other is there. absurd (not_both other net here.id (sym (is_it told t other is)) there none);
     missing = λ told t other is gone. inl refl;
     refused = λ told t short line bad first. absurd (not_bad told t line bad first);
     too_long = λ told t long. absurd (not_long source source' gives.bytes gives.known gives.network.short told t long);
     over = λ e. absurd (cc e);
     bad_schedule = λ line bad e. absurd (cc e);
-    no_such_node = λ node e. (let same : id ≡ node = cc e in sym same, λ told t. (net, of_it told t, none));
+    no_such_node = λ node e. (let same : here.id ≡ node = cc e in sym same, λ told t. (net, of_it told t, none));
     limit = λ number e. absurd (cc e);
     read_fault = stays_quiet source.faults source'.faults (λ e. cc e) gives.quiet;
     link_fault = stays_quiet link.faults link.faults (λ e. cc e) refl;
@@ -209,12 +209,12 @@ module _ (id : ℕ) (address : List ℕ) (source source' : SourceView) (net : Ne
     read = λ e. gives.at_end;
   }
 
-  module _ (there : has net.nodes id ≡ true) where
-    pub ends_at_dial : (link link' : LinkView) → Dials link link' address → OnlyDials link link' → RoseIf (LinkFault ≡ LinkFault) link.faults link'.faults → Attended id address source source' link link' LinkFault
+  module _ (there : has net.nodes here.id ≡ true) where
+    pub ends_at_dial : (link link' : LinkView) → Dials link link' here.address → OnlyDials link link' → RoseIf (LinkFault ≡ LinkFault) link.faults link'.faults → Attended here source source' link link' LinkFault
     ends_at_dial link link' dials only rose = record {
       formed = refl;
       served = λ told t other is has_it. inr (inr (inr refl), only);
-      missing = λ told t other is gone. absurd (not_both net other id (is_it told t other is) there gone);
+      missing = λ told t other is gone. absurd (not_both net other here.id (is_it told t other is) there gone);
       refused = λ told t short line bad first. absurd (not_bad told t line bad first);
       too_long = λ told t long. absurd (not_long source source' gives.bytes gives.known gives.network.short told t long);
       over = λ e. absurd (cc e);
@@ -229,11 +229,11 @@ module _ (id : ℕ) (address : List ℕ) (source source' : SourceView) (net : Ne
       read = λ e. gives.at_end;
     }
 
-    pub ends_served : (link link' : LinkView) (status : Status) → Served gao_rexford net id (once_dialled link address) link' status → Attended id address source source' link link' status
+    pub ends_served : (link link' : LinkView) (status : Status) → Served gao_rexford net here.id (once_dialled link here.address) link' status → Attended here source source' link link' status
     ends_served link link' status is_served = record {
       formed = may_end status is_served.formed;
-      served = λ told t other is has_it. inl (subst (λ n. Served gao_rexford n id (once_dialled link address) link' status) (is_it told t other is) is_served);
-      missing = λ told t other is gone. absurd (not_both net other id (is_it told t other is) there gone);
+      served = λ told t other is has_it. inl (subst (λ n. Served gao_rexford n here.id (once_dialled link here.address) link' status) (is_it told t other is) is_served);
+      missing = λ told t other is gone. absurd (not_both net other here.id (is_it told t other is) there gone);
       refused = λ told t short line bad first. absurd (not_bad told t line bad first);
       too_long = λ told t long. absurd (not_long source source' gives.bytes gives.known gives.network.short told t long);
       over = λ e told t. (net, of_it told t, there);

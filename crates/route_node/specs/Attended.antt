@@ -16,6 +16,15 @@ use Rattle.schedule_file.specs.Grammar.{IsTopologyFile}
 use Rattle.schedule_file.specs.Refusals.{FirstBadOfTopology}
 use Rattle.route_node.specs.Served.{Served}
 
+-- the node that runs, and the address of its peer
+pub record Endpoint : Type 0 where
+  pub id : ℕ
+  pub address : List ℕ
+
+-- the node with this number, whose peer has this address
+abbrev pub endpoint : ℕ → List ℕ → Endpoint
+endpoint id address = record { id = id; address = address }
+
 -- the bytes are a file of this network, and no more than a file may have
 pub record IsNetwork (bytes : List ℕ) (net : Net) : Type 0 where
   pub short : length bytes ≤ MAX_BYTES
@@ -107,17 +116,17 @@ ends_read LinkFault = true
 ends_read (BadFrame offset fault) = true
 ends_read (NoSuchNode node) = true
 
--- how the node with this number, whose peer has this address, ends, on a source and a link as they were and as they are then
-pub record Attended (id : ℕ) (address : List ℕ) (source source' : SourceView) (link link' : LinkView) (status : Status) : Type 0 where
+-- how the node here ends, on a source and a link as they were and as they are then
+pub record Attended (here : Endpoint) (source source' : SourceView) (link link' : LinkView) (status : Status) : Type 0 where
   -- never Usage, and nothing of a sink
   pub formed : ends_attending status ≡ true
   -- a network that has the node: the address is dialled, and the frames are answered, unless a read or the dial fails or
   -- memory runs out before
-  pub served : (bytes : List ℕ) → source.left ≡ Some bytes → (net : Net) → IsNetwork bytes net → has net.nodes id ≡ true
-      → Served gao_rexford net id (once_dialled link address) link' status ⊎ EndsBefore status link link'
+  pub served : (bytes : List ℕ) → source.left ≡ Some bytes → (net : Net) → IsNetwork bytes net → has net.nodes here.id ≡ true
+      → Served gao_rexford net here.id (once_dialled link here.address) link' status ⊎ EndsBefore status link link'
   -- one that has not: it is named, unless a read fails or memory runs out
-  pub missing : (bytes : List ℕ) → source.left ≡ Some bytes → (net : Net) → IsNetwork bytes net → has net.nodes id ≡ false
-      → (status ≡ NoSuchNode id) ⊎ ((status ≡ NoMemory) ⊎ (status ≡ ReadFault))
+  pub missing : (bytes : List ℕ) → source.left ≡ Some bytes → (net : Net) → IsNetwork bytes net → has net.nodes here.id ≡ false
+      → (status ≡ NoSuchNode here.id) ⊎ ((status ≡ NoMemory) ⊎ (status ≡ ReadFault))
   -- a file outside the grammar is refused by its first bad line
   pub refused : (bytes : List ℕ) → source.left ≡ Some bytes → length bytes ≤ MAX_BYTES → (line : ℕ) (bad : BadKind)
       → FirstBadOfTopology bytes line bad → (status ≡ BadSchedule line bad) ⊎ ((status ≡ NoMemory) ⊎ (status ≡ ReadFault))
@@ -126,13 +135,13 @@ pub record Attended (id : ℕ) (address : List ℕ) (source source' : SourceView
       → (status ≡ Limit kind.Bytes MAX_BYTES) ⊎ ((status ≡ NoMemory) ⊎ (status ≡ ReadFault))
   -- what ends over the link is the answer of a node of the network
   pub over : ends_over status ≡ true → (bytes : List ℕ) → source.left ≡ Some bytes
-      → (net : Net) × IsNetwork bytes net × (has net.nodes id ≡ true)
+      → (net : Net) × IsNetwork bytes net × (has net.nodes here.id ≡ true)
   -- BadSchedule: the line is the first outside the grammar, and this is what is wrong with it
   pub bad_schedule : (line : ℕ) (bad : BadKind) → status ≡ BadSchedule line bad
       → (bytes : List ℕ) → source.left ≡ Some bytes → FirstBadOfTopology bytes line bad
   -- NoSuchNode: the network has no node with the number
   pub no_such_node : (node : ℕ) → status ≡ NoSuchNode node
-      → (node ≡ id) × ((bytes : List ℕ) → source.left ≡ Some bytes → (net : Net) × IsNetwork bytes net × (has net.nodes id ≡ false))
+      → (node ≡ here.id) × ((bytes : List ℕ) → source.left ≡ Some bytes → (net : Net) × IsNetwork bytes net × (has net.nodes here.id ≡ false))
   -- Limit on bytes: the file is too long
   pub limit : (number : ℕ) → status ≡ Limit kind.Bytes number
       → (bytes : List ℕ) → source.left ≡ Some bytes → (number ≡ MAX_BYTES) × (MAX_BYTES < length bytes)
@@ -142,8 +151,8 @@ pub record Attended (id : ℕ) (address : List ℕ) (source source' : SourceView
   -- nothing is done with the link before the network and the number are known
   pub undialled : ends_undialled status ≡ true → link' ≡ link
   -- the address is dialled, once, before the first frame
-  pub dialled : ends_dialled status ≡ true → Dials link link' address
+  pub dialled : ends_dialled status ≡ true → Dials link link' here.address
   -- and nothing else is, whatever the end
-  pub dialled_at_most : Dials link link' address ⊎ (link'.dialled ≡ link.dialled)
+  pub dialled_at_most : Dials link link' here.address ⊎ (link'.dialled ≡ link.dialled)
   -- nothing is left of the file once it was parsed
   pub read : ends_read status ≡ true → IsAtEnd source'.left

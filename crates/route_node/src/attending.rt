@@ -1,7 +1,7 @@
 //! A node of a network that a source holds.
-ghost use Rattle.std.specs.Prelude.{ℕ, List, IfOk, IfErr};
+ghost use Rattle.std.specs.Prelude.{IfOk, IfErr};
 ghost use Rattle.route_io.specs.Views.{LinkView};
-ghost use Rattle.route_node.specs.Attended.{Attended, Gives};
+ghost use Rattle.route_node.specs.Attended.{Attended, Endpoint, Gives, endpoint};
 
 use crate::serving::serve;
 use route_io::{Link, ReadEnd, Source, read_all};
@@ -13,8 +13,8 @@ use topology::{LimitKind, NodeId, Status, Topology};
 // The network that a source holds.
 fn network_of<I: Source>(alloc: Global, source: &mut I) -> Result<Rc<Topology>, Status>
     ensures ok { IfOk result (λ network. Gives (I.seen source.old) (I.seen source.new) network.value) }
-    ensures err { IfErr result (λ status. (id : ℕ) (address : List ℕ) (link : LinkView) →
-        Attended id address (I.seen source.old) (I.seen source.new) link link status) }
+    ensures err { IfErr result (λ status. (here : Endpoint) (link : LinkView) →
+        Attended here (I.seen source.old) (I.seen source.new) link link status) }
 {
     let bytes = match read_all(alloc, source, MAX_BYTES as usize) {
         Ok(bytes) => bytes,
@@ -42,7 +42,7 @@ pub fn attend<I: Source, L: Link>(
     source: &mut I,
     link: &mut L,
 ) -> Status
-    ensures { Attended id address.now (I.seen source.old) (I.seen source.new) (L.seen link.old) (L.seen link.new) result }
+    ensures { Attended (endpoint id address.now) (I.seen source.old) (I.seen source.new) (L.seen link.old) (L.seen link.new) result }
 {
     let network = match network_of(alloc, source) {
         Ok(network) => network,
