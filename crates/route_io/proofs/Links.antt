@@ -1,6 +1,9 @@
 -- Writes of a link, one after the other.
-use Rattle.std.proofs.Common.{ℕ, ◌+◌, ◌-◌, ◌<◌, ◌≤◌, ◌≡◌, ◌⊎◌, inl, inr, min, List, length, Option, Some, ap, subst, ◌∙◌, arith, IfSome}
-use Rattle.route_io.specs.Links.{OnlyWrites, HasRoom, WritesOnce, room_left}
+use Rattle.std.proofs.Common.{ℕ, ◌+◌, ◌-◌, ◌<◌, ◌≤◌, ◌≡◌, ◌⊎◌, inl, inr, min, List, length, take, Option, Some, None, refl, sym, ap, subst, ◌∙◌, arith, length-append, IfSome}
+use Rattle.std.proofs.lemmas.List.{length-take-le}
+use Rattle.std.specs.Io.KnownBytes.{Appends}
+use Rattle.route_io.specs.Causes.{StaysTold}
+use Rattle.route_io.specs.Links.{OnlyWrites, FindsNoneLeft, HasRoom, LacksRoom, WritesOnce, room_behind, room_left}
 use Rattle.route_io.specs.Views.{LinkView}
 
 -- no write was made yet
@@ -40,6 +43,32 @@ onward was now next piece rest done n (inr further) inside size some within fill
       whole = λ h. absurd (omega (arith, further.whole h, inside));
       once = λ h. absurd (omega (arith, further.whole h, inside));
     }
+
+-- how much was left of a room, where so much is left of it behind more bytes
+pub room_before :
+    (room : Option ℕ) (old now : Option (List ℕ)) (bytes : List ℕ) (left : ℕ) →
+    StaysTold old now → Appends old now bytes → room_behind room now ≡ Some left →
+    (before : ℕ) × (room_behind room old ≡ Some before) × (before ≤ left + length bytes)
+room_before None old now bytes left told more is = absurd (cc is)
+room_before (Some size) old None bytes left told more is = absurd (cc is)
+room_before (Some size) None (Some now) bytes left told more is = absurd told
+room_before (Some size) (Some old) (Some now) bytes left told more is =
+    let same : size - length now ≡ left = cc is in
+    (size - length old, refl, omega (arith, same, ap length more, length-append old bytes))
+
+-- a write of what is left of the piece found nothing left: the piece is longer than the room was
+pub lacks_room :
+    (was now : LinkView) (piece rest : List ℕ) (done : ℕ) → done < length piece →
+    StaysTold was.outgoing now.outgoing → Appends was.outgoing now.outgoing (take done piece) →
+    OnlyWrites was now → FindsNoneLeft now rest → LacksRoom was piece
+lacks_room was now piece rest done inside told more others none =
+    let same : now.room ≡ was.room = ap (λ (v : LinkView). v.room) others in
+    let before = room_before was.room was.outgoing now.outgoing (take done piece) 0 told more
+    (ap (λ r. room_behind r now.outgoing) (sym same) ∙ none.1)
+    in
+    let size : length (take done piece) ≡ done = length-take-le done piece (omega (arith, inside)) in
+    let within = before.2 in
+    (before.0, before.1, omega (arith, within, size, inside))
 
 -- what changes by two writes
 pub only_writes_on : (a b c : LinkView) → OnlyWrites a b → OnlyWrites b c → OnlyWrites a c

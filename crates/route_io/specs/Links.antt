@@ -1,5 +1,5 @@
 -- What a call of a link leaves, and what is received over one.
-use Rattle.std.specs.Prelude.{ℕ, ◌≡◌, ◌<◌, ◌≤◌, ◌-◌, List, ◌∷◌, ◌++◌, length, Some, None, option_map}
+use Rattle.std.specs.Prelude.{ℕ, true, ◌≡◌, ◌<◌, ◌≤◌, ◌-◌, List, ◌∷◌, ◌++◌, length, Some, None, option_map}
 use Rattle.std.specs.declared.option.Option.{Option}
 use Rattle.std.specs.Io.KnownBytes.{prepend_known, Consumes, IsAtEnd}
 use Rattle.route_io.specs.Causes.{next_count}
@@ -40,6 +40,18 @@ room_left link = room_behind link.room link.outgoing
 abbrev pub HasRoom : LinkView → List ℕ → Type 0
 HasRoom link piece =
     (left : ℕ) × (room_left link ≡ Some left) × (0 < length piece) × (length piece ≤ left)
+
+-- the piece is not empty, and the link tells that nothing is left of its room
+abbrev pub FindsNoneLeft : LinkView → List ℕ → Type 0
+FindsNoneLeft link piece = (0 < length piece) × (room_left link ≡ Some 0)
+
+-- the link tells that it has less room than the piece is long
+abbrev pub LacksRoom : LinkView → List ℕ → Type 0
+LacksRoom link piece = (left : ℕ) × (room_left link ≡ Some left) × (left < length piece)
+
+-- no call of the link fails of itself
+abbrev pub IsSure : LinkView → Type 0
+IsSure link = link.sure ≡ true
 
 -- one more write was made
 abbrev pub WritesOnce : LinkView → LinkView → Type 0

@@ -1,5 +1,5 @@
 -- A source, a sink and a link, as promises see them.
-use Rattle.std.specs.Prelude.{ℕ, Option, List}
+use Rattle.std.specs.Prelude.{ℕ, Bool, Option, List}
 
 -- a source: the bytes that are still to come, where told, and how many of its calls have failed
 pub record SourceView : Type 0 where
@@ -15,11 +15,13 @@ pub record SinkView : Type 0 where
 
 -- a link to a peer: the bytes that are still to come from it, those that were taken for it, how many
 -- can be taken in all, how many writes were made and which addresses were dialled, the newest first,
--- where told, and how many of its calls have failed
+-- where told; whether it is sure, so that a call of it fails only for want of room; and how many of its
+-- calls have failed
 pub record LinkView : Type 0 where
   pub incoming : Option (List ℕ)
   pub outgoing : Option (List ℕ)
   pub room : Option ℕ
   pub writes : Option ℕ
   pub dialled : Option (List (List ℕ))
+  pub sure : Bool
   pub faults : ℕ

@@ -1,9 +1,9 @@
 //! A link to a peer: bytes come from it, and bytes go to it.
-ghost use Rattle.std.specs.Prelude.{◌≡◌, ◌<◌, ◌≤◌, min, length, IfOk, OnOk, OnErr, IfSome};
+ghost use Rattle.std.specs.Prelude.{◌≡◌, ◌<◌, ◌≤◌, min, length, IfOk, IsOk, OnOk, OnErr, IfSome};
 ghost use Rattle.std.specs.Io.{ReadsAtMost};
 ghost use Rattle.std.specs.Io.KnownBytes.{ReadConsumes, WriteAppends, Appends};
 ghost use Rattle.route_io.specs.Causes.{HasCause, AppendsFront, StaysTold};
-ghost use Rattle.route_io.specs.Links.{Dials, OnlyDials, OnlyReads, OnlyWrites, WritesOnce, HasRoom, room_left};
+ghost use Rattle.route_io.specs.Links.{Dials, OnlyDials, OnlyReads, OnlyWrites, WritesOnce, FindsNoneLeft, HasRoom, IsSure, LacksRoom, room_left};
 ghost use Rattle.route_io.specs.Views.{LinkView};
 
 use crate::outside::Failed;
@@ -18,16 +18,18 @@ pub mod tcp;
 /// a [`Source`](crate::Source).
 pub trait Link {
     /// The bytes that are still to come, the bytes that were taken, how many can be taken in all,
-    /// how many writes were made and which addresses were dialled, where told, and how often a
-    /// call has failed.
+    /// how many writes were made and which addresses were dialled, where told; whether the link is
+    /// sure; and how often a call has failed.
     ///
-    /// Whoever tells the room takes as much of a piece as it has room for.
+    /// Whoever tells the room takes as much of a piece as it has room for. On a sure link a call
+    /// fails only where there is no room for a byte of a piece; no call makes it sure or unsure.
     ghost seen: { Self → LinkView };
 
     /// Connects to the peer at `address`, a host and a port as in `127.0.0.1:179`. An address at
     /// which no peer is reached counts as dialled too.
     fn dial(&mut self, address: &str) -> Result<(), Failed>
         ensures dials { Dials (seen self.old) (seen self.new) address.now }
+        ensures sure { IsSure (seen self.old) → IsOk result }
         ensures others { OnlyDials (seen self.old) (seen self.new) }
         ensures cause { HasCause (seen self.old).faults (seen self.new).faults result };
 
@@ -38,6 +40,7 @@ pub trait Link {
         ensures bytes { ReadConsumes (seen self.old).incoming (seen self.new).incoming
             result buf.new }
         ensures told { StaysTold (seen self.old).incoming (seen self.new).incoming }
+        ensures sure { IsSure (seen self.old) → IsOk result }
         ensures others { OnlyReads (seen self.old) (seen self.new) }
         ensures cause { HasCause (seen self.old).faults (seen self.new).faults result };
 
@@ -52,6 +55,8 @@ pub trait Link {
             result piece.now }
         ensures told { StaysTold (seen self.old).outgoing (seen self.new).outgoing }
         ensures counted { WritesOnce (seen self.old) (seen self.new) }
+        ensures sure { IsSure (seen self.old) →
+            OnErr result (FindsNoneLeft (seen self.old) piece.now) }
         ensures others { OnlyWrites (seen self.old) (seen self.new) }
         ensures cause { HasCause (seen self.old).faults (seen self.new).faults result };
 
@@ -68,6 +73,8 @@ pub trait Link {
         ensures told { StaysTold (seen self.old).outgoing (seen self.new).outgoing }
         ensures one_write { HasRoom (seen self.old) piece.now
             → WritesOnce (seen self.old) (seen self.new) }
+        ensures sure { IsSure (seen self.old) →
+            OnErr result (LacksRoom (seen self.old) piece.now) }
         ensures others { OnlyWrites (seen self.old) (seen self.new) }
         ensures cause { HasCause (seen self.old).faults (seen self.new).faults result }
     {

@@ -1,8 +1,8 @@
 //! What was received over a link and not yet handled.
-ghost use Rattle.std.specs.Prelude.{◌≡◌, ◌+◌, ◌<◌, ◌≤◌, ◌↔◌, [], length, take, drop, OnOk, OnErr, IfSome, IsErrOf, IfOk};
+ghost use Rattle.std.specs.Prelude.{◌≡◌, ◌+◌, ◌<◌, ◌≤◌, ◌↔◌, [], length, take, drop, OnOk, OnErr, IfSome, IsErrOf, IsOk, IfOk};
 ghost use Rattle.std.specs.Io.KnownBytes.{ReadConsumes, Keeps};
 ghost use Rattle.route_io.specs.Causes.{HasCause, RoseIf, StaysTold};
-ghost use Rattle.route_io.specs.Links.{OnlyReads, ReadsBehind, GrowsWithin, ahead};
+ghost use Rattle.route_io.specs.Links.{IsSure, OnlyReads, ReadsBehind, GrowsWithin, ahead};
 
 use crate::link::Link;
 use crate::outside::Failed;
@@ -87,6 +87,7 @@ impl Received {
         ensures kept { OnErr result
             ((L.seen link.new).incoming ≡ (L.seen link.old).incoming) }
         ensures others { OnlyReads (L.seen link.old) (L.seen link.new) }
+        ensures sure { IsSure (L.seen link.old) → ¬ IsErrOf result NotFilled.Fault }
         ensures cause { RoseIf (IsErrOf result NotFilled.Fault)
             (L.seen link.old).faults (L.seen link.new).faults }
         ensures no_memory { IsErrOf result NotFilled.NoMemory → link.new ≡ link.old }
@@ -113,6 +114,7 @@ fn read_behind<L: Link>(link: &mut L, bytes: &mut BytesMut) -> Result<usize, Fai
     ensures err { OnErr result (bytes.new.items ≡ bytes.old.items) }
     ensures kept { OnErr result (Keeps (L.seen link.old).incoming (L.seen link.new).incoming) }
     ensures told { StaysTold (L.seen link.old).incoming (L.seen link.new).incoming }
+    ensures sure { IsSure (L.seen link.old) → IsOk result }
     ensures others { OnlyReads (L.seen link.old) (L.seen link.new) }
     ensures cause { HasCause (L.seen link.old).faults (L.seen link.new).faults result }
 {
@@ -131,6 +133,7 @@ fn read_at<L: Link>(link: &mut L, bytes: &mut [u8], at: usize) -> Result<usize, 
     ensures bytes { ReadConsumes (L.seen link.old).incoming (L.seen link.new).incoming
         result (drop at bytes.new) }
     ensures told { StaysTold (L.seen link.old).incoming (L.seen link.new).incoming }
+    ensures sure { IsSure (L.seen link.old) → IsOk result }
     ensures others { OnlyReads (L.seen link.old) (L.seen link.new) }
     ensures cause { HasCause (L.seen link.old).faults (L.seen link.new).faults result }
 {

@@ -1,5 +1,5 @@
 //! A peer that waits for the answers to one frame before it sends the next.
-ghost use Rattle.std.specs.Prelude.{◌≡◌, ◌<◌, ◌≤◌, length, min, None, Some, IsErr, IfOk, IfSome};
+ghost use Rattle.std.specs.Prelude.{◌≡◌, ◌<◌, ◌≤◌, length, min, None, Some, false, IsErr, IfOk, IfSome};
 ghost use Rattle.std.specs.Io.{ReadsAtMost};
 ghost use Rattle.std.specs.Io.KnownBytes.{ReadConsumes, WriteAppends};
 ghost use Rattle.route_io.specs.Causes.{HasCause, StaysTold};
@@ -60,6 +60,7 @@ impl Link for WaitingPeer {
       room = None;
       writes = None;
       dialled = None;
+      sure = false;
       faults = s.faults;
     } };
 

@@ -1,5 +1,5 @@
 //! A link in memory, with calls that are listed to fail.
-ghost use Rattle.std.specs.Prelude.{◌≡◌, ◌+◌, ◌<◌, ◌↔◌, ◌⊎◌, min, length, [], ◌∷◌, Some, IfOk, IsErr, IsTrue, is_err};
+ghost use Rattle.std.specs.Prelude.{◌≡◌, ◌+◌, ◌<◌, ◌↔◌, ◌⊎◌, min, length, [], ◌∷◌, Some, false, IfOk, IsErr, IsTrue, is_err};
 ghost use Rattle.std.specs.Io.{ReadsAtMost};
 ghost use Rattle.std.specs.Io.KnownBytes.{ReadConsumes, WriteAppends};
 ghost use Rattle.route_io.specs.Causes.{HasCause, counted};
@@ -38,6 +38,7 @@ impl MemLink {
           room = Some (length room.items);
           writes = Some 0;
           dialled = Some [];
+          sure = false;
           faults = 0;
         } }
         ensures dials { result.fail_dial ≡ fail_dial }
@@ -68,6 +69,7 @@ impl Link for MemLink {
       room = Some s.sink.room.size;
       writes = Some s.sink.calls.made;
       dialled = Some s.dialled.addresses;
+      sure = false;
       faults = s.dial_faults + (s.source.calls.faults + s.sink.calls.faults);
     } };
 

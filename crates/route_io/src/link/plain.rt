@@ -1,5 +1,5 @@
 //! A link in memory with no call that is listed to fail.
-ghost use Rattle.std.specs.Prelude.{◌≡◌, ◌<◌, ◌↔◌, min, length, [], ◌∷◌, None, Some, IfOk, IsOk, IsErr, is_err};
+ghost use Rattle.std.specs.Prelude.{◌≡◌, ◌<◌, ◌↔◌, min, length, [], ◌∷◌, None, Some, true, IfOk, IsOk, IsErr, is_err};
 ghost use Rattle.std.specs.Io.{ReadsAtMost};
 ghost use Rattle.std.specs.Io.KnownBytes.{ReadConsumes, WriteAppends};
 ghost use Rattle.route_io.specs.Causes.{HasCause, counted};
@@ -29,6 +29,7 @@ impl PlainLink {
           room = Some (length room.items);
           writes = None;
           dialled = Some [];
+          sure = true;
           faults = 0;
         } }
     {
@@ -54,6 +55,7 @@ impl Link for PlainLink {
       room = Some s.sink.room.size;
       writes = None;
       dialled = Some s.dialled.addresses;
+      sure = true;
       faults = s.sink.faults;
     } };
 

@@ -2,10 +2,11 @@
 //!
 //! What the system gives and takes is told by no contract, so it tells no content, and not what
 //! was dialled.
-ghost use Rattle.std.specs.Prelude.{◌≡◌, ◌<◌, ◌≤◌, length, None, Some, IfOk, IsErr, is_err};
+ghost use Rattle.std.specs.Prelude.{◌≡◌, ◌<◌, ◌≤◌, length, None, Some, false, true, IfOk, IsOk, IsErr, OnErr, is_err};
 ghost use Rattle.std.specs.Io.{ReadsAtMost};
 ghost use Rattle.std.specs.Io.KnownBytes.{ReadConsumes, WriteAppends};
 ghost use Rattle.route_io.specs.Causes.{HasCause, counted, next_count};
+ghost use Rattle.route_io.specs.Links.{FindsNoneLeft};
 
 use crate::link::Link;
 use crate::outside::Failed;
@@ -52,10 +53,12 @@ impl<'a, R: Net> Link for TcpLink<'a, R> {
       room = None;
       writes = None;
       dialled = None;
+      sure = false;
       faults = s.faults;
     } };
 
     fn dial(&mut self, address: &str) -> Result<(), Failed>
+        ensures sure { false ≡ true → IsOk result }
         ensures cause { HasCause self.old.faults self.new.faults result }
         ensures counted { self.new.faults ≡ counted (is_err result) self.old.faults }
     {
@@ -69,6 +72,7 @@ impl<'a, R: Net> Link for TcpLink<'a, R> {
     fn read(&mut self, buf: &mut [u8]) -> Result<usize, Failed>
         ensures bound { ReadsAtMost result buf.new }
         ensures bytes { ReadConsumes None None result buf.new }
+        ensures sure { false ≡ true → IsOk result }
         ensures cause { HasCause self.old.faults self.new.faults result }
         ensures counted { self.new.faults ≡ counted (is_err result) self.old.faults }
     {
@@ -85,6 +89,7 @@ impl<'a, R: Net> Link for TcpLink<'a, R> {
         ensures bound { IfOk result (λ n. n ≤ length piece.now) }
         ensures some { 0 < length piece.now → IfOk result (λ n. 0 < n) }
         ensures bytes { WriteAppends None None result piece.now }
+        ensures sure { false ≡ true → OnErr result (FindsNoneLeft (⟦<TcpLink<'a, R> as Link>⟧.seen self.old) piece.now) }
         ensures cause { HasCause self.old.faults self.new.faults result }
         ensures counted { self.new.faults ≡ counted (is_err result) self.old.faults }
     {

@@ -1,6 +1,7 @@
-use Rattle.std.proofs.Common.{arith, ◌∙◌, inr}
+use Rattle.std.proofs.Common.{arith, ap, ◌∙◌, inr, Result, Ok, Err, OnErr}
+use Rattle.route_io.specs.Views.{LinkView}
 use Rattle.route_io.proofs.Bytes.{told_on, appended}
-use Rattle.route_io.proofs.Links.{only_writes_on, onward}
+use Rattle.route_io.proofs.Links.{only_writes_on, onward, lacks_room}
 use Rattle.route_io.proofs.link.Link.write_all.Goals as goal
 
 pub loop-done-preserved : goal.loop-done-preserved
@@ -20,3 +21,16 @@ loop-done-preserved g c =
           );
       quiet = c.in_ok-done.ensures.cause.quiet ∙ c.loop-done.invariant.quiet;
     }
+
+-- what is so after any answer is so after a failure
+after_failure : {T E P : Type 0} (r : Result T E) → P → OnErr r P
+after_failure (Ok x) p = tt
+after_failure (Err e) p = p
+
+pub returns-in_err-done-clause-sure : goal.returns-in_err-done-clause-sure
+returns-in_err-done-clause-sure g c = λ sure.
+    let seen = g.Self.Link.seen in
+    let none = c.in_err-done.ensures.sure (ap (λ (v : LinkView). v.sure) c.loop-done.invariant.others ∙ sure) in
+    after_failure c.from_residual.result
+    (lacks_room (seen c.args.self.now) (seen c.loop-done.self) c.args.piece.now _ c.loop-done.done c.loop-done-test.true
+    c.loop-done.invariant.told c.loop-done.invariant.written c.loop-done.invariant.others none)
