@@ -10,8 +10,10 @@ use Rattle.topology.specs.declared.status.Status.{Status}
 use Rattle.topology.specs.declared.status.Status.TheVariants.{Done, Usage, NoMemory, BadSchedule, Limit, ReadFault, WriteFault, LinkFault, BadFrame, NoSuchNode}
 use Rattle.topology.specs.Lists.{Begins}
 use Rattle.route_io.specs.Causes.{Rose}
+use Rattle.route_io.specs.Links.{IsSure, LacksRoom, room_behind}
 use Rattle.route_io.specs.Views.{LinkView}
-use Rattle.route_io.proofs.Bytes.{appends_on}
+use Rattle.route_io.proofs.Bytes.{appends_on, told_on}
+use Rattle.route_io.proofs.Links.{room_before}
 use Rattle.path_vector.specs.Rules.{Rules}
 use Rattle.chronicle.specs.Inputs.{Input}
 use Rattle.chronicle.specs.Run.{chronicle_of}
@@ -30,7 +32,7 @@ use Rattle.route_node.specs.declared.serving.Process.{Process}
 use Rattle.route_node.specs.Frames.{telling}
 use Rattle.route_node.specs.Fronts.{Holds, Admits, EndsFrame}
 use Rattle.route_node.specs.Running.{Setting, Runs, GoesOn, IsWithin, left_of}
-use Rattle.route_node.specs.Served.{ends_serving, status_of, Served}
+use Rattle.route_node.specs.Served.{ends_serving, status_of, TooLongAnswers, Served}
 use Rattle.route_node.specs.Streams.{stream, run_over, replies, out_of_turn, refusal, frame_limit, AreTaken, Ending, Refused, Stopped, found_fault, StopsAt, EndsAt, Comes}
 use Rattle.route_node.specs.Told.{handed}
 use Rattle.route_node.specs.Writing.{spelled, OneWriteEach, Writes, Breaks}
@@ -117,6 +119,28 @@ module _ {P : Type 0} (rules : Rules) (at : Setting P) (frames : List Frame) (pr
     spelled_now : spelled (replies rules at.net at.node (frame ∷ frames)) ≡ spelled (replies rules at.net at.node frames) ++ spelled (filter_map telling (handed told))
     spelled_now = ap spelled replies_now ∙ spelled_both (replies rules at.net at.node frames) (filter_map telling (handed told))
 
+    -- the frames that were taken stand in front
+    front_now : (bytes : List ℕ) → at.first.incoming ≡ Some bytes → (rest : List ℕ) × (bytes ≡ stream (frame ∷ frames) ++ rest)
+    front_now bytes known =
+        let seen = told_as rules at frames process old old runs bytes known in
+        (drop size process.received ++ seen.0, seen.2 ∙ (ap (λ l. stream frames ++ l) (left_as seen.0) ∙ sym (append_assoc (stream frames) (spell frame) (drop size process.received ++ seen.0))))
+
+    -- what lacked room for the replies lacks it for all answers
+    too_long : LacksRoom old (spelled (filter_map telling (handed told))) → TooLongAnswers rules at.net at.node at.first
+    too_long lacks =
+        let behind : room_behind at.first.room old.outgoing ≡ Some lacks.0 = ap (λ r. room_behind r old.outgoing) (sym runs.same_room) ∙ lacks.1 in
+        let before = room_before at.first.room at.first.outgoing old.outgoing (spelled (replies rules at.net at.node frames)) lacks.0 runs.told runs.wrote behind in
+        let within = before.2 in
+        let short = lacks.2 in
+        record {
+          frames = frame ∷ frames;
+          in_front = λ bytes known. let front = front_now bytes known in (front.0, sym front.1);
+          taken = taken_now;
+          left = before.0;
+          room = before.1;
+          longer = omega (arith, within, short, ap length spelled_now, length-append (spelled (replies rules at.net at.node frames)) (spelled (filter_map telling (handed told))));
+        }
+
     -- the replies broke off
     pub served_by_replies : (new : LinkView) (status : Status) → Breaks (filter_map telling (handed told)) old new status → Served rules at.net at.node at.first new status
     served_by_replies new status breaks =
@@ -127,12 +151,13 @@ module _ {P : Type 0} (rules : Rules) (at : Setting P) (frames : List Frame) (pr
           rose = λ e. subst (λ n. Rose n new.faults) runs.quiet (breaks.link_fault.rose e);
           quiet = λ no. breaks.link_fault.quiet no ∙ runs.quiet;
         })
+        (λ sure e. too_long (breaks.full (runs.same_sure ∙ sure) e))
         (λ bytes known.
-        let seen = told_as rules at frames process old old runs bytes known in
+        let front = front_now bytes known in
         record {
           frames = frame ∷ frames;
-          rest = drop size process.received ++ seen.0;
-          in_front = seen.2 ∙ (ap (λ l. stream frames ++ l) (left_as seen.0) ∙ sym (append_assoc (stream frames) (spell frame) (drop size process.received ++ seen.0)));
+          rest = front.0;
+          in_front = front.1;
           taken = taken_now;
           spelled = replies_spelled rules at.net at.node (frame ∷ frames) runs.valid runs.is_node taken_now;
           some = spelled (replies rules at.net at.node frames) ++ breaks.some;
@@ -168,10 +193,12 @@ module _ {P : Type 0} (rules : Rules) (at : Setting P) (frames : List Frame) (pr
                 ∙ (bytes_then old.incoming ∙ runs.bytes));
             wrote = subst (λ l. Appends at.first.outgoing new.outgoing l) (sym spelled_now)
                 (appends_on at.first.outgoing old.outgoing new.outgoing (spelled (replies rules at.net at.node frames)) (spelled (filter_map telling (handed told))) runs.wrote writes.wrote);
+            told = told_on at.first.outgoing old.outgoing new.outgoing runs.told writes.told;
             one_write_each = subst (λ l. OneWriteEach l at.first new) (sym replies_now)
                 (one_write_behind (replies rules at.net at.node frames) (filter_map telling (handed told)) at.first old new runs.wrote runs.same_room runs.one_write_each writes.one_write_each);
             same_room = ap (λ (l : LinkView). l.room) writes.others ∙ runs.same_room;
             same_dialled = ap (λ (l : LinkView). l.dialled) writes.others ∙ runs.same_dialled;
+            same_sure = ap (λ (l : LinkView). l.sure) writes.others ∙ runs.same_sure;
             quiet = writes.quiet ∙ runs.quiet;
           };
           within = (omega (arith, shorter, in_all), omega (arith, few));

@@ -7,7 +7,7 @@ use Rattle.topology.specs.declared.status.Status.TheVariants.{NoMemory}
 use Rattle.topology.specs.Lists.{has}
 use Rattle.topology.specs.Net.{Net, IsValid}
 use Rattle.route_io.specs.Views.{LinkView}
-use Rattle.route_io.proofs.Bytes.{appends_none}
+use Rattle.route_io.proofs.Bytes.{appends_none, told_same}
 use Rattle.path_vector.specs.Rules.{Rules}
 use Rattle.node_core.specs.Standing.{StandsFor}
 use Rattle.admission_laws.specs.NodeRuns.{alone}
@@ -51,9 +51,11 @@ module _ (rules : Rules) (net : Net) (u : ℕ) where
     offset = zero;
     bytes = subst (λ l. prepend_known [] (prepend_known l at.first.incoming) ≡ at.first.incoming) (sym empty) (known_as at.first.incoming);
     wrote = appends_none at.first.outgoing;
+    told = told_same at.first.outgoing;
     one_write_each = λ left room small. writes_as at.first.writes;
     same_room = refl;
     same_dialled = refl;
+    same_sure = refl;
     quiet = refl;
   }
 
@@ -65,6 +67,7 @@ module _ (rules : Rules) (net : Net) (u : ℕ) where
   served_nothing link =
       served_by_break rules net u link link NoMemory [] tt refl refl (inl refl)
       (record { later = omega arith; rose = λ e. absurd (cc e); quiet = λ _. refl })
+      (λ _ e. absurd (cc e))
       (λ bytes told. record {
         frames = [];
         rest = bytes;

@@ -8,12 +8,13 @@ use Rattle.topology.specs.declared.status.LimitKind.{LimitKind}
 use Rattle.topology.specs.declared.frame_faults.FrameFault.{FrameFault}
 use Rattle.topology.specs.Net.{Net}
 use Rattle.route_io.specs.Causes.{RoseIf}
+use Rattle.route_io.specs.Links.{IsSure}
 use Rattle.route_io.specs.Views.{LinkView}
 use Rattle.path_vector.specs.Rules.{Rules}
 use Rattle.node_core.specs.NodeLimits.{Reached}
 use Rattle.wire_frames.specs.declared.frames.Frame.{Frame}
 use Rattle.route_node.specs.Streams.{stream, answers, AreTaken, Ending, End, Refused, Stopped, Comes}
-use Rattle.route_node.specs.Served.{ends_serving, status_of, Answered, WroteFront, Served}
+use Rattle.route_node.specs.Served.{ends_serving, status_of, Answered, WroteFront, TooLongAnswers, Served}
 use Rattle.route_node.proofs.Unique.{come_once}
 
 never_linkfault : (offset : ℕ) (ending : Ending) → status_of offset ending ≡ LinkFault → ⊥
@@ -61,6 +62,7 @@ module _ (rules : Rules) (net : Net) (u : ℕ) (first link : LinkView) (status :
       rose = λ e. absurd (never_linkfault (length (stream frames)) ending (sym is ∙ e));
       quiet = λ _. quiet;
     };
+    sure = λ _ e. absurd (never_linkfault (length (stream frames)) ending (sym is ∙ e));
     front = λ bytes told.
         let all = comes bytes told in
         record {
@@ -85,13 +87,15 @@ module _ (rules : Rules) (net : Net) (u : ℕ) (first link : LinkView) (status :
       omega_le e = omega (arith, e)
 
   -- memory ran out, or a call of the link failed
-  pub served_by_break : (status ≡ NoMemory) ⊎ (status ≡ LinkFault) → RoseIf (status ≡ LinkFault) first.faults link.faults → ((bytes : List ℕ) → first.incoming ≡ Some bytes → WroteFront rules net u bytes first link) → Served rules net u first link status
-  served_by_break why rose front = record {
+  pub served_by_break : (status ≡ NoMemory) ⊎ (status ≡ LinkFault) → RoseIf (status ≡ LinkFault) first.faults link.faults → (IsSure first → status ≡ LinkFault → TooLongAnswers rules net u first)
+      → ((bytes : List ℕ) → first.incoming ≡ Some bytes → WroteFront rules net u bytes first link) → Served rules net u first link status
+  served_by_break why rose full front = record {
     formed = formed why;
     done = λ e bytes told. absurd (never Done why (λ d. absurd (cc d)) (λ d. absurd (cc d)) e);
     bad_frame = λ at fault e bytes told. absurd (never (BadFrame at fault) why (λ d. absurd (cc d)) (λ d. absurd (cc d)) e);
     limit = λ kind number e bytes told. absurd (never (Limit kind number) why (λ d. absurd (cc d)) (λ d. absurd (cc d)) e);
     link_fault = rose;
+    sure = full;
     front = front;
     complete = λ bytes told others other come. inr why;
     read = λ e. absurd (never Done why (λ d. absurd (cc d)) (λ d. absurd (cc d)) e);

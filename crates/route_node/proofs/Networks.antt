@@ -1,5 +1,5 @@
 -- What each end of a node over a source and a link gives of the promise.
-use Rattle.std.proofs.Common.{ℕ, suc, ◌≡◌, ◌≤◌, ◌<◌, inl, inr, Option, Some, None, Result, Ok, Err, is_err, IsNone, IfSome, ◌↔◌, List, [], length, Bool, true, false, not, true≢false, refl, sym, ap, ap₂, ◌∙◌, subst, arith}
+use Rattle.std.proofs.Common.{ℕ, suc, ◌≡◌, ◌≤◌, ◌<◌, inl, inr, ◌⊎◌, Option, Some, None, Result, Ok, Err, is_err, IsNone, IsOk, IfSome, ◌↔◌, List, [], length, Bool, true, false, not, true≢false, refl, sym, ap, ap₂, ◌∙◌, subst, arith}
 use Rattle.std.specs.Prelude.{is_some}
 use Rattle.std.specs.Io.KnownBytes.{IsAtEnd}
 use Rattle.topology.specs.declared.status.Status.{Status}
@@ -9,7 +9,7 @@ use Rattle.topology.specs.declared.status.LimitKind.TheVariants as kind
 use Rattle.topology.specs.Lists.{has}
 use Rattle.topology.specs.Net.{Net}
 use Rattle.route_io.specs.Causes.{HasCause, RoseIf}
-use Rattle.route_io.specs.Links.{Dials, OnlyDials}
+use Rattle.route_io.specs.Links.{Dials, IsSure, OnlyDials}
 use Rattle.route_io.specs.Views.{SourceView, LinkView}
 use Rattle.route_io.proofs.Bytes.{stays_quiet, has_risen}
 use Rattle.path_vector.specs.GaoRexford.{gao_rexford}
@@ -19,12 +19,15 @@ use Rattle.schedule_file.specs.Spelling.{words_by_line}
 use Rattle.schedule_file.specs.Grammar.{IsTopologyFile, net_of}
 use Rattle.schedule_file.specs.Refusals.{FirstBadOfTopology}
 use Rattle.schedule_file.proofs.Readings.{one_list, no_bad, one_bad}
-use Rattle.route_node.specs.Served.{ends_serving, Served}
-use Rattle.route_node.specs.Attended.{Endpoint, IsNetwork, Gives, once_dialled, ends_attending, ends_undialled, Attended}
+use Rattle.wire_frames.specs.declared.frames.Frame.{Frame}
+use Rattle.route_node.specs.Plain.{AttendedPlain}
+use Rattle.route_node.specs.Served.{ends_serving, status_of, TooLongAnswers, Served}
+use Rattle.route_node.specs.Streams.{stream, Ending}
+use Rattle.route_node.specs.Attended.{Endpoint, IsNetwork, Gives, EndsBefore, once_dialled, ends_attending, ends_undialled, Attended}
 
 -- ---- a file is of one network, or has one first bad line
 
-same_network : (bytes : List ℕ) (net other : Net) → IsTopologyFile bytes net → IsTopologyFile bytes other → net ≡ other
+pub same_network : (bytes : List ℕ) (net other : Net) → IsTopologyFile bytes net → IsTopologyFile bytes other → net ≡ other
 same_network bytes net other file again = file.2 ∙ (ap net_of (one_list Over bytes file.0 again.0 file.1 again.1) ∙ sym again.2)
 
 no_network : (bytes : List ℕ) (net : Net) (line : ℕ) (bad : BadKind) → IsTopologyFile bytes net → FirstBadOfTopology bytes line bad → ⊥
@@ -61,6 +64,11 @@ pub dial_fails : {T E : Type 0} (r : Result T E) (before now : ℕ) → is_err r
 dial_fails (Ok x) before now failed cause = absurd (cc failed)
 dial_fails (Err e) before now failed cause = has_risen before now refl cause.later cause.failed
 
+-- what may not fail did not
+pub never_failed : {T E : Type 0} (r : Result T E) → is_err r ≡ true → IsOk r → ⊥
+never_failed (Ok x) failed ok = cc failed
+never_failed (Err e) failed ok = cc ok
+
 -- it was, and nothing else was done with the link
 pub dialled : {T E : Type 0} (r : Result T E) (address : List ℕ) (link link' : LinkView) → is_err r ≡ false → Dials link link' address → OnlyDials link link' → HasCause link.faults link'.faults r → link' ≡ once_dialled link address
 dialled (Ok x) address link link' done dials only cause = only ∙ ap₂ (λ d n. record link { dialled = d; faults = n }) dials cause.quiet
@@ -81,6 +89,7 @@ ends_no_memory here source source' link quiet = record {
   limit = λ number e. absurd (cc e);
   read_fault = stays_quiet source.faults source'.faults (λ e. cc e) quiet;
   link_fault = stays_quiet link.faults link.faults (λ e. cc e) refl;
+  sure = λ _ e. absurd (cc e);
   undialled = λ e. refl;
   dialled = λ e. absurd (cc e);
   dialled_at_most = inr refl;
@@ -100,6 +109,7 @@ ends_read_fault here source source' link rose = record {
   limit = λ number e. absurd (cc e);
   read_fault = rose;
   link_fault = stays_quiet link.faults link.faults (λ e. cc e) refl;
+  sure = λ _ e. absurd (cc e);
   undialled = λ e. refl;
   dialled = λ e. absurd (cc e);
   dialled_at_most = inr refl;
@@ -120,6 +130,7 @@ ends_too_long here source source' link long quiet = record {
   limit = λ number e bytes told. (let same : MAX_BYTES ≡ number = cc e in sym same, above source.left long bytes told);
   read_fault = stays_quiet source.faults source'.faults (λ e. cc e) quiet;
   link_fault = stays_quiet link.faults link.faults (λ e. cc e) refl;
+  sure = λ _ e. absurd (cc e);
   undialled = λ e. refl;
   dialled = λ e. absurd (cc e);
   dialled_at_most = inr refl;
@@ -172,6 +183,7 @@ module _ (source source' : SourceView) (bytes : List ℕ) (read : (told : List �
     limit = λ number e. absurd (cc e);
     read_fault = stays_quiet source.faults source'.faults (λ e. cc e) got.quiet;
     link_fault = stays_quiet link.faults link.faults (λ e. cc e) refl;
+    sure = λ _ e. absurd (cc e);
     undialled = λ e. refl;
     dialled = λ e. absurd (cc e);
     dialled_at_most = inr refl;
@@ -203,6 +215,7 @@ module _ (here : Endpoint) (source source' : SourceView) (net : Net) (gives : Gi
     limit = λ number e. absurd (cc e);
     read_fault = stays_quiet source.faults source'.faults (λ e. cc e) gives.quiet;
     link_fault = stays_quiet link.faults link.faults (λ e. cc e) refl;
+    sure = λ _ e. absurd (cc e);
     undialled = λ e. refl;
     dialled = λ e. absurd (cc e);
     dialled_at_most = inr refl;
@@ -210,8 +223,12 @@ module _ (here : Endpoint) (source source' : SourceView) (net : Net) (gives : Gi
   }
 
   module _ (there : has net.nodes here.id ≡ true) where
-    pub ends_at_dial : (link link' : LinkView) → Dials link link' here.address → OnlyDials link link' → RoseIf (LinkFault ≡ LinkFault) link.faults link'.faults → Attended here source source' link link' LinkFault
-    ends_at_dial link link' dials only rose = record {
+    -- a dial changes nothing of the room
+    as_first : (link : LinkView) → TooLongAnswers gao_rexford net here.id (once_dialled link here.address) → TooLongAnswers gao_rexford net here.id link
+    as_first link long = record { frames = long.frames; in_front = long.in_front; taken = long.taken; left = long.left; room = long.room; longer = long.longer }
+
+    pub ends_at_dial : (link link' : LinkView) → Dials link link' here.address → OnlyDials link link' → (IsSure link → ⊥) → RoseIf (LinkFault ≡ LinkFault) link.faults link'.faults → Attended here source source' link link' LinkFault
+    ends_at_dial link link' dials only never_fails rose = record {
       formed = refl;
       served = λ told t other is has_it. inr (inr (inr refl), only);
       missing = λ told t other is gone. absurd (not_both net other here.id (is_it told t other is) there gone);
@@ -223,6 +240,7 @@ module _ (here : Endpoint) (source source' : SourceView) (net : Net) (gives : Gi
       limit = λ number e. absurd (cc e);
       read_fault = stays_quiet source.faults source'.faults (λ e. cc e) gives.quiet;
       link_fault = rose;
+      sure = λ sure _. absurd (never_fails sure);
       undialled = λ e. absurd (cc e);
       dialled = λ e. dials;
       dialled_at_most = inl dials;
@@ -242,6 +260,7 @@ module _ (here : Endpoint) (source source' : SourceView) (net : Net) (gives : Gi
       limit = λ number e. absurd (never (sym (ap ends_serving e) ∙ is_served.formed));
       read_fault = stays_quiet source.faults source'.faults (λ e. never (sym (ap ends_serving e) ∙ is_served.formed)) gives.quiet;
       link_fault = is_served.link_fault;
+      sure = λ sure e. (net, of_it, there, as_first link (is_served.sure sure e));
       undialled = λ e. absurd (not_over status e is_served.formed);
       dialled = λ e. is_served.same_dialled;
       dialled_at_most = inl is_served.same_dialled;
@@ -282,3 +301,33 @@ module _ (here : Endpoint) (source source' : SourceView) (net : Net) (gives : Gi
         not_over LinkFault e f = cc e
         not_over (BadFrame at fault) e f = cc e
         not_over (NoSuchNode node) e f = cc f
+
+-- ---- over plain memory
+
+pub attended_plain : (here : Endpoint) (source source' : SourceView) (link link' : LinkView) (status : Status) → (status ≡ ReadFault → ⊥) → IsSure link → Attended here source source' link link' status
+    → AttendedPlain here source source' link link' status
+attended_plain here source source' link link' status no_read_fault sure attended = record {
+  attended = attended;
+  no_read_fault = no_read_fault;
+  link_fault = λ e file told. let long = attended.sure sure e in (long.0, long.1 file told, long.2, long.3);
+  complete = λ file bytes told known net is there frames ending comes. by_end net frames ending (attended.served file told net is there) (λ e. too_long file told net is e) (λ served. served.complete bytes known frames ending comes);
+}
+  where
+    too_long : (file : List ℕ) → source.left ≡ Some file → (net : Net) → IsNetwork file net → status ≡ LinkFault → TooLongAnswers gao_rexford net here.id link
+    too_long file told net is e =
+        let long = attended.sure sure e in
+        subst (λ n. TooLongAnswers gao_rexford n here.id link) (same_network file long.0 net (long.1 file told).file is.file) long.3
+
+    by_end : (net : Net) (frames : List Frame) (ending : Ending) → Served gao_rexford net here.id (once_dialled link here.address) link' status ⊎ EndsBefore status link link'
+        → (status ≡ LinkFault → TooLongAnswers gao_rexford net here.id link)
+        → (Served gao_rexford net here.id (once_dialled link here.address) link' status → (status ≡ status_of (length (stream frames)) ending) ⊎ ((status ≡ NoMemory) ⊎ (status ≡ LinkFault)))
+        → (status ≡ status_of (length (stream frames)) ending) ⊎ ((status ≡ NoMemory) ⊎ TooLongAnswers gao_rexford net here.id link)
+    by_end net frames ending (inl served) long complete = by_complete (complete served)
+      where
+        by_complete : (status ≡ status_of (length (stream frames)) ending) ⊎ ((status ≡ NoMemory) ⊎ (status ≡ LinkFault)) → (status ≡ status_of (length (stream frames)) ending) ⊎ ((status ≡ NoMemory) ⊎ TooLongAnswers gao_rexford net here.id link)
+        by_complete (inl e) = inl e
+        by_complete (inr (inl e)) = inr (inl e)
+        by_complete (inr (inr e)) = inr (inr (long e))
+    by_end net frames ending (inr (inl e, only)) long complete = inr (inl e)
+    by_end net frames ending (inr (inr (inl e), only)) long complete = absurd (no_read_fault e)
+    by_end net frames ending (inr (inr (inr e), only)) long complete = inr (inr (long e))

@@ -15,8 +15,8 @@ use Rattle.wire_frames.specs.Reading.{body_at, Found, Partial, Wrong, found_by, 
 use Rattle.wire_frames.proofs.Found.{limit_small}
 use Rattle.topology.specs.declared.frame_faults.FrameFault.TheVariants.{Truncated}
 use Rattle.topology.specs.declared.status.Status.TheVariants.{Done, NoMemory, LinkFault, BadFrame}
-use Rattle.route_io.specs.Causes.{RoseIf, Rose}
-use Rattle.route_io.specs.Links.{ahead, GrowsWithin, OnlyReads}
+use Rattle.route_io.specs.Causes.{RoseIf, Rose, StaysTold}
+use Rattle.route_io.specs.Links.{ahead, GrowsWithin, IsSure, OnlyReads}
 use Rattle.route_io.specs.Views.{LinkView}
 use Rattle.route_io.specs.declared.received.TheConstants.{PORTION}
 use Rattle.route_io.specs.declared.received.Filled.{Filled}
@@ -129,9 +129,11 @@ module _ {P : Type 0} (rules : Rules) (at : Setting P) (frames : List Frame) (pr
           offset = runs.offset;
           bytes = ap (prepend_known (stream frames)) same ∙ runs.bytes;
           wrote = subst (λ o. Appends at.first.outgoing o (spelled (replies rules at.net at.node frames))) (sym (ap (λ (l : LinkView). l.outgoing) others)) runs.wrote;
+          told = subst (λ o. StaysTold at.first.outgoing o) (sym (ap (λ (l : LinkView). l.outgoing) others)) runs.told;
           one_write_each = λ left room few. ap (λ (l : LinkView). l.writes) others ∙ runs.one_write_each left room few;
           same_room = ap (λ (l : LinkView). l.room) others ∙ runs.same_room;
           same_dialled = ap (λ (l : LinkView). l.dialled) others ∙ runs.same_dialled;
+          same_sure = ap (λ (l : LinkView). l.sure) others ∙ runs.same_sure;
           quiet = quiet ∙ runs.quiet;
         };
         within = (omega (arith, short, small, size), within.1);
@@ -212,15 +214,17 @@ module _ {P : Type 0} (rules : Rules) (at : Setting P) (frames : List Frame) (pr
         rose = λ e. absurd (cc e);
         quiet = λ _. ap (λ (l : LinkView). l.faults) same ∙ runs.quiet;
       })
+      (λ _ e. absurd (cc e))
       (front_as (ap (λ (l : LinkView). l.outgoing) same))
 
   -- a read failed
-  pub served_by_fault : OnlyReads old new → {failed : Type 0} → RoseIf failed old.faults new.faults → failed → Served rules at.net at.node at.first new LinkFault
-  served_by_fault others cause failed =
+  pub served_by_fault : OnlyReads old new → {failed : Type 0} → (IsSure old → ¬ failed) → RoseIf failed old.faults new.faults → failed → Served rules at.net at.node at.first new LinkFault
+  served_by_fault others safe cause failed =
       served_by_break rules at.net at.node at.first new LinkFault frames runs.taken (ap (λ (l : LinkView). l.room) others ∙ runs.same_room) (ap (λ (l : LinkView). l.dialled) others ∙ runs.same_dialled) (inr refl)
       (record {
         later = subst (λ n. n ≤ new.faults) runs.quiet cause.later;
         rose = λ _. subst (λ n. Rose n new.faults) runs.quiet (cause.rose failed);
         quiet = λ no. absurd (no refl);
       })
+      (λ sure _. absurd (safe (runs.same_sure ∙ sure) failed))
       (front_as (ap (λ (l : LinkView). l.outgoing) others))

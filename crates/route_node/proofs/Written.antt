@@ -1,16 +1,16 @@
 -- What was written over a link, one frame after the other.
-use Rattle.std.proofs.Common.{ℕ, zero, suc, ◌+◌, ◌-◌, ◌≡◌, ◌≤◌, ◌<◌, inr, true, false, Option, Some, None, Result, Ok, Err, is_err, IsErr, IsErrAnd, IfErr, OnOk, OnErr, List, [], ◌∷◌, ◌++◌, take, drop, length, refl, sym, ap, ◌∙◌, subst, append_assoc, option_map, arith}
+use Rattle.std.proofs.Common.{ℕ, zero, suc, ◌+◌, ◌-◌, ◌≡◌, ◌≤◌, ◌<◌, inl, inr, true, false, Option, Some, None, Result, Ok, Err, is_err, IsErr, IsErrAnd, IfErr, OnOk, OnErr, List, [], ◌∷◌, ◌++◌, take, drop, length, refl, sym, ap, ◌∙◌, subst, append_assoc, option_map, arith}
 use Rattle.std.specs.Io.KnownBytes.{Appends}
 use Rattle.std.proofs.lemmas.Result.{err_from_is_err_and}
 use Rattle.std.proofs.lemmas.List.{append-nil, length-append, take-append-drop}
 use Rattle.std.proofs.lemmas.Grind.{flat_map-append}
 use Rattle.topology.specs.declared.status.Status.{Status}
-use Rattle.topology.specs.declared.status.Status.TheVariants.{LinkFault}
-use Rattle.route_io.specs.Causes.{AppendsFront, HasCause, next_count}
-use Rattle.route_io.specs.Links.{HasRoom, OnlyWrites, WritesOnce, room_left, room_behind}
+use Rattle.topology.specs.declared.status.Status.TheVariants.{NoMemory, LinkFault}
+use Rattle.route_io.specs.Causes.{AppendsFront, HasCause, StaysTold, next_count}
+use Rattle.route_io.specs.Links.{HasRoom, IsSure, LacksRoom, OnlyWrites, WritesOnce, room_left, room_behind}
 use Rattle.route_io.specs.Views.{LinkView}
-use Rattle.route_io.proofs.Bytes.{appends_none, appends_on, risen_after}
-use Rattle.route_io.proofs.Links.{only_writes_on}
+use Rattle.route_io.proofs.Bytes.{appends_none, appends_on, told_same, told_on, risen_after}
+use Rattle.route_io.proofs.Links.{only_writes_on, room_before}
 use Rattle.wire_frames.specs.declared.frames.Frame.{Frame}
 use Rattle.wire_frames.specs.Frames.{spell}
 use Rattle.route_node.specs.Writing.{spelled, counted_on, OneWriteEach, Writes, Breaks}
@@ -56,6 +56,7 @@ room_after (Some size) (Some old) (Some now) bytes left e is =
 pub writes_none : (link : LinkView) → Writes [] link link
 writes_none link = record {
   wrote = appends_none link.outgoing;
+  told = told_same link.outgoing;
   one_write_each = λ left room small. kept link.writes;
   others = refl;
   quiet = refl;
@@ -66,13 +67,14 @@ writes_none link = record {
     kept (Some count) = refl
 
 pub writes_one : {T E : Type 0} (r : Result T E) (f : Frame) (bytes : List ℕ) (link link' : LinkView) → is_err r ≡ false → bytes ≡ spell f → OnOk r (Appends link.outgoing link'.outgoing bytes)
-    → (HasRoom link bytes → WritesOnce link link') → OnlyWrites link link' → HasCause link.faults link'.faults r → Writes (f ∷ []) link link'
+    → (HasRoom link bytes → WritesOnce link link') → StaysTold link.outgoing link'.outgoing → OnlyWrites link link' → HasCause link.faults link'.faults r → Writes (f ∷ []) link link'
 unfolding spell
-writes_one (Err e) f bytes link link' ok is wrote once only cause = absurd (cc ok)
-writes_one (Ok x) f bytes link link' ok is wrote once only cause =
+writes_one (Err e) f bytes link link' ok is wrote once told only cause = absurd (cc ok)
+writes_one (Ok x) f bytes link link' ok is wrote once told only cause =
     let same : bytes ≡ spelled (f ∷ []) = is ∙ sym (spelled_one f) in
     record {
       wrote = subst (Appends link.outgoing link'.outgoing) same wrote;
+      told = told;
       one_write_each = λ left room small.
           let some : 0 < length bytes = subst (λ l. 0 < length l) (sym is) (omega arith) in
           let within : length bytes ≤ left = subst (λ l. length l ≤ left) (sym same) small in
@@ -86,9 +88,9 @@ writes_one (Ok x) f bytes link link' ok is wrote once only cause =
     counts (Some count) = refl
 
 pub breaks_one : {T E : Type 0} (r : Result T E) (f : Frame) (bytes : List ℕ) (link link' : LinkView) → is_err r ≡ true → bytes ≡ spell f → OnErr r (AppendsFront link.outgoing link'.outgoing bytes)
-    → OnlyWrites link link' → HasCause link.faults link'.faults r → Breaks (f ∷ []) link link' LinkFault
-breaks_one (Ok x) f bytes link link' failed is wrote only cause = absurd (cc failed)
-breaks_one (Err e) f bytes link link' failed is wrote only cause =
+    → (IsSure link → OnErr r (LacksRoom link bytes)) → OnlyWrites link link' → HasCause link.faults link'.faults r → Breaks (f ∷ []) link link' LinkFault
+breaks_one (Ok x) f bytes link link' failed is wrote full only cause = absurd (cc failed)
+breaks_one (Err e) f bytes link link' failed is wrote full only cause =
     let same : bytes ≡ spelled (f ∷ []) = is ∙ sym (spelled_one f) in
     record {
       why = inr refl;
@@ -96,8 +98,21 @@ breaks_one (Err e) f bytes link link' failed is wrote only cause =
       some = take wrote.0 bytes;
       begins = (drop wrote.0 bytes, take-append-drop wrote.0 bytes ∙ same);
       wrote = wrote.2;
+      full = λ sure e. subst (LacksRoom link) same (full sure);
       others = only;
     }
+
+-- memory ran out before anything was written
+pub breaks_none : (frames : List Frame) (link : LinkView) → Breaks frames link link NoMemory
+breaks_none frames link = record {
+  why = inl refl;
+  link_fault = record { later = omega arith; rose = λ e. absurd (cc e); quiet = λ _. refl };
+  some = [];
+  begins = (spelled frames, refl);
+  wrote = appends_none link.outgoing;
+  full = λ sure e. absurd (cc e);
+  others = refl;
+}
 
 -- frames that are written behind others, each by one write
 pub one_write_behind : (fs gs : List Frame) (link mid link' : LinkView) → Appends link.outgoing mid.outgoing (spelled fs) → mid.room ≡ link.room → OneWriteEach fs link mid → OneWriteEach gs mid link' → OneWriteEach (fs ++ gs) link link'
@@ -113,6 +128,7 @@ one_write_behind fs gs link mid link' wrote same_room first second = λ left roo
 pub writes_more : (fs gs : List Frame) (link mid link' : LinkView) → Writes fs link mid → Writes gs mid link' → Writes (fs ++ gs) link link'
 writes_more fs gs link mid link' first second = record {
   wrote = subst (Appends link.outgoing link'.outgoing) (sym (spelled_both fs gs)) (appends_on link.outgoing mid.outgoing link'.outgoing (spelled fs) (spelled gs) first.wrote second.wrote);
+  told = told_on link.outgoing mid.outgoing link'.outgoing first.told second.told;
   one_write_each = one_write_behind fs gs link mid link' first.wrote (ap (λ (l : LinkView). l.room) first.others) first.one_write_each second.one_write_each;
   others = only_writes_on link mid link' first.others second.others;
   quiet = second.quiet ∙ first.quiet;
@@ -131,5 +147,11 @@ breaks_more all fs gs hs link mid link' status first second is =
             ∙ (ap (λ l. spelled fs ++ l) (sym (append_assoc second.some second.begins.0 (spelled hs)) ∙ ap (λ l. l ++ spelled hs) second.begins.1) ∙ sym spelling),
       );
       wrote = appends_on link.outgoing mid.outgoing link'.outgoing (spelled fs) second.some first.wrote second.wrote;
+      full = λ sure e.
+          let lacks = second.full (ap (λ (l : LinkView). l.sure) first.others ∙ sure) e in
+          let behind : room_behind link.room mid.outgoing ≡ Some lacks.0 = ap (λ r. room_behind r mid.outgoing) (sym (ap (λ (l : LinkView). l.room) first.others)) ∙ lacks.1 in
+          let before = room_before link.room link.outgoing mid.outgoing (spelled fs) lacks.0 first.told first.wrote behind in
+          let within = before.2 in let short = lacks.2 in
+          (before.0, before.1, omega (arith, within, short, ap length spelling, length-append (spelled fs) (spelled gs ++ spelled hs), length-append (spelled gs) (spelled hs)));
       others = only_writes_on link mid link' first.others second.others;
     }

@@ -8,13 +8,13 @@ use Rattle.topology.specs.declared.status.LimitKind.TheVariants as kind
 use Rattle.topology.specs.Lists.{has}
 use Rattle.topology.specs.Net.{Net}
 use Rattle.route_io.specs.Causes.{RoseIf}
-use Rattle.route_io.specs.Links.{Dials, OnlyDials}
+use Rattle.route_io.specs.Links.{Dials, IsSure, OnlyDials}
 use Rattle.route_io.specs.Views.{SourceView, LinkView}
 use Rattle.path_vector.specs.GaoRexford.{gao_rexford}
 use Rattle.schedule_file.specs.declared.parser.TheConstants.{MAX_BYTES}
 use Rattle.schedule_file.specs.Grammar.{IsTopologyFile}
 use Rattle.schedule_file.specs.Refusals.{FirstBadOfTopology}
-use Rattle.route_node.specs.Served.{Served}
+use Rattle.route_node.specs.Served.{Served, TooLongAnswers}
 
 -- the node that runs, and the address of its peer
 pub record Endpoint : Type 0 where
@@ -148,6 +148,10 @@ pub record Attended (here : Endpoint) (source source' : SourceView) (link link' 
   -- ReadFault, LinkFault: a call of that side failed; after every other answer none has
   pub read_fault : RoseIf (status ≡ ReadFault) source.faults source'.faults
   pub link_fault : RoseIf (status ≡ LinkFault) link.faults link'.faults
+  -- LinkFault on a sure link: answers of a node of the network are longer than the room, which is told
+  pub sure : IsSure link → status ≡ LinkFault
+      → (net : Net) × ((bytes : List ℕ) → source.left ≡ Some bytes → IsNetwork bytes net) × (has net.nodes here.id ≡ true)
+      × TooLongAnswers gao_rexford net here.id link
   -- nothing is done with the link before the network and the number are known
   pub undialled : ends_undialled status ≡ true → link' ≡ link
   -- the address is dialled, once, before the first frame

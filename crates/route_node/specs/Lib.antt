@@ -7,3 +7,4 @@ pub mod Running
 pub mod Streams
 pub mod Served
 pub mod Attended
+pub mod Plain

@@ -3,6 +3,7 @@ use Rattle.std.specs.Prelude.{ℕ, true, ◌≡◌, ◌≤◌, ◌<◌, ◌+◌,
 use Rattle.std.specs.Io.KnownBytes.{Appends, prepend_known}
 use Rattle.topology.specs.Lists.{has}
 use Rattle.topology.specs.Net.{Net, IsValid}
+use Rattle.route_io.specs.Causes.{StaysTold}
 use Rattle.route_io.specs.Links.{ahead}
 use Rattle.route_io.specs.Views.{LinkView}
 use Rattle.path_vector.specs.Rules.{Rules}
@@ -35,9 +36,11 @@ pub record Runs {P : Type 0} (rules : Rules) (at : Setting P) (process : Process
   pub offset : process.offset ≡ length (stream frames)
   pub bytes : prepend_known (stream frames) (ahead process.received link) ≡ at.first.incoming
   pub wrote : Appends at.first.outgoing link.outgoing (spelled (replies rules at.net at.node frames))
+  pub told : StaysTold at.first.outgoing link.outgoing
   pub one_write_each : OneWriteEach (replies rules at.net at.node frames) at.first link
   pub same_room : link.room ≡ at.first.room
   pub same_dialled : link.dialled ≡ at.first.dialled
+  pub same_sure : link.sure ≡ at.first.sure
   pub quiet : link.faults ≡ at.first.faults
 
 -- no frame is longer than this with its six bytes in front

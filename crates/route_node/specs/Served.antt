@@ -1,5 +1,5 @@
 -- What a user is promised of a node that answers the frames of a link.
-use Rattle.std.specs.Prelude.{ℕ, Bool, true, false, ◌≡◌, ◌⊎◌, Some, List, ◌++◌, length}
+use Rattle.std.specs.Prelude.{ℕ, Bool, true, false, ◌≡◌, ◌<◌, ◌⊎◌, Some, List, ◌++◌, length}
 use Rattle.std.specs.List.{list_all}
 use Rattle.std.specs.Io.KnownBytes.{Appends, IsAtEnd}
 use Rattle.topology.specs.declared.status.Status.{Status}
@@ -10,6 +10,7 @@ use Rattle.topology.specs.declared.frame_faults.FrameFault.{FrameFault}
 use Rattle.topology.specs.Lists.{Begins}
 use Rattle.topology.specs.Net.{Net}
 use Rattle.route_io.specs.Causes.{RoseIf}
+use Rattle.route_io.specs.Links.{IsSure, room_left}
 use Rattle.route_io.specs.Views.{LinkView}
 use Rattle.path_vector.specs.Rules.{Rules}
 use Rattle.wire_frames.specs.declared.frames.Frame.{Frame}
@@ -56,6 +57,16 @@ pub record WroteFront (rules : Rules) (net : Net) (u : ℕ) (bytes : List ℕ) (
   pub begins : Begins some (answers rules net u frames)
   pub wrote : Appends link.outgoing link'.outgoing some
 
+-- frames that stand in front of what comes, where that is told, and are taken have answers that are longer than the room that
+-- is left, which is told
+pub record TooLongAnswers (rules : Rules) (net : Net) (u : ℕ) (link : LinkView) : Type 0 where
+  pub frames : List Frame
+  pub in_front : (bytes : List ℕ) → link.incoming ≡ Some bytes → Begins (stream frames) bytes
+  pub taken : AreTaken rules net u frames
+  pub left : ℕ
+  pub room : room_left link ≡ Some left
+  pub longer : left < length (answers rules net u frames)
+
 -- how node u ends, on a link as it was and as it is then
 pub record Served (rules : Rules) (net : Net) (u : ℕ) (link link' : LinkView) (status : Status) : Type 0 where
   pub formed : ends_serving status ≡ true
@@ -72,6 +83,8 @@ pub record Served (rules : Rules) (net : Net) (u : ℕ) (link link' : LinkView) 
       × Answered rules net u frames link link'
   -- LinkFault: a call of the link failed; after every other answer none has
   pub link_fault : RoseIf (status ≡ LinkFault) link.faults link'.faults
+  -- a call of a sure link fails only where answers are longer than the room
+  pub sure : IsSure link → status ≡ LinkFault → TooLongAnswers rules net u link
   -- whatever the end, what was written is a front of the answers
   pub front : (bytes : List ℕ) → link.incoming ≡ Some bytes → WroteFront rules net u bytes link link'
   -- what the bytes come to is how it ends, unless the link fails or memory runs out

@@ -5,8 +5,8 @@ use Rattle.std.specs.Io.KnownBytes.{Appends}
 use Rattle.topology.specs.declared.status.Status.{Status}
 use Rattle.topology.specs.declared.status.Status.TheVariants.{NoMemory, LinkFault}
 use Rattle.topology.specs.Lists.{Begins}
-use Rattle.route_io.specs.Causes.{RoseIf, next_count}
-use Rattle.route_io.specs.Links.{OnlyWrites, room_left}
+use Rattle.route_io.specs.Causes.{RoseIf, StaysTold, next_count}
+use Rattle.route_io.specs.Links.{IsSure, LacksRoom, OnlyWrites, room_left}
 use Rattle.route_io.specs.Views.{LinkView}
 use Rattle.wire_frames.specs.declared.frames.Frame.{Frame}
 use Rattle.wire_frames.specs.Frames.{spell}
@@ -29,15 +29,17 @@ OneWriteEach frames link link' =
 -- the frames were written whole, and no call failed
 pub record Writes (frames : List Frame) (link link' : LinkView) : Type 0 where
   pub wrote : Appends link.outgoing link'.outgoing (spelled frames)
+  pub told : StaysTold link.outgoing link'.outgoing
   pub one_write_each : OneWriteEach frames link link'
   pub others : OnlyWrites link link'
   pub quiet : link'.faults ≡ link.faults
 
--- a front of the frames was written, and then memory ran out or a call failed
+-- a front of the frames was written, and then memory ran out or a call failed; a call of a sure link only for want of room
 pub record Breaks (frames : List Frame) (link link' : LinkView) (status : Status) : Type 0 where
   pub why : (status ≡ NoMemory) ⊎ (status ≡ LinkFault)
   pub link_fault : RoseIf (status ≡ LinkFault) link.faults link'.faults
   pub some : List ℕ
   pub begins : Begins some (spelled frames)
   pub wrote : Appends link.outgoing link'.outgoing some
+  pub full : IsSure link → status ≡ LinkFault → LacksRoom link (spelled frames)
   pub others : OnlyWrites link link'

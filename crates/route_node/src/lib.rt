@@ -1,8 +1,9 @@
 //! One node over a link: it reads frames, gives each to the node, and writes what the node hands out.
 //!
-//! [`serve`] answers the frames of a link that was dialled, [`attend`] reads the network from a source and dials first.
+//! [`serve`] answers the frames of a link that was dialled, [`attend`] reads the network from a source and dials first;
+//! [`attend_plain`] does so over plain memory.
 //! What a stream of frames comes to stands in `specs/Streams.antt`, what a user is promised in `specs/Served.antt` and
-//! `specs/Attended.antt`.
+//! `specs/Attended.antt`, over plain memory in `specs/Plain.antt`.
 #![tactic(auto)]
 
 mod answering;
@@ -12,10 +13,12 @@ pub mod inputs;
 pub mod laws;
 pub mod limits;
 mod outputs;
+mod plain;
 mod replies;
 mod reports;
 pub mod serving;
 
 pub use attending::attend;
 pub use limits::MAX_FRAMES;
+pub use plain::attend_plain;
 pub use serving::serve;

@@ -2,11 +2,12 @@
 use super::{sink_of, words_of};
 use crate::exit::exit_of;
 use crate::run::run;
-use route_io::{MemLink, MemSink, MemSource};
+use route_io::{MemLink, MemSink, MemSource, PlainLink, PlainSource};
+use route_node::attend_plain;
 use std::alloc::Global;
 use std::process::ExitCode;
 use std::test::Fail;
-use topology::Status;
+use topology::{NodeId, Status};
 
 const TWO: &str = "\
 node 1
@@ -31,6 +32,13 @@ link 1 2 any
 prefix 10.0.0.0/8
 ";
 
+// Node 2 is to announce the prefix.
+const ANNOUNCE: &[u8] = b"\x01\x01\x00\x00\x00\x02\x00\x00";
+
+// What node 2 of three tells its neighbours then.
+const TOLD: &[u8] =
+    b"\x01\x08\x00\x00\x00\x15\x00\x01\x00\x00\x00\x01\x00\x00\x00\x01\x00\x02\x00\x00\x00\x01\x00\x00\x01\x00\x02\x01\x08\x00\x00\x00\x15\x00\x03\x00\x00\x00\x01\x00\x00\x00\x01\x00\x02\x00\x00\x00\x01\x00\x00\x01\x00\x02";
+
 // The network, the number of the node, what comes over the link; the code with which the process ends, what goes over the
 // link, and what is noted.
 const CASES: [(&str, &str, &[u8], u8, &[u8], &str); 16] = [
@@ -47,9 +55,9 @@ const CASES: [(&str, &str, &[u8], u8, &[u8], &str); 16] = [
     (
         THREE,
         "2",
-        b"\x01\x01\x00\x00\x00\x02\x00\x00",
+        ANNOUNCE,
         0,
-        b"\x01\x08\x00\x00\x00\x15\x00\x01\x00\x00\x00\x01\x00\x00\x00\x01\x00\x02\x00\x00\x00\x01\x00\x00\x01\x00\x02\x01\x08\x00\x00\x00\x15\x00\x03\x00\x00\x00\x01\x00\x00\x00\x01\x00\x02\x00\x00\x00\x01\x00\x00\x01\x00\x02",
+        TOLD,
         "",
     ),
     // the number is not in the network
@@ -161,7 +169,7 @@ const FAULTS: [(bool, &[u64], &[u64], &[u8]); 3] = [
         false,
         &[],
         &[3],
-        b"\x01\x08\x00\x00\x00\x15\x00\x01\x00\x00\x00\x01\x00\x00\x00\x01\x00\x02\x00\x00\x00\x01\x00\x00\x01\x00\x02\x01\x08\x00\x00\x00\x15\x00\x03\x00\x00\x00\x01\x00\x00\x00\x01\x00\x02\x00\x00\x00\x01\x00\x00\x01\x00\x02",
+        TOLD,
     ),
 ];
 
@@ -225,6 +233,26 @@ fn ends_where_the_link_fails(rt: HostRuntime) -> Result<(), Fail> {
             b"link fault\n".as_slice(),
             "{reads:?} {writes:?}"
         );
+    }
+    Ok(())
+}
+
+#[test]
+fn fails_over_a_plain_link_only_for_room(rt: HostRuntime) -> Result<(), Fail> {
+    let alloc = rt.alloc();
+    for (room, status) in [
+        (0, Status::LinkFault),
+        (TOLD.len() - 1, Status::LinkFault),
+        (TOLD.len(), Status::Done),
+        (TOLD.len() + 1, Status::Done),
+    ] {
+        let mut source = PlainSource::new(Vec::from_slice(alloc, THREE.as_bytes())?);
+        let incoming = Vec::from_slice(alloc, ANNOUNCE)?;
+        let mut link = PlainLink::new(incoming, vec![in alloc; 0; room]?);
+        let id = NodeId::new(2);
+        let answer = attend_plain(alloc, id, "127.0.0.1:1", &mut source, &mut link);
+        assert_eq!(rt; answer, status, "{room}");
+        assert!(rt; TOLD.starts_with(link.outgoing()), "{room}");
     }
     Ok(())
 }

@@ -4,7 +4,7 @@ use Rattle.topology.specs.Net.{Net}
 use Rattle.path_vector.specs.GaoRexford.{gao_rexford}
 use Rattle.route_node.specs.Attended.{endpoint}
 use Rattle.route_node.specs.Served.{Served}
-use Rattle.route_node.proofs.Networks.{no_place, has_place, dial_fails, dialled, ends_missing, ends_at_dial, ends_served}
+use Rattle.route_node.proofs.Networks.{no_place, has_place, dial_fails, never_failed, dialled, ends_missing, ends_at_dial, ends_served}
 use Rattle.route_node.proofs.attending.attend.Goals as goal
 
 pub returns-in-Err : goal.returns-in-Err
@@ -24,6 +24,7 @@ returns-then-is_err g c =
     let there : has net.nodes c.args.id ≡ true = subst (λ (n : Net). has n.nodes c.args.id ≡ true) c.deref.ensures
     (has_place (has c.deref.result.now.nodes c.args.id) c.rank_of.result c.is_none.result c.rank_of.ensures.none c.is_none.ensures c.if-is_none.false) in
     ends_at_dial (endpoint c.args.id c.args.address.now) (g.I.Source.seen c.args.source.now) (g.I.Source.seen c.network_of.new.source) net c.in-Ok.ensures.ok there link link' c.dial.ensures.dials c.dial.ensures.others
+    (λ sure. never_failed c.dial.result (sym c.is_err.ensures.value ∙ c.if-is_err.true) (c.dial.ensures.sure sure))
     (dial_fails c.dial.result link.faults link'.faults (sym c.is_err.ensures.value ∙ c.if-is_err.true) c.dial.ensures.cause)
 
 pub returns : goal.returns

@@ -47,4 +47,4 @@ returns-in-Err-NoMemory-clause-err g c = λ at frames runs within partial.
 
 pub returns-clause-err : goal.returns-clause-err
 returns-clause-err g c = λ at frames runs within partial.
-    served_by_fault _ at frames c.args.self _ _ runs c.fill.ensures.others c.fill.ensures.cause (c.in-Err-Fault.is ∙ ap Err c.in-Err-Fault.field-0-is)
+    served_by_fault _ at frames c.args.self _ _ runs c.fill.ensures.others c.fill.ensures.sure c.fill.ensures.cause (c.in-Err-Fault.is ∙ ap Err c.in-Err-Fault.field-0-is)
