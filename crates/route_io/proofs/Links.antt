@@ -1,10 +1,11 @@
 -- Writes of a link, one after the other.
-use Rattle.std.proofs.Common.{ℕ, ◌+◌, ◌-◌, ◌<◌, ◌≤◌, ◌≡◌, ◌⊎◌, inl, inr, min, List, length, take, Option, Some, None, refl, sym, ap, subst, ◌∙◌, arith, length-append, IfSome}
+use Rattle.std.proofs.Common.{ℕ, ◌+◌, ◌-◌, ◌<◌, ◌≤◌, ◌≡◌, ◌⊎◌, inl, inr, min, List, length, take, drop, Option, Some, None, refl, sym, ap, subst, ◌∙◌, arith, length-append, IfSome}
 use Rattle.std.proofs.lemmas.List.{length-take-le}
 use Rattle.std.specs.Io.KnownBytes.{Appends}
 use Rattle.route_io.specs.Causes.{StaysTold}
-use Rattle.route_io.specs.Links.{OnlyWrites, FindsNoneLeft, HasRoom, LacksRoom, WritesOnce, room_behind, room_left}
-use Rattle.route_io.specs.Views.{LinkView}
+use Rattle.route_io.specs.Acts.{ActsOnce}
+use Rattle.route_io.specs.Links.{OnlyWrites, FindsNoneLeft, HasRoom, LacksRoom, room_behind, room_left}
+use Rattle.route_io.specs.Views.{LinkView, Write}
 
 -- no write was made yet
 pub record AtFirst (was now : LinkView) (done : ℕ) : Type 0 where
@@ -15,7 +16,7 @@ pub record AtFirst (was now : LinkView) (done : ℕ) : Type 0 where
 pub record IsOnward (was now : LinkView) (piece : List ℕ) (done : ℕ) : Type 0 where
   pub some : 0 < done
   pub whole : HasRoom was piece → done ≡ length piece
-  pub once : HasRoom was piece → WritesOnce was now
+  pub once : HasRoom was piece → ActsOnce was now (Write piece (Some (length piece)))
 
 -- what a write takes where the room is told
 fill_at : (o : Option ℕ) (size n left : ℕ) → o ≡ Some left → IfSome o (λ l. n ≡ min size l) → n ≡ min size left
@@ -25,24 +26,44 @@ fill_at o size n left told fills = rw told at fills
 pub onward :
     (was now next : LinkView) (piece rest : List ℕ) (done n : ℕ) →
     AtFirst was now done ⊎ IsOnward was now piece done → done < length piece →
-    length rest ≡ length piece - done → 0 < n → n ≤ length rest →
-    IfSome (room_left now) (λ left. n ≡ min (length rest) left) → WritesOnce now next →
+    rest ≡ drop done piece → length rest ≡ length piece - done → 0 < n → n ≤ length rest →
+    IfSome (room_left now) (λ left. n ≡ min (length rest) left) → ActsOnce now next (Write rest (Some n)) →
     IsOnward was next piece (done + n)
-onward was now next piece rest done n (inl first) inside size some within fills once =
+onward was now next piece rest done n (inl first) inside is size some within fills once =
     let start : done ≡ 0 = first.none_done in record {
       some = omega (arith, some);
       whole = λ h.
           let taken : n ≡ min (length rest) h.0 =
           fill_at (room_left now) _ n h.0 (ap room_left first.same ∙ h.1) fills
           in omega (arith, taken, h.3, size, start);
-      once = λ _. subst (λ v. WritesOnce v next) first.same once;
+      once = λ h.
+          let taken : n ≡ min (length rest) h.0 =
+          fill_at (room_left now) _ n h.0 (ap room_left first.same ∙ h.1) fills
+          in
+          let all : n ≡ length piece = omega (arith, taken, h.3, size, start) in
+          let whole : rest ≡ piece = is ∙ ap (λ (k : ℕ). drop k piece) start in
+          subst (λ v. ActsOnce v next (Write piece (Some (length piece)))) first.same
+          (subst (λ xs. ActsOnce now next (Write xs (Some (length piece)))) whole
+          (subst (λ k. ActsOnce now next (Write rest (Some k))) all once));
     }
-onward was now next piece rest done n (inr further) inside size some within fills once =
+onward was now next piece rest done n (inr further) inside is size some within fills once =
     record {
       some = omega (arith, some);
       whole = λ h. absurd (omega (arith, further.whole h, inside));
       once = λ h. absurd (omega (arith, further.whole h, inside));
     }
+
+-- the first write failed, where the piece had room
+pub failed_once :
+    (was now next : LinkView) (piece rest : List ℕ) (done : ℕ) →
+    AtFirst was now done ⊎ IsOnward was now piece done → done < length piece →
+    rest ≡ drop done piece → ActsOnce now next (Write rest None) → HasRoom was piece →
+    ActsOnce was next (Write piece None)
+failed_once was now next piece rest done (inl first) inside is once h =
+    subst (λ v. ActsOnce v next (Write piece None)) first.same
+    (subst (λ xs. ActsOnce now next (Write xs None)) (is ∙ ap (λ (k : ℕ). drop k piece) first.none_done) once)
+failed_once was now next piece rest done (inr further) inside is once h =
+    absurd (omega (arith, further.whole h, inside))
 
 -- how much was left of a room, where so much is left of it behind more bytes
 pub room_before :
@@ -73,4 +94,4 @@ lacks_room was now piece rest done inside told more others none =
 -- what changes by two writes
 pub only_writes_on : (a b c : LinkView) → OnlyWrites a b → OnlyWrites b c → OnlyWrites a c
 only_writes_on a b c h k =
-    k ∙ ap (λ (v : LinkView). record v { outgoing = c.outgoing; writes = c.writes; faults = c.faults }) h
+    k ∙ ap (λ (v : LinkView). record v { outgoing = c.outgoing; acts = c.acts; faults = c.faults }) h

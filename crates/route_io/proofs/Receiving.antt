@@ -5,18 +5,21 @@ use Rattle.std.proofs.Math.Seq.{take-add, take-append_seam}
 use Rattle.std.proofs.lemmas.List.{length-take-le}
 use Rattle.std.specs.Io.KnownBytes.{Consumes, Keeps, ReadConsumes}
 use Rattle.route_io.specs.Causes.{StaysTold}
+use Rattle.route_io.specs.Acts.{ActsOnce, brought_by}
 use Rattle.route_io.specs.Links.{ReadsBehind}
+use Rattle.route_io.specs.Views.{LinkView, Read}
 
 -- a buffer that was made longer, lent whole, read into from its old end on, and cut again
 pub read_behind_is :
-    {E : Type 0} (r : Result ℕ E) (old longer shown filled new : List ℕ) (len k : ℕ) (was now : Option (List ℕ)) →
+    {E : Type 0} (r : Result ℕ E) (old longer shown filled new : List ℕ) (len k : ℕ) (was now : LinkView) →
     len ≡ length old → k ≡ result_unwrap_or r 0 → take (length old) longer ≡ old → shown ≡ longer →
     take len filled ≡ take len shown → length filled ≡ length shown → len < length longer →
-    IfOk r (λ n. len + n ≤ length shown) → ReadConsumes was now r (drop len filled) →
+    IfOk r (λ n. len + n ≤ length shown) → ReadConsumes was.incoming now.incoming r (drop len filled) →
+    ActsOnce was now (Read (brought_by r (drop len filled))) →
     new ≡ take (len + k) (take (length longer) (filled ++ drop (length filled) longer)) →
     IfOk r (λ n. ReadsBehind n old new was now)
-read_behind_is (Err e) old longer shown filled new len k was now at count front lent same size room within came cut = tt
-read_behind_is (Ok n) old longer shown filled new len k was now at count front lent same size room within came cut =
+read_behind_is (Err e) old longer shown filled new len k was now at count front lent same size room within came acted cut = tt
+read_behind_is (Ok n) old longer shown filled new len k was now at count front lent same size room within came acted cut =
     let long : length filled ≡ length longer = size ∙ ap length lent in
     let whole : take (length longer) (filled ++ drop (length filled) longer) ≡ filled =
     subst (λ m. take m (filled ++ drop (length filled) longer) ≡ filled) long (take-append_seam filled (drop (length filled) longer))
@@ -29,6 +32,7 @@ read_behind_is (Ok n) old longer shown filled new len k was now at count front l
       size = length-take-le n (drop len filled) (omega (arith, length-drop len filled, within, size));
       consumed = came.0;
       at_end = λ none. came.1 none (omega (arith, length-drop len filled, room, long));
+      acted = acted;
     }
 
 -- where something came, it was not the end

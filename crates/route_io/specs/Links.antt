@@ -2,8 +2,8 @@
 use Rattle.std.specs.Prelude.{ℕ, true, ◌≡◌, ◌<◌, ◌≤◌, ◌-◌, List, ◌∷◌, ◌++◌, length, Some, None, option_map}
 use Rattle.std.specs.declared.option.Option.{Option}
 use Rattle.std.specs.Io.KnownBytes.{prepend_known, Consumes, IsAtEnd}
-use Rattle.route_io.specs.Causes.{next_count}
-use Rattle.route_io.specs.Views.{LinkView, SinkView}
+use Rattle.route_io.specs.Acts.{ActsOnce}
+use Rattle.route_io.specs.Views.{LinkView, Read, SinkView}
 
 -- a link as one writes to it
 abbrev pub as_sink : LinkView → SinkView
@@ -17,14 +17,15 @@ OnlyDials old new = new ≡ record old { dialled = new.dialled; faults = new.fau
 abbrev pub Dials : LinkView → LinkView → List ℕ → Type 0
 Dials old new address = new.dialled ≡ option_map (λ before. address ∷ before) old.dialled
 
--- nothing changed but what is still to come and the count of faults
+-- nothing changed but what is still to come, the acts and the count of faults
 abbrev pub OnlyReads : LinkView → LinkView → Type 0
-OnlyReads old new = new ≡ record old { incoming = new.incoming; faults = new.faults }
+OnlyReads old new =
+    new ≡ record old { incoming = new.incoming; acts = new.acts; faults = new.faults }
 
--- nothing changed but what was taken, and the counts of writes and of faults
+-- nothing changed but what was taken, the acts and the count of faults
 abbrev pub OnlyWrites : LinkView → LinkView → Type 0
 OnlyWrites old new =
-    new ≡ record old { outgoing = new.outgoing; writes = new.writes; faults = new.faults }
+    new ≡ record old { outgoing = new.outgoing; acts = new.acts; faults = new.faults }
 
 -- how much of a room is left behind these bytes, where both are told
 abbrev pub room_behind : Option ℕ → Option (List ℕ) → Option ℕ
@@ -53,10 +54,6 @@ LacksRoom link piece = (left : ℕ) × (room_left link ≡ Some left) × (left <
 abbrev pub IsSure : LinkView → Type 0
 IsSure link = link.sure ≡ true
 
--- one more write was made
-abbrev pub WritesOnce : LinkView → LinkView → Type 0
-WritesOnce old new = new.writes ≡ option_map next_count old.writes
-
 -- what was received and not yet taken, and then what is still to come, where told
 abbrev pub ahead : List ℕ → LinkView → Option (List ℕ)
 ahead received link = prepend_known received link.incoming
@@ -67,9 +64,10 @@ GrowsWithin most old new = (more : List ℕ) × (new ≡ old ++ more) × (length
 
 -- a read has put some bytes behind those that were there: they stood in front of what was still to
 -- come, and there were none only at its end
-pub record ReadsBehind (count : ℕ) (old new : List ℕ) (was now : Option (List ℕ)) : Type 0 where
+pub record ReadsBehind (count : ℕ) (old new : List ℕ) (was now : LinkView) : Type 0 where
   pub more : List ℕ
   pub behind : new ≡ old ++ more
   pub size : length more ≡ count
-  pub consumed : Consumes was now more
-  pub at_end : count ≡ 0 → IsAtEnd now
+  pub consumed : Consumes was.incoming now.incoming more
+  pub at_end : count ≡ 0 → IsAtEnd now.incoming
+  pub acted : ActsOnce was now (Read (Some more))

@@ -13,15 +13,21 @@ pub record SinkView : Type 0 where
   pub room : Option ℕ
   pub faults : ℕ
 
+-- a read of a link, with what it brought; or a write, with its piece and how many bytes of it were
+-- taken; neither where the call failed
+pub data Act : Type 0 where
+  Read : (brought : Option (List ℕ)) → Act
+  Write : (piece : List ℕ) → (took : Option ℕ) → Act
+
 -- a link to a peer: the bytes that are still to come from it, those that were taken for it, how many
--- can be taken in all, how many writes were made and which addresses were dialled, the newest first,
--- where told; whether it is sure, so that a call of it fails only for want of room; and how many of its
+-- can be taken in all, which reads and writes were made and which addresses were dialled, the newest
+-- first, where told; whether it is sure, so that a call of it fails only for want of room; and how many of its
 -- calls have failed
 pub record LinkView : Type 0 where
   pub incoming : Option (List ℕ)
   pub outgoing : Option (List ℕ)
   pub room : Option ℕ
-  pub writes : Option ℕ
+  pub acts : Option (List Act)
   pub dialled : Option (List (List ℕ))
   pub sure : Bool
   pub faults : ℕ

@@ -1,13 +1,16 @@
 //! A link to a peer: bytes come from it, and bytes go to it.
-ghost use Rattle.std.specs.Prelude.{◌≡◌, ◌<◌, ◌≤◌, min, length, IfOk, IsOk, OnOk, OnErr, IfSome};
+ghost use Rattle.std.specs.Prelude.{◌≡◌, ◌<◌, ◌≤◌, min, length, Some, IfOk, IsOk, OnOk, OnErr, IfSome};
 ghost use Rattle.std.specs.Io.{ReadsAtMost};
 ghost use Rattle.std.specs.Io.KnownBytes.{ReadConsumes, WriteAppends, Appends};
+ghost use Rattle.std.specs.Result.{result_ok};
+ghost use Rattle.route_io.specs.Acts.{ActsOnce, AddsFront, AddsWrites, brought_by, whole_by};
 ghost use Rattle.route_io.specs.Causes.{HasCause, AppendsFront, StaysTold};
-ghost use Rattle.route_io.specs.Links.{Dials, OnlyDials, OnlyReads, OnlyWrites, WritesOnce, FindsNoneLeft, HasRoom, IsSure, LacksRoom, room_left};
-ghost use Rattle.route_io.specs.Views.{LinkView};
+ghost use Rattle.route_io.specs.Links.{Dials, OnlyDials, OnlyReads, OnlyWrites, FindsNoneLeft, HasRoom, IsSure, LacksRoom, room_left};
+ghost use Rattle.route_io.specs.Views.{LinkView, Read, Write};
 
 use crate::outside::Failed;
 
+mod acts;
 mod dialled;
 pub mod memory;
 pub mod plain;
@@ -18,7 +21,7 @@ pub mod tcp;
 /// a [`Source`](crate::Source).
 pub trait Link {
     /// The bytes that are still to come, the bytes that were taken, how many can be taken in all,
-    /// how many writes were made and which addresses were dialled, where told; whether the link is
+    /// which reads and writes were made and which addresses were dialled, where told; whether the link is
     /// sure; and how often a call has failed.
     ///
     /// Whoever tells the room takes as much of a piece as it has room for. On a sure link a call
@@ -41,6 +44,8 @@ pub trait Link {
             result buf.new }
         ensures told { StaysTold (seen self.old).incoming (seen self.new).incoming }
         ensures sure { IsSure (seen self.old) → IsOk result }
+        ensures acted { ActsOnce (seen self.old) (seen self.new)
+            (Read (brought_by result buf.new)) }
         ensures others { OnlyReads (seen self.old) (seen self.new) }
         ensures cause { HasCause (seen self.old).faults (seen self.new).faults result };
 
@@ -54,7 +59,8 @@ pub trait Link {
         ensures bytes { WriteAppends (seen self.old).outgoing (seen self.new).outgoing
             result piece.now }
         ensures told { StaysTold (seen self.old).outgoing (seen self.new).outgoing }
-        ensures counted { WritesOnce (seen self.old) (seen self.new) }
+        ensures acted { ActsOnce (seen self.old) (seen self.new)
+            (Write piece.now (result_ok result)) }
         ensures sure { IsSure (seen self.old) →
             OnErr result (FindsNoneLeft (seen self.old) piece.now) }
         ensures others { OnlyWrites (seen self.old) (seen self.new) }
@@ -72,7 +78,12 @@ pub trait Link {
             (AppendsFront (seen self.old).outgoing (seen self.new).outgoing piece.now) }
         ensures told { StaysTold (seen self.old).outgoing (seen self.new).outgoing }
         ensures one_write { HasRoom (seen self.old) piece.now
-            → WritesOnce (seen self.old) (seen self.new) }
+            → ActsOnce (seen self.old) (seen self.new)
+            (Write piece.now (whole_by result piece.now)) }
+        ensures acted { OnOk result
+            (AddsWrites (seen self.old) (seen self.new) piece.now) }
+        ensures acted_err { OnErr result
+            (AddsFront (seen self.old) (seen self.new) piece.now) }
         ensures sure { IsSure (seen self.old) →
             OnErr result (LacksRoom (seen self.old) piece.now) }
         ensures others { OnlyWrites (seen self.old) (seen self.new) }

@@ -1,8 +1,10 @@
 //! What was received over a link and not yet handled.
-ghost use Rattle.std.specs.Prelude.{◌≡◌, ◌+◌, ◌<◌, ◌≤◌, ◌↔◌, [], length, take, drop, OnOk, OnErr, IfSome, IsErrOf, IsOk, IfOk};
+ghost use Rattle.std.specs.Prelude.{◌≡◌, ◌+◌, ◌<◌, ◌≤◌, ◌↔◌, [], None, length, take, drop, OnOk, OnErr, IfSome, IsErrOf, IsOk, IfOk};
 ghost use Rattle.std.specs.Io.KnownBytes.{ReadConsumes, Keeps};
 ghost use Rattle.route_io.specs.Causes.{HasCause, RoseIf, StaysTold};
+ghost use Rattle.route_io.specs.Acts.{ActsOnce, ReadsMore, brought_by};
 ghost use Rattle.route_io.specs.Links.{IsSure, OnlyReads, ReadsBehind, GrowsWithin, ahead};
+ghost use Rattle.route_io.specs.Views.{Read};
 
 use crate::link::Link;
 use crate::outside::Failed;
@@ -87,6 +89,10 @@ impl Received {
         ensures kept { OnErr result
             ((L.seen link.new).incoming ≡ (L.seen link.old).incoming) }
         ensures others { OnlyReads (L.seen link.old) (L.seen link.new) }
+        ensures acted { OnOk result
+            (ReadsMore self.old self.new (L.seen link.old) (L.seen link.new)) }
+        ensures acted_err { IsErrOf result NotFilled.Fault →
+            ActsOnce (L.seen link.old) (L.seen link.new) (Read None) }
         ensures sure { IsSure (L.seen link.old) → ¬ IsErrOf result NotFilled.Fault }
         ensures cause { RoseIf (IsErrOf result NotFilled.Fault)
             (L.seen link.old).faults (L.seen link.new).faults }
@@ -110,9 +116,10 @@ fn read_behind<L: Link>(link: &mut L, bytes: &mut BytesMut) -> Result<usize, Fai
     requires { PORTION ≤ bytes.old.spare }
     ensures within { IfOk result (λ n. n ≤ PORTION) }
     ensures ok { IfOk result (λ n. ReadsBehind n bytes.old.items bytes.new.items
-        (L.seen link.old).incoming (L.seen link.new).incoming) }
+        (L.seen link.old) (L.seen link.new)) }
     ensures err { OnErr result (bytes.new.items ≡ bytes.old.items) }
     ensures kept { OnErr result (Keeps (L.seen link.old).incoming (L.seen link.new).incoming) }
+    ensures acted_err { OnErr result (ActsOnce (L.seen link.old) (L.seen link.new) (Read None)) }
     ensures told { StaysTold (L.seen link.old).incoming (L.seen link.new).incoming }
     ensures sure { IsSure (L.seen link.old) → IsOk result }
     ensures others { OnlyReads (L.seen link.old) (L.seen link.new) }
@@ -132,6 +139,8 @@ fn read_at<L: Link>(link: &mut L, bytes: &mut [u8], at: usize) -> Result<usize, 
     ensures bound { IfOk result (λ n. at + n ≤ length bytes.old) }
     ensures bytes { ReadConsumes (L.seen link.old).incoming (L.seen link.new).incoming
         result (drop at bytes.new) }
+    ensures acted { ActsOnce (L.seen link.old) (L.seen link.new)
+        (Read (brought_by result (drop at bytes.new))) }
     ensures told { StaysTold (L.seen link.old).incoming (L.seen link.new).incoming }
     ensures sure { IsSure (L.seen link.old) → IsOk result }
     ensures others { OnlyReads (L.seen link.old) (L.seen link.new) }

@@ -37,10 +37,11 @@ use Rattle.route_node.specs.Streams.{stream, run_over, replies, out_of_turn, ref
 use Rattle.route_node.specs.Told.{handed}
 use Rattle.route_node.specs.Writing.{spelled, OneWriteEach, Writes, Breaks}
 use Rattle.route_node.proofs.Ending.{served_by_ending, served_by_break}
+use Rattle.route_node.proofs.InTime.{told_behind, prompt_writes, grows_more, keeps_taken}
 use Rattle.route_node.proofs.Stopping.{limit_ends}
 use Rattle.route_node.proofs.Taking.{run_more, refusal_is, limit_as, within_limit, replies_more}
 use Rattle.route_node.proofs.Told.{replies_spelled}
-use Rattle.route_node.proofs.Waiting.{told_as, answered_as, served_without_memory}
+use Rattle.route_node.proofs.Waiting.{told_as, answered_as, prompt_as, served_without_memory}
 use Rattle.route_node.proofs.Written.{spelled_both, one_write_behind}
 
 -- a front of what is written behind
@@ -78,7 +79,7 @@ module _ {P : Type 0} (rules : Rules) (at : Setting P) (frames : List Frame) (pr
 
   served_here : (status : Status) (ending : Ending) → status ≡ status_of (length (stream frames)) ending → ends_serving status ≡ true → ((more : List ℕ) → EndsAt rules at.net at.node frames (spell frame ++ more) ending) → (status ≡ Done → ⊥) → Served rules at.net at.node at.first old status
   served_here status ending is formed ends never =
-      served_by_ending rules at.net at.node at.first old status frames runs.taken runs.same_room runs.same_dialled ending is formed (comes_to ending ends) (answered_as rules at frames process old old runs refl refl) runs.quiet (λ e. absurd (never e))
+      served_by_ending rules at.net at.node at.first old status frames runs.taken runs.same_room runs.same_dialled (prompt_as rules at frames process old old runs refl) ending is formed (comes_to ending ends) (answered_as rules at frames process old old runs refl runs.one_write_each) runs.quiet (λ e. absurd (never e))
 
   -- the run ends at the frame
   pub served_at_frame : (status : Status) → EndsFrame process.offset process.frames (out_of_turn (gives rules at.net at.node (run_over rules at.net at.node frames) i))
@@ -145,7 +146,14 @@ module _ {P : Type 0} (rules : Rules) (at : Setting P) (frames : List Frame) (pr
     pub served_by_replies : (new : LinkView) (status : Status) → Breaks (filter_map telling (handed told)) old new status → Served rules at.net at.node at.first new status
     served_by_replies new status breaks =
         let later : old.faults ≤ new.faults = breaks.link_fault.later in
-        served_by_break rules at.net at.node at.first new status (frame ∷ frames) taken_now (ap (λ (l : LinkView). l.room) breaks.others ∙ runs.same_room) (ap (λ (l : LinkView). l.dialled) breaks.others ∙ runs.same_dialled) breaks.why
+        served_by_break rules at.net at.node at.first new status (frame ∷ frames) taken_now (ap (λ (l : LinkView). l.room) breaks.others ∙ runs.same_room) (ap (λ (l : LinkView). l.dialled) breaks.others ∙ runs.same_dialled)
+        (λ before told'.
+        let known = runs.acts before told' in (
+          breaks.acts.0 ++ known.0,
+          told_behind old.acts new.acts breaks.acts.0 known.0 before breaks.acts.2 known.1,
+          prompt_writes rules at.net at.node breaks.acts.0 known.0 breaks.acts.1 known.2.prompt,
+        ))
+        breaks.why
         (record {
           later = subst (λ n. n ≤ new.faults) runs.quiet later;
           rose = λ e. subst (λ n. Rose n new.faults) runs.quiet (breaks.link_fault.rose e);
@@ -196,6 +204,14 @@ module _ {P : Type 0} (rules : Rules) (at : Setting P) (frames : List Frame) (pr
             told = told_on at.first.outgoing old.outgoing new.outgoing runs.told writes.told;
             one_write_each = subst (λ l. OneWriteEach l at.first new) (sym replies_now)
                 (one_write_behind (replies rules at.net at.node frames) (filter_map telling (handed told)) at.first old new runs.wrote runs.same_room runs.one_write_each writes.one_write_each);
+            grow = grows_more rules at.net at.node frame frames (spelled (filter_map telling (handed told))) spelled_now runs.grow;
+            acts = λ before told'.
+                let known = runs.acts before told' in (
+                  writes.acts.more ++ known.0,
+                  told_behind old.acts new.acts writes.acts.more known.0 before writes.acts.behind known.1,
+                  keeps_taken rules at.net at.node frames process.received known.0 known.2 frame received (spelled (filter_map telling (handed told))) writes.acts.more writes.acts.alone writes.acts.took
+                      (holds.splits ∙ ap (λ l. spell frame ++ l) (sym is)) spelled_now,
+                );
             same_room = ap (λ (l : LinkView). l.room) writes.others ∙ runs.same_room;
             same_dialled = ap (λ (l : LinkView). l.dialled) writes.others ∙ runs.same_dialled;
             same_sure = ap (λ (l : LinkView). l.sure) writes.others ∙ runs.same_sure;

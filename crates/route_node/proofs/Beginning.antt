@@ -1,6 +1,5 @@
 -- A process that begins.
 use Rattle.std.proofs.Common.{ℕ, ◌≡◌, ◌≤◌, true, Option, Some, None, List, [], length, refl, sym, ap, ◌∙◌, subst, inl, arith}
-use Rattle.std.specs.Prelude.{option_map}
 use Rattle.std.specs.List.{list_all}
 use Rattle.std.specs.Io.KnownBytes.{Appends, prepend_known}
 use Rattle.topology.specs.declared.status.Status.TheVariants.{NoMemory}
@@ -17,24 +16,21 @@ use Rattle.route_node.specs.declared.limits.TheConstants.{MAX_FRAMES}
 use Rattle.route_node.specs.Running.{Setting, Runs}
 use Rattle.route_node.specs.Served.{Served}
 use Rattle.route_node.specs.Streams.{replies}
-use Rattle.route_node.specs.Writing.{spelled, counted_on}
+use Rattle.route_node.specs.Writing.{spelled}
 use Rattle.route_node.proofs.Ending.{served_by_break}
+use Rattle.route_node.proofs.InTime.{prompt_none, grows_none}
 
 known_as : (known : Option (List ℕ)) → prepend_known [] (prepend_known [] known) ≡ known
 known_as None = refl
 known_as (Some bytes) = refl
 
-writes_as : (writes : Option ℕ) → writes ≡ option_map (counted_on 0) writes
-writes_as None = refl
-writes_as (Some count) = refl
+nothing_replied : (rules : Rules) (net : Net) (u : ℕ) → replies rules net u [] ≡ []
+unfolding alone
+nothing_replied rules net u = refl
 
 module _ (rules : Rules) (net : Net) (u : ℕ) where
-  nothing_replied : replies rules net u [] ≡ []
-  unfolding alone
-  nothing_replied = refl
-
   nothing_written : (link : LinkView) → Appends link.outgoing link.outgoing (spelled (replies rules net u []))
-  nothing_written link = subst (λ fs. Appends link.outgoing link.outgoing (spelled fs)) (sym nothing_replied) (appends_none link.outgoing)
+  nothing_written link = subst (λ fs. Appends link.outgoing link.outgoing (spelled fs)) (sym (nothing_replied rules net u)) (appends_none link.outgoing)
 
   -- no frame was taken yet
   pub begins : {P : Type 0} (at : Setting P) (process : Process P) → at.net ≡ net → at.node ≡ u → IsValid net → has net.nodes u ≡ true → process.topology.value ≡ net → process.id ≡ u → StandsFor at.policy rules net u process.node []
@@ -52,7 +48,9 @@ module _ (rules : Rules) (net : Net) (u : ℕ) where
     bytes = subst (λ l. prepend_known [] (prepend_known l at.first.incoming) ≡ at.first.incoming) (sym empty) (known_as at.first.incoming);
     wrote = appends_none at.first.outgoing;
     told = told_same at.first.outgoing;
-    one_write_each = λ left room small. writes_as at.first.writes;
+    one_write_each = λ left room small before told. ([], told, refl);
+    grow = grows_none rules at.net at.node;
+    acts = λ before told. ([], told, record { brought = sym empty; took = sym (ap spelled (nothing_replied rules at.net at.node)); prompt = prompt_none rules at.net at.node });
     same_room = refl;
     same_dialled = refl;
     same_sure = refl;
@@ -65,7 +63,7 @@ module _ (rules : Rules) (net : Net) (u : ℕ) where
   -- memory ran out before the first frame
   pub served_nothing : (link : LinkView) → Served rules net u link link NoMemory
   served_nothing link =
-      served_by_break rules net u link link NoMemory [] tt refl refl (inl refl)
+      served_by_break rules net u link link NoMemory [] tt refl refl (λ before told. ([], told, prompt_none rules net u)) (inl refl)
       (record { later = omega arith; rose = λ e. absurd (cc e); quiet = λ _. refl })
       (λ _ e. absurd (cc e))
       (λ bytes told. record {
@@ -73,7 +71,7 @@ module _ (rules : Rules) (net : Net) (u : ℕ) where
         rest = bytes;
         in_front = refl;
         taken = tt;
-        spelled = subst (λ fs. list_all has_spelling fs ≡ true) (sym nothing_replied) refl;
+        spelled = subst (λ fs. list_all has_spelling fs ≡ true) (sym (nothing_replied rules net u)) refl;
         some = [];
         begins = (spelled (replies rules net u []), refl);
         wrote = appends_none link.outgoing;

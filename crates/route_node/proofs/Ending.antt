@@ -1,5 +1,5 @@
 -- How a node over a link ends, from what it has taken and written.
-use Rattle.std.proofs.Common.{ℕ, ◌≡◌, true, Some, List, [], length, refl, sym, ap, ◌∙◌, subst, inl, inr, ◌⊎◌, ◌≤◌, arith}
+use Rattle.std.proofs.Common.{ℕ, ◌≡◌, true, Some, List, [], ◌++◌, length, refl, sym, ap, ◌∙◌, subst, inl, inr, ◌⊎◌, ◌≤◌, arith}
 use Rattle.std.specs.Io.KnownBytes.{IsAtEnd}
 use Rattle.std.proofs.lemmas.List.{append-nil}
 use Rattle.topology.specs.declared.status.Status.{Status}
@@ -9,10 +9,11 @@ use Rattle.topology.specs.declared.frame_faults.FrameFault.{FrameFault}
 use Rattle.topology.specs.Net.{Net}
 use Rattle.route_io.specs.Causes.{RoseIf}
 use Rattle.route_io.specs.Links.{IsSure}
-use Rattle.route_io.specs.Views.{LinkView}
+use Rattle.route_io.specs.Views.{Act, LinkView}
 use Rattle.path_vector.specs.Rules.{Rules}
 use Rattle.node_core.specs.NodeLimits.{Reached}
 use Rattle.wire_frames.specs.declared.frames.Frame.{Frame}
+use Rattle.route_node.specs.Prompt.{IsPrompt}
 use Rattle.route_node.specs.Streams.{stream, answers, AreTaken, Ending, End, Refused, Stopped, Comes}
 use Rattle.route_node.specs.Served.{ends_serving, status_of, Answered, WroteFront, TooLongAnswers, Served}
 use Rattle.route_node.proofs.Unique.{come_once}
@@ -45,7 +46,8 @@ is_limit offset kind number (Stopped reached) e =
 
 -- ---- the two ways to end
 
-module _ (rules : Rules) (net : Net) (u : ℕ) (first link : LinkView) (status : Status) (frames : List Frame) (taken : AreTaken rules net u frames) (same_room : link.room ≡ first.room) (same_dialled : link.dialled ≡ first.dialled) where
+module _ (rules : Rules) (net : Net) (u : ℕ) (first link : LinkView) (status : Status) (frames : List Frame) (taken : AreTaken rules net u frames) (same_room : link.room ≡ first.room) (same_dialled : link.dialled ≡ first.dialled)
+    (prompt : (before : List Act) → first.acts ≡ Some before → (since : List Act) × (link.acts ≡ Some (since ++ before)) × IsPrompt rules net u since) where
   -- the stream has come to its end
   pub served_by_ending : (ending : Ending) → status ≡ status_of (length (stream frames)) ending → ends_serving status ≡ true → ((bytes : List ℕ) → first.incoming ≡ Some bytes → Comes rules net u bytes frames ending) → Answered rules net u frames first link
       → link.faults ≡ first.faults → (status ≡ Done → IsAtEnd link.incoming) → Served rules net u first link status
@@ -78,6 +80,7 @@ module _ (rules : Rules) (net : Net) (u : ℕ) (first link : LinkView) (status :
     complete = λ bytes told others other come.
         let both = come_once rules net u bytes frames others ending other (comes bytes told) come in
         inl (is ∙ subst (λ g. status_of (length (stream frames)) ending ≡ status_of (length (stream g)) other) both.0 (ap (status_of (length (stream frames))) both.1));
+    prompt = prompt;
     read = read;
     same_room = same_room;
     same_dialled = same_dialled;
@@ -98,6 +101,7 @@ module _ (rules : Rules) (net : Net) (u : ℕ) (first link : LinkView) (status :
     sure = full;
     front = front;
     complete = λ bytes told others other come. inr why;
+    prompt = prompt;
     read = λ e. absurd (never Done why (λ d. absurd (cc d)) (λ d. absurd (cc d)) e);
     same_room = same_room;
     same_dialled = same_dialled;

@@ -5,6 +5,7 @@ pub mod Fronted
 pub mod Written
 pub mod Replied
 pub mod Unique
+pub mod InTime
 pub mod Ending
 pub mod Waiting
 pub mod Stopped

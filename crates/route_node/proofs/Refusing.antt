@@ -24,7 +24,7 @@ use Rattle.route_node.specs.Running.{Setting, Runs}
 use Rattle.route_node.specs.Served.{Served}
 use Rattle.route_node.specs.Streams.{refusal, Refused, found_fault, EndsAt}
 use Rattle.route_node.proofs.Ending.{served_by_ending}
-use Rattle.route_node.proofs.Waiting.{told_as, answered_as, served_without_memory}
+use Rattle.route_node.proofs.Waiting.{told_as, answered_as, prompt_as, served_without_memory}
 
 -- ---- what is wrong stays wrong, whatever comes behind
 
@@ -80,11 +80,11 @@ module _ {P : Type 0} (rules : Rules) (at : Setting P) (frames : List Frame) (pr
   -- what is found in front of all that is left is refused for this
   refused_by : (fault : FrameFault) → ((t : List ℕ) → EndsAt rules at.net at.node frames (process.received ++ t) (Refused fault)) → Served rules at.net at.node at.first old (BadFrame process.offset fault)
   refused_by fault ends =
-      served_by_ending rules at.net at.node at.first old (BadFrame process.offset fault) frames runs.taken runs.same_room runs.same_dialled (Refused fault) (ap (λ n. BadFrame n fault) runs.offset) refl
+      served_by_ending rules at.net at.node at.first old (BadFrame process.offset fault) frames runs.taken runs.same_room runs.same_dialled (prompt_as rules at frames process old old runs refl) (Refused fault) (ap (λ n. BadFrame n fault) runs.offset) refl
       (λ bytes told.
       let known = told_as rules at frames process old old runs bytes told in
       record { rest = process.received ++ known.0; in_front = known.2; taken = runs.taken; ends = ends known.0 })
-      (answered_as rules at frames process old old runs refl refl) runs.quiet (λ e. absurd (cc e))
+      (answered_as rules at frames process old old runs refl runs.one_write_each) runs.quiet (λ e. absurd (cc e))
 
   ends_with : (rest : List ℕ) (there : Found) (fault : FrameFault) → found rest ≡ there → (rest ≡ [] → ⊥) → found_fault rules at.net at.node frames there ≡ Some fault → EndsAt rules at.net at.node frames rest (Refused fault)
   ends_with [] there fault is some e = some refl

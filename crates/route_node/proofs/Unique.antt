@@ -20,7 +20,7 @@ stream_more [] frames = sym (append-nil (stream frames))
 stream_more (f ∷ more) frames = ap (λ (t : List ℕ). t ++ spell f) (stream_more more frames) ∙ append_assoc (stream frames) (stream more) (spell f)
 
 -- a list is empty, or has an oldest element
-oldest : (frames : List Frame) → (frames ≡ []) ⊎ ((x : Frame) × (newer : List Frame) × (frames ≡ newer ++ x ∷ []))
+pub oldest : (frames : List Frame) → (frames ≡ []) ⊎ ((x : Frame) × (newer : List Frame) × (frames ≡ newer ++ x ∷ []))
 oldest [] = inl refl
 oldest (f ∷ frames) = go (oldest frames)
   where
@@ -29,13 +29,13 @@ oldest (f ∷ frames) = go (oldest frames)
     go (inr (x, newer, e)) = inr (x, f ∷ newer, ap (λ (l : List Frame). f ∷ l) e)
 
 -- the stream of frames with an oldest one begins with that
-from_oldest : (newer : List Frame) (x : Frame) → stream (newer ++ x ∷ []) ≡ spell x ++ stream newer
+pub from_oldest : (newer : List Frame) (x : Frame) → stream (newer ++ x ∷ []) ≡ spell x ++ stream newer
 from_oldest newer x = stream_more newer (x ∷ [])
 
 -- ---- two ways to read the same bytes
 
 -- one more frame in front is found
-in_front : (x : Frame) (rest : List ℕ) → has_spelling x ≡ true → found (spell x ++ rest) ≡ Whole x (length (spell x))
+pub in_front : (x : Frame) (rest : List ℕ) → has_spelling x ≡ true → found (spell x ++ rest) ≡ Whole x (length (spell x))
 in_front x rest fit = spelled_found x rest fit
 
 abbrev frame_in : Frame → Found → Frame
@@ -47,21 +47,21 @@ same_frame : (f x : Frame) (rest more : List ℕ) → has_spelling f ≡ true �
 same_frame f x rest more fit fits same = ap (frame_in f) (sym (in_front f rest fit) ∙ (ap found same ∙ in_front x more fits))
 
 -- all have a spelling
-abbrev AllSpelled : List Frame → Type 0
+abbrev pub AllSpelled : List Frame → Type 0
 AllSpelled [] = Unit {0}
 AllSpelled (f ∷ frames) = (has_spelling f ≡ true) × AllSpelled frames
 
 -- the other list goes on behind the first, and the bytes that are left with what it has more
-record Longer (frames others : List Frame) (rest left : List ℕ) : Type 0 where
-  more : List Frame
-  others_are : others ≡ more ++ frames
-  rest_is : rest ≡ stream more ++ left
+pub record Longer (frames others : List Frame) (rest left : List ℕ) : Type 0 where
+  pub more : List Frame
+  pub others_are : others ≡ more ++ frames
+  pub rest_is : rest ≡ stream more ++ left
 
 spelled_oldest : (newer : List Frame) (x : Frame) (frames : List Frame) → AllSpelled ((newer ++ x ∷ []) ++ frames) → has_spelling x ≡ true
 spelled_oldest [] x frames all = all.0
 spelled_oldest (f ∷ newer) x frames all = spelled_oldest newer x frames all.1
 
-compare : (frames others : List Frame) (rest left : List ℕ) → AllSpelled frames → AllSpelled others → stream frames ++ rest ≡ stream others ++ left
+pub compare : (frames others : List Frame) (rest left : List ℕ) → AllSpelled frames → AllSpelled others → stream frames ++ rest ≡ stream others ++ left
     → Longer frames others rest left ⊎ Longer others frames left rest
 compare [] others rest left all alls same = inl (record { more = others; others_are = sym (append-nil others); rest_is = same })
 compare (f ∷ frames) others rest left all alls same =
@@ -106,7 +106,7 @@ module _ (rules : Rules) (net : Net) (u : ℕ) where
   all_spelled (f ∷ frames) (fit, not_refused, not_stopped, taken) = (fit, all_spelled frames taken)
 
   -- the oldest of the frames behind was taken behind those before it
-  taken_oldest : (newer : List Frame) (x : Frame) (frames : List Frame) → AreTaken rules net u ((newer ++ x ∷ []) ++ frames) → AreTaken rules net u (x ∷ frames)
+  pub taken_oldest : (newer : List Frame) (x : Frame) (frames : List Frame) → AreTaken rules net u ((newer ++ x ∷ []) ++ frames) → AreTaken rules net u (x ∷ frames)
   taken_oldest [] x frames taken = taken
   taken_oldest (f ∷ newer) x frames (fit, not_refused, not_stopped, taken) = taken_oldest newer x frames taken
 

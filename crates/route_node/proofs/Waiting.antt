@@ -17,18 +17,21 @@ use Rattle.topology.specs.declared.frame_faults.FrameFault.TheVariants.{Truncate
 use Rattle.topology.specs.declared.status.Status.TheVariants.{Done, NoMemory, LinkFault, BadFrame}
 use Rattle.route_io.specs.Causes.{RoseIf, Rose, StaysTold}
 use Rattle.route_io.specs.Links.{ahead, GrowsWithin, IsSure, OnlyReads}
-use Rattle.route_io.specs.Views.{LinkView}
+use Rattle.route_io.specs.Acts.{ActsOnce, ReadsMore}
+use Rattle.route_io.specs.Views.{Act, Read, LinkView}
 use Rattle.route_io.specs.declared.received.TheConstants.{PORTION}
 use Rattle.route_io.specs.declared.received.Filled.{Filled}
 use Rattle.route_io.specs.declared.received.Filled.TheVariants as filled
 use Rattle.route_io.specs.declared.received.NotFilled.{NotFilled}
 use Rattle.path_vector.specs.Rules.{Rules}
 use Rattle.route_node.specs.declared.serving.Process.{Process}
-use Rattle.route_node.specs.Writing.{spelled}
+use Rattle.route_node.specs.Prompt.{IsPrompt}
+use Rattle.route_node.specs.Writing.{spelled, OneWriteEach}
 use Rattle.route_node.specs.Streams.{stream, replies, End, Refused, found_fault, EndsAt}
 use Rattle.route_node.specs.Running.{Setting, Runs, GoesOn, IsWithin, left_of}
 use Rattle.route_node.specs.Served.{Answered, WroteFront, Served}
 use Rattle.route_node.proofs.Ending.{served_by_ending, served_by_break}
+use Rattle.route_node.proofs.InTime.{told_once, one_write_read, prompt_wait, keeps_read}
 use Rattle.route_node.proofs.Told.{replies_spelled}
 
 -- ---- the front of a frame is no longer than a frame
@@ -103,16 +106,30 @@ module _ {P : Type 0} (rules : Rules) (at : Setting P) (frames : List Frame) (pr
         wrote = subst (λ o. Appends at.first.outgoing o (spelled (replies rules at.net at.node frames))) (sym same) runs.wrote;
       }
 
-  pub answered_as : new.outgoing ≡ old.outgoing → new.writes ≡ old.writes → Answered rules at.net at.node frames at.first new
-  answered_as same writes = record {
+  pub answered_as : new.outgoing ≡ old.outgoing → OneWriteEach (replies rules at.net at.node frames) at.first new → Answered rules at.net at.node frames at.first new
+  answered_as same each = record {
     spelled = replies_spelled rules at.net at.node frames runs.valid runs.is_node runs.taken;
     wrote = subst (λ o. Appends at.first.outgoing o (spelled (replies rules at.net at.node frames))) (sym same) runs.wrote;
-    one_write_each = λ left room small. writes ∙ runs.one_write_each left room small;
+    one_write_each = each;
   }
 
+  -- no act was made since
+  pub prompt_as : new.acts ≡ old.acts → (before : List Act) → at.first.acts ≡ Some before → (since : List Act) × (new.acts ≡ Some (since ++ before)) × IsPrompt rules at.net at.node since
+  prompt_as same before told = let known = runs.acts before told in (known.0, same ∙ known.1, known.2.prompt)
+
+  -- one read was, where only the front of a frame was left
+  pub prompt_read : found process.received ≡ Partial → (brought : Option (List ℕ)) → ActsOnce old new (Read brought) → (before : List Act) → at.first.acts ≡ Some before
+      → (since : List Act) × (new.acts ≡ Some (since ++ before)) × IsPrompt rules at.net at.node since
+  prompt_read partial brought once before told =
+      let known = runs.acts before told in (
+        Read brought ∷ known.0,
+        told_once old.acts new.acts (Read brought) (known.0 ++ before) once known.1,
+        prompt_wait rules at.net at.node frames process.received known.0 known.2 brought runs.grow runs.taken partial,
+      )
+
   pub goes_on : IsWithin process → found process.received ≡ Partial → (received : List ℕ) → ahead received new ≡ ahead process.received old → GrowsWithin PORTION process.received received → length process.received < length received
-      → OnlyReads old new → new.faults ≡ old.faults → GoesOn rules at (record process { received = received }) new (left_of process)
-  goes_on within partial received same grows longer others quiet =
+      → ReadsMore process.received received old new → OnlyReads old new → new.faults ≡ old.faults → GoesOn rules at (record process { received = received }) new (left_of process)
+  goes_on within partial received same grows longer reads others quiet =
       let short = partial_short process.received partial in
       let small = grows.2 in
       let size = ap (λ (l : List ℕ). length l) grows.1 ∙ length-append process.received grows.0 in
@@ -130,7 +147,14 @@ module _ {P : Type 0} (rules : Rules) (at : Setting P) (frames : List Frame) (pr
           bytes = ap (prepend_known (stream frames)) same ∙ runs.bytes;
           wrote = subst (λ o. Appends at.first.outgoing o (spelled (replies rules at.net at.node frames))) (sym (ap (λ (l : LinkView). l.outgoing) others)) runs.wrote;
           told = subst (λ o. StaysTold at.first.outgoing o) (sym (ap (λ (l : LinkView). l.outgoing) others)) runs.told;
-          one_write_each = λ left room few. ap (λ (l : LinkView). l.writes) others ∙ runs.one_write_each left room few;
+          one_write_each = one_write_read at.first old new (replies rules at.net at.node frames) (Some reads.0) runs.one_write_each reads.2;
+          grow = runs.grow;
+          acts = λ before told.
+              let known = runs.acts before told in (
+                Read (Some reads.0) ∷ known.0,
+                told_once old.acts new.acts (Read (Some reads.0)) (known.0 ++ before) reads.2 known.1,
+                keeps_read rules at.net at.node frames process.received known.0 known.2 reads.0 received reads.1 runs.grow runs.taken partial,
+              );
           same_room = ap (λ (l : LinkView). l.room) others ∙ runs.same_room;
           same_dialled = ap (λ (l : LinkView). l.dialled) others ∙ runs.same_dialled;
           same_sure = ap (λ (l : LinkView). l.sure) others ∙ runs.same_sure;
@@ -172,10 +196,10 @@ module _ {P : Type 0} (rules : Rules) (at : Setting P) (frames : List Frame) (pr
             subst IsAtEnd (sym e) none
 
     -- the end of the link between two frames
-    pub served_at_end : IfSome old.incoming (λ t. OnOk r ((r ≡ Ok filled.End) ↔ (t ≡ []))) → ahead received new ≡ ahead process.received old → received ≡ [] → OnlyReads old new → new.faults ≡ old.faults
+    pub served_at_end : IfSome old.incoming (λ t. OnOk r ((r ≡ Ok filled.End) ↔ (t ≡ []))) → ahead received new ≡ ahead process.received old → received ≡ [] → found process.received ≡ Partial → ReadsMore process.received received old new → OnlyReads old new → new.faults ≡ old.faults
         → Served rules at.net at.node at.first new Done
-    served_at_end end same empty others quiet =
-        served_by_ending rules at.net at.node at.first new Done frames runs.taken (ap (λ (l : LinkView). l.room) others ∙ runs.same_room) (ap (λ (l : LinkView). l.dialled) others ∙ runs.same_dialled) End refl refl
+    served_at_end end same empty partial reads others quiet =
+        served_by_ending rules at.net at.node at.first new Done frames runs.taken (ap (λ (l : LinkView). l.room) others ∙ runs.same_room) (ap (λ (l : LinkView). l.dialled) others ∙ runs.same_dialled) (prompt_read partial (Some reads.0) reads.2) End refl refl
         (λ bytes told.
         let known = told_as bytes told in
         record {
@@ -184,17 +208,17 @@ module _ {P : Type 0} (rules : Rules) (at : Setting P) (frames : List Frame) (pr
           taken = runs.taken;
           ends = refl;
         })
-        (answered_as (ap (λ (l : LinkView). l.outgoing) others) (ap (λ (l : LinkView). l.writes) others)) (quiet ∙ runs.quiet) (λ _. at_end end same empty)
+        (answered_as (ap (λ (l : LinkView). l.outgoing) others) (one_write_read at.first old new (replies rules at.net at.node frames) (Some reads.0) runs.one_write_each reads.2)) (quiet ∙ runs.quiet) (λ _. at_end end same empty)
 
     truncated : (rest : List ℕ) → found rest ≡ Partial → (rest ≡ [] → ⊥) → EndsAt rules at.net at.node frames rest (Refused Truncated)
     truncated [] partial some = some refl
     truncated (b ∷ rest) partial some = ap (found_fault rules at.net at.node frames) partial
 
     -- the end of the link within a frame
-    pub served_within : IfSome old.incoming (λ t. OnOk r ((r ≡ Ok filled.End) ↔ (t ≡ []))) → found process.received ≡ Partial → (received ≡ [] → ⊥) → OnlyReads old new → new.faults ≡ old.faults
+    pub served_within : IfSome old.incoming (λ t. OnOk r ((r ≡ Ok filled.End) ↔ (t ≡ []))) → found process.received ≡ Partial → (received ≡ [] → ⊥) → ReadsMore process.received received old new → OnlyReads old new → new.faults ≡ old.faults
         → Served rules at.net at.node at.first new (BadFrame process.offset Truncated)
-    served_within end partial some others quiet =
-        served_by_ending rules at.net at.node at.first new (BadFrame process.offset Truncated) frames runs.taken (ap (λ (l : LinkView). l.room) others ∙ runs.same_room) (ap (λ (l : LinkView). l.dialled) others ∙ runs.same_dialled) (Refused Truncated) (ap (λ n. BadFrame n Truncated) runs.offset) refl
+    served_within end partial some reads others quiet =
+        served_by_ending rules at.net at.node at.first new (BadFrame process.offset Truncated) frames runs.taken (ap (λ (l : LinkView). l.room) others ∙ runs.same_room) (ap (λ (l : LinkView). l.dialled) others ∙ runs.same_dialled) (prompt_read partial (Some reads.0) reads.2) (Refused Truncated) (ap (λ n. BadFrame n Truncated) runs.offset) refl
         (λ bytes told.
         let known = told_as bytes told in
         record {
@@ -203,12 +227,12 @@ module _ {P : Type 0} (rules : Rules) (at : Setting P) (frames : List Frame) (pr
           taken = runs.taken;
           ends = truncated process.received partial (λ none. some (same_received ∙ none));
         })
-        (answered_as (ap (λ (l : LinkView). l.outgoing) others) (ap (λ (l : LinkView). l.writes) others)) (quiet ∙ runs.quiet) (λ e. absurd (cc e))
+        (answered_as (ap (λ (l : LinkView). l.outgoing) others) (one_write_read at.first old new (replies rules at.net at.node frames) (Some reads.0) runs.one_write_each reads.2)) (quiet ∙ runs.quiet) (λ e. absurd (cc e))
 
   -- memory ran out before the link was asked
   pub served_without_memory : new ≡ old → Served rules at.net at.node at.first new NoMemory
   served_without_memory same =
-      served_by_break rules at.net at.node at.first new NoMemory frames runs.taken (ap (λ (l : LinkView). l.room) same ∙ runs.same_room) (ap (λ (l : LinkView). l.dialled) same ∙ runs.same_dialled) (inl refl)
+      served_by_break rules at.net at.node at.first new NoMemory frames runs.taken (ap (λ (l : LinkView). l.room) same ∙ runs.same_room) (ap (λ (l : LinkView). l.dialled) same ∙ runs.same_dialled) (prompt_as (ap (λ (l : LinkView). l.acts) same)) (inl refl)
       (record {
         later = let e = ap (λ (l : LinkView). l.faults) same ∙ runs.quiet in omega (arith, e);
         rose = λ e. absurd (cc e);
@@ -218,9 +242,9 @@ module _ {P : Type 0} (rules : Rules) (at : Setting P) (frames : List Frame) (pr
       (front_as (ap (λ (l : LinkView). l.outgoing) same))
 
   -- a read failed
-  pub served_by_fault : OnlyReads old new → {failed : Type 0} → (IsSure old → ¬ failed) → RoseIf failed old.faults new.faults → failed → Served rules at.net at.node at.first new LinkFault
-  served_by_fault others safe cause failed =
-      served_by_break rules at.net at.node at.first new LinkFault frames runs.taken (ap (λ (l : LinkView). l.room) others ∙ runs.same_room) (ap (λ (l : LinkView). l.dialled) others ∙ runs.same_dialled) (inr refl)
+  pub served_by_fault : found process.received ≡ Partial → OnlyReads old new → {failed : Type 0} → (failed → ActsOnce old new (Read None)) → (IsSure old → ¬ failed) → RoseIf failed old.faults new.faults → failed → Served rules at.net at.node at.first new LinkFault
+  served_by_fault partial others once safe cause failed =
+      served_by_break rules at.net at.node at.first new LinkFault frames runs.taken (ap (λ (l : LinkView). l.room) others ∙ runs.same_room) (ap (λ (l : LinkView). l.dialled) others ∙ runs.same_dialled) (prompt_read partial None (once failed)) (inr refl)
       (record {
         later = subst (λ n. n ≤ new.faults) runs.quiet cause.later;
         rose = λ _. subst (λ n. Rose n new.faults) runs.quiet (cause.rose failed);

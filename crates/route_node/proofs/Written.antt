@@ -6,14 +6,16 @@ use Rattle.std.proofs.lemmas.List.{append-nil, length-append, take-append-drop}
 use Rattle.std.proofs.lemmas.Grind.{flat_map-append}
 use Rattle.topology.specs.declared.status.Status.{Status}
 use Rattle.topology.specs.declared.status.Status.TheVariants.{NoMemory, LinkFault}
-use Rattle.route_io.specs.Causes.{AppendsFront, HasCause, StaysTold, next_count}
-use Rattle.route_io.specs.Links.{HasRoom, IsSure, LacksRoom, OnlyWrites, WritesOnce, room_left, room_behind}
-use Rattle.route_io.specs.Views.{LinkView}
+use Rattle.route_io.specs.Acts.{writes, whole_by, ActsOnce, AddsWrites, AddsFront}
+use Rattle.route_io.specs.Causes.{AppendsFront, HasCause, StaysTold}
+use Rattle.route_io.specs.Links.{HasRoom, IsSure, LacksRoom, OnlyWrites, room_left, room_behind}
+use Rattle.route_io.specs.Views.{Act, Write, LinkView}
+use Rattle.route_io.proofs.Acts.{writes_behind, all_writes, acts_both, adds_none, adds_more}
 use Rattle.route_io.proofs.Bytes.{appends_none, appends_on, told_same, told_on, risen_after}
 use Rattle.route_io.proofs.Links.{only_writes_on, room_before}
 use Rattle.wire_frames.specs.declared.frames.Frame.{Frame}
 use Rattle.wire_frames.specs.Frames.{spell}
-use Rattle.route_node.specs.Writing.{spelled, counted_on, OneWriteEach, Writes, Breaks}
+use Rattle.route_node.specs.Writing.{spelled, whole, each_whole, OneWriteEach, Writes, Breaks}
 
 -- an error that a `?` hands on
 pub handed_on : {T E : Type 0} (r : Result T E) (Q P : E → Type 0) → IsErr r × IsErrAnd r Q → ((e : E) → Q e → P e) → IfErr r P
@@ -31,14 +33,14 @@ spelled_both fs gs = flat_map-append spell fs gs
 
 -- ---- one write for each frame
 
--- so many after so many
-counted_both : (n m count : ℕ) → counted_on n (counted_on m count) ≡ counted_on (n + m) count
-counted_both zero m count = let same : m ≡ 0 + m = omega arith in ap (λ k. counted_on k count) same
-counted_both (suc n) m count = let same : suc (n + m) ≡ suc n + m = omega arith in ap next_count (counted_both n m count) ∙ ap (λ k. counted_on k count) same
+each_both : (fs gs : List Frame) → each_whole (fs ++ gs) ≡ each_whole gs ++ each_whole fs
+each_both [] gs = sym (append-nil (each_whole gs))
+each_both (f ∷ fs) gs = ap (λ (l : List Act). l ++ whole f ∷ []) (each_both fs gs) ∙ append_assoc (each_whole gs) (each_whole fs) (whole f ∷ [])
 
-counts_both : (n m : ℕ) (was : Option ℕ) → option_map (counted_on n) (option_map (counted_on m) was) ≡ option_map (counted_on (n + m)) was
-counts_both n m None = refl
-counts_both n m (Some count) = ap (λ (k : ℕ). Some k) (counted_both n m count)
+-- so their number is that of the frames
+pub as_many : (frames : List Frame) → length (each_whole frames) ≡ length frames
+as_many [] = refl
+as_many (f ∷ frames) = let before = as_many frames in omega (arith, before, length-append (each_whole frames) (whole f ∷ []))
 
 -- what is left of a room behind more bytes
 room_after : (room : Option ℕ) (old now : Option (List ℕ)) (bytes : List ℕ) (left : ℕ) → Appends old now bytes → room_behind room old ≡ Some left → room_behind room now ≡ Some (left - length bytes)
@@ -57,40 +59,38 @@ pub writes_none : (link : LinkView) → Writes [] link link
 writes_none link = record {
   wrote = appends_none link.outgoing;
   told = told_same link.outgoing;
-  one_write_each = λ left room small. kept link.writes;
+  acts = adds_none link;
+  one_write_each = λ left room small before told. ([], told, refl);
   others = refl;
   quiet = refl;
 }
-  where
-    kept : (was : Option ℕ) → was ≡ option_map (counted_on 0) was
-    kept None = refl
-    kept (Some count) = refl
 
 pub writes_one : {T E : Type 0} (r : Result T E) (f : Frame) (bytes : List ℕ) (link link' : LinkView) → is_err r ≡ false → bytes ≡ spell f → OnOk r (Appends link.outgoing link'.outgoing bytes)
-    → (HasRoom link bytes → WritesOnce link link') → StaysTold link.outgoing link'.outgoing → OnlyWrites link link' → HasCause link.faults link'.faults r → Writes (f ∷ []) link link'
+    → (HasRoom link bytes → ActsOnce link link' (Write bytes (whole_by r bytes))) → OnOk r (AddsWrites link link' bytes) → StaysTold link.outgoing link'.outgoing → OnlyWrites link link' → HasCause link.faults link'.faults r → Writes (f ∷ []) link link'
 unfolding spell
-writes_one (Err e) f bytes link link' ok is wrote once told only cause = absurd (cc ok)
-writes_one (Ok x) f bytes link link' ok is wrote once told only cause =
+writes_one (Err e) f bytes link link' ok is wrote once acts told only cause = absurd (cc ok)
+writes_one (Ok x) f bytes link link' ok is wrote once acts told only cause =
     let same : bytes ≡ spelled (f ∷ []) = is ∙ sym (spelled_one f) in
     record {
       wrote = subst (Appends link.outgoing link'.outgoing) same wrote;
       told = told;
+      acts = subst (AddsWrites link link') same acts;
       one_write_each = λ left room small.
           let some : 0 < length bytes = subst (λ l. 0 < length l) (sym is) (omega arith) in
           let within : length bytes ≤ left = subst (λ l. length l ≤ left) (sym same) small in
-          once (left, room, some, within) ∙ counts link.writes;
+          (λ before told'. (
+            Write bytes (Some (length bytes)) ∷ [],
+            once (left, room, some, within) ∙ ap (option_map (λ acts. Write bytes (Some (length bytes)) ∷ acts)) told',
+            ap (λ (l : List ℕ). Write l (Some (length l)) ∷ []) is,
+          ));
       others = only;
       quiet = cause.quiet;
     }
-  where
-    counts : (was : Option ℕ) → option_map next_count was ≡ option_map (counted_on 1) was
-    counts None = refl
-    counts (Some count) = refl
 
 pub breaks_one : {T E : Type 0} (r : Result T E) (f : Frame) (bytes : List ℕ) (link link' : LinkView) → is_err r ≡ true → bytes ≡ spell f → OnErr r (AppendsFront link.outgoing link'.outgoing bytes)
-    → (IsSure link → OnErr r (LacksRoom link bytes)) → OnlyWrites link link' → HasCause link.faults link'.faults r → Breaks (f ∷ []) link link' LinkFault
-breaks_one (Ok x) f bytes link link' failed is wrote full only cause = absurd (cc failed)
-breaks_one (Err e) f bytes link link' failed is wrote full only cause =
+    → OnErr r (AddsFront link link' bytes) → (IsSure link → OnErr r (LacksRoom link bytes)) → OnlyWrites link link' → HasCause link.faults link'.faults r → Breaks (f ∷ []) link link' LinkFault
+breaks_one (Ok x) f bytes link link' failed is wrote acts full only cause = absurd (cc failed)
+breaks_one (Err e) f bytes link link' failed is wrote acts full only cause =
     let same : bytes ≡ spelled (f ∷ []) = is ∙ sym (spelled_one f) in
     record {
       why = inr refl;
@@ -98,6 +98,7 @@ breaks_one (Err e) f bytes link link' failed is wrote full only cause =
       some = take wrote.0 bytes;
       begins = (drop wrote.0 bytes, take-append-drop wrote.0 bytes ∙ same);
       wrote = wrote.2;
+      acts = (acts.2.more, acts.2.alone, acts.2.behind);
       full = λ sure e. subst (LacksRoom link) same (full sure);
       others = only;
     }
@@ -110,6 +111,7 @@ breaks_none frames link = record {
   some = [];
   begins = (spelled frames, refl);
   wrote = appends_none link.outgoing;
+  acts = (let none = adds_none link in (none.more, none.alone, none.behind));
   full = λ sure e. absurd (cc e);
   others = refl;
 }
@@ -120,15 +122,19 @@ one_write_behind fs gs link mid link' wrote same_room first second = λ left roo
     let sizes = ap length (spelled_both fs gs) ∙ length-append (spelled fs) (spelled gs) in
     let behind : room_left mid ≡ Some (left - length (spelled fs)) =
     ap (λ r. room_behind r mid.outgoing) same_room ∙ room_after link.room link.outgoing mid.outgoing (spelled fs) left wrote room in
-    let before = first left room (omega (arith, small, sizes)) in
-    let after = second (left - length (spelled fs)) behind (omega (arith, small, sizes)) in
-    let count : length gs + length fs ≡ length (fs ++ gs) = omega (arith, length-append fs gs) in
-    after ∙ (ap (option_map (counted_on (length gs))) before ∙ (counts_both (length gs) (length fs) link.writes ∙ ap (λ k. option_map (counted_on k) link.writes) count))
+    λ before told.
+    let earlier = first left room (omega (arith, small, sizes)) before told in
+    let later = second (left - length (spelled fs)) behind (omega (arith, small, sizes)) (earlier.0 ++ before) earlier.1 in (
+      later.0 ++ earlier.0,
+      later.1 ∙ ap (λ (l : List Act). Some l) (sym (append_assoc later.0 earlier.0 before)),
+      writes_behind later.0 earlier.0 ∙ (ap (λ (l : List Act). l ++ writes earlier.0) later.2 ∙ (ap (λ (l : List Act). each_whole gs ++ l) earlier.2 ∙ sym (each_both fs gs))),
+    )
 
 pub writes_more : (fs gs : List Frame) (link mid link' : LinkView) → Writes fs link mid → Writes gs mid link' → Writes (fs ++ gs) link link'
 writes_more fs gs link mid link' first second = record {
   wrote = subst (Appends link.outgoing link'.outgoing) (sym (spelled_both fs gs)) (appends_on link.outgoing mid.outgoing link'.outgoing (spelled fs) (spelled gs) first.wrote second.wrote);
   told = told_on link.outgoing mid.outgoing link'.outgoing first.told second.told;
+  acts = subst (AddsWrites link link') (sym (spelled_both fs gs)) (adds_more link mid link' (spelled fs) (spelled gs) first.acts second.acts);
   one_write_each = one_write_behind fs gs link mid link' first.wrote (ap (λ (l : LinkView). l.room) first.others) first.one_write_each second.one_write_each;
   others = only_writes_on link mid link' first.others second.others;
   quiet = second.quiet ∙ first.quiet;
@@ -147,6 +153,11 @@ breaks_more all fs gs hs link mid link' status first second is =
             ∙ (ap (λ l. spelled fs ++ l) (sym (append_assoc second.some second.begins.0 (spelled hs)) ∙ ap (λ l. l ++ spelled hs) second.begins.1) ∙ sym spelling),
       );
       wrote = appends_on link.outgoing mid.outgoing link'.outgoing (spelled fs) second.some first.wrote second.wrote;
+      acts = (
+        second.acts.0 ++ first.acts.more,
+        all_writes second.acts.0 first.acts.more second.acts.1 first.acts.alone,
+        second.acts.2 ∙ (ap (option_map (λ before. second.acts.0 ++ before)) first.acts.behind ∙ acts_both link.acts second.acts.0 first.acts.more),
+      );
       full = λ sure e.
           let lacks = second.full (ap (λ (l : LinkView). l.sure) first.others ∙ sure) e in
           let behind : room_behind link.room mid.outgoing ≡ Some lacks.0 = ap (λ r. room_behind r mid.outgoing) (sym (ap (λ (l : LinkView). l.room) first.others)) ∙ lacks.1 in

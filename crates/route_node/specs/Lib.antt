@@ -3,8 +3,9 @@ pub mod Kinds
 pub mod Told
 pub mod Writing
 pub mod Fronts
-pub mod Running
 pub mod Streams
+pub mod Prompt
+pub mod Running
 pub mod Served
 pub mod Attended
 pub mod Plain

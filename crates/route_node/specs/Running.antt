@@ -1,11 +1,12 @@
 -- A process that has taken some frames.
-use Rattle.std.specs.Prelude.{ℕ, true, ◌≡◌, ◌≤◌, ◌<◌, ◌+◌, ◌*◌, ◌-◌, List, length}
+use Rattle.std.specs.Prelude.{ℕ, true, ◌≡◌, ◌≤◌, ◌<◌, ◌+◌, ◌*◌, ◌-◌, Some, List, ◌++◌, length}
 use Rattle.std.specs.Io.KnownBytes.{Appends, prepend_known}
-use Rattle.topology.specs.Lists.{has}
+use Rattle.topology.specs.Lists.{has, Begins}
 use Rattle.topology.specs.Net.{Net, IsValid}
+use Rattle.route_io.specs.Acts.{came, written}
 use Rattle.route_io.specs.Causes.{StaysTold}
 use Rattle.route_io.specs.Links.{ahead}
-use Rattle.route_io.specs.Views.{LinkView}
+use Rattle.route_io.specs.Views.{Act, LinkView}
 use Rattle.path_vector.specs.Rules.{Rules}
 use Rattle.node_core.specs.Standing.{StandsFor}
 use Rattle.wire_frames.specs.declared.frames.Frame.{Frame}
@@ -14,7 +15,8 @@ use Rattle.route_node.specs.declared.limits.TheConstants.{MAX_FRAMES}
 use Rattle.chronicle.specs.Inputs.{Input}
 use Rattle.route_node.specs.Fronts.{Holds, Admits}
 use Rattle.route_node.specs.Writing.{OneWriteEach, spelled}
-use Rattle.route_node.specs.Streams.{stream, replies, run_over, AreTaken}
+use Rattle.route_node.specs.Prompt.{IsPrompt}
+use Rattle.route_node.specs.Streams.{stream, replies, answers, run_over, AreTaken}
 
 -- who answers: a policy, a network, its node, and the link as it was first
 pub record Setting (P : Type 0) : Type 0 where
@@ -22,6 +24,17 @@ pub record Setting (P : Type 0) : Type 0 where
   pub net : Net
   pub node : ℕ
   pub first : LinkView
+
+-- the reads since brought the frames and then what is received, the writes took the answers, and each read came in time
+pub record KeepsUp (rules : Rules) (net : Net) (u : ℕ) (frames : List Frame) (received : List ℕ) (since : List Act) : Type 0 where
+  pub brought : came since ≡ stream frames ++ received
+  pub took : written since ≡ answers rules net u frames
+  pub prompt : IsPrompt rules net u since
+
+-- the answers to the frames begin with those to the older ones
+abbrev pub AnswersGrow : Rules → Net → ℕ → List Frame → Type 0
+AnswersGrow rules net u frames =
+    (more older : List Frame) → frames ≡ more ++ older → Begins (answers rules net u older) (answers rules net u frames)
 
 -- these frames, the newest first, were taken and answered, and what was received behind them stands in front of what is
 -- still to come
@@ -38,6 +51,9 @@ pub record Runs {P : Type 0} (rules : Rules) (at : Setting P) (process : Process
   pub wrote : Appends at.first.outgoing link.outgoing (spelled (replies rules at.net at.node frames))
   pub told : StaysTold at.first.outgoing link.outgoing
   pub one_write_each : OneWriteEach (replies rules at.net at.node frames) at.first link
+  pub grow : AnswersGrow rules at.net at.node frames
+  pub acts : (before : List Act) → at.first.acts ≡ Some before
+      → (since : List Act) × (link.acts ≡ Some (since ++ before)) × KeepsUp rules at.net at.node frames process.received since
   pub same_room : link.room ≡ at.first.room
   pub same_dialled : link.dialled ≡ at.first.dialled
   pub same_sure : link.sure ≡ at.first.sure

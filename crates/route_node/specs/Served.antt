@@ -11,10 +11,11 @@ use Rattle.topology.specs.Lists.{Begins}
 use Rattle.topology.specs.Net.{Net}
 use Rattle.route_io.specs.Causes.{RoseIf}
 use Rattle.route_io.specs.Links.{IsSure, room_left}
-use Rattle.route_io.specs.Views.{LinkView}
+use Rattle.route_io.specs.Views.{Act, LinkView}
 use Rattle.path_vector.specs.Rules.{Rules}
 use Rattle.wire_frames.specs.declared.frames.Frame.{Frame}
 use Rattle.wire_frames.specs.Frames.{fits as has_spelling}
+use Rattle.route_node.specs.Prompt.{IsPrompt}
 use Rattle.route_node.specs.Writing.{OneWriteEach}
 use Rattle.route_node.specs.Streams.{stream, replies, answers, AreTaken, Ending, End, Refused, Stopped, Comes}
 
@@ -38,8 +39,8 @@ status_of offset End = Done
 status_of offset (Refused fault) = BadFrame offset fault
 status_of offset (Stopped reached) = Limit reached.kind reached.number
 
--- all answers to the frames were written, each of them has a spelling, and each went by one write where the link had room for
--- them all
+-- all answers to the frames were written, each of them has a spelling, and each went by one write, whole and in order, where
+-- the link had room for them all
 pub record Answered (rules : Rules) (net : Net) (u : ℕ) (frames : List Frame) (link link' : LinkView) : Type 0 where
   pub spelled : list_all has_spelling (replies rules net u frames) ≡ true
   pub wrote : Appends link.outgoing link'.outgoing (answers rules net u frames)
@@ -91,6 +92,9 @@ pub record Served (rules : Rules) (net : Net) (u : ℕ) (link link' : LinkView) 
   pub complete : (bytes : List ℕ) → link.incoming ≡ Some bytes → (frames : List Frame) (ending : Ending)
       → Comes rules net u bytes frames ending
       → (status ≡ status_of (length (stream frames)) ending) ⊎ ((status ≡ NoMemory) ⊎ (status ≡ LinkFault))
+  -- whatever the end, no read was made before the frames that had come by then were answered, where the link tells its acts
+  pub prompt : (before : List Act) → link.acts ≡ Some before
+      → (since : List Act) × (link'.acts ≡ Some (since ++ before)) × IsPrompt rules net u since
   -- nothing is left to come once it is done
   pub read : status ≡ Done → IsAtEnd link'.incoming
   -- no call changes how much the link can take

@@ -1,13 +1,14 @@
 -- What was written over a link.
-use Rattle.std.specs.Prelude.{ℕ, ◌≡◌, ◌≤◌, ◌⊎◌, Some, List, length, option_map, zero, suc}
+use Rattle.std.specs.Prelude.{ℕ, ◌≡◌, ◌≤◌, ◌⊎◌, Some, List, [], ◌∷◌, ◌++◌, length, option_map}
 use Rattle.std.specs.List.{flat_map}
 use Rattle.std.specs.Io.KnownBytes.{Appends}
 use Rattle.topology.specs.declared.status.Status.{Status}
 use Rattle.topology.specs.declared.status.Status.TheVariants.{NoMemory, LinkFault}
 use Rattle.topology.specs.Lists.{Begins}
-use Rattle.route_io.specs.Causes.{RoseIf, StaysTold, next_count}
+use Rattle.route_io.specs.Acts.{writes, AddsWrites, AreWrites}
+use Rattle.route_io.specs.Causes.{RoseIf, StaysTold}
 use Rattle.route_io.specs.Links.{IsSure, LacksRoom, OnlyWrites, room_left}
-use Rattle.route_io.specs.Views.{LinkView}
+use Rattle.route_io.specs.Views.{Act, Write, LinkView}
 use Rattle.wire_frames.specs.declared.frames.Frame.{Frame}
 use Rattle.wire_frames.specs.Frames.{spell}
 
@@ -15,21 +16,27 @@ use Rattle.wire_frames.specs.Frames.{spell}
 abbrev pub spelled : List Frame → List ℕ
 spelled frames = flat_map spell frames
 
--- a count after so many more
-abbrev pub counted_on : ℕ → ℕ → ℕ
-counted_on zero count = count
-counted_on (suc n) count = next_count (counted_on n count)
+-- a frame by one write: the piece is its spelling, and was taken whole
+abbrev pub whole : Frame → Act
+whole f = Write (spell f) (Some (length (spell f)))
 
--- each frame by one write, where the link had room for them all
+-- each frame so, in order; the newest act comes first
+abbrev pub each_whole : List Frame → List Act
+each_whole [] = []
+each_whole (f ∷ frames) = each_whole frames ++ whole f ∷ []
+
+-- where the link had room for them all, the writes since are one for each frame
 abbrev pub OneWriteEach : List Frame → LinkView → LinkView → Type 0
 OneWriteEach frames link link' =
     (left : ℕ) → room_left link ≡ Some left → length (spelled frames) ≤ left
-    → link'.writes ≡ option_map (counted_on (length frames)) link.writes
+    → (before : List Act) → link.acts ≡ Some before
+    → (since : List Act) × (link'.acts ≡ Some (since ++ before)) × (writes since ≡ each_whole frames)
 
 -- the frames were written whole, and no call failed
 pub record Writes (frames : List Frame) (link link' : LinkView) : Type 0 where
   pub wrote : Appends link.outgoing link'.outgoing (spelled frames)
   pub told : StaysTold link.outgoing link'.outgoing
+  pub acts : AddsWrites link link' (spelled frames)
   pub one_write_each : OneWriteEach frames link link'
   pub others : OnlyWrites link link'
   pub quiet : link'.faults ≡ link.faults
@@ -41,5 +48,6 @@ pub record Breaks (frames : List Frame) (link link' : LinkView) (status : Status
   pub some : List ℕ
   pub begins : Begins some (spelled frames)
   pub wrote : Appends link.outgoing link'.outgoing some
+  pub acts : (more : List Act) × AreWrites more × (link'.acts ≡ option_map (λ before. more ++ before) link.acts)
   pub full : IsSure link → status ≡ LinkFault → LacksRoom link (spelled frames)
   pub others : OnlyWrites link link'

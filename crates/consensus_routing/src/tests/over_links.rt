@@ -52,14 +52,7 @@ const CASES: [(&str, &str, &[u8], u8, &[u8], &str); 16] = [
         "bad frame: offset 8: truncated\n",
     ),
     // two neighbours are told, and the link ends
-    (
-        THREE,
-        "2",
-        ANNOUNCE,
-        0,
-        TOLD,
-        "",
-    ),
+    (THREE, "2", ANNOUNCE, 0, TOLD, ""),
     // the number is not in the network
     (TWO, "7", b"", 10, b"", "no such node: 7\n"),
     // a ballot is promised and accepted, and a lower one is not
@@ -165,12 +158,7 @@ const CASES: [(&str, &str, &[u8], u8, &[u8], &str); 16] = [
 const FAULTS: [(bool, &[u64], &[u64], &[u8]); 3] = [
     (true, &[], &[], b""),
     (false, &[1], &[], b""),
-    (
-        false,
-        &[],
-        &[3],
-        TOLD,
-    ),
+    (false, &[], &[3], TOLD),
 ];
 
 // Node 2 announces the prefix and takes it back.

@@ -3,7 +3,7 @@ ghost use Rattle.std.specs.Prelude.{◌≡◌, ◌<◌, ◌≤◌, length, min, 
 ghost use Rattle.std.specs.Io.{ReadsAtMost};
 ghost use Rattle.std.specs.Io.KnownBytes.{ReadConsumes, WriteAppends};
 ghost use Rattle.route_io.specs.Causes.{HasCause, StaysTold};
-ghost use Rattle.route_io.specs.Links.{Dials, OnlyDials, OnlyReads, OnlyWrites, WritesOnce, room_left};
+ghost use Rattle.route_io.specs.Links.{Dials, OnlyDials, OnlyReads, OnlyWrites, room_left};
 
 use super::{sink_of, words_of};
 use crate::run::run;
@@ -58,7 +58,7 @@ impl Link for WaitingPeer {
       incoming = None;
       outgoing = None;
       room = None;
-      writes = None;
+      acts = None;
       dialled = None;
       sure = false;
       faults = s.faults;

@@ -2,11 +2,15 @@
 ghost use Rattle.std.specs.Prelude.{◌≡◌, ◌+◌, ◌<◌, ◌↔◌, ◌⊎◌, min, length, [], ◌∷◌, Some, false, IfOk, IsErr, IsTrue, is_err};
 ghost use Rattle.std.specs.Io.{ReadsAtMost};
 ghost use Rattle.std.specs.Io.KnownBytes.{ReadConsumes, WriteAppends};
+ghost use Rattle.std.specs.Result.{result_ok};
+ghost use Rattle.route_io.specs.Acts.{brought_by};
 ghost use Rattle.route_io.specs.Causes.{HasCause, counted};
 ghost use Rattle.route_io.specs.Calls.{Counts, IsFresh, NextIsListed};
 ghost use Rattle.route_io.specs.Shelf.{FindsNoRoom, free};
+ghost use Rattle.route_io.specs.Views.{Read, Write};
 
 use crate::link::Link;
+use crate::link::acts::Acts;
 use crate::link::dialled::Dialled;
 use crate::memory::{MemSink, MemSource};
 use crate::outside::{Failed, Sink, Source};
@@ -19,6 +23,7 @@ pub struct MemLink {
     fail_dial: bool,
     dial_faults: u64,
     dialled: Dialled,
+    acts: Acts,
 }
 
 impl MemLink {
@@ -36,7 +41,7 @@ impl MemLink {
           incoming = Some incoming.items;
           outgoing = Some [];
           room = Some (length room.items);
-          writes = Some 0;
+          acts = Some [];
           dialled = Some [];
           sure = false;
           faults = 0;
@@ -51,6 +56,7 @@ impl MemLink {
             fail_dial,
             dial_faults: 0,
             dialled: Dialled::new(),
+            acts: Acts::new(),
         }
     }
 
@@ -67,7 +73,7 @@ impl Link for MemLink {
       incoming = Some s.source.content;
       outgoing = Some s.sink.room.held;
       room = Some s.sink.room.size;
-      writes = Some s.sink.calls.made;
+      acts = Some s.acts.list;
       dialled = Some s.dialled.addresses;
       sure = false;
       faults = s.dial_faults + (s.source.calls.faults + s.sink.calls.faults);
@@ -100,9 +106,12 @@ impl Link for MemLink {
         ensures fills { IfOk result (λ n.
             n ≡ min (length buf.old) (length self.old.source.content)) }
         ensures counted { Counts self.old.source.calls self.new.source.calls result }
-        ensures others { self.new ≡ record self.old { source = self.new.source } }
+        ensures others { self.new ≡ record self.old { source = self.new.source; acts = self.new.acts } }
+        ensures acted { self.new.acts.list ≡ Read (brought_by result buf.new) ∷ self.old.acts.list }
     {
-        self.source.read(buf)
+        let read = self.source.read(buf);
+        self.acts = self.acts.read(read, buf);
+        read
     }
 
     fn write(&mut self, piece: &[u8]) -> Result<usize, Failed>
@@ -117,8 +126,11 @@ impl Link for MemLink {
         ensures takes { IfOk result (λ n.
             n ≡ min (length piece.now) (free self.old.sink.room)) }
         ensures counted { Counts self.old.sink.calls self.new.sink.calls result }
-        ensures others { self.new ≡ record self.old { sink = self.new.sink } }
+        ensures others { self.new ≡ record self.old { sink = self.new.sink; acts = self.new.acts } }
+        ensures acted { self.new.acts.list ≡ Write piece.now (result_ok result) ∷ self.old.acts.list }
     {
-        self.sink.write(piece)
+        let written = self.sink.write(piece);
+        self.acts = self.acts.write(piece, written);
+        written
     }
 }

@@ -2,10 +2,14 @@
 ghost use Rattle.std.specs.Prelude.{◌≡◌, ◌<◌, ◌↔◌, min, length, [], ◌∷◌, None, Some, true, IfOk, IsOk, IsErr, is_err};
 ghost use Rattle.std.specs.Io.{ReadsAtMost};
 ghost use Rattle.std.specs.Io.KnownBytes.{ReadConsumes, WriteAppends};
+ghost use Rattle.std.specs.Result.{result_ok};
+ghost use Rattle.route_io.specs.Acts.{brought_by};
 ghost use Rattle.route_io.specs.Causes.{HasCause, counted};
 ghost use Rattle.route_io.specs.Shelf.{FindsNoRoom, free};
+ghost use Rattle.route_io.specs.Views.{Read, Write};
 
 use crate::link::Link;
+use crate::link::acts::Acts;
 use crate::link::dialled::Dialled;
 use crate::outside::{Failed, Sink, Source};
 use crate::plain::{PlainSink, PlainSource};
@@ -17,6 +21,7 @@ pub struct PlainLink {
     source: PlainSource,
     sink: PlainSink,
     dialled: Dialled,
+    acts: Acts,
 }
 
 impl PlainLink {
@@ -27,7 +32,7 @@ impl PlainLink {
           incoming = Some incoming.items;
           outgoing = Some [];
           room = Some (length room.items);
-          writes = None;
+          acts = Some [];
           dialled = Some [];
           sure = true;
           faults = 0;
@@ -37,6 +42,7 @@ impl PlainLink {
             source: PlainSource::new(incoming),
             sink: PlainSink::new(room),
             dialled: Dialled::new(),
+            acts: Acts::new(),
         }
     }
 
@@ -53,7 +59,7 @@ impl Link for PlainLink {
       incoming = Some s.source.content;
       outgoing = Some s.sink.room.held;
       room = Some s.sink.room.size;
-      writes = None;
+      acts = Some s.acts.list;
       dialled = Some s.dialled.addresses;
       sure = true;
       faults = s.sink.faults;
@@ -76,9 +82,12 @@ impl Link for PlainLink {
         ensures never_fails { IsOk result }
         ensures fills { IfOk result (λ n.
             n ≡ min (length buf.old) (length self.old.source.content)) }
-        ensures others { self.new ≡ record self.old { source = self.new.source } }
+        ensures others { self.new ≡ record self.old { source = self.new.source; acts = self.new.acts } }
+        ensures acted { self.new.acts.list ≡ Read (brought_by result buf.new) ∷ self.old.acts.list }
     {
-        self.source.read(buf)
+        let read = self.source.read(buf);
+        self.acts = self.acts.read(read, buf);
+        read
     }
 
     fn write(&mut self, piece: &[u8]) -> Result<usize, Failed>
@@ -91,8 +100,11 @@ impl Link for PlainLink {
         ensures takes { IfOk result (λ n.
             n ≡ min (length piece.now) (free self.old.sink.room)) }
         ensures counted { self.new.sink.faults ≡ counted (is_err result) self.old.sink.faults }
-        ensures others { self.new ≡ record self.old { sink = self.new.sink } }
+        ensures others { self.new ≡ record self.old { sink = self.new.sink; acts = self.new.acts } }
+        ensures acted { self.new.acts.list ≡ Write piece.now (result_ok result) ∷ self.old.acts.list }
     {
-        self.sink.write(piece)
+        let written = self.sink.write(piece);
+        self.acts = self.acts.write(piece, written);
+        written
     }
 }

@@ -51,7 +51,7 @@ impl<'a, R: Net> Link for TcpLink<'a, R> {
       incoming = None;
       outgoing = None;
       room = None;
-      writes = None;
+      acts = None;
       dialled = None;
       sure = false;
       faults = s.faults;

@@ -1,7 +1,7 @@
 ghost use Rattle.std.specs.Prelude.{◌≡◌, ◌<◌, ◌≤◌, length, None, IfOk, OnErr};
 ghost use Rattle.std.specs.Io.{ReadsAtMost};
 ghost use Rattle.std.specs.Io.KnownBytes.{ReadConsumes, WriteAppends};
-ghost use Rattle.route_io.specs.Links.{as_sink, Dials, OnlyDials, OnlyReads, OnlyWrites, WritesOnce};
+ghost use Rattle.route_io.specs.Links.{as_sink, Dials, OnlyDials, OnlyReads, OnlyWrites};
 ghost use Rattle.route_io.specs.Shelf.{ExceedsRoom};
 
 use crate::link::Link;
@@ -101,7 +101,7 @@ struct Narrow {
 }
 
 impl Link for Narrow {
-    ghost seen = { λ s. record (⟦<MemLink as Link>⟧.seen s.link) { room = None } };
+    ghost seen = { λ s. record (⟦<MemLink as Link>⟧.seen s.link) { room = None; acts = None } };
 
     fn dial(&mut self, address: &str) -> Result<(), Failed> {
         self.link.dial(address)

@@ -8,4 +8,4 @@ returns-clause-ok g c =
     c.len-len.ensures.value c.unwrap_or.ensures c.advance_mut.ensures.front c.as_mut_slice.ensures.value
     c.read_at-read.ensures.front c.read_at-read.auto.bytes
     (omega (arith, c.len-len.ensures.value, c.advance_mut.ensures.len))
-    c.read_at-read.ensures.bound c.read_at-read.ensures.bytes c.truncate.ensures.items
+    c.read_at-read.ensures.bound c.read_at-read.ensures.bytes c.read_at-read.ensures.acted c.truncate.ensures.items

@@ -1,5 +1,6 @@
 use Rattle.std.proofs.Common.{◌≡◌, ◌-◌, ◌≤◌, ◌⊎◌, length, take}
 use Rattle.std.specs.Io.KnownBytes.{Appends}
+use Rattle.route_io.specs.Acts.{AddsWrites}
 use Rattle.route_io.specs.Causes.{StaysTold}
 use Rattle.route_io.specs.Links.{OnlyWrites}
 use Rattle.route_io.proofs.Links.{AtFirst, IsOnward}
@@ -15,6 +16,7 @@ invariant-loop-done g l =
       told : StaysTold was.outgoing now.outgoing;
       others : OnlyWrites was now;
       writes : AtFirst was now l.done ⊎ IsOnward was now l.piece l.done;
+      acts : AddsWrites was now (take l.done l.piece);
       quiet : now.faults ≡ was.faults;
     }
 

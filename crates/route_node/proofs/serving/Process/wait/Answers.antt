@@ -1,6 +1,9 @@
 use Rattle.std.proofs.Common.{ℕ, ◌≡◌, ◌∙◌, Result, Ok, Err, Bool, true, false, ◌==◌, List, [], ◌∷◌, length, sym, ap, subst, true≢false, refl, arith}
 use Rattle.std.proofs.lemmas.Bool.Decides.{nat_tests}
+use Rattle.std.specs.Prelude.{OnOk}
+use Rattle.route_io.specs.Acts.{ReadsMore}
 use Rattle.route_io.specs.Causes.{RoseIf}
+use Rattle.route_io.specs.Views.{LinkView}
 use Rattle.route_io.specs.declared.received.Filled.{Filled}
 use Rattle.route_io.specs.declared.received.NotFilled.{NotFilled}
 use Rattle.route_io.specs.declared.received.NotFilled.TheVariants.{Fault}
@@ -11,6 +14,10 @@ use Rattle.route_node.proofs.serving.Process.wait.Goals as goal
 -- no call failed
 quiet_at : (r : Result Filled NotFilled) (f : Filled) (old new : ℕ) → r ≡ Ok f → RoseIf (r ≡ Err Fault) old new → new ≡ old
 quiet_at r f old new is cause = cause.quiet (λ e. absurd (cc (is, e)))
+
+-- a fill that ends well has read once
+reads_as : (r : Result Filled NotFilled) (f : Filled) (old new : List ℕ) (was now : LinkView) → r ≡ Ok f → OnOk r (ReadsMore old new was now) → ReadsMore old new was now
+reads_as r f old new was now is reads = subst (λ q. OnOk q (ReadsMore old new was now)) is reads
 
 found_as : (r : Result Filled NotFilled) (f x : Filled) → r ≡ Ok f → f ≡ x → r ≡ Ok x
 found_as r f x is same = is ∙ ap Ok same
@@ -28,18 +35,18 @@ some_as b xs ys is off same empty = true≢false (sym (is ∙ ap (λ (l : List �
 pub returns-in-Ok-More-clause-ok : goal.returns-in-Ok-More-clause-ok
 returns-in-Ok-More-clause-ok g c = λ at frames runs within partial.
     let is = found_as _ _ _ c.in-Ok-More.is c.in-Ok-More.field-0-is in
-    goes_on _ at frames c.args.self _ _ runs within partial c.fill.new.self c.fill.ensures.ahead c.fill.ensures.grows (c.fill.ensures.more.0 is) c.fill.ensures.others (quiet_at _ _ _ _ is c.fill.ensures.cause)
+    goes_on _ at frames c.args.self _ _ runs within partial c.fill.new.self c.fill.ensures.ahead c.fill.ensures.grows (c.fill.ensures.more.0 is) (reads_as _ _ _ _ (g.L.Link.seen c.args.link.now) (g.L.Link.seen c.fill.new.link) is c.fill.ensures.acted) c.fill.ensures.others (quiet_at _ _ _ _ is c.fill.ensures.cause)
 
 pub returns-in-Ok-End-clause-err : goal.returns-in-Ok-End-clause-err
 returns-in-Ok-End-clause-err g c = λ at frames runs within partial.
     let is = found_as _ _ _ c.in-Ok-End.is c.in-Ok-End.field-0-is in
-    served_at_end _ at frames c.args.self _ _ runs _ c.fill.new.self is c.fill.ensures.grows c.fill.ensures.more c.fill.ensures.end c.fill.ensures.ahead (empty_as _ _ _ c.is_empty.ensures c.if-is_empty.true c.as_slice.ensures) c.fill.ensures.others (quiet_at _ _ _ _ is c.fill.ensures.cause)
+    served_at_end _ at frames c.args.self _ _ runs _ c.fill.new.self is c.fill.ensures.grows c.fill.ensures.more c.fill.ensures.end c.fill.ensures.ahead (empty_as _ _ _ c.is_empty.ensures c.if-is_empty.true c.as_slice.ensures) partial (reads_as _ _ _ _ (g.L.Link.seen c.args.link.now) (g.L.Link.seen c.fill.new.link) is c.fill.ensures.acted) c.fill.ensures.others (quiet_at _ _ _ _ is c.fill.ensures.cause)
 
 pub returns-in-Ok-End-2-clause-err : goal.returns-in-Ok-End-2-clause-err
 returns-in-Ok-End-2-clause-err g c = λ at frames runs within partial.
     let is = found_as _ _ _ c.in-Ok-End.is c.in-Ok-End.field-0-is in
     subst (λ s. Served (g.P.Policy.rules at.policy) at.net at.node at.first (g.L.Link.seen c.fill.new.link) s) (sym c.refuse.ensures)
-    (served_within _ at frames c.args.self _ _ runs _ c.fill.new.self is c.fill.ensures.grows c.fill.ensures.more c.fill.ensures.end partial (some_as _ _ _ c.is_empty.ensures c.if-is_empty.false c.as_slice.ensures) c.fill.ensures.others (quiet_at _ _ _ _ is c.fill.ensures.cause))
+    (served_within _ at frames c.args.self _ _ runs _ c.fill.new.self is c.fill.ensures.grows c.fill.ensures.more c.fill.ensures.end partial (some_as _ _ _ c.is_empty.ensures c.if-is_empty.false c.as_slice.ensures) (reads_as _ _ _ _ (g.L.Link.seen c.args.link.now) (g.L.Link.seen c.fill.new.link) is c.fill.ensures.acted) c.fill.ensures.others (quiet_at _ _ _ _ is c.fill.ensures.cause))
 
 pub returns-in-Err-NoMemory-clause-err : goal.returns-in-Err-NoMemory-clause-err
 returns-in-Err-NoMemory-clause-err g c = λ at frames runs within partial.
@@ -47,4 +54,4 @@ returns-in-Err-NoMemory-clause-err g c = λ at frames runs within partial.
 
 pub returns-clause-err : goal.returns-clause-err
 returns-clause-err g c = λ at frames runs within partial.
-    served_by_fault _ at frames c.args.self _ _ runs c.fill.ensures.others c.fill.ensures.sure c.fill.ensures.cause (c.in-Err-Fault.is ∙ ap Err c.in-Err-Fault.field-0-is)
+    served_by_fault _ at frames c.args.self _ _ runs partial c.fill.ensures.others c.fill.ensures.acted_err c.fill.ensures.sure c.fill.ensures.cause (c.in-Err-Fault.is ∙ ap Err c.in-Err-Fault.field-0-is)

@@ -1,0 +1,82 @@
+-- Acts of a link, one behind the other.
+use Rattle.std.proofs.Common.{ℕ, ◌+◌, ◌≡◌, ◌<◌, List, [], ◌∷◌, ◌++◌, length, take, drop, Option, Some, None, Result, Ok, Err, IsErr, refl, sym, ap, ◌∙◌, subst, append_assoc, option_map}
+use Rattle.std.proofs.lemmas.List.{append-nil}
+use Rattle.std.proofs.Math.Seq.{take-add}
+use Rattle.route_io.specs.Acts.{came, written, writes, AreWrites, ActsOnce, AddsWrites, whole_by}
+use Rattle.route_io.specs.Views.{Act, Read, Write, LinkView}
+
+-- ---- readings of acts behind others
+
+-- writes bring nothing
+pub came_behind : (more acts : List Act) → AreWrites more → came (more ++ acts) ≡ came acts
+came_behind [] acts alone = refl
+came_behind (Read bytes ∷ more) acts alone = absurd alone
+came_behind (Write piece took ∷ more) acts alone = came_behind more acts alone
+
+pub written_behind : (more acts : List Act) → written (more ++ acts) ≡ written acts ++ written more
+written_behind [] acts = sym (append-nil (written acts))
+written_behind (Read bytes ∷ more) acts = written_behind more acts
+written_behind (Write piece None ∷ more) acts = written_behind more acts
+written_behind (Write piece (Some n) ∷ more) acts =
+    ap (λ (l : List ℕ). l ++ take n piece) (written_behind more acts) ∙ append_assoc (written acts) (written more) (take n piece)
+
+pub writes_behind : (more acts : List Act) → writes (more ++ acts) ≡ writes more ++ writes acts
+writes_behind [] acts = refl
+writes_behind (Read bytes ∷ more) acts = writes_behind more acts
+writes_behind (Write piece took ∷ more) acts = ap (λ (l : List Act). Write piece took ∷ l) (writes_behind more acts)
+
+pub all_writes : (more acts : List Act) → AreWrites more → AreWrites acts → AreWrites (more ++ acts)
+all_writes [] acts first second = second
+all_writes (Read bytes ∷ more) acts first second = absurd first
+all_writes (Write piece took ∷ more) acts first second = all_writes more acts first second
+
+-- ---- acts that are told
+
+pub acts_both : (told : Option (List Act)) (more acts : List Act) → option_map (λ before. more ++ before) (option_map (λ before. acts ++ before) told) ≡ option_map (λ before. (more ++ acts) ++ before) told
+acts_both None more acts = refl
+acts_both (Some before) more acts = ap (λ (l : List Act). Some l) (sym (append_assoc more acts before))
+
+-- nothing was done
+pub adds_none : (link : LinkView) → AddsWrites link link []
+adds_none link = record { more = []; alone = tt; took = refl; behind = same link.acts }
+  where
+    same : (told : Option (List Act)) → told ≡ option_map (λ before. [] ++ before) told
+    same None = refl
+    same (Some before) = refl
+
+-- some writes, and then some more
+pub adds_more : (old mid new : LinkView) (xs ys : List ℕ) → AddsWrites old mid xs → AddsWrites mid new ys → AddsWrites old new (xs ++ ys)
+adds_more old mid new xs ys first second = record {
+  more = second.more ++ first.more;
+  alone = all_writes second.more first.more second.alone first.alone;
+  took = written_behind second.more first.more ∙ (ap (λ (l : List ℕ). l ++ written second.more) first.took ∙ ap (λ (l : List ℕ). xs ++ l) second.took);
+  behind = second.behind ∙ (ap (option_map (λ before. second.more ++ before)) first.behind ∙ acts_both old.acts second.more first.more);
+}
+
+-- one write that took some bytes
+pub adds_one : (old new : LinkView) (piece : List ℕ) (n : ℕ) → ActsOnce old new (Write piece (Some n)) → AddsWrites old new (take n piece)
+adds_one old new piece n once = record { more = Write piece (Some n) ∷ []; alone = tt; took = refl; behind = once }
+
+-- one that failed
+pub adds_failed : (old new : LinkView) (piece : List ℕ) → ActsOnce old new (Write piece None) → AddsWrites old new []
+adds_failed old new piece once = record { more = Write piece None ∷ []; alone = tt; took = refl; behind = once }
+
+-- the first i bytes of a piece, and then n more of it
+pub adds_front :
+    (old mid new : LinkView) (piece rest : List ℕ) (i n : ℕ) → rest ≡ drop i piece →
+    AddsWrites old mid (take i piece) → ActsOnce mid new (Write rest (Some n)) → AddsWrites old new (take (i + n) piece)
+adds_front old mid new piece rest i n is before once =
+    rw (take-add i n piece)
+    (adds_more old mid new (take i piece) (take n (drop i piece)) before
+    (subst (λ (l : List ℕ). AddsWrites mid new (take n l)) is (adds_one mid new rest n once)))
+
+-- and then a write that failed
+pub adds_no_more :
+    (old mid new : LinkView) (xs rest : List ℕ) → AddsWrites old mid xs → ActsOnce mid new (Write rest None) → AddsWrites old new xs
+adds_no_more old mid new xs rest before once =
+    rw (sym (append-nil xs)) (adds_more old mid new xs [] before (adds_failed mid new rest once))
+
+-- what a call that failed has taken
+pub whole_after : {T E : Type 0} (r : Result T E) (old new : LinkView) (piece : List ℕ) → IsErr r → ActsOnce old new (Write piece None) → ActsOnce old new (Write piece (whole_by r piece))
+whole_after (Ok x) old new piece failed once = absurd (cc failed)
+whole_after (Err e) old new piece failed once = once

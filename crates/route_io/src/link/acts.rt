@@ -1,0 +1,75 @@
+//! Which reads and writes a link has made, for promises alone.
+ghost use Rattle.std.specs.Prelude.{◌≡◌, ◌≤◌, List, [], ◌∷◌, None, Some, length, IfOk};
+ghost use Rattle.std.specs.Borrow.{ftrue};
+ghost use Rattle.std.specs.Io.{ReadsAtMost};
+ghost use Rattle.std.specs.Result.{result_ok};
+ghost use Rattle.route_io.specs.Acts.{brought_by};
+ghost use Rattle.route_io.specs.Views.{Act, Read, Write};
+
+use crate::outside::Failed;
+use std::marker::Model;
+
+/// The reads and writes of a link, the newest first. It has no bytes: only clauses read it.
+#[derive(Drop)]
+pub struct Acts {
+    pub ghost list: { List Act },
+}
+
+impl Model for Acts {
+    ghost also_owns = { λ _. ftrue };
+}
+
+impl Acts {
+    /// None was made yet.
+    pub fn new() -> Acts
+        ensures { result.list ≡ [] }
+    {
+        Acts {}
+    }
+
+    /// A read has answered this, and filled the front of the buffer.
+    pub fn read(&self, read: Result<usize, Failed>, buf: &[u8]) -> Acts
+        requires { ReadsAtMost read buf.now }
+        ensures { result.list ≡ Read (brought_by read buf.now) ∷ self.now.list }
+    {
+        match read {
+            Ok(count) => self.brought(&buf[..count]),
+            Err(_) => self.read_failed(),
+        }
+    }
+
+    /// A write of the piece has answered this.
+    pub fn write(&self, piece: &[u8], written: Result<usize, Failed>) -> Acts
+        requires { IfOk written (λ n. n ≤ length piece.now) }
+        ensures { result.list ≡ Write piece.now (result_ok written) ∷ self.now.list }
+    {
+        match written {
+            Ok(count) => self.took(piece, &piece[..count]),
+            Err(_) => self.write_failed(piece),
+        }
+    }
+
+    fn brought(&self, _bytes: &[u8]) -> Acts
+        ensures { result.list ≡ Read (Some _bytes.now) ∷ self.now.list }
+    {
+        Acts {}
+    }
+
+    fn read_failed(&self) -> Acts
+        ensures { result.list ≡ Read None ∷ self.now.list }
+    {
+        Acts {}
+    }
+
+    fn took(&self, _piece: &[u8], _taken: &[u8]) -> Acts
+        ensures { result.list ≡ Write _piece.now (Some (length _taken.now)) ∷ self.now.list }
+    {
+        Acts {}
+    }
+
+    fn write_failed(&self, _piece: &[u8]) -> Acts
+        ensures { result.list ≡ Write _piece.now None ∷ self.now.list }
+    {
+        Acts {}
+    }
+}
