@@ -32,7 +32,7 @@ use Rattle.chronicle.specs.Publications.{kept_path, newest_epoch}
 use Rattle.chronicle.specs.Inputs.{Input, arrival}
 use Rattle.chronicle.specs.Inputs as input
 use Rattle.chronicle.specs.Steps.{Step, Idle, Goes, Carried, write, open_session, raise, meet_mark, heard, unless_ready, take_item}
-use Rattle.chronicle.specs.Giving.{unless, out_of_turn, closes, opens, on_tables, off_tables, sight, hops, injects, forwards, answer}
+use Rattle.chronicle.specs.Giving.{unless, out_of_turn, closes, opens, on_tables, off_tables, sight, hops_on_tables, hops_off_tables, by_mode, injects, forwards, answer}
 use Rattle.chronicle.proofs.Blocks.{log_own, log_open, log_raise, epoch_raise, same_number, opening}
 use Rattle.node_core.specs.ControlFits.{in_order, scope_fits}
 use Rattle.node_core.specs.Fits.{item_fits, path_fits, fits}
@@ -254,7 +254,7 @@ module _ (rules : Rules) (net : Net) (u : ℕ) (valid : IsValid net) (own : has 
       off_fits (Ended ending) goes = one_more net u (End packet.id ending) past few_packets all
 
       -- in its mode
-      mode_fits : (m : Mode) → AllFacts net u (hops rules net u past packet up m)
+      mode_fits : (m : Mode) → AllFacts net u (by_mode m (hops_on_tables net u past packet up) (hops_off_tables rules net u past packet up))
       mode_fits Stable = stable_fits (kept_path u packet.epoch packet.prefix past)
       mode_fits Transient =
           off_fits (transient_hop net packet (sight rules net u past packet.prefix up))

@@ -21,7 +21,7 @@ use Rattle.chronicle.specs.declared.events.Event.TheVariants as event
 use Rattle.chronicle.specs.Facts.{Chronicle, Log, Sent, Took, Fail, Restore, Raise, Start, Mail, Heard, Crash, Restart, Publish, Visit, End}
 use Rattle.chronicle.specs.Publications.{kept_path, newest_epoch}
 use Rattle.chronicle.specs.Walks.{Standing, standing, visit_of, walk}
-use Rattle.chronicle.specs.Giving.{on_tables, off_tables, sight, hops, injects, forwards}
+use Rattle.chronicle.specs.Giving.{on_tables, off_tables, sight, hops_on_tables, hops_off_tables, by_mode, injects, forwards}
 use Rattle.chronicle.specs.Run.{up_links, after, run}
 use Rattle.chronicle.proofs.Visiting.{SameWalks, ForPackets, for_packets}
 
@@ -174,7 +174,7 @@ module _ (rules : Rules) (net : Net) (Q : Chronicle → List Stop → ℕ → Pa
 
     -- a hop, in the mode of the packet
     on_hop : (k : ℕ) (at : Standing) (m : Mode) → standing k past ≡ Some at → at.packet.mode ≡ m
-        → (j : ℕ) → HoldsIn Q past (hops rules net at.node past at.packet (up_links net at.node past) m) j
+        → (j : ℕ) → HoldsIn Q past (by_mode m (hops_on_tables net at.node past at.packet (up_links net at.node past)) (hops_off_tables rules net at.node past at.packet (up_links net at.node past))) j
     on_hop k at Stable is mode =
         on_stable k at (stable_step (kept_path at.node at.packet.epoch at.packet.prefix past) (up_links net at.node past)) is mode refl
     on_hop k at Transient is mode =

@@ -101,12 +101,20 @@ sight rules net u past p up = record {
   backups = newest_backups rules net u p past;
 }
 
--- one hop of a packet at u: on the table of its epoch, if u keeps that, or off the tables
-abbrev pub hops : Rules → Net → ℕ → Chronicle → Packet → List ℕ → Mode → Chronicle
-hops rules net u past packet up Stable =
+-- one hop of a packet at u on the table of its epoch, if u keeps that
+abbrev pub hops_on_tables : Net → ℕ → Chronicle → Packet → List ℕ → Chronicle
+hops_on_tables net u past packet up =
     on_tables net u past packet (stable_step (kept_path u packet.epoch packet.prefix past) up)
-hops rules net u past packet up Transient =
+
+-- one hop of a packet at u off the tables
+abbrev pub hops_off_tables : Rules → Net → ℕ → Chronicle → Packet → List ℕ → Chronicle
+hops_off_tables rules net u past packet up =
     off_tables past packet (transient_hop net packet (sight rules net u past packet.prefix up))
+
+-- what comes on the tables, or off them
+abbrev pub by_mode : Mode → Chronicle → Chronicle → Chronicle
+by_mode Stable on off = on
+by_mode Transient on off = off
 
 -- a packet enters the network at u, stamped with the epoch of u's newest table
 unfoldable pub injects : Net → ℕ → Chronicle → ℕ → ℕ → Chronicle
@@ -114,7 +122,8 @@ injects net u past id p = Visit u (stamped net id p u (newest_epoch u past)) ∷
 
 -- a packet that stands at u goes on from there
 unfoldable pub forwards : Rules → Net → ℕ → Chronicle → Packet → List ℕ → Chronicle
-forwards rules net u past packet up = hops rules net u past packet up packet.mode
+forwards rules net u past packet up =
+    by_mode packet.mode (hops_on_tables net u past packet up) (hops_off_tables rules net u past packet up)
 
 -- what u does with an input, but for the table that may be due then
 unfoldable pub answer : Rules → Net → Carried → ℕ → Chronicle → Input → Step

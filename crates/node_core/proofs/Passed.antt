@@ -14,7 +14,7 @@ use Rattle.chronicle.specs.Facts.{Fact, Chronicle, Visit, End}
 use Rattle.chronicle.specs.Control.{control}
 use Rattle.chronicle.specs.Publications.{newest_epoch, has_both}
 use Rattle.chronicle.specs.Steps.{Carried}
-use Rattle.chronicle.specs.Giving.{answer, hops, injects, forwards, off_tables}
+use Rattle.chronicle.specs.Giving.{answer, hops_on_tables, hops_off_tables, by_mode, injects, forwards, off_tables}
 use Rattle.chronicle.specs.Run.{chronicle_of}
 use Rattle.chronicle.proofs.Quieting.{IsOfPacket}
 use Rattle.chronicle.proofs.Forwarding.{injects_keep, forwards_keep}
@@ -56,9 +56,9 @@ hop_shown past packet made gone (Over ending) o is shown =
 
 module _ (rules : Rules) (net : Net) (u : ℕ) (past : Chronicle) (list : List Given) where
   -- in the mode of the packet
-  pub mode_shown : (packet : Packet) (up : List ℕ) (m : Mode) → packet.mode ≡ m → Hands past list (hops rules net u past packet up m) → Hands past list (forwards rules net u past packet up)
+  pub mode_shown : (packet : Packet) (up : List ℕ) (m : Mode) → packet.mode ≡ m → Hands past list (by_mode m (hops_on_tables net u past packet up) (hops_off_tables rules net u past packet up)) → Hands past list (forwards rules net u past packet up)
   unfolding forwards
-  mode_shown packet up m is hands = subst (λ k. Hands past list (hops rules net u past packet up k)) (sym is) hands
+  mode_shown packet up m is hands = subst (λ k. Hands past list (by_mode k (hops_on_tables net u past packet up) (hops_off_tables rules net u past packet up))) (sym is) hands
 
   module _ (carried : Carried) (passing : Passing) where
     -- where it enters

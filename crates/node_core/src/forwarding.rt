@@ -4,7 +4,7 @@ ghost use Rattle.topology.specs.Net.{Net};
 ghost use Rattle.chronicle.specs.Facts.{Chronicle};
 ghost use Rattle.path_vector.specs.Ranking.{order as order_of};
 ghost use Rattle.trigger_log.specs.Entries.{reads};
-ghost use Rattle.chronicle.specs.Giving.{answer, forwards, hops, injects, on_tables, sight};
+ghost use Rattle.chronicle.specs.Giving.{answer, forwards, hops_off_tables, hops_on_tables, injects, on_tables, sight};
 ghost use Rattle.chronicle.specs.Logs.{log_of};
 ghost use Rattle.chronicle.specs.Publications.{kept_path, newest_backups, newest_epoch, newest_path};
 ghost use Rattle.chronicle.specs.Run.{chronicle_of};
@@ -101,7 +101,7 @@ impl<P: Policy + Copy> Node<P> {
     fn hop_on_tables(&self, packet: Packet, up: &[NodeId]) -> Result<Output, NoMemory>
         ensures { IfOk result (λ output. (policy : P) (net : Net) (u : ℕ) (past : Chronicle) →
             StandsFor policy (P.rules policy) net u self.now past →
-            Hands past (output ∷ []) (hops (P.rules policy) net u past packet up.now Stable)) }
+            Hands past (output ∷ []) (hops_on_tables net u past packet up.now)) }
     {
         let path = self.kept_path(packet.epoch, packet.prefix);
         let step = stable_hop(path, up);
@@ -159,7 +159,7 @@ impl<P: Policy + Copy> Node<P> {
     fn hop_off_tables(&self, packet: Packet, up: &[NodeId]) -> Result<Output, NoMemory>
         ensures { IfOk result (λ output. (policy : P) (net : Net) (u : ℕ) (past : Chronicle) →
             StandsFor policy (P.rules policy) net u self.now past → packet.prefix < length net.prefixes →
-            Hands past (output ∷ []) (hops (P.rules policy) net u past packet up.now Transient)) }
+            Hands past (output ∷ []) (hops_off_tables (P.rules policy) net u past packet up.now)) }
     {
         let prefix = packet.prefix;
         let order = self.order(prefix)?;

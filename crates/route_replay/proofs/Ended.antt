@@ -19,7 +19,7 @@ use Rattle.transient_mode.specs.TransientHops as transient
 use Rattle.chronicle.specs.declared.events.Event.{Event}
 use Rattle.chronicle.specs.declared.events.Event.TheVariants as event
 use Rattle.chronicle.specs.Facts.{Chronicle, Visit, End}
-use Rattle.chronicle.specs.Giving.{injects, forwards, hops, on_tables, off_tables, sight}
+use Rattle.chronicle.specs.Giving.{injects, forwards, hops_on_tables, hops_off_tables, by_mode, on_tables, off_tables, sight}
 use Rattle.chronicle.specs.Publications.{kept_path, newest_epoch}
 use Rattle.chronicle.specs.Run.{up_links, after, run}
 use Rattle.chronicle.specs.Walks.{Standing, standing, ending}
@@ -60,7 +60,7 @@ module _ (rules : Rules) (net : Net) (past : Chronicle) (old : NoneEnded past) w
   on_transient k at is (transient.Next w moved) = after_visit w moved past old
   on_transient k at is (Ended end) = after_end k at end past is old
 
-  on_hop : (k : ℕ) (at : Standing) → standing k past ≡ Some at → (m : Mode) → NoneEnded (hops rules net at.node past at.packet (up_links net at.node past) m)
+  on_hop : (k : ℕ) (at : Standing) → standing k past ≡ Some at → (m : Mode) → NoneEnded (by_mode m (hops_on_tables net at.node past at.packet (up_links net at.node past)) (hops_off_tables rules net at.node past at.packet (up_links net at.node past)))
   on_hop k at is Stable = on_stable k at is (stable_step (kept_path at.node at.packet.epoch at.packet.prefix past) (up_links net at.node past))
   on_hop k at is Transient = on_transient k at is (transient_hop net at.packet (sight rules net at.node past at.packet.prefix (up_links net at.node past)))
 

@@ -34,7 +34,7 @@ use Rattle.transient_mode.specs.TransientHops as transient
 use Rattle.transient_mode.proofs.EachHop.{is_move}
 use Rattle.consolidator.specs.Answers.{refusal_of, proposal_refusal, ballot_of, asks, replies}
 use Rattle.consolidator.specs.Messages.{Message}
-use Rattle.chronicle.specs.Giving.{unless, out_of_turn, closes, opens, proposes, hears, answer, concluded, give, on_tables, off_tables, sight, hops, injects, forwards}
+use Rattle.chronicle.specs.Giving.{unless, out_of_turn, closes, opens, proposes, hears, answer, concluded, give, on_tables, off_tables, sight, hops_on_tables, hops_off_tables, by_mode, injects, forwards}
 use Rattle.chronicle.specs.Inputs.{Input, arrival}
 use Rattle.chronicle.specs.Inputs as input
 use Rattle.chronicle.specs.Links.{link}
@@ -273,7 +273,7 @@ module _ (rules : Rules) (net : Net) (u : ℕ) (node : has net.nodes u ≡ true)
   hop_adds (transient.Ended ending) is = one_adds net u past (End packet.id ending) known
 
   -- in its mode
-  mode_adds : (m : Mode) → Adds net u past (hops rules net u past packet up m)
+  mode_adds : (m : Mode) → Adds net u past (by_mode m (hops_on_tables net u past packet up) (hops_off_tables rules net u past packet up))
   mode_adds Stable = table_adds_packet (stable_step (kept_path u packet.epoch packet.prefix past) up) refl
   mode_adds Transient = hop_adds (transient_hop net packet (sight rules net u past packet.prefix up)) refl
 
