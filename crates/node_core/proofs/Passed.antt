@@ -1,20 +1,26 @@
 -- What comes of a packet at a node: one fact, which tells of the packet, and nothing that the node keeps is read of it.
-use Rattle.std.proofs.Common.{ℕ, Option, None, List, [], ◌∷◌, ◌++◌, ◌≡◌, refl, ◌∙◌, sym, ap, ap₂, subst, arith}
+use Rattle.std.proofs.Common.{ℕ, Bool, false, Option, None, List, [], ◌∷◌, ◌++◌, ◌≡◌, refl, ◌∙◌, sym, ap, ap₂, subst, arith}
 use Rattle.std.proofs.Common.{Box, Global, Vec}
 use Rattle.topology.specs.Net.{Net}
 use Rattle.path_vector.specs.Rules.{Rules}
+use Rattle.path_vector.specs.History.{owns}
+use Rattle.path_vector.specs.Ranking.{order as tried}
+use Rattle.trigger_log.specs.Entries.{reads}
+use Rattle.chronicle.specs.Logs.{log_of}
 use Rattle.consolidator.specs.Facts as consolidator
 use Rattle.consolidator.proofs.Beside.{stands_beside}
 use Rattle.epoch_packet.specs.declared.packets.Packet.{Packet}
 use Rattle.epoch_packet.specs.declared.walks.Mode.{Mode}
 use Rattle.epoch_packet.specs.Packets.{stamped}
 use Rattle.transient_mode.specs.declared.moves.Move.{Move}
-use Rattle.transient_mode.specs.TransientHops.{Hop, Next, Ended as Over, answered}
+use Rattle.transient_mode.specs.Sights.{Sight}
+use Rattle.transient_mode.specs.TransientHops.{Hop, Next, Ended as Over, answered, asks_for_order, transient_hop}
+use Rattle.transient_mode.proofs.Ordering.{same_hop}
 use Rattle.chronicle.specs.Facts.{Fact, Chronicle, Visit, End}
 use Rattle.chronicle.specs.Control.{control}
 use Rattle.chronicle.specs.Publications.{newest_epoch, has_both}
 use Rattle.chronicle.specs.Steps.{Carried}
-use Rattle.chronicle.specs.Giving.{answer, hops_on_tables, hops_off_tables, by_mode, injects, forwards, off_tables}
+use Rattle.chronicle.specs.Giving.{answer, hops_on_tables, hops_off_tables, by_mode, injects, forwards, off_tables, sight}
 use Rattle.chronicle.specs.Run.{chronicle_of}
 use Rattle.chronicle.proofs.Quieting.{IsOfPacket}
 use Rattle.chronicle.proofs.Forwarding.{injects_keep, forwards_keep}
@@ -53,6 +59,28 @@ hop_shown past packet made gone (Next w moved) o is shown =
     one_shown past (Visit w moved) o (ap (λ x. x ∷ []) (shown ∙ ap (λ (pair : Packet × Move). shown_of pair.0 pair.1) is))
 hop_shown past packet made gone (Over ending) o is shown =
     one_shown past (End packet.id ending) o (ap (λ x. x ∷ []) (shown ∙ ap (λ (pair : Packet × Move). shown_of pair.0 pair.1) is))
+
+module _ (rules : Rules) (net : Net) (u : ℕ) (past : Chronicle) (packet : Packet) (up order : List ℕ) where
+  -- where this is the order of the node's neighbours, it is what the hop asks for
+  pub in_order : order ≡ tried rules net u (reads (log_of u past)) packet.prefix
+      → transient_hop net packet (record (sight rules net u past packet.prefix up) { order = order }) ≡ transient_hop net packet (sight rules net u past packet.prefix up)
+  in_order is = ap (λ l. transient_hop net packet (record (sight rules net u past packet.prefix up) { order = l })) is
+
+  -- where the hop does not ask for one, any will do
+  pub any_order : (topo : Net) (me : ℕ) (mine asks : Bool) → topo ≡ net → me ≡ u → mine ≡ owns (reads (log_of u past)) packet.prefix
+      → ((view : Sight) → view.at ≡ me → view.owns ≡ mine → asks ≡ asks_for_order topo packet view) → asks ≡ false
+      → transient_hop net packet (record (sight rules net u past packet.prefix up) { order = order }) ≡ transient_hop net packet (sight rules net u past packet.prefix up)
+  any_order topo me mine asks same at own says off =
+      let view = sight rules net u past packet.prefix up in
+      same_hop net packet view order (sym (ap (λ n. asks_for_order n packet view) same) ∙ (sym (says view (sym at) (sym own)) ∙ off))
+
+  -- so the hop is that of the node
+  pub seen_shown : (topo : Net) (view : Sight) (made : Packet) (gone : Move) (o : Given) → topo ≡ net → view ≡ record (sight rules net u past packet.prefix up) { order = order }
+      → transient_hop net packet (record (sight rules net u past packet.prefix up) { order = order }) ≡ transient_hop net packet (sight rules net u past packet.prefix up)
+      → (made, gone) ≡ answered packet (transient_hop topo packet view) → output_of o ≡ shown_of made gone → Hands past (o ∷ []) (hops_off_tables rules net u past packet up)
+  seen_shown topo view made gone o same seen ordered is shown =
+      hop_shown past packet made gone (transient_hop net packet (sight rules net u past packet.prefix up)) o
+      (is ∙ ap (answered packet) (ap₂ (λ (n : Net) (v : Sight). transient_hop n packet v) same seen ∙ ordered)) shown
 
 module _ (rules : Rules) (net : Net) (u : ℕ) (past : Chronicle) (list : List Given) where
   -- in the mode of the packet

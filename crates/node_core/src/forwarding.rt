@@ -1,5 +1,5 @@
 //! Packets that enter the network at a node, or go on from it.
-ghost use Rattle.std.specs.Prelude.{◌≡◌, ◌<◌, ◌∷◌, [], ℕ, length, map, option_map, IfOk};
+ghost use Rattle.std.specs.Prelude.{◌≡◌, ◌<◌, ◌∷◌, [], ℕ, List, length, map, option_map, IfOk};
 ghost use Rattle.topology.specs.Net.{Net};
 ghost use Rattle.chronicle.specs.Facts.{Chronicle};
 ghost use Rattle.path_vector.specs.Ranking.{order as order_of};
@@ -15,6 +15,7 @@ ghost use Rattle.node_core.specs.Coming.{MayCome};
 ghost use Rattle.node_core.specs.Deciding.{passing_of};
 ghost use Rattle.node_core.specs.Outputs.{Forward, Hands, output_of, shown_of};
 ghost use Rattle.node_core.specs.Standing.{Follows, StandsFor};
+ghost use Rattle.transient_mode.specs.TransientHops.{transient_hop};
 
 use crate::answers::Answer;
 use crate::deciding::Passing;
@@ -24,7 +25,7 @@ use epoch_packet::{End, Mode, Packet, StableStep, stable_hop, stamp};
 use path_vector::Policy;
 use std::alloc::Global;
 use topology::{Epoch, NoMemory, NodeId, Path, PrefixId};
-use transient_mode::{Move, View, transient_hop};
+use transient_mode::{Move, View, asks_for_order, transient_hop};
 
 // A packet, as it is from here on, for a node.
 fn forward(alloc: Global, next: NodeId, packet: Packet) -> Result<Output, NoMemory>
@@ -138,12 +139,27 @@ impl<P: Policy + Copy> Node<P> {
         self.log.live().order(prefix)
     }
 
-    // What the node knows for a packet of the prefix, where these links are up.
+    // The same for a packet that has left the tables, but none where its hop does not ask for them.
+    fn order_for(&self, packet: &Packet) -> Result<Vec<NodeId>, NoMemory>
+        ensures { IfOk result (λ list. (policy : P) (net : Net) (u : ℕ) (past : Chronicle) (up : List ℕ) →
+            StandsFor policy (P.rules policy) net u self.now past → packet.now.prefix < length net.prefixes →
+            transient_hop net packet.now (record (sight (P.rules policy) net u past packet.now.prefix up) { order = list.items })
+            ≡ transient_hop net packet.now (sight (P.rules policy) net u past packet.now.prefix up)) }
+    {
+        let prefix = packet.prefix;
+        let owns = self.log.live().owns(prefix);
+        let asks = asks_for_order(&self.topology, packet, self.id, owns);
+        if asks {
+            return self.order(prefix);
+        }
+        Ok(Vec::new(self.alloc))
+    }
+
+    // What the node knows for a packet of the prefix, where these links are up, with this order.
     fn view<'a>(&'a self, prefix: PrefixId, order: &'a [NodeId], up: &'a [NodeId]) -> View<'a>
         ensures { (policy : P) (net : Net) (u : ℕ) (past : Chronicle) →
             StandsFor policy (P.rules policy) net u self.now past → prefix < length net.prefixes →
-            order.now ≡ order_of (P.rules policy) net u (reads (log_of u past)) prefix →
-            result ≡ sight (P.rules policy) net u past prefix up.now }
+            result ≡ record (sight (P.rules policy) net u past prefix up.now) { order = order.now } }
     {
         View {
             at: self.id,
@@ -162,7 +178,7 @@ impl<P: Policy + Copy> Node<P> {
             Hands past (output ∷ []) (hops_off_tables (P.rules policy) net u past packet up.now)) }
     {
         let prefix = packet.prefix;
-        let order = self.order(prefix)?;
+        let order = self.order_for(&packet)?;
         let view = self.view(prefix, &order, up);
         let (packet, gone) = transient_hop(&self.topology, packet, view)?;
         gone_on(self.alloc, packet, gone)

@@ -1,3 +1,4 @@
 pub mod Hopping
 pub mod EachHop
 pub mod NewNodes
+pub mod Ordering

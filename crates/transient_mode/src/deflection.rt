@@ -3,12 +3,14 @@ ghost use Rattle.std.specs.Prelude.{◌≡◌, find, option_copied, IfOk, OnErr}
 ghost use Rattle.topology.specs.declared.names.Scheme.TheVariants as scheme;
 ghost use Rattle.epoch_packet.specs.NodeLists.{last_of};
 ghost use Rattle.transient_mode.specs.TransientHops.{answered, GoesOn, is_new, forward, if_up};
+ghost use Rattle.transient_mode.specs.Sights.{Sight};
 ghost use Rattle.transient_mode.specs.TransientHops.{back, deflected, hop_under};
+ghost use Rattle.transient_mode.specs.TransientHops.{asks_for_order};
 
 use crate::moves::{end_at, if_up, spent};
 use crate::{Move, View};
 use epoch_packet::{End, Packet, has_visited};
-use topology::{NoMemory, NodeId, Topology};
+use topology::{NoMemory, NodeId, Scheme, Topology};
 
 // How many nodes a trail may have.
 const TRAIL_LENGTH: usize = 64;
@@ -57,6 +59,23 @@ fn back(topology: &Topology, packet: Packet, view: &View<'_>) -> (Packet, Move)
             (moved, Move::Next(node))
         }
         None => (packet, Move::Ended(End::Stuck)),
+    }
+}
+
+/// Whether a hop of the packet at the node, which owns its prefix or not, asks for the order of the neighbours: only a
+/// deflection does, and not with a trail of 64 nodes. Where it does not, the hop is the same for each order
+/// (`laws::a_hop_that_does_not_ask_is_the_same_for_each_order`). Takes no memory.
+pub fn asks_for_order(topology: &Topology, packet: &Packet, at: NodeId, owns: bool) -> bool
+    ensures { (view : Sight) → view.at ≡ at → view.owns ≡ owns →
+        result ≡ asks_for_order topology.now packet.now view }
+{
+    if owns || packet.budget == 0 || packet.trail.as_slice().len() >= TRAIL_LENGTH {
+        return false;
+    }
+    match topology.scheme() {
+        Scheme::Deflect => true,
+        Scheme::Detour(node) => !packet.reached && at != node,
+        Scheme::Backup => false,
     }
 }
 

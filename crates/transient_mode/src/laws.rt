@@ -1,6 +1,6 @@
 //! Laws of moves off the stable tables. A call of a law brings what it says into the caller's
 //! proof.
-ghost use Rattle.std.specs.Prelude.{ℕ, true, ◌≡◌, ◌⊎◌, List};
+ghost use Rattle.std.specs.Prelude.{ℕ, true, false, ◌≡◌, ◌⊎◌, List};
 ghost use Rattle.topology.specs.Lists.{Among};
 ghost use Rattle.topology.specs.Paths.{differ};
 ghost use Rattle.topology.specs.Net.{Net};
@@ -8,7 +8,7 @@ ghost use Rattle.topology.specs.declared.names.Scheme.{Scheme};
 ghost use Rattle.topology.specs.declared.names.Scheme.TheVariants as scheme;
 ghost use Rattle.epoch_packet.specs.declared.packets.Packet.{Packet};
 ghost use Rattle.transient_mode.specs.Sights.{Sight};
-ghost use Rattle.transient_mode.specs.TransientHops.{Next, hop_under};
+ghost use Rattle.transient_mode.specs.TransientHops.{asks_for_order, Next, hop_under, transient_hop};
 ghost use Rattle.transient_mode.specs.EachMove.{IsMove, IsForward, IsBack, RouteIsNew, LeadsOn};
 
 /// Under each scheme a move spends one of those that were left, and goes over a link that is up to a
@@ -17,6 +17,14 @@ ghost use Rattle.transient_mode.specs.EachMove.{IsMove, IsForward, IsBack, Route
 pub fn a_move_spends_one_and_keeps_the_packet()
     ensures { (rule : Scheme) (net : Net) (packet moved : Packet) (view : Sight) (w : ℕ) →
         hop_under rule net packet view ≡ Next w moved → IsMove net packet view w moved }
+{}
+
+/// Where a hop does not ask for the order of the neighbours, it is the same whatever the order is.
+#[tactic(auto, using(crate::proofs::Ordering::same_hop))]
+pub fn a_hop_that_does_not_ask_is_the_same_for_each_order()
+    ensures { (net : Net) (packet : Packet) (view : Sight) (order : List ℕ) →
+        asks_for_order net packet view ≡ false →
+        transient_hop net packet (record view { order = order }) ≡ transient_hop net packet view }
 {}
 
 /// A deflected packet goes to a node that it did not visit, or back to the last node of its trail.

@@ -15,7 +15,7 @@ pub mod moves;
 mod routes;
 pub mod view;
 
-pub use deflection::deflect;
+pub use deflection::{asks_for_order, deflect};
 pub use detours::detour;
 pub use hops::transient_hop;
 pub use moves::Move;

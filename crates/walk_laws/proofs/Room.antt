@@ -15,8 +15,8 @@ use Rattle.epoch_packet.specs.declared.walks.Visit.{Visit}
 use Rattle.epoch_packet.specs.NodeLists.{last_of, but_last}
 use Rattle.epoch_packet.specs.Visited.{visits}
 use Rattle.transient_mode.specs.Sights.{Sight}
-use Rattle.transient_mode.specs.TransientHops.{Next, spent, transient_hop}
-use Rattle.transient_mode.proofs.Hopping.{deflects, hopped}
+use Rattle.transient_mode.specs.TransientHops.{Next, spent, deflects, transient_hop}
+use Rattle.transient_mode.proofs.Hopping.{hopped}
 use Rattle.chronicle.specs.Walks.{visit_of}
 use Rattle.walk_laws.specs.Readings.{off_tables, nodes_of, reached, trail}
 use Rattle.walk_laws.proofs.OnTables.{Read}
