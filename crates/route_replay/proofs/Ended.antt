@@ -25,7 +25,6 @@ use Rattle.chronicle.specs.Run.{up_links, after, run}
 use Rattle.chronicle.specs.Walks.{Standing, standing, ending}
 use Rattle.chronicle.proofs.Standings.{stands}
 use Rattle.chronicle.proofs.Visiting.{ForPackets, for_packets}
-use Rattle.world_core.specs.Walks.{JourneyView}
 
 -- a packet that stands nowhere has no end
 abbrev NoneEnded : Chronicle → Type 0
@@ -86,8 +85,7 @@ none_ended rules net events = along rules net events [] (λ k none. refl)
 
 -- what is read of a packet
 abbrev pub read_of : Option Standing → List Stop → Option Ending → Option (List Stop × Option Ending)
-read_of at visits end =
-    option_map (λ (j : JourneyView). (j.visits, j.ending)) (option_map (λ (s : Standing). record { node = s.node; packet = s.packet; visits = visits; ending = end }) at)
+read_of at visits end = option_map (λ (s : Standing). (visits, end)) at
 
 -- nothing is read of one that stands nowhere
 pub no_walk_read : (at : Option Standing) (visits : List Stop) (end : Option Ending) → read_of at visits end ≡ None → at ≡ None

@@ -36,19 +36,20 @@ use Rattle.world_core.specs.declared.network.Network.{Network}
 use Rattle.world_core.specs.declared.outcomes.Effect.{Effect}
 use Rattle.world_core.specs.declared.outcomes.Outcome.TheVariants as outcome
 use Rattle.world_core.specs.Effects.{effects, Tells}
-use Rattle.world_core.specs.Happening.{AreSending, GoesWhere, KeepsNodes, Since, handed}
+use Rattle.world_core.specs.Happening.{AreSending, GoesWhere, KeepsNodes, Since, away_with, handed}
 use Rattle.world_core.specs.Publications.{PublicationView, all_published}
 use Rattle.world_core.specs.Limits.{triggers_of, makes_local}
 use Rattle.world_core.specs.Matching.{AreCrashed, AreLinks, AreMails, AreNodes, Counts, IsCounted, Stands}
 use Rattle.world_core.specs.declared.bounds.TheConstants.{MOST_TRIGGERS, MOST_CONTROL, MOST_PACKETS}
 use Rattle.world_core.specs.Telling.{AreTold}
 use Rattle.world_core.specs.Turning.{Handles}
-use Rattle.world_core.specs.Walks.{AreWalks, JourneyView}
+use Rattle.world_core.specs.Walks.{AreWalks, AreWalksBut, JourneyView, still_after}
 use Rattle.world_core.proofs.Counts.{LogsBy, give_logs, not_fewer, total_now}
 use Rattle.world_core.proofs.Nodes.{nodes_at}
 use Rattle.world_core.proofs.Mailing.{same_mails}
 use Rattle.world_core.proofs.Telling.{AddsBy, begun}
-use Rattle.world_core.proofs.Walking.{walks_stay}
+use Rattle.world_core.proofs.Returning.{ComesBack}
+use Rattle.world_core.proofs.Walking.{all_back, walks_stay}
 
 -- ---- what the node handed out
 
@@ -124,8 +125,8 @@ packets_begun u (input.Hop packet up) past = same_now past
 
 -- so nothing was handed on yet
 pub sending_begun : {P : Type 0} (past : Chronicle) (counts : Counts) (u : ℕ) (i : Input) (network : Network P) → AreLinks network.topology.value (handed u i past) network.links
-    → AreMails network.topology.value past counts network.mails → network.publications.items ≡ all_published past → AreWalks network.topology.value past network.walks
-    → AreSending (begun u i past) (begun u i past) counts network []
+    → AreMails network.topology.value past counts network.mails → network.publications.items ≡ all_published past → AreWalksBut (away_with i) network.topology.value past network.walks
+    → AreSending (away_with i) (begun u i past) (begun u i past) counts network []
 sending_begun past counts u i network links mails published walks =
     let net = network.topology.value in
     let quiet = quiet_begun u i past in
@@ -137,23 +138,36 @@ sending_begun past counts u i network links mails published walks =
       since = append-nil (effects (begun u i past));
     }
 
+-- where all packets are back, none is away
+sent_back : {P : Type 0} (away : ℕ → Bool) (first now : Chronicle) (counts : Counts) (network : Network P) (list : List Effect) → ((k : ℕ) → away k ≡ false) → AreSending away first now counts network list
+    → AreSending (λ k. false) first now counts network list
+sent_back away first now counts network list back was = record {
+  are_links = was.are_links;
+  are_mails = was.are_mails;
+  are_published = was.are_published;
+  are_walks = all_back away network.topology.value now network.walks back was.are_walks;
+  since = was.since;
+}
+
 -- all that the node handed out was handed on
 pub given_sent : {P : Type 0} (net : Net) (past : Chronicle) (counts : Counts) (u : ℕ) (i : Input) (s : Step) (list : OutputList) (items : List Output) (old new : Network P) (told : List Effect) → list ≡ items
-    → AddsBy net u (begun u i past) s → Answers past s (Did list) → AreSending (begun u i past) (begun u i past) counts old []
-    → ((first mid : Chronicle) (facts : List Fact) → AreTold net u mid facts → Hands mid items (happen mid facts) → AreSending first mid counts old [] → AreSending first (happen mid facts) counts new told)
-    → AreSending (begun u i past) (chronicle_of past s) counts new told
-given_sent net past counts u i (Idle why) list items old new told is adds answers sending hand = absurd answers
-given_sent net past counts u i (Goes now) list items old new told is adds answers sending hand =
+    → AddsBy net u (begun u i past) s → ComesBack i (begun u i past) s → Answers past s (Did list) → AreSending (away_with i) (begun u i past) (begun u i past) counts old []
+    → ((away : ℕ → Bool) (first mid : Chronicle) (facts : List Fact) → AreTold net u mid facts → Hands mid items (happen mid facts) → AreSending away first mid counts old []
+    → AreSending (still_after facts away) first (happen mid facts) counts new told)
+    → AreSending (λ k. false) (begun u i past) (chronicle_of past s) counts new told
+given_sent net past counts u i (Idle why) list items old new told is adds back answers sending hand = absurd answers
+given_sent net past counts u i (Goes now) list items old new told is adds back answers sending hand =
     let first = begun u i past in
     let hands : Hands first items (happen first adds.facts) =
     ap (λ o. o ++ map output_of items) (outputs_begun u i past) ∙ (subst (λ l. Hands past l now) is answers ∙ ap outputs adds.same) in
-    subst (λ c. AreSending first c counts new told) (sym adds.same) (hand first first adds.facts adds.told hands sending)
+    subst (λ c. AreSending (λ k. false) first c counts new told) (sym adds.same)
+    (sent_back (still_after adds.facts (away_with i)) first (happen first adds.facts) counts new told (back adds.facts adds.same) (hand (away_with i) first first adds.facts adds.told hands sending))
 
 -- where all was handed on, the network is as the run has it
 pub sent_stands : {P : Type 0} (rules : Rules) (past : Chronicle) (s : Step) (counts : Counts) (old new : Network P) (told : List Effect) (first : Chronicle) → KeepsNodes old new
     → AreNodes old.policy rules old.topology.value (chronicle_of past s) old.nodes.items → AreCrashed old.topology.value (chronicle_of past s) old.crashed.items
     → old.triggers ≡ triggers_of old.topology.value (chronicle_of past s) → old.triggers ≤ MOST_TRIGGERS → length (mailed (chronicle_of past s)) ≤ MOST_CONTROL
-    → packets (chronicle_of past s) ≤ MOST_PACKETS → AreSending first (chronicle_of past s) counts new told → Stands rules (chronicle_of past s) counts new
+    → packets (chronicle_of past s) ≤ MOST_PACKETS → AreSending (λ k. false) first (chronicle_of past s) counts new told → Stands rules (chronicle_of past s) counts new
 sent_stands rules past s counts old new told first kept nodes flags total few few_mails few_packets sent = record {
   are_nodes = rw (kept.policy, kept.topology, kept.nodes) nodes;
   are_crashed = rw (kept.topology, kept.crashed) flags;
@@ -204,9 +218,26 @@ idle_counted net past s why triggers answers was = subst (λ c. IsCounted net c 
 pub idle_mails : (net : Net) (past : Chronicle) (counts : Counts) (s : Step) (why : Reason) (mails : Office) → Answers past s (Declines why) → AreMails net past counts mails → AreMails net (chronicle_of past s) counts mails
 idle_mails net past counts s why mails answers was = subst (λ c. AreMails net c counts mails) (sym (ap (chronicle_of past) (declined past s why answers))) was
 
--- of the packets
-pub idle_walks : (net : Net) (past : Chronicle) (s : Step) (why : Reason) (walks : List JourneyView) → Answers past s (Declines why) → AreWalks net past walks → AreWalks net (chronicle_of past s) walks
-idle_walks net past s why walks answers was = subst (λ c. AreWalks net c walks) (sym (ap (chronicle_of past) (declined past s why answers))) was
+-- no packet was away
+walks_declined : (net : Net) (past : Chronicle) (i : Input) (why : Reason) (walks : List JourneyView) → GoesWhere i (Idle why) → AreWalksBut (away_with i) net past walks → AreWalks net past walks
+walks_declined net past (input.Hop packet up) why walks goes was = absurd goes
+walks_declined net past (input.Arrive v s x) why walks goes was = was
+walks_declined net past (input.Originate p) why walks goes was = was
+walks_declined net past (input.Withdraw p) why walks goes was = was
+walks_declined net past (input.Prefer v value) why walks goes was = was
+walks_declined net past (input.Notice v) why walks goes was = was
+walks_declined net past (input.OpenSession v s) why walks goes was = was
+walks_declined net past input.Snap why walks goes was = was
+walks_declined net past (input.Propose e) why walks goes was = was
+walks_declined net past (input.Control from m) why walks goes was = was
+walks_declined net past (input.Inject id p) why walks goes was = was
+
+-- so the packets are as the run has them
+pub idle_walks : (net : Net) (past : Chronicle) (i : Input) (s : Step) (why : Reason) (walks : List JourneyView) → Answers past s (Declines why) → GoesWhere i s → AreWalksBut (away_with i) net past walks
+    → AreWalks net (chronicle_of past s) walks
+idle_walks net past i s why walks answers goes was =
+    let is = declined past s why answers in
+    subst (λ c. AreWalks net c walks) (sym (ap (chronicle_of past) is)) (walks_declined net past i why walks (subst (GoesWhere i) is goes) was)
 
 -- and of what was published
 pub idle_published : (past : Chronicle) (s : Step) (why : Reason) (list : List PublicationView) → Answers past s (Declines why) → list ≡ all_published past → list ≡ all_published (chronicle_of past s)

@@ -12,17 +12,18 @@ use Rattle.chronicle.specs.declared.events.Event.{Event}
 use Rattle.chronicle.specs.declared.events.Event.TheVariants as event
 use Rattle.chronicle.specs.Channels.{channel}
 use Rattle.chronicle.specs.Facts.{Chronicle, Took}
+use Rattle.chronicle.specs.Giving.{answer, give}
 use Rattle.chronicle.specs.Inputs.{Input, Originate, Withdraw, Prefer, Arrive, Notice, OpenSession, Snap, Propose, Control, Inject, Hop}
 use Rattle.chronicle.specs.Links.{link}
 use Rattle.chronicle.specs.Run.{does, given, handed, held_with, hopped, injected, is_carried, up_links}
-use Rattle.chronicle.specs.Walks.{Standing, standing, ending}
+use Rattle.chronicle.specs.Walks.{Standing, standing}
 use Rattle.chronicle.specs.Steps.{Idle}
 use Rattle.chronicle.specs.Control.{mail_with}
 use Rattle.control_mail.specs.Readings.{Letter}
 use Rattle.consolidator.specs.Messages.{Message}
 use Rattle.epoch_packet.specs.declared.packets.Packet.{Packet}
-use Rattle.epoch_packet.specs.declared.walks.End.{End as Ending}
-use Rattle.topology.specs.declared.status.Reason.TheVariants.{NoSuchMessage, NoSuchPacket, PacketEnded, PacketKnown}
+use Rattle.cut_laws.specs.Delivered.{Did}
+use Rattle.topology.specs.declared.status.Reason.TheVariants.{NoSuchMessage, PacketKnown}
 use Rattle.world_core.specs.declared.network.Network.{Network}
 use Rattle.world_core.specs.declared.outcomes.Outcome.{Outcome}
 use Rattle.world_core.specs.declared.outcomes.Stop.{Stop}
@@ -30,9 +31,9 @@ use Rattle.world_core.specs.Fits.{fits}
 use Rattle.world_core.specs.Happening.{Comes, IsRegular, MayArrive, MayHand, Stops}
 use Rattle.world_core.specs.Matching.{AreCrashed, AreLinks, AreMails, AreNodes, Counts, IsCounted, Stands}
 use Rattle.world_core.specs.Publications.{all_published}
-use Rattle.world_core.specs.Walks.{AreWalks, JourneyView, is_of}
+use Rattle.world_core.specs.Walks.{AreWalks, AreWalksBut, JourneyView, Takes, is_of}
 use Rattle.world_core.proofs.Mailing.{letter_inside}
-use Rattle.world_core.proofs.Walking.{journey_is, known_found, not_found, stands_by, stands_nowhere}
+use Rattle.world_core.proofs.Walking.{stands_by, stands_nowhere}
 use Rattle.world_core.proofs.Comes.{arrival_goes, comes_so, deliver_front, front_placed, notice_over, open_step}
 
 -- u may be handed the input, and what it then does is what the event does
@@ -79,6 +80,11 @@ kept_in p (x ∷ xs) n e =
 -- an end of a link has the other as a neighbour
 pub near_of : (net : Net) (u v : ℕ) → IsValid net → linked net u v ≡ true → has (neighbours net u) v ≡ true
 near_of net u v valid e = neighbours_linked net u v valid ∙ e
+
+-- a packet that goes on is not declined
+hop_goes : (rules : Rules) (net : Net) (past : Chronicle) (u : ℕ) (packet : Packet) (up : List ℕ) → Did (given rules net past u (Hop packet up))
+unfolding give answer
+hop_goes rules net past u packet up = tt
 
 module _ {P : Type 0} (rules : Rules) (past : Chronicle) (counts : Counts) (network : Network P) (was : Stands rules past counts network) where
   -- an origination
@@ -223,12 +229,14 @@ module _ {P : Type 0} (rules : Rules) (past : Chronicle) (counts : Counts) (netw
       let near = kept_in (λ w. is_up (link u w past)) (neighbours net u) w there in
       (both_of (linked net u w) (has net.nodes w) (sym (has-neighbours net u w) ∙ near)).1
 
-  -- a packet whose walk has not ended goes on
-  goes_on : (k : ℕ) (at : Standing) → standing k past ≡ Some at → ending k past ≡ None
-      → Hands rules past counts (event.Hop k) at.node (Hop at.packet (up_links network.topology.value at.node past)) network
+  -- a packet that is taken from its place goes on
+  pub goes_on : (k node : ℕ) (packet : Packet) (walks : List JourneyView) (up : List ℕ) → Takes network.topology.value past k node packet walks → up ≡ up_links network.topology.value node past
+      → Hands rules past counts (event.Hop k) node (Hop packet up) (record network { walks = walks })
   unfolding does
-  goes_on k at stands on =
+  goes_on k node packet walks up takes links =
       let net = network.topology.value in
+      let at : Standing = record { node = node; packet = packet } in
+      let number : packet.id ≡ k = stands_by k past at takes.stands in
       record {
         may = record {
           are_nodes = was.are_nodes;
@@ -236,34 +244,15 @@ module _ {P : Type 0} (rules : Rules) (past : Chronicle) (counts : Counts) (netw
           are_links = was.are_links;
           are_mails = was.are_mails;
           are_published = was.are_published;
-          are_walks = was.are_walks;
+          are_walks = subst (λ n. AreWalksBut (λ m. n == m) net past walks) (sym number) takes.are_walks;
           counted = was.counted;
-          may_come = (was.are_walks.inside k at stands).prefix_is_in;
+          may_come = (takes.are_walks.inside k at takes.stands).prefix_is_in;
           sender = tt;
-          passing = (ap (λ n. is_some (standing n past)) (stands_by k past at stands) ∙ ap is_some stands, up_inside at.node);
-          goes = tt;
+          passing = (ap (λ n. is_some (standing n past)) number ∙ ap is_some takes.stands, λ w there. up_inside node w (subst (λ l. has l w ≡ true) links there));
+          goes = hop_goes rules net past node packet up;
         };
-        same = ap₂ (hopped rules net past) stands on;
+        same = ap₂ (hopped rules net past) takes.stands takes.goes_on ∙ ap (λ l. given rules net past node (Hop packet l)) (sym links);
       }
-
-  -- so of an equal one, over equal links
-  pub goes_on_as : (k : ℕ) (x : JourneyView) (packet : Packet) (up : List ℕ) → find (is_of k) network.walks ≡ Some x → is_some x.ending ≡ false → packet ≡ x.packet → up ≡ up_links network.topology.value x.node past
-      → Hands rules past counts (event.Hop k) x.node (Hop packet up) network
-  goes_on_as k x packet up found on same links = by_standing (standing k past) refl
-    where
-      no_end : (o : Option Ending) → is_some o ≡ false → o ≡ None
-      no_end None e = refl
-      no_end (Some end) e = absurd (cc e)
-
-      by_standing : (o : Option Standing) → standing k past ≡ o → Hands rules past counts (event.Hop k) x.node (Hop packet up) network
-      by_standing None is = absurd (known_found network.topology.value past network.walks was.are_walks k x is found)
-      by_standing (Some at) is =
-          let read = journey_is network.topology.value past network.walks was.are_walks k x at is found in
-          subst (λ (j : JourneyView). j.ending ≡ None → packet ≡ j.packet → up ≡ up_links network.topology.value j.node past → Hands rules past counts (event.Hop k) j.node (Hop packet up) network) (sym read)
-          (λ end copy are.
-          subst (λ (q : Packet). Hands rules past counts (event.Hop k) at.node (Hop q up) network) (sym copy)
-          (subst (λ l. Hands rules past counts (event.Hop k) at.node (Hop at.packet l) network) (sym are) (goes_on k at is end)))
-          (no_end x.ending on) same links
 
   -- nor does one that is known enter
   pub known_stays : (k u p : ℕ) → is_some (find (is_of k) network.walks) ≡ true → does rules network.topology.value past (event.Inject k u p) ≡ Idle PacketKnown
@@ -273,24 +262,6 @@ module _ {P : Type 0} (rules : Rules) (past : Chronicle) (counts : Counts) (netw
       by_standing : (o : Option Standing) → standing k past ≡ o → injected (given rules network.topology.value past u) k p (standing k past) ≡ Idle PacketKnown
       by_standing None is = absurd (cc (sym (ap is_some (stands_nowhere network.topology.value past network.walks was.are_walks k is)) ∙ found))
       by_standing (Some at) is = ap (injected (given rules network.topology.value past u) k p) is
-
-  -- one that never entered does not go on
-  pub nowhere_stays : (k : ℕ) → find (is_of k) network.walks ≡ None → does rules network.topology.value past (event.Hop k) ≡ Idle NoSuchPacket
-  unfolding does
-  nowhere_stays k none =
-      ap (λ o. hopped rules network.topology.value past o (ending k past)) (not_found network.topology.value past network.walks was.are_walks k none)
-
-  -- nor one whose walk has ended
-  pub ended_stays : (k : ℕ) (x : JourneyView) → find (is_of k) network.walks ≡ Some x → is_some x.ending ≡ true → does rules network.topology.value past (event.Hop k) ≡ Idle PacketEnded
-  unfolding does
-  ended_stays k x found over = by_both (standing k past) (ending k past) refl refl
-    where
-      by_both : (o : Option Standing) (end : Option Ending) → standing k past ≡ o → ending k past ≡ end → hopped rules network.topology.value past (standing k past) (ending k past) ≡ Idle PacketEnded
-      by_both None end is ends = absurd (known_found network.topology.value past network.walks was.are_walks k x is found)
-      by_both (Some at) None is ends =
-          let read = journey_is network.topology.value past network.walks was.are_walks k x at is found in
-          absurd (cc (sym (ap is_some (ap (λ (j : JourneyView). j.ending) read ∙ ends)) ∙ over))
-      by_both (Some at) (Some end) is ends = ap₂ (hopped rules network.topology.value past) is ends
 
 -- one that is not there does nothing
 pub no_letter : (rules : Rules) (net : Net) (past : Chronicle) (number : ℕ) → mail_with number past ≡ None → does rules net past (event.Control number) ≡ Idle NoSuchMessage

@@ -105,24 +105,23 @@ last_of net u past (f ∷ facts) (y ∷ ys) out told e =
     }
 
 -- the newest fact comes last
-happen_last : (past : Chronicle) (fs : List Fact) (f : Fact) → happen past (fs ++ f ∷ []) ≡ f ∷ happen past fs
+pub happen_last : (past : Chronicle) (fs : List Fact) (f : Fact) → happen past (fs ++ f ∷ []) ≡ f ∷ happen past fs
 happen_last past [] f = refl
 happen_last past (g ∷ fs) f = happen_last (g ∷ past) fs f
 
-module _ (net : Net) (past : Chronicle) (u : ℕ) (before now : Chronicle → Type 0) where
+module _ (net : Net) (past : Chronicle) (u : ℕ) (before now : List Fact → Type 0) where
   -- one output more was handed on
   pub handed_next : (facts : List Fact) (earlier all : List Output) (out : Output) → AreTold net u past facts → all ≡ shown past facts → all ≡ earlier ++ out ∷ []
-      → ((fs : List Fact) → AreTold net u past fs → earlier ≡ shown past fs → before (happen past fs))
-      → ((mid : Chronicle) (f : Fact) → IsTold net u mid f → output_by f mid ≡ out ∷ [] → before mid → now (f ∷ mid))
-      → now (happen past facts)
+      → ((fs : List Fact) → AreTold net u past fs → earlier ≡ shown past fs → before fs)
+      → ((fs : List Fact) (f : Fact) → IsTold net u (happen past fs) f → output_by f (happen past fs) ≡ out ∷ [] → before fs → now (fs ++ f ∷ []))
+      → now facts
   handed_next facts earlier all out told shows is so_far one =
       let last = last_of net u past facts earlier out told (sym shows ∙ is) in
-      subst now (sym (ap (happen past) last.is ∙ happen_last past last.first last.newest))
-      (one (happen past last.first) last.newest last.told_newest last.shown_newest (so_far last.first last.told (sym last.shown_first)))
+      subst now (sym last.is) (one last.first last.newest last.told_newest last.shown_newest (so_far last.first last.told (sym last.shown_first)))
 
   -- nothing was handed on yet
-  pub handed_none : (facts : List Fact) → AreTold net u past facts → [] ≡ shown past facts → before past → before (happen past facts)
-  handed_none facts told shows was = subst (λ fs. before (happen past fs)) (sym (nothing_shown net u past facts told (sym shows))) was
+  pub handed_none : (facts : List Fact) → AreTold net u past facts → [] ≡ shown past facts → before [] → before facts
+  handed_none facts told shows was = subst before (sym (nothing_shown net u past facts told (sym shows))) was
 
 -- a fact that shows an item is that the item was sent
 pub sent_is : (net : Net) (u : ℕ) (past : Chronicle) (f : Fact) (g : Going) → IsTold net u past f → output_by f past ≡ Send g ∷ []

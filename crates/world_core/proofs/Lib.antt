@@ -18,6 +18,7 @@ pub mod Counts
 pub mod Fresh
 pub mod Proposing
 pub mod Stopping
+pub mod Returning
 pub mod Answered
 pub mod Comes
 pub mod Handed

@@ -1,5 +1,5 @@
 -- What an event leaves of a network, and what came of it.
-use Rattle.std.specs.Prelude.{ℕ, ◌≡◌, ◌<◌, ◌≤◌, ◌-◌, ◌^◌, ◌==◌, Bool, true, is_some, Some, List, ◌∷◌, ◌++◌, length, if◌then◌else◌}
+use Rattle.std.specs.Prelude.{ℕ, ◌≡◌, ◌<◌, ◌≤◌, ◌-◌, ◌^◌, ◌==◌, Bool, true, false, is_some, Some, List, ◌∷◌, ◌++◌, length, if◌then◌else◌}
 use Rattle.topology.specs.declared.ballots.Ballot.{Ballot}
 use Rattle.topology.specs.declared.links.LinkState.TheVariants.{Up}
 use Rattle.topology.specs.LinkStates.{number_of}
@@ -31,7 +31,7 @@ use Rattle.world_core.specs.Effects.{effects, Tells}
 use Rattle.world_core.specs.Limits.{triggers_of, above_by, StopsAt}
 use Rattle.world_core.specs.Matching.{AreCrashed, AreLinks, AreMails, AreNodes, Counts, IsCounted, Stands}
 use Rattle.world_core.specs.Publications.{all_published}
-use Rattle.world_core.specs.Walks.{AreWalks}
+use Rattle.world_core.specs.Walks.{AreWalksBut}
 
 -- what holds after every list of events: each node may enter what is in front of each way to it, and may
 -- hear it; each way is joined; and no link has used up the numbers of its sessions
@@ -61,13 +61,13 @@ pub record MayArrive (past : Chronicle) (v u s : ℕ) : Type 0 where
 abbrev pub Since : Chronicle → List Effect → Chronicle → Type 0
 Since first list now = effects first ++ list ≡ effects now
 
--- in the midst of an event: links, control messages, publications and packets are as the run has them now, and the list
--- tells what it did since
-pub record AreSending {P : Type 0} (first now : Chronicle) (counts : Counts) (network : Network P) (list : List Effect) : Type 0 where
+-- in the midst of an event: links, control messages, publications and packets are as the run has them now, but for the
+-- packets that are away, and the list tells what it did since
+pub record AreSending {P : Type 0} (away : ℕ → Bool) (first now : Chronicle) (counts : Counts) (network : Network P) (list : List Effect) : Type 0 where
   pub are_links : AreLinks network.topology.value now network.links
   pub are_mails : AreMails network.topology.value now counts network.mails
   pub are_published : network.publications.items ≡ all_published now
-  pub are_walks : AreWalks network.topology.value now network.walks
+  pub are_walks : AreWalksBut away network.topology.value now network.walks
   pub since : Since first list now
 
 -- what is known when a node is handed an input: the item of an arrival is taken from its way already
@@ -95,20 +95,26 @@ PacketIsIn net past (input.Hop packet up) =
     (is_some (standing packet.id past) ≡ true) × ((w : ℕ) → has up w ≡ true → has net.nodes w ≡ true)
 PacketIsIn net past other = Unit {0}
 
--- an item that was taken from its way is not declined
+-- the packet that goes on is away
+abbrev pub away_with : Input → ℕ → Bool
+away_with (input.Hop packet up) k = packet.id == k
+away_with other k = false
+
+-- an item that was taken from its way is not declined, nor a packet that was taken from its place
 abbrev pub GoesWhere : Input → Step → Type 0
 GoesWhere (input.Arrive v s item) step = Did step
+GoesWhere (input.Hop packet up) step = Did step
 GoesWhere other step = Unit {0}
 
--- node u may be handed the input: all is as the run has it, but that the item of an arrival is taken; its names are
--- those of the network; and such an item is not declined
+-- node u may be handed the input: all is as the run has it, but that the item of an arrival and the packet that goes on are
+-- taken; its names are those of the network; and what was taken is not declined
 pub record MayHand {P : Type 0} (rules : Rules) (past : Chronicle) (counts : Counts) (u : ℕ) (input : Input) (network : Network P) : Type 0 where
   pub are_nodes : AreNodes network.policy rules network.topology.value past network.nodes.items
   pub are_crashed : AreCrashed network.topology.value past network.crashed.items
   pub are_links : AreLinks network.topology.value (handed u input past) network.links
   pub are_mails : AreMails network.topology.value past counts network.mails
   pub are_published : network.publications.items ≡ all_published past
-  pub are_walks : AreWalks network.topology.value past network.walks
+  pub are_walks : AreWalksBut (away_with input) network.topology.value past network.walks
   pub counted : IsCounted network.topology.value past network.triggers
   pub may_come : MayCome network.topology.value u input
   pub sender : SenderIsIn network.topology.value input

@@ -13,38 +13,9 @@ ghost use Rattle.world_core.specs.Walks.{AreWalks, HasWalks};
 use crate::network::Network;
 use crate::outcomes::{Outcome, Stop};
 use chronicle::Event;
-use epoch_packet::{Nodes, Packet};
 use node_core::Input;
 use path_vector::Policy;
-use std::alloc::Global;
 use topology::{LinkState, NoMemory, NodeId, PrefixId, Reason};
-
-// The same nodes.
-fn copy_nodes(alloc: Global, nodes: &Nodes) -> Result<Nodes, NoMemory>
-    ensures { IfOk result (λ copy. copy ≡ nodes.now) }
-{
-    Ok(Nodes::new(Vec::from_slice(alloc, nodes.as_slice())?))
-}
-
-// The same packet: the one that stands there stays until it has come to another node.
-fn copy_packet(alloc: Global, packet: &Packet) -> Result<Box<Packet>, NoMemory>
-    ensures { IfOk result (λ copy. copy.value ≡ packet.now) }
-{
-    let trail = copy_nodes(alloc, &packet.trail)?;
-    let route = copy_nodes(alloc, &packet.route)?;
-    let copy = Packet {
-        id: packet.id,
-        prefix: packet.prefix,
-        epoch: packet.epoch,
-        mode: packet.mode,
-        budget: packet.budget,
-        reached: packet.reached,
-        visited: packet.visited,
-        trail,
-        route,
-    };
-    Ok(Box::new(alloc, copy)?)
-}
 
 // Whether a link in this state is up.
 fn is_up(state: LinkState) -> bool
@@ -112,7 +83,8 @@ impl<P: Policy + Copy> Network<P> {
         self.give(node, Input::Inject { id: packet, prefix })
     }
 
-    /// The packet goes on from the node where it stands, unless its walk has ended.
+    /// The packet goes on from the node where it stands, unless its walk has ended. The node gets the packet itself:
+    /// after an `Err` it is gone, as the network is of no use then.
     pub fn hop(&mut self, packet: u32) -> Result<Outcome, Stop>
         requires places { HasPlaces self.old.topology.value (length self.old.nodes.items) }
         requires walks { HasWalks self.old.topology.value self.old.walks }
@@ -125,14 +97,11 @@ impl<P: Policy + Copy> Network<P> {
             Stops (P.rules self.old.policy) self.old.topology.value past
             (does (P.rules self.old.policy) self.old.topology.value past (Event.Hop packet)) stop) }
     {
-        let Some(journey) = self.walks.of(packet) else {
-            return Ok(Outcome::Idle(Reason::NoSuchPacket));
+        let taken = match self.walks.take(packet) {
+            Ok(taken) => taken,
+            Err(reason) => return Ok(Outcome::Idle(reason)),
         };
-        if journey.end().is_some() {
-            return Ok(Outcome::Idle(Reason::PacketEnded));
-        }
-        let node = journey.node();
-        let packet = copy_packet(self.alloc, journey.packet())?;
+        let (node, packet) = taken;
         let up = self.up_links(node)?;
         self.give(node, Input::Hop { packet, up })
     }

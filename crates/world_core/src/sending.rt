@@ -1,5 +1,5 @@
 //! What a node hands out goes to the links, to the control network and to the list of effects.
-ghost use Rattle.std.specs.Prelude.{◌≡◌, ◌∷◌, ◌++◌, [], ℕ, suc, true, is_some, List, map, length, OnOk, if◌then◌else◌};
+ghost use Rattle.std.specs.Prelude.{◌≡◌, ◌∷◌, ◌++◌, [], ℕ, suc, Bool, true, is_some, List, map, length, OnOk, if◌then◌else◌};
 ghost use Rattle.topology.specs.LinkStates.{carries};
 ghost use Rattle.topology.specs.Lists.{has};
 ghost use Rattle.topology.specs.Net.{Net, linked};
@@ -13,7 +13,7 @@ ghost use Rattle.node_core.specs.Outputs.{Hands, output_by, output_of};
 ghost use Rattle.world_core.specs.Happening.{AreSending, KeepsNodes};
 ghost use Rattle.world_core.specs.Matching.{AreLinks, AreMails, Counts};
 ghost use Rattle.world_core.specs.Telling.{AreTold, IsTold};
-ghost use Rattle.world_core.specs.Walks.{AreWalks, IsPassing};
+ghost use Rattle.world_core.specs.Walks.{AreWalksBut, IsPassing, still, still_after};
 ghost use Rattle.world_core.specs.declared.outcomes.Effect.TheVariants.{Queued, Lost, Mailed as Shown, Published, Visited, Ended};
 
 use crate::network::Network;
@@ -101,8 +101,8 @@ fn forward(
     walks: &mut Walks,
     effects: &mut Vec<Effect>,
 ) -> Result<(), NoMemory>
-    ensures { OnOk result ((net : Net) (past : Chronicle) → AreWalks net past walks.old → IsPassing net next packet.value →
-        AreWalks net (Came next packet.value ∷ past) walks.new
+    ensures { OnOk result ((away : ℕ → Bool) (net : Net) (past : Chronicle) → AreWalksBut away net past walks.old → IsPassing net next packet.value →
+        AreWalksBut (still (Came next packet.value) away) net (Came next packet.value ∷ past) walks.new
         × (effects.new.items ≡ effects.old.items ++ Visited packet.value.id (visit_of next packet.value) ∷ [])) }
 {
     let number = packet.id;
@@ -117,8 +117,8 @@ fn forward(
 
 // The walk of a packet ended.
 fn end(number: u32, end: End, walks: &mut Walks, effects: &mut Vec<Effect>) -> Result<(), NoMemory>
-    ensures { OnOk result ((net : Net) (past : Chronicle) → AreWalks net past walks.old → is_some (standing number past) ≡ true →
-        AreWalks net (Ends number end ∷ past) walks.new
+    ensures { OnOk result ((away : ℕ → Bool) (net : Net) (past : Chronicle) → AreWalksBut away net past walks.old → is_some (standing number past) ≡ true →
+        AreWalksBut (still (Ends number end) away) net (Ends number end ∷ past) walks.new
         × (effects.new.items ≡ effects.old.items ++ Ended number end ∷ [])) }
 {
     walks.end(number, end);
@@ -139,10 +139,10 @@ impl<P: Policy + Copy> Network<P> {
         effects: &mut Vec<Effect>,
     ) -> Result<(), NoMemory>
         ensures kept { OnOk result (KeepsNodes self.old self.new) }
-        ensures sending { OnOk result ((first past : Chronicle) (counts : Counts) (f : Fact) →
+        ensures sending { OnOk result ((away : ℕ → Bool) (first past : Chronicle) (counts : Counts) (f : Fact) →
             IsTold self.old.topology.value node past f → output_by f past ≡ output_of output ∷ [] →
-            AreSending first past counts self.old effects.old.items →
-            AreSending first (f ∷ past) counts self.new effects.new.items) }
+            AreSending away first past counts self.old effects.old.items →
+            AreSending (still f away) first (f ∷ past) counts self.new effects.new.items) }
     {
         match output {
             Output::Logged { index } => effects.push(Effect::Logged { node, index })?,
@@ -164,10 +164,10 @@ impl<P: Policy + Copy> Network<P> {
         effects: &mut Vec<Effect>,
     ) -> Result<(), NoMemory>
         ensures kept { OnOk result (KeepsNodes self.old self.new) }
-        ensures sending { OnOk result ((first past : Chronicle) (counts : Counts) (facts : List Fact) →
+        ensures sending { OnOk result ((away : ℕ → Bool) (first past : Chronicle) (counts : Counts) (facts : List Fact) →
             AreTold self.old.topology.value node past facts → Hands past outputs.items (happen past facts) →
-            AreSending first past counts self.old effects.old.items →
-            AreSending first (happen past facts) counts self.new effects.new.items) }
+            AreSending away first past counts self.old effects.old.items →
+            AreSending (still_after facts away) first (happen past facts) counts self.new effects.new.items) }
     {
         for output in outputs {
             self.hand(node, output, effects)?;

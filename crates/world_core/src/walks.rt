@@ -1,16 +1,20 @@
 //! The packets of a world, and their walks.
-ghost use Rattle.std.specs.Prelude.{◌≡◌, ◌∷◌, ◌++◌, [], true, None, Some, find, length, is_some, OnOk, OnErr, IfOk};
+ghost use Rattle.std.specs.Prelude.{◌≡◌, ◌∷◌, ◌++◌, [], ℕ, Bool, true, None, Some, find, length, is_some, OnOk, OnErr, IfOk, IfErr};
 ghost use Rattle.std.specs.Option.{option_copied};
 ghost use Rattle.topology.specs.Net.{Net};
 ghost use Rattle.chronicle.specs.Facts.{Chronicle, Visit as Came, End as Ends};
+ghost use Rattle.chronicle.specs.Run.{does};
+ghost use Rattle.chronicle.specs.Steps.{Idle};
 ghost use Rattle.chronicle.specs.Walks.{standing, visit_of};
-ghost use Rattle.world_core.specs.Walks.{AreWalks, IsPassing, is_of};
+ghost use Rattle.path_vector.specs.Rules.{Rules};
+ghost use Rattle.world_core.specs.Walks.{AreWalks, AreWalksBut, IsPassing, MayGo, Takes, is_of, still};
 
+use chronicle::Event;
 use epoch_packet::{End, Packet, Visit};
 use indexmap::IndexSet;
 use std::alloc::Global;
 use std::marker::Model;
-use topology::{NoMemory, NodeId};
+use topology::{NoMemory, NodeId, Reason};
 
 /// A visit, as a walk tells it, of a packet that comes to the node or leaves the tables there.
 pub fn visit_of(node: NodeId, packet: &Packet) -> Visit
@@ -26,31 +30,35 @@ pub fn visit_of(node: NodeId, packet: &Packet) -> Visit
 /// A packet: where it stands, what it is like there, where it was, and how its walk ended.
 #[derive(Drop)]
 pub struct Journey {
+    number: u32,
     node: NodeId,
-    packet: Box<Packet>,
+    // None while a node has it, and once its walk has ended.
+    packet: Option<Box<Packet>>,
     // The oldest first.
     visits: Vec<Visit>,
     end: Option<End>,
 }
 
 impl Model for Journey {
+    ghost use Rattle.std.specs.Prelude.{option_map};
     ghost use Rattle.world_core.specs.Walks.{JourneyView};
 
     ghost Value = { JourneyView };
 
-    ghost view = { λ j. record { node = j.node; packet = j.packet.value; visits = j.visits.items; ending = j.end } };
+    ghost view = { λ j. record { number = j.number; node = j.node; packet = option_map (λ b. b.value) j.packet; visits = j.visits.items; ending = j.end } };
 }
 
 impl Journey {
     // The packet has just entered the network at the node.
     fn begin(alloc: Global, node: NodeId, packet: Box<Packet>) -> Result<Journey, NoMemory>
-        ensures { IfOk result (λ journey. journey ≡ record { node = node; packet = packet.value; visits = visit_of node packet.value ∷ []; ending = None }) }
+        ensures { IfOk result (λ journey. journey ≡ record { number = packet.value.id; node = node; packet = Some packet.value; visits = visit_of node packet.value ∷ []; ending = None }) }
     {
         let mut visits = Vec::new(alloc);
         visits.push(visit_of(node, &packet))?;
         Ok(Journey {
+            number: packet.id,
             node,
-            packet,
+            packet: Some(packet),
             visits,
             end: None,
         })
@@ -58,12 +66,12 @@ impl Journey {
 
     // The packet comes to the node, or leaves the tables there.
     fn go_on(&mut self, node: NodeId, packet: Box<Packet>) -> Result<(), NoMemory>
-        ensures ok { OnOk result (self.new ≡ record { node = node; packet = packet.value; visits = self.old.visits ++ visit_of node packet.value ∷ []; ending = self.old.ending }) }
+        ensures ok { OnOk result (self.new ≡ record self.old { node = node; packet = Some packet.value; visits = self.old.visits ++ visit_of node packet.value ∷ [] }) }
         ensures err { OnErr result (self.new ≡ self.old) }
     {
         self.visits.push(visit_of(node, &packet))?;
         self.node = node;
-        self.packet = packet;
+        self.packet = Some(packet);
         Ok(())
     }
 
@@ -81,11 +89,13 @@ impl Journey {
         self.node
     }
 
-    /// The packet as it is there.
-    pub fn packet(&self) -> &Packet
-        ensures { result.now ≡ self.now.packet }
+    // The packet, which a node gets.
+    fn take(&mut self) -> Box<Packet>
+        requires { is_some self.old.packet ≡ true }
+        ensures packet { self.old.packet ≡ Some result.value }
+        ensures journey { self.new ≡ record self.old { packet = None } }
     {
-        &self.packet
+        self.packet.take().unwrap()
     }
 
     /// The visits of the walk, the oldest first.
@@ -151,7 +161,7 @@ impl Walks {
     // A packet with a new number enters the network.
     fn enter(&mut self, node: NodeId, packet: Box<Packet>) -> Result<(), NoMemory>
         requires { find (is_of packet.value.id) self.old ≡ None }
-        ensures ok { OnOk result (self.new ≡ self.old ++ record { node = node; packet = packet.value; visits = visit_of node packet.value ∷ []; ending = None } ∷ []) }
+        ensures ok { OnOk result (self.new ≡ self.old ++ record { number = packet.value.id; node = node; packet = Some packet.value; visits = visit_of node packet.value ∷ []; ending = None } ∷ []) }
         ensures err { OnErr result (self.new ≡ self.old) }
     {
         let number = packet.id;
@@ -164,8 +174,9 @@ impl Walks {
 
     /// The packet comes to a node, or leaves the tables there. After want of memory the walks are as they were.
     pub fn visit(&mut self, node: NodeId, packet: Box<Packet>) -> Result<(), NoMemory>
-        ensures ok { OnOk result ((net : Net) (past : Chronicle) → AreWalks net past self.old →
-            IsPassing net node packet.value → AreWalks net (Came node packet.value ∷ past) self.new) }
+        ensures ok { OnOk result ((away : ℕ → Bool) (net : Net) (past : Chronicle) → AreWalksBut away net past self.old →
+            IsPassing net node packet.value →
+            AreWalksBut (still (Came node packet.value) away) net (Came node packet.value ∷ past) self.new) }
         ensures err { OnErr result (self.new ≡ self.old) }
     {
         let Some(place) = self.numbers.get_index_of(&packet.id) else {
@@ -176,10 +187,33 @@ impl Walks {
         Ok(())
     }
 
+    /// The packet with the node where it stands, or why it does not go on. It is away until it comes to a node, or its
+    /// walk ends.
+    pub fn take(&mut self, number: u32) -> Result<(NodeId, Box<Packet>), Reason>
+        requires { MayGo number self.old }
+        ensures taken { IfOk result (λ r. (net : Net) (past : Chronicle) → AreWalks net past self.old →
+            Takes net past number r.0 r.1.value self.new) }
+        ensures reason { IfErr result (λ reason. (rules : Rules) (net : Net) (past : Chronicle) → AreWalks net past self.old →
+            does rules net past (Event.Hop number) ≡ Idle reason) }
+        ensures unchanged { OnErr result (self.new ≡ self.old) }
+    {
+        let Some(place) = self.numbers.get_index_of(&number) else {
+            return Err(Reason::NoSuchPacket);
+        };
+        let journey = &self.journeys[place];
+        if journey.end().is_some() {
+            return Err(Reason::PacketEnded);
+        }
+        let node = journey.node();
+        let packet = self.journeys[place].take();
+        Ok((node, packet))
+    }
+
     /// The walk of the packet ended.
     pub fn end(&mut self, number: u32, end: End)
-        ensures { (net : Net) (past : Chronicle) → AreWalks net past self.old → is_some (standing number past) ≡ true →
-            AreWalks net (Ends number end ∷ past) self.new }
+        ensures { (away : ℕ → Bool) (net : Net) (past : Chronicle) → AreWalksBut away net past self.old →
+            is_some (standing number past) ≡ true →
+            AreWalksBut (still (Ends number end) away) net (Ends number end ∷ past) self.new }
     {
         if let Some(place) = self.numbers.get_index_of(&number) {
             self.journeys[place].finish(end);

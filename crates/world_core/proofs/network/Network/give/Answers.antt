@@ -10,6 +10,7 @@ use Rattle.world_core.proofs.Near.{is_ranked}
 use Rattle.world_core.proofs.Nodes.{inside_places, all_within, node_at}
 use Rattle.world_core.proofs.Stopping.{handed_on, stops_with, stops_at_triggers, stops_at_control, stops_at_packets}
 use Rattle.world_core.proofs.Answered.{sending_begun, sent_stands, given_sent, given_tells, idle_links, idle_mails, idle_published, idle_walks, idle_counted, idle_tells, logs, others_same, stay, what, new_stands, new_answers, nodes_given, total_given}
+use Rattle.world_core.proofs.Returning.{comes_back}
 use Rattle.world_core.proofs.Steady.{given_flags}
 use Rattle.world_core.proofs.Telling.{begun, give_adds}
 use Rattle.world_core.proofs.network.Network.give.Goals as goal
@@ -69,7 +70,7 @@ returns-in-Idle-clause-comes g c past counts may =
         are_links = idle_links net past u (input_of i) s c.in-Idle.reason c.args.self.now.links answers may.goes may.are_links;
         are_mails = idle_mails net past counts s c.in-Idle.reason c.args.self.now.mails answers may.are_mails;
         are_published = idle_published past s c.in-Idle.reason c.args.self.now.publications.items answers may.are_published;
-        are_walks = idle_walks net past s c.in-Idle.reason c.args.self.now.walks answers may.are_walks;
+        are_walks = idle_walks net past (input_of i) s c.in-Idle.reason c.args.self.now.walks answers may.goes may.are_walks;
         counted = idle_counted net past s c.in-Idle.reason c.args.self.now.triggers answers may.counted;
       };
       tells = idle_tells past s c.in-Idle.reason answers;
@@ -136,8 +137,8 @@ returns-in_err-check_control-clause-stopped g c =
     let net_kept = c.in_ok-hand_all.ensures.kept in
     let start = sending_begun past counts u (input_of i) (record c.args.self.now { nodes = c.turn.new.nodes; triggers = c.in_ok-self.field-0 }) may.are_links may.are_mails may.are_published may.are_walks in
     let adds = give_adds rules net (carried_by u past) u past (λ w t. refl) may.are_nodes.valid c.requires.node (input_of i) may.may_come may.sender may.passing in
-    let sent = given_sent net past counts u (input_of i) s c.in-Did.list c.into_vec.result.items (record c.args.self.now { nodes = c.turn.new.nodes; triggers = c.in_ok-self.field-0 }) c.hand_all.new.self c.hand_all.new.effects.items (sym c.into_vec.ensures) adds answers start
-    (λ first mid facts told hands sending. c.in_ok-hand_all.ensures.sending first mid counts facts told hands (rw c.in_ok-effects.ensures sending)) in
+    let sent = given_sent net past counts u (input_of i) s c.in-Did.list c.into_vec.result.items (record c.args.self.now { nodes = c.turn.new.nodes; triggers = c.in_ok-self.field-0 }) c.hand_all.new.self c.hand_all.new.effects.items (sym c.into_vec.ensures) adds (comes_back rules net u past (input_of i)) answers start
+    (λ away first mid facts told hands sending. c.in_ok-hand_all.ensures.sending away first mid counts facts told hands (rw c.in_ok-effects.ensures sending)) in
     let stopped = c.in_err-check_control.ensures.stopped in
     rw (out.2, stopped.0)
     (stops_at_control policy rules net past c.turn.new.nodes.items s c.in-Did.list now (subst (λ n. n ≤ MOST_TRIGGERS) (counted.0 ∙ sum) counted.1) answers (stopped.1 (chronicle_of past s) counts sent.are_mails)))
@@ -167,8 +168,8 @@ returns-in_err-check_packets-clause-stopped g c =
     let net_kept = c.in_ok-hand_all.ensures.kept in
     let start = sending_begun past counts u (input_of i) (record c.args.self.now { nodes = c.turn.new.nodes; triggers = c.in_ok-self.field-0 }) may.are_links may.are_mails may.are_published may.are_walks in
     let adds = give_adds rules net (carried_by u past) u past (λ w t. refl) may.are_nodes.valid c.requires.node (input_of i) may.may_come may.sender may.passing in
-    let sent = given_sent net past counts u (input_of i) s c.in-Did.list c.into_vec.result.items (record c.args.self.now { nodes = c.turn.new.nodes; triggers = c.in_ok-self.field-0 }) c.hand_all.new.self c.hand_all.new.effects.items (sym c.into_vec.ensures) adds answers start
-    (λ first mid facts told hands sending. c.in_ok-hand_all.ensures.sending first mid counts facts told hands (rw c.in_ok-effects.ensures sending)) in
+    let sent = given_sent net past counts u (input_of i) s c.in-Did.list c.into_vec.result.items (record c.args.self.now { nodes = c.turn.new.nodes; triggers = c.in_ok-self.field-0 }) c.hand_all.new.self c.hand_all.new.effects.items (sym c.into_vec.ensures) adds (comes_back rules net u past (input_of i)) answers start
+    (λ away first mid facts told hands sending. c.in_ok-hand_all.ensures.sending away first mid counts facts told hands (rw c.in_ok-effects.ensures sending)) in
     let few = c.in_ok-check_control.ensures.ok (chronicle_of past s) counts sent.are_mails in
     let stopped = c.in_err-check_packets.ensures.stopped in
     rw (out.2, stopped.0)
@@ -196,8 +197,8 @@ returns-clause-comes g c past counts may =
     let net_kept = c.in_ok-hand_all.ensures.kept in
     let start = sending_begun past counts u (input_of i) (record c.args.self.now { nodes = c.turn.new.nodes; triggers = c.in_ok-self.field-0 }) may.are_links may.are_mails may.are_published may.are_walks in
     let adds = give_adds rules net (carried_by u past) u past (λ w t. refl) may.are_nodes.valid c.requires.node (input_of i) may.may_come may.sender may.passing in
-    let sent = given_sent net past counts u (input_of i) s c.in-Did.list c.into_vec.result.items (record c.args.self.now { nodes = c.turn.new.nodes; triggers = c.in_ok-self.field-0 }) c.hand_all.new.self c.hand_all.new.effects.items (sym c.into_vec.ensures) adds answers start
-    (λ first mid facts told hands sending. c.in_ok-hand_all.ensures.sending first mid counts facts told hands (rw c.in_ok-effects.ensures sending)) in
+    let sent = given_sent net past counts u (input_of i) s c.in-Did.list c.into_vec.result.items (record c.args.self.now { nodes = c.turn.new.nodes; triggers = c.in_ok-self.field-0 }) c.hand_all.new.self c.hand_all.new.effects.items (sym c.into_vec.ensures) adds (comes_back rules net u past (input_of i)) answers start
+    (λ away first mid facts told hands sending. c.in_ok-hand_all.ensures.sending away first mid counts facts told hands (rw c.in_ok-effects.ensures sending)) in
     let few = c.in_ok-check_control.ensures.ok (chronicle_of past s) counts sent.are_mails in
     let few_packets = c.in_ok-check_packets.ensures.ok (chronicle_of past s) sent.are_walks in
     record {

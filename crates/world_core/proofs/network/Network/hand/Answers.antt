@@ -14,7 +14,7 @@ use Rattle.world_core.proofs.Walking.{walks_stay}
 use Rattle.world_core.proofs.network.Network.hand.Goals as goal
 
 pub returns-in_ok-send-in-Send-clause-sending : goal.returns-in_ok-send-in-Send-clause-sending
-returns-in_ok-send-in-Send-clause-sending g c first past counts f told shows was =
+returns-in_ok-send-in-Send-clause-sending g c away first past counts f told shows was =
     let net = c.args.self.now.topology.value in
     let u = c.args.node in
     let out = going_of c.in-Send.out in
@@ -31,7 +31,7 @@ returns-in_ok-send-in-Send-clause-sending g c first past counts f told shows was
     })
 
 pub returns-in_ok-post-in-Mail-clause-sending : goal.returns-in_ok-post-in-Mail-clause-sending
-returns-in_ok-post-in-Mail-clause-sending g c first past counts f told shows was =
+returns-in_ok-post-in-Mail-clause-sending g c away first past counts f told shows was =
     let net = c.args.self.now.topology.value in
     let u = c.args.node in
     let to = c.in-Mail.mail.to in
@@ -48,12 +48,12 @@ returns-in_ok-post-in-Mail-clause-sending g c first past counts f told shows was
     })
 
 pub returns-in_ok-forward-in-Forward-clause-sending : goal.returns-in_ok-forward-in-Forward-clause-sending
-returns-in_ok-forward-in-Forward-clause-sending g c first past counts f told shows was =
+returns-in_ok-forward-in-Forward-clause-sending g c away first past counts f told shows was =
     let net = c.args.self.now.topology.value in
     let w = c.in-Forward.next in
     let packet = c.in-Forward.packet.value in
     let came = forwarded_is net c.args.node past f w packet told (shows ∙ ap (λ o. output_of o ∷ []) c.in-Forward.is) in
-    let done = c.in_ok-forward-in-Forward.ensures net past was.are_walks came.1 in
+    let done = c.in_ok-forward-in-Forward.ensures away net past was.are_walks came.1 in
     rw came.0
     (record {
       are_links = record { acts = was.are_links.acts; stands = was.are_links.stands; states = was.are_links.states; items = was.are_links.items };
@@ -64,12 +64,12 @@ returns-in_ok-forward-in-Forward-clause-sending g c first past counts f told sho
     })
 
 pub returns-in_ok-end-in-Ended-clause-sending : goal.returns-in_ok-end-in-Ended-clause-sending
-returns-in_ok-end-in-Ended-clause-sending g c first past counts f told shows was =
+returns-in_ok-end-in-Ended-clause-sending g c away first past counts f told shows was =
     let net = c.args.self.now.topology.value in
     let id = c.in-Ended.id in
     let how = c.in-Ended.how in
     let over = ended_is net c.args.node past f id how told (shows ∙ ap (λ o. output_of o ∷ []) c.in-Ended.is) in
-    let done = c.in_ok-end-in-Ended.ensures net past was.are_walks over.1 in
+    let done = c.in_ok-end-in-Ended.ensures away net past was.are_walks over.1 in
     rw over.0
     (record {
       are_links = record { acts = was.are_links.acts; stands = was.are_links.stands; states = was.are_links.states; items = was.are_links.items };
@@ -80,7 +80,7 @@ returns-in_ok-end-in-Ended-clause-sending g c first past counts f told shows was
     })
 
 pub returns-in_ok-push-in-Logged-clause-sending : goal.returns-in_ok-push-in-Logged-clause-sending
-returns-in_ok-push-in-Logged-clause-sending g c first past counts f told shows was =
+returns-in_ok-push-in-Logged-clause-sending g c away first past counts f told shows was =
     let net = c.args.self.now.topology.value in
     let u = c.args.node in
     let made = logged_is net u past f c.in-Logged.index told (shows ∙ ap (λ o. output_of o ∷ []) c.in-Logged.is) in
@@ -94,7 +94,7 @@ returns-in_ok-push-in-Logged-clause-sending g c first past counts f told shows w
     })
 
 pub returns-in_ok-push-in-Cut-clause-sending : goal.returns-in_ok-push-in-Cut-clause-sending
-returns-in_ok-push-in-Cut-clause-sending g c first past counts f told shows was =
+returns-in_ok-push-in-Cut-clause-sending g c away first past counts f told shows was =
     let net = c.args.self.now.topology.value in
     let u = c.args.node in
     let e = c.in-Cut.epoch in
@@ -108,7 +108,7 @@ returns-in_ok-push-in-Cut-clause-sending g c first past counts f told shows was 
     })
 
 pub returns-in_ok-publish-in-Published-clause-sending : goal.returns-in_ok-publish-in-Published-clause-sending
-returns-in_ok-publish-in-Published-clause-sending g c first past counts f told shows was =
+returns-in_ok-publish-in-Published-clause-sending g c away first past counts f told shows was =
     let net = c.args.self.now.topology.value in
     let u = c.args.node in
     let t = c.in-Published.table.value in

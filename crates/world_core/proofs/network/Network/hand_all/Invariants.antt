@@ -1,15 +1,16 @@
-use Rattle.std.proofs.Common.{List, ◌≡◌, map}
+use Rattle.std.proofs.Common.{ℕ, Bool, List, ◌≡◌, map}
 use Rattle.chronicle.specs.Facts.{Chronicle, Fact, happen}
 use Rattle.node_core.specs.Outputs.{output_of}
 use Rattle.world_core.specs.Happening.{AreSending, KeepsNodes}
 use Rattle.world_core.specs.Matching.{Counts}
 use Rattle.world_core.specs.Telling.{AreTold}
+use Rattle.world_core.specs.Walks.{still_after}
 use Rattle.world_core.proofs.Handing.{shown}
 use Rattle.world_core.proofs.network.Network.hand_all.Given as goal
 
 abbrev pub invariant-loop-output : goal.invariant-loop-output
 invariant-loop-output g l = record {
   kept : KeepsNodes l.fn.self l.self;
-  sent : (first past : Chronicle) (counts : Counts) (facts : List Fact) → AreTold l.fn.self.topology.value l.node past facts → map output_of l.yielded ≡ shown past facts
-      → AreSending first past counts l.fn.self l.fn.effects.items → AreSending first (happen past facts) counts l.self l.effects.items;
+  sent : (away : ℕ → Bool) (first past : Chronicle) (counts : Counts) (facts : List Fact) → AreTold l.fn.self.topology.value l.node past facts → map output_of l.yielded ≡ shown past facts
+      → AreSending away first past counts l.fn.self l.fn.effects.items → AreSending (still_after facts away) first (happen past facts) counts l.self l.effects.items;
 }
