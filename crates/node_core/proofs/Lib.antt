@@ -7,6 +7,7 @@ pub mod Entering
 pub mod Raising
 pub mod Received
 pub mod Stepping
+pub mod Together
 pub mod Admitting
 pub mod Reporting
 pub mod Listed

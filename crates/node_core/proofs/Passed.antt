@@ -134,7 +134,7 @@ module _ {P : Type 0} (policy : P) (rules : Rules) (net : Net) (u : ℕ) (past :
   passed_follows carried (GoOn packet up) = forwards_keep rules net u past (λ now. Follows policy rules net u node now) packet_follows packet.value up.items
 
 -- what is handed out is what the node says
-pub passed_says : (rules : Rules) (net : Net) (u : ℕ) (past : Chronicle) (carried : Carried) (passing : Passing) (list : Vec Given Global) → Hands past list.items (chronicle_of past (answer rules net carried u past (passing_of passing)))
+pub passed_says : (rules : Rules) (net : Net) (u : ℕ) (past : Chronicle) (carried : Carried) (passing : Passing) (list : List Given) → Hands past list (chronicle_of past (answer rules net carried u past (passing_of passing)))
     → Says u past (answer rules net carried u past (passing_of passing)) (Did list None)
 unfolding answer
 passed_says rules net u past carried (Enter id p) list hands =

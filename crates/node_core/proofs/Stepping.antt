@@ -73,7 +73,7 @@ pub record Went (u : ℕ) (past : Chronicle) (step : Step) (outputs : List Given
 
 -- the outputs of an answer
 abbrev pub outputs_of : Answer → List Given
-outputs_of (told.Did outputs due) = outputs.items
+outputs_of (told.Did outputs due) = outputs
 outputs_of (told.Idle why) = []
 
 -- the epoch that may be complete

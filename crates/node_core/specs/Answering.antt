@@ -34,7 +34,7 @@ abbrev pub Says : ℕ → Chronicle → Step → Answer → Type 0
 Says u past (Idle reason) (Declines told) = told ≡ reason
 Says u past (Idle reason) (Did outputs due) = ⊥
 Says u past (Goes now) (Declines told) = ⊥
-Says u past (Goes now) (Did outputs due) = Hands past outputs.items now × MayComplete u past now due
+Says u past (Goes now) (Did outputs due) = Hands past outputs now × MayComplete u past now due
 
 -- the table of e by u's cut and the decision that it knows
 pub record Tabled (rules : Rules) (net : Net) (u e : ℕ) (now : Chronicle) (table : View) : Type 0 where

@@ -11,6 +11,7 @@ pub mod Views
 pub mod Agreeing
 pub mod Keeping
 pub mod Deciding
+pub mod Entries
 pub mod Standing
 pub mod Answering
 pub mod Beside

@@ -1,12 +1,12 @@
 //! What a node does with an input that it does not decline.
-ghost use Rattle.std.specs.Prelude.{◌≡◌, ◌∷◌, [], ℕ, Some, true, List, map, ◌++◌, suc, length, IfOk, OnOk};
+ghost use Rattle.std.specs.Prelude.{◌≡◌, ◌∷◌, [], ℕ, Some, true, List, length, IfOk, OnOk};
 ghost use Rattle.topology.specs.declared.names.Scope.TheVariants.{All};
 ghost use Rattle.topology.specs.Lists.{has};
 ghost use Rattle.topology.specs.Net.{Net, neighbours};
 ghost use Rattle.path_vector.specs.declared.causes.Cause.TheVariants.{Ready, Up};
 ghost use Rattle.path_vector.specs.History.{ready};
 ghost use Rattle.trigger_log.specs.Entries.{Entry, entry, local, reads};
-ghost use Rattle.trigger_log.specs.Going.{going_of, item_of};
+ghost use Rattle.trigger_log.specs.Going.{item_of};
 ghost use Rattle.trigger_log.specs.Sending.{sent_by, sent_of};
 ghost use Rattle.trigger_log.specs.Standing.{StandsFor as LogStandsFor};
 ghost use Rattle.chronicle.specs.Facts.{Chronicle};
@@ -17,17 +17,18 @@ ghost use Rattle.chronicle.specs.Steps.{Carried, open_session, take_item, unless
 ghost use Rattle.node_core.specs.Agreeing.{AgreesAs};
 ghost use Rattle.node_core.specs.Deciding.{MayDo, MayTake, acted};
 ghost use Rattle.node_core.specs.Keeping.{Keeps, MayEnter};
-ghost use Rattle.node_core.specs.Outputs.{Hands, Send, output_of};
+ghost use Rattle.node_core.specs.Outputs.{Hands, Send};
 ghost use Rattle.node_core.specs.Standing.{StandsFor};
 
 use crate::deciding::Act;
 use crate::node::Node;
-use crate::outputs::Output;
+use crate::outputs::{Entered, Output, OutputList};
 use path_vector::{Cause, Policy};
 use topology::{Item, NoMemory, NodeId, Scope, Session, Trigger};
 use trigger_log::{NodeLog, Outgoing};
 
 // How many items the newest entry of the log lists.
+#[inline(always)]
 fn listed<P: Policy + Copy>(log: &NodeLog<P>) -> usize
     ensures { (policy : P) (net : Net) (u : ℕ) (k : Entry) (h : List Entry) →
         LogStandsFor policy (P.rules policy) net u log.now (k ∷ h) →
@@ -40,6 +41,7 @@ fn listed<P: Policy + Copy>(log: &NodeLog<P>) -> usize
 }
 
 // The number of items with those of the newest entry, or want of memory where the count ends.
+#[inline(always)]
 fn more<P: Policy + Copy>(updates: usize, log: &NodeLog<P>) -> Result<usize, NoMemory>
     ensures { IfOk result (λ more. (policy : P) (net : Net) (u : ℕ) (k : Entry) (h : List Entry) →
         LogStandsFor policy (P.rules policy) net u log.now (k ∷ h) →
@@ -52,25 +54,6 @@ fn more<P: Policy + Copy>(updates: usize, log: &NodeLog<P>) -> Result<usize, NoM
     }
 }
 
-// Makes room for an entry and what goes out with it.
-fn make_room(outputs: &mut Vec<Output>, outgoing: &[Outgoing]) -> Result<(), NoMemory>
-    ensures { outputs.new.items ≡ outputs.old.items }
-{
-    outputs.reserve_exact(outgoing.len().saturating_add(1))?;
-    Ok(())
-}
-
-// Hands out what goes out, in its order.
-fn send_all(list: Vec<Outgoing>, outputs: &mut Vec<Output>) -> Result<(), NoMemory>
-    ensures { OnOk result (map output_of outputs.new.items
-        ≡ map output_of outputs.old.items ++ map Send (map going_of list.items)) }
-{
-    for out in list {
-        outputs.push(Output::Send(out))?;
-    }
-    Ok(())
-}
-
 impl<P: Policy + Copy> Node<P> {
     /// The node makes an entry, which fits its log, and hands out what that says.
     #[inline(always)]
@@ -79,7 +62,7 @@ impl<P: Policy + Copy> Node<P> {
         trigger: Trigger,
         scope: Scope,
         cause: Cause,
-        outputs: &mut Vec<Output>,
+        outputs: &mut OutputList,
     ) -> Result<Node<P>, NoMemory>
         ensures agreement { IfOk result (λ node. AgreesAs self.agreement.value node.agreement.value) }
         ensures node { IfOk result (λ node. (policy : P) (net : Net) (u : ℕ) (carried : Carried) (past : Chronicle) →
@@ -88,7 +71,7 @@ impl<P: Policy + Copy> Node<P> {
             (write (P.rules policy) net carried u (entry (trigger ∷ []) scope cause) past)) }
         ensures outputs { OnOk result ((policy : P) (net : Net) (u : ℕ) (carried : Carried) (past first : Chronicle) →
             Keeps policy (P.rules policy) net u self past → MayEnter net u (log_of u past) scope cause →
-            Hands first outputs.old.items past → Hands first outputs.new.items
+            Hands first outputs.old past → Hands first outputs.new
             (write (P.rules policy) net carried u (entry (trigger ∷ []) scope cause) past)) }
     {
         let Node {
@@ -100,11 +83,10 @@ impl<P: Policy + Copy> Node<P> {
             snapshots,
             agreement,
         } = self;
-        let (log, outgoing) = NodeLog::append_boxed(log, &topology, trigger, scope, cause)?;
+        let (log, sent) = NodeLog::append_boxed(log, &topology, trigger, scope, cause)?;
         let updates = more(updates, &log)?;
-        make_room(outputs, &outgoing)?;
-        outputs.push(Output::Logged { index: log.len() })?;
-        send_all(outgoing, outputs)?;
+        let index = log.len();
+        outputs.enter(Entered { index, sent })?;
         Ok(Node {
             alloc,
             topology,
@@ -122,7 +104,7 @@ impl<P: Policy + Copy> Node<P> {
         self,
         scope: Scope,
         cause: Cause,
-        outputs: &mut Vec<Output>,
+        outputs: &mut OutputList,
     ) -> Result<Node<P>, NoMemory>
         ensures agreement { IfOk result (λ node. AgreesAs self.agreement.value node.agreement.value) }
         ensures node { IfOk result (λ node. (policy : P) (net : Net) (u : ℕ) (carried : Carried) (past : Chronicle) →
@@ -131,7 +113,7 @@ impl<P: Policy + Copy> Node<P> {
             (write (P.rules policy) net carried u (local u (log_of u past) scope cause) past)) }
         ensures outputs { OnOk result ((policy : P) (net : Net) (u : ℕ) (carried : Carried) (past first : Chronicle) →
             Keeps policy (P.rules policy) net u self past → MayEnter net u (log_of u past) scope cause →
-            Hands first outputs.old.items past → Hands first outputs.new.items
+            Hands first outputs.old past → Hands first outputs.new
             (write (P.rules policy) net carried u (local u (log_of u past) scope cause) past)) }
     {
         let trigger = self.log.next_trigger();
@@ -144,7 +126,7 @@ impl<P: Policy + Copy> Node<P> {
         self,
         nbr: NodeId,
         session: Session,
-        outputs: &mut Vec<Output>,
+        outputs: &mut OutputList,
     ) -> Result<Node<P>, NoMemory>
         ensures agreement { IfOk result (λ node. AgreesAs self.agreement.value node.agreement.value) }
         ensures node { IfOk result (λ node. (policy : P) (net : Net) (u : ℕ) (carried : Carried) (past : Chronicle) →
@@ -152,8 +134,8 @@ impl<P: Policy + Copy> Node<P> {
             Keeps policy (P.rules policy) net u node (open_session carried u nbr session past)) }
         ensures outputs { OnOk result ((policy : P) (net : Net) (u : ℕ) (carried : Carried) (past first : Chronicle) →
             StandsFor policy (P.rules policy) net u self past → MayEnter net u (log_of u past) All (Up nbr session) →
-            Hands first outputs.old.items past →
-            Hands first outputs.new.items (open_session carried u nbr session past)) }
+            Hands first outputs.old past →
+            Hands first outputs.new (open_session carried u nbr session past)) }
     {
         trigger_log::laws::an_opening_says_nothing();
         let epoch = self.snapshots.epoch();
@@ -174,7 +156,7 @@ impl<P: Policy + Copy> Node<P> {
         self,
         nbr: NodeId,
         session: Session,
-        outputs: &mut Vec<Output>,
+        outputs: &mut OutputList,
     ) -> Result<Node<P>, NoMemory>
         ensures agreement { IfOk result (λ node. AgreesAs self.agreement.value node.agreement.value) }
         ensures node { IfOk result (λ node. (policy : P) (net : Net) (u : ℕ) (carried : Carried) (past : Chronicle) →
@@ -185,8 +167,8 @@ impl<P: Policy + Copy> Node<P> {
             (write (P.rules policy) net carried u (local u (log_of u past) All (Ready nbr session)) past))) }
         ensures outputs { OnOk result ((policy : P) (net : Net) (u : ℕ) (carried : Carried) (past first : Chronicle) →
             Keeps policy (P.rules policy) net u self past → has (neighbours net u) nbr ≡ true →
-            held_with u nbr past ≡ Some session → Hands first outputs.old.items past →
-            Hands first outputs.new.items
+            held_with u nbr past ≡ Some session → Hands first outputs.old past →
+            Hands first outputs.new
             (unless_ready (ready (reads (log_of u past)) nbr) past
             (write (P.rules policy) net carried u (local u (log_of u past) All (Ready nbr session)) past))) }
     {
@@ -205,7 +187,7 @@ impl<P: Policy + Copy> Node<P> {
         from: NodeId,
         session: Session,
         item: Item,
-        outputs: &mut Vec<Output>,
+        outputs: &mut OutputList,
     ) -> Result<Node<P>, NoMemory>
         ensures agreement { IfOk result (λ node. AgreesAs self.agreement.value node.agreement.value) }
         ensures node { IfOk result (λ node. (policy : P) (net : Net) (u : ℕ) (carried : Carried) (past : Chronicle) →
@@ -214,7 +196,7 @@ impl<P: Policy + Copy> Node<P> {
             (take_item (P.rules policy) net carried u (arrival from session (item_of item)) past)) }
         ensures outputs { OnOk result ((policy : P) (net : Net) (u : ℕ) (carried : Carried) (past first : Chronicle) →
             StandsFor policy (P.rules policy) net u self past → MayTake net u past from session (item_of item) →
-            Hands first outputs.old.items past → Hands first outputs.new.items
+            Hands first outputs.old past → Hands first outputs.new
             (take_item (P.rules policy) net carried u (arrival from session (item_of item)) past)) }
     {
         match item {
@@ -245,14 +227,14 @@ impl<P: Policy + Copy> Node<P> {
 
     /// Does what the node is to do, and hands out what comes of it.
     #[inline(always)]
-    pub(crate) fn act(self, act: Act, outputs: &mut Vec<Output>) -> Result<Node<P>, NoMemory>
+    pub(crate) fn act(self, act: Act, outputs: &mut OutputList) -> Result<Node<P>, NoMemory>
         ensures agreement { IfOk result (λ node. AgreesAs self.agreement.value node.agreement.value) }
         ensures node { IfOk result (λ node. (policy : P) (net : Net) (u : ℕ) (carried : Carried) (past : Chronicle) →
             StandsFor policy (P.rules policy) net u self past → MayDo net u past act →
             Keeps policy (P.rules policy) net u node (acted (P.rules policy) net carried u past act)) }
         ensures outputs { OnOk result ((policy : P) (net : Net) (u : ℕ) (carried : Carried) (past : Chronicle) →
-            StandsFor policy (P.rules policy) net u self past → MayDo net u past act → outputs.old.items ≡ [] →
-            Hands past outputs.new.items (acted (P.rules policy) net carried u past act)) }
+            StandsFor policy (P.rules policy) net u self past → MayDo net u past act → outputs.old ≡ [] →
+            Hands past outputs.new (acted (P.rules policy) net carried u past act)) }
     {
         match act {
             Act::Enter { scope, cause } => self.enter_own(scope, cause, outputs),

@@ -21,7 +21,7 @@ use crate::deciding::{Act, Asked, Task};
 use crate::inputs::Input;
 use crate::limits::{MOST_TRIGGERS, proposes_large};
 use crate::node::Node;
-use crate::outputs::{Output, Stop};
+use crate::outputs::{Output, OutputList, Stop};
 use consolidator::{Consolidator, Mails, Reply};
 use path_vector::Policy;
 use std::alloc::Global;
@@ -32,7 +32,7 @@ use topology::{Epoch, LimitKind, NoMemory, Reason, Topology};
 pub enum Answer {
     /// It hands these out. Of this epoch, if there is one, it may have its cut and its decision now, and had not
     /// both before.
-    Did(Vec<Output>, Option<Epoch>),
+    Did(OutputList, Option<Epoch>),
     Idle(Reason),
 }
 
@@ -47,11 +47,11 @@ fn risen(before: Epoch, now: Epoch) -> Option<Epoch>
 }
 
 // The control messages, as outputs.
-fn mailed(alloc: Global, mails: Mails) -> Result<Vec<Output>, NoMemory>
-    ensures { IfOk result (λ outputs. map output_of outputs.items ≡ posts (mails_seen mails)) }
+fn mailed(alloc: Global, mails: Mails) -> Result<OutputList, NoMemory>
+    ensures { IfOk result (λ outputs. map output_of outputs ≡ posts (mails_seen mails)) }
 {
     let list = mails.into_list();
-    let mut outputs = Vec::with_capacity(alloc, list.len())?;
+    let mut outputs = OutputList::new(alloc);
     for mail in list {
         outputs.push(Output::Mail(mail))?;
     }
@@ -102,7 +102,7 @@ impl<P: Policy + Copy> Node<P> {
             Says u past (Goes (acted (P.rules policy) net carried u past act)) r.1) }
     {
         let before = self.snapshots.epoch();
-        let mut outputs = Vec::new(self.alloc);
+        let mut outputs = OutputList::new(self.alloc);
         let node = self.act(act, &mut outputs)?;
         let due = risen(before, node.snapshots.epoch());
         Ok((node, Answer::Did(outputs, due)))

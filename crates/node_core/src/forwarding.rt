@@ -1,5 +1,5 @@
 //! Packets that enter the network at a node, or go on from it.
-ghost use Rattle.std.specs.Prelude.{◌≡◌, ◌<◌, ◌∷◌, [], ℕ, List, length, map, option_map, IfOk};
+ghost use Rattle.std.specs.Prelude.{◌≡◌, ◌<◌, ◌∷◌, [], ℕ, List, length, option_map, IfOk};
 ghost use Rattle.topology.specs.Net.{Net};
 ghost use Rattle.chronicle.specs.Facts.{Chronicle};
 ghost use Rattle.path_vector.specs.Ranking.{order as order_of};
@@ -20,7 +20,7 @@ ghost use Rattle.transient_mode.specs.TransientHops.{transient_hop};
 use crate::answers::Answer;
 use crate::deciding::Passing;
 use crate::node::Node;
-use crate::outputs::Output;
+use crate::outputs::{Output, OutputList};
 use epoch_packet::{End, Mode, Packet, StableStep, stable_hop, stamp};
 use path_vector::Policy;
 use std::alloc::Global;
@@ -219,7 +219,7 @@ impl<P: Policy + Copy> Node<P> {
             Says u past (answer (P.rules policy) net carried u past (passing_of passing)) r.1) }
     {
         let output = self.passed(passing)?;
-        let mut outputs = Vec::new(self.alloc);
+        let mut outputs = OutputList::new(self.alloc);
         outputs.push(output)?;
         Ok((self, Answer::Did(outputs, None)))
     }

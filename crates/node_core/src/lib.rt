@@ -22,7 +22,7 @@ mod reports;
 pub use agreement::Agreement;
 pub use inputs::Input;
 pub use node::Node;
-pub use outputs::{Output, OutputList, Outputs, Stop};
+pub use outputs::{Entered, Output, OutputList, Outputs, Stop};
 
 #[cfg(test)]
 mod tests;

@@ -21,7 +21,7 @@ ghost use Rattle.node_core.specs.Outputs.{Hands, Mail as Mailed, Send, output_of
 ghost use Rattle.node_core.specs.Standing.{StandsFor};
 
 use crate::node::Node;
-use crate::outputs::Output;
+use crate::outputs::{Output, OutputList};
 use consolidator::{Mail, Message};
 use epoch_report::report_of;
 use incomplete_closure::Report;
@@ -34,9 +34,9 @@ use trigger_log::Outgoing;
 fn mail_report(
     consolidators: &[NodeId],
     report: &Rc<Report>,
-    outputs: &mut Vec<Output>,
+    outputs: &mut OutputList,
 ) -> Result<(), NoMemory>
-    ensures { OnOk result (map output_of outputs.new.items ≡ map output_of outputs.old.items
+    ensures { OnOk result (map output_of outputs.new ≡ map output_of outputs.old
         ++ map (λ to. Mailed to (Reports (report_seen report.now.value))) consolidators.now) }
 {
     for to in consolidators {
@@ -49,11 +49,11 @@ fn mail_report(
 
 impl<P: Policy + Copy> Node<P> {
     // A marker goes out in each session that the node holds, ready or not, by neighbour, ascending.
-    fn send_markers(&self, epoch: Epoch, outputs: &mut Vec<Output>) -> Result<(), NoMemory>
+    fn send_markers(&self, epoch: Epoch, outputs: &mut OutputList) -> Result<(), NoMemory>
         ensures { OnOk result ((policy : P) (net : Net) (u : ℕ) (h : List Entry) →
             self.now.topology.value ≡ net → self.now.id ≡ u →
             LogStandsFor policy (P.rules policy) net u self.now.log.value h →
-            map output_of outputs.new.items ≡ map output_of outputs.old.items ++ map Send (markers net u epoch h)) }
+            map output_of outputs.new ≡ map output_of outputs.old ++ map Send (markers net u epoch h)) }
     {
         for nbr in self.topology.neighbours(self.id) {
             let Some(session) = self.log.held(*nbr) else {
@@ -70,7 +70,7 @@ impl<P: Policy + Copy> Node<P> {
 
     /// The epoch rises: the node takes its cut, sends its markers, and mails its report of the cut, which it keeps.
     #[inline(always)]
-    pub(crate) fn raise(self, epoch: Epoch, outputs: &mut Vec<Output>) -> Result<Node<P>, NoMemory>
+    pub(crate) fn raise(self, epoch: Epoch, outputs: &mut OutputList) -> Result<Node<P>, NoMemory>
         ensures others { IfOk result (λ node. KeepsAllBut self node) }
         ensures snapshots { IfOk result (λ node. (policy : P) (net : Net) (u : ℕ) (h : List Entry) (acts : Acts) →
             self.topology.value ≡ net → LogStandsFor policy (P.rules policy) net u self.log.value h →
@@ -82,7 +82,7 @@ impl<P: Policy + Copy> Node<P> {
         ensures outputs { OnOk result ((policy : P) (net : Net) (u : ℕ) (carried : Carried) (first past : Chronicle) →
             self.topology.value ≡ net → self.id ≡ u →
             LogStandsFor policy (P.rules policy) net u self.log.value (log_of u past) →
-            Hands first outputs.old.items past → Hands first outputs.new.items (raise (P.rules policy) net carried u epoch past)) }
+            Hands first outputs.old past → Hands first outputs.new (raise (P.rules policy) net carried u epoch past)) }
     {
         outputs.push(Output::Cut { epoch })?;
         self.send_markers(epoch, outputs)?;
@@ -119,7 +119,7 @@ impl<P: Policy + Copy> Node<P> {
         nbr: NodeId,
         session: Session,
         mark: Epoch,
-        outputs: &mut Vec<Output>,
+        outputs: &mut OutputList,
     ) -> Result<Node<P>, NoMemory>
         ensures agreement { IfOk result (λ node. AgreesAs self.agreement.value node.agreement.value) }
         ensures node { IfOk result (λ node. (policy : P) (net : Net) (u : ℕ) (carried : Carried) (past : Chronicle) (item : Gone) →
@@ -127,8 +127,8 @@ impl<P: Policy + Copy> Node<P> {
             held_with u nbr past ≡ Some session → mark_of item ≡ Some mark →
             Keeps policy (P.rules policy) net u node (meet_mark (P.rules policy) net carried u mark (Took nbr u session item ∷ past))) }
         ensures outputs { OnOk result ((policy : P) (net : Net) (u : ℕ) (carried : Carried) (past : Chronicle) (item : Gone) (first : Chronicle) →
-            StandsFor policy (P.rules policy) net u self past → Hands first outputs.old.items past →
-            Hands first outputs.new.items (meet_mark (P.rules policy) net carried u mark (Took nbr u session item ∷ past))) }
+            StandsFor policy (P.rules policy) net u self past → Hands first outputs.old past →
+            Hands first outputs.new (meet_mark (P.rules policy) net carried u mark (Took nbr u session item ∷ past))) }
     {
         let mut node = self;
         if node.snapshots.epoch() < mark {

@@ -22,7 +22,7 @@ ghost use Rattle.node_core.specs.Views.{views};
 use crate::agreement::Agreement;
 use crate::answers::Answer;
 use crate::inputs::Input;
-use crate::outputs::{OutputList, Outputs, Stop};
+use crate::outputs::{Outputs, Stop};
 use crate::reports::Reports;
 use consolidator::Consolidator;
 use incomplete_closure::{Report, Value};
@@ -106,7 +106,7 @@ impl<P: Policy + Copy> Node<P> {
         if let Some(stop) = node.limit() {
             return Err(stop);
         }
-        Ok((node, Outputs::Did(OutputList::new(outputs))))
+        Ok((node, Outputs::Did(outputs)))
     }
 
     /// The number of the node.

@@ -1,10 +1,14 @@
 //! What a node hands out.
-ghost use Rattle.std.specs.Prelude.{◌≡◌};
+ghost use Rattle.std.specs.Prelude.{◌≡◌, [], ◌∷◌, ◌++◌, map, IfOk, OnOk};
+ghost use Rattle.trigger_log.specs.Going.{going_of};
+ghost use Rattle.node_core.specs.Entries.{first_of};
+ghost use Rattle.node_core.specs.Outputs.{Logged, Send, output_of};
 ghost use Rattle.node_core.specs.declared.outputs.Stop.TheVariants.{NoMemory};
 
 use consolidator::Mail;
 use epoch_packet::{End, Packet};
 use stable_table::Table;
+use std::alloc::Global;
 use std::marker::Model;
 use std::rc::Rc;
 use topology::{Epoch, LimitKind, NoMemory, NodeId, Reason};
@@ -30,40 +34,111 @@ pub enum Output {
     Ended { id: u32, end: End },
 }
 
-/// The outputs of one input, the oldest first.
+/// An entry, and what goes out with it.
+#[derive(Debug, Drop)]
+pub struct Entered {
+    /// The log has this many entries now.
+    pub index: u32,
+    /// The items for neighbours, in their order.
+    pub sent: Vec<Outgoing>,
+}
+
+/// The outputs of one input, the oldest first. Most inputs come to an entry and what goes out with it: these stand as the
+/// log handed them out, and other outputs behind them.
 #[derive(Debug, Drop)]
 pub struct OutputList {
-    list: Vec<Output>,
+    alloc: Global,
+    entered: Option<Entered>,
+    more: Vec<Output>,
 }
 
 impl Model for OutputList {
-    ghost use Rattle.std.specs.Prelude.{List};
+    ghost use Rattle.std.specs.Prelude.{List, ◌++◌};
     ghost use Rattle.node_core.specs.declared.outputs.Output.{Output};
+    ghost use Rattle.node_core.specs.Entries.{first_of};
 
     ghost Value = { List Output };
 
-    ghost view = { λ o. o.list.items };
+    ghost view = { λ o. first_of o.entered ++ o.more.items };
+}
+
+// Adds what goes out, in its order.
+fn send_all(list: Vec<Outgoing>, outputs: &mut Vec<Output>) -> Result<(), NoMemory>
+    ensures { OnOk result (map output_of outputs.new.items
+        ≡ map output_of outputs.old.items ++ map Send (map going_of list.items)) }
+{
+    for out in list {
+        outputs.push(Output::Send(out))?;
+    }
+    Ok(())
+}
+
+// Adds an entry and what goes out with it.
+fn enter_all(entered: Entered, outputs: &mut Vec<Output>) -> Result<(), NoMemory>
+    ensures { OnOk result (map output_of outputs.new.items
+        ≡ map output_of outputs.old.items ++ Logged entered.index ∷ map Send (map going_of entered.sent.items)) }
+{
+    let Entered { index, sent } = entered;
+    outputs.push(Output::Logged { index })?;
+    send_all(sent, outputs)
 }
 
 impl OutputList {
-    /// The list of these outputs. Takes no memory.
-    pub fn new(list: Vec<Output>) -> OutputList
-        ensures { result ≡ list.items }
+    /// No outputs. Takes no memory.
+    pub fn new(alloc: Global) -> OutputList
+        ensures { result ≡ [] }
     {
-        OutputList { list }
+        OutputList {
+            alloc,
+            entered: None,
+            more: Vec::new(alloc),
+        }
     }
 
-    pub fn as_slice(&self) -> &[Output]
-        ensures { result.now ≡ self.now }
+    /// Adds an output.
+    pub(crate) fn push(&mut self, output: Output) -> Result<(), NoMemory>
+        ensures { OnOk result (self.new ≡ self.old ++ output ∷ []) }
     {
-        &self.list
+        self.more.push(output)?;
+        Ok(())
     }
 
-    /// The outputs themselves. Takes no memory.
-    pub fn into_vec(self) -> Vec<Output>
-        ensures { result.items ≡ self }
+    /// Adds an entry and what goes out with it.
+    #[inline(always)]
+    pub(crate) fn enter(&mut self, entered: Entered) -> Result<(), NoMemory>
+        ensures { OnOk result (map output_of self.new
+            ≡ map output_of self.old ++ Logged entered.index ∷ map Send (map going_of entered.sent.items)) }
     {
-        self.list
+        if self.entered.is_some() || !self.more.is_empty() {
+            return enter_all(entered, &mut self.more);
+        }
+        self.entered = Some(entered);
+        Ok(())
+    }
+
+    /// The entry that stands first, if one does, and the other outputs. Takes no memory.
+    pub fn into_parts(self) -> (Option<Entered>, Vec<Output>)
+        ensures { first_of result.0 ++ result.1.items ≡ self }
+    {
+        (self.entered, self.more)
+    }
+
+    /// All outputs, one by one.
+    pub fn into_vec(self) -> Result<Vec<Output>, NoMemory>
+        ensures { IfOk result (λ list. map output_of list.items ≡ map output_of self) }
+    {
+        let OutputList {
+            alloc,
+            entered,
+            mut more,
+        } = self;
+        let Some(entered) = entered else {
+            return Ok(more);
+        };
+        let mut list = Vec::new(alloc);
+        enter_all(entered, &mut list)?;
+        list.append(&mut more)?;
+        Ok(list)
     }
 }
 

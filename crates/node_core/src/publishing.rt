@@ -8,7 +8,7 @@ ghost use Rattle.node_core.specs.Outputs.{Hands};
 ghost use Rattle.node_core.specs.Standing.{Follows};
 
 use crate::node::Node;
-use crate::outputs::Output;
+use crate::outputs::{Output, OutputList};
 use path_vector::Policy;
 use stable_table::{Table, table_of};
 use std::rc::Rc;
@@ -42,18 +42,19 @@ impl<P: Policy + Copy> Node<P> {
 
     /// Publishes the table of the epoch, if there is one: where the node has its cut and knows its decision, and
     /// published none of it or of a later one.
+    #[inline(always)]
     pub(crate) fn conclude(
         &mut self,
         due: Option<Epoch>,
-        outputs: &mut Vec<Output>,
+        outputs: &mut OutputList,
     ) -> Result<(), NoMemory>
         ensures node { OnOk result ((policy : P) (net : Net) (u : ℕ) (past now : Chronicle) →
             Follows policy (P.rules policy) net u self.old now → MayComplete u past now due →
             Follows policy (P.rules policy) net u self.new (publish (P.rules policy) net u past now)) }
         ensures outputs { OnOk result ((policy : P) (net : Net) (u : ℕ) (first past now : Chronicle) →
             Follows policy (P.rules policy) net u self.old now → MayComplete u past now due →
-            Hands first outputs.old.items now →
-            Hands first outputs.new.items (publish (P.rules policy) net u past now)) }
+            Hands first outputs.old now →
+            Hands first outputs.new (publish (P.rules policy) net u past now)) }
     {
         let Some(epoch) = due else {
             return Ok(());

@@ -53,6 +53,24 @@ fn write_reply<L: Link>(
     }
 }
 
+// Writes a frame for each of these outputs that has one, in their order, each by one write.
+fn write_each<L: Link>(
+    alloc: Global,
+    topology: &Topology,
+    id: NodeId,
+    outputs: Vec<Output>,
+    link: &mut L,
+) -> Result<(), Status>
+    requires { list_all (output_fits topology.now id) (map output_of outputs.items) ≡ true }
+    ensures ok { OnOk result (Writes (filter_map telling (map output_of outputs.items)) (L.seen link.old) (L.seen link.new)) }
+    ensures err { IfErr result (Breaks (filter_map telling (map output_of outputs.items)) (L.seen link.old) (L.seen link.new)) }
+{
+    for output in outputs {
+        write_reply(alloc, topology, id, output, link)?;
+    }
+    Ok(())
+}
+
 /// Writes a frame for each output that has one, in their order, each by one write.
 pub(crate) fn write_replies<L: Link>(
     alloc: Global,
@@ -65,8 +83,8 @@ pub(crate) fn write_replies<L: Link>(
     ensures ok { OnOk result (Writes (filter_map telling (map output_of outputs)) (L.seen link.old) (L.seen link.new)) }
     ensures err { IfErr result (Breaks (filter_map telling (map output_of outputs)) (L.seen link.old) (L.seen link.new)) }
 {
-    for output in outputs.into_vec() {
-        write_reply(alloc, topology, id, output, link)?;
-    }
-    Ok(())
+    let Ok(list) = outputs.into_vec() else {
+        return Err(Status::NoMemory);
+    };
+    write_each(alloc, topology, id, list, link)
 }

@@ -17,13 +17,8 @@ use Rattle.chronicle.specs.Logs.{log_of}
 use Rattle.chronicle.specs.Walks.{standing}
 use Rattle.node_core.specs.declared.outputs.Output.{Output as Given}
 use Rattle.node_core.specs.Outputs.{Output, Logged, Cut, Send, Mail, Published, Forward, Ended, Hands, output_by, output_of, outputs}
-use Rattle.world_core.specs.Telling.{AreTold, IsTold}
+use Rattle.world_core.specs.Telling.{AreTold, IsTold, shown}
 use Rattle.world_core.specs.Walks.{IsPassing}
-
--- what these facts show, the oldest first
-abbrev pub shown : Chronicle → List Fact → List Output
-shown past [] = []
-shown past (f ∷ facts) = output_by f past ++ shown (f ∷ past) facts
 
 -- what was handed out, fact by fact
 outputs_after : (past : Chronicle) (facts : List Fact) → outputs (happen past facts) ≡ outputs past ++ shown past facts

@@ -1,11 +1,12 @@
 -- The facts that a node adds and tells.
-use Rattle.std.specs.Prelude.{ℕ, ◌≡◌, true, is_some, List, [], ◌∷◌}
+use Rattle.std.specs.Prelude.{ℕ, ◌≡◌, true, is_some, List, [], ◌∷◌, ◌++◌}
 use Rattle.topology.specs.LinkStates.{carries}
 use Rattle.topology.specs.Lists.{has}
 use Rattle.topology.specs.Net.{Net, linked}
 use Rattle.chronicle.specs.Facts.{Fact, Chronicle, Log, Sent, Took, Fail, Restore, Raise, Start, Mail, Heard, Crash, Restart, Publish, Visit, End}
 use Rattle.chronicle.specs.Links.{link}
 use Rattle.chronicle.specs.Walks.{standing}
+use Rattle.node_core.specs.Outputs.{Output, output_by}
 use Rattle.world_core.specs.Walks.{IsPassing}
 
 -- after these facts u enters something, raises its epoch, publishes a table, sends a control message to a node of the
@@ -32,3 +33,8 @@ IsTold net u past (End packet ending) = is_some (standing packet past) ≡ true
 abbrev pub AreTold : Net → ℕ → Chronicle → List Fact → Type 0
 AreTold net u past [] = Unit {0}
 AreTold net u past (f ∷ facts) = IsTold net u past f × AreTold net u (f ∷ past) facts
+
+-- what these facts show, the oldest first
+abbrev pub shown : Chronicle → List Fact → List Output
+shown past [] = []
+shown past (f ∷ facts) = output_by f past ++ shown (f ∷ past) facts

@@ -1,5 +1,5 @@
 //! A node of the network is given an input.
-ghost use Rattle.std.specs.Prelude.{◌≡◌, ◌<◌, ◌≤◌, [], true, length, OnOk, IfOk, IfErr};
+ghost use Rattle.std.specs.Prelude.{◌≡◌, ◌<◌, ◌≤◌, true, length, OnOk, IfOk, IfErr};
 ghost use Rattle.topology.specs.Lists.{has};
 ghost use Rattle.chronicle.specs.Control.{mailed};
 ghost use Rattle.chronicle.specs.Facts.{Chronicle};
@@ -15,19 +15,11 @@ ghost use Rattle.world_core.specs.declared.bounds.TheConstants.{MOST_CONTROL, MO
 use crate::bounds::{MOST_CONTROL, MOST_PACKETS};
 use crate::limits::{counted, is_local, stop_of};
 use crate::network::Network;
-use crate::outcomes::{Effect, Effects, Outcome, Stop};
+use crate::outcomes::{Effects, Outcome, Stop};
 use crate::turning::turn;
-use node_core::{Input, OutputList, Outputs};
+use node_core::{Input, Outputs};
 use path_vector::Policy;
-use std::alloc::Global;
-use topology::{LimitKind, NoMemory, NodeId};
-
-// An empty list with room for what is told of these outputs.
-fn room_for(alloc: Global, outputs: &OutputList) -> Result<Vec<Effect>, NoMemory>
-    ensures { IfOk result (λ effects. effects.items ≡ []) }
-{
-    Ok(Vec::with_capacity(alloc, outputs.as_slice().len())?)
-}
+use topology::{LimitKind, NodeId};
 
 impl<P: Policy + Copy> Network<P> {
     // Stops where more control messages were sent than may be.
@@ -83,8 +75,7 @@ impl<P: Policy + Copy> Network<P> {
         };
         let after = self.nodes[rank].log().next_trigger().count;
         self.triggers = counted(self.triggers, before, after)?;
-        let mut effects = room_for(self.alloc, &list)?;
-        self.hand_all(node, list.into_vec(), &mut effects)?;
+        let effects = self.hand_all(node, list)?;
         self.check_control()?;
         self.check_packets()?;
         Ok(Outcome::Did(Effects::new(effects)))

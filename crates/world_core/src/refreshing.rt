@@ -117,6 +117,7 @@ impl<P: Policy + Copy> Network<P> {
     }
 
     // Looks again at a way that is as open as it was.
+    #[inline(always)]
     fn look_on(&self, way: &Way, waiting: &mut Waiting)
         ensures { (past : Chronicle) (counts : Counts) (busy : List Direction) → Stands (P.rules self.now.policy) past counts self.now →
             AreWaitingBut self.now.topology.value past [] (way.now ∷ busy) (has_way self.now.topology.value waiting.old) →

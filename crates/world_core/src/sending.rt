@@ -1,5 +1,5 @@
 //! What a node hands out goes to the links, to the control network and to the list of effects.
-ghost use Rattle.std.specs.Prelude.{◌≡◌, ◌∷◌, ◌++◌, [], ℕ, suc, Bool, true, is_some, List, map, length, OnOk, if◌then◌else◌};
+ghost use Rattle.std.specs.Prelude.{◌≡◌, ◌∷◌, ◌++◌, [], ℕ, suc, Bool, true, is_some, List, Some, map, length, IfOk, OnOk, if◌then◌else◌};
 ghost use Rattle.topology.specs.LinkStates.{carries};
 ghost use Rattle.topology.specs.Lists.{has};
 ghost use Rattle.topology.specs.Net.{Net, linked};
@@ -9,10 +9,11 @@ ghost use Rattle.chronicle.specs.Control.{mailed};
 ghost use Rattle.chronicle.specs.Facts.{Chronicle, Fact, Sent, Mail as Mailed, Visit as Came, End as Ends, happen};
 ghost use Rattle.chronicle.specs.Links.{link};
 ghost use Rattle.chronicle.specs.Walks.{standing, visit_of};
-ghost use Rattle.node_core.specs.Outputs.{Hands, output_by, output_of};
+ghost use Rattle.node_core.specs.Entries.{first_of};
+ghost use Rattle.node_core.specs.Outputs.{Hands, Output as OutputSeen, output_by, output_of};
 ghost use Rattle.world_core.specs.Happening.{AreSending, KeepsNodes};
 ghost use Rattle.world_core.specs.Matching.{AreLinks, AreMails, Counts};
-ghost use Rattle.world_core.specs.Telling.{AreTold, IsTold};
+ghost use Rattle.world_core.specs.Telling.{AreTold, IsTold, shown};
 ghost use Rattle.world_core.specs.Walks.{AreWalksBut, IsPassing, still, still_after};
 ghost use Rattle.world_core.specs.declared.outcomes.Effect.TheVariants.{Queued, Lost, Mailed as Shown, Published, Visited, Ended};
 
@@ -24,12 +25,28 @@ use consolidator::Mail;
 use control_mail::Mails;
 use epoch_packet::{End, Packet};
 use link_model::Links;
-use node_core::Output;
+use node_core::{Entered, Output, OutputList};
 use path_vector::Policy;
 use stable_table::Table;
+use std::alloc::Global;
 use std::rc::Rc;
 use topology::{NoMemory, NodeId};
 use trigger_log::Outgoing;
+
+// An empty list with room for what is told of these outputs.
+fn room_for(
+    alloc: Global,
+    entered: &Option<Entered>,
+    more: &[Output],
+) -> Result<Vec<Effect>, NoMemory>
+    ensures { IfOk result (λ effects. effects.items ≡ []) }
+{
+    let first = match entered {
+        Some(entered) => entered.sent.len().saturating_add(1),
+        None => 0,
+    };
+    Ok(Vec::with_capacity(alloc, first.saturating_add(more.len()))?)
+}
 
 // What is shown of an item.
 fn shown(from: NodeId, to: NodeId, queued: bool) -> Effect
@@ -42,6 +59,7 @@ fn shown(from: NodeId, to: NodeId, queued: bool) -> Effect
 }
 
 // Sends an item: it is queued where the link carries its session, and lost elsewhere.
+#[inline(always)]
 fn send(
     from: NodeId,
     out: Outgoing,
@@ -132,6 +150,7 @@ fn end(number: u32, end: End, walks: &mut Walks, effects: &mut Vec<Effect>) -> R
 impl<P: Policy + Copy> Network<P> {
     // Hands on one output of a node: an item is sent, a control message posted, a table kept, and a packet passed on;
     // an entry, a cut and the end of a walk are told.
+    #[inline(always)]
     fn hand(
         &mut self,
         node: NodeId,
@@ -156,22 +175,80 @@ impl<P: Policy + Copy> Network<P> {
         Ok(())
     }
 
-    /// Hands on the outputs of a node, in their order.
-    pub fn hand_all(
+    // Hands on an entry and what goes out with it.
+    #[inline(always)]
+    fn hand_entry(
+        &mut self,
+        node: NodeId,
+        entered: Entered,
+        effects: &mut Vec<Effect>,
+    ) -> Result<(), NoMemory>
+        ensures kept { OnOk result (KeepsNodes self.old self.new) }
+        ensures sending { OnOk result ((away : ℕ → Bool) (first past : Chronicle) (counts : Counts) (facts : List Fact) →
+            AreTold self.old.topology.value node past facts → map output_of (first_of (Some entered)) ≡ shown past facts →
+            AreSending away first past counts self.old effects.old.items →
+            AreSending (still_after facts away) first (happen past facts) counts self.new effects.new.items) }
+    {
+        let Entered { index, sent } = entered;
+        self.hand(node, Output::Logged { index }, effects)?;
+        for out in sent {
+            self.hand(node, Output::Send(out), effects)?;
+        }
+        Ok(())
+    }
+
+    // Hands on the entry that stands first, if one does.
+    #[inline(always)]
+    fn hand_first(
+        &mut self,
+        node: NodeId,
+        entered: Option<Entered>,
+        effects: &mut Vec<Effect>,
+    ) -> Result<(), NoMemory>
+        ensures kept { OnOk result (KeepsNodes self.old self.new) }
+        ensures sending { OnOk result ((away : ℕ → Bool) (first past : Chronicle) (counts : Counts) (facts : List Fact) →
+            AreTold self.old.topology.value node past facts → map output_of (first_of entered) ≡ shown past facts →
+            AreSending away first past counts self.old effects.old.items →
+            AreSending (still_after facts away) first (happen past facts) counts self.new effects.new.items) }
+    {
+        match entered {
+            Some(entered) => self.hand_entry(node, entered, effects),
+            None => Ok(()),
+        }
+    }
+
+    // Hands on more outputs, in their order, behind those that were handed on before.
+    fn hand_more(
         &mut self,
         node: NodeId,
         outputs: Vec<Output>,
         effects: &mut Vec<Effect>,
     ) -> Result<(), NoMemory>
         ensures kept { OnOk result (KeepsNodes self.old self.new) }
-        ensures sending { OnOk result ((away : ℕ → Bool) (first past : Chronicle) (counts : Counts) (facts : List Fact) →
-            AreTold self.old.topology.value node past facts → Hands past outputs.items (happen past facts) →
-            AreSending away first past counts self.old effects.old.items →
+        ensures sending { OnOk result ((away : ℕ → Bool) (first past : Chronicle) (counts : Counts) (before : List OutputSeen) →
+            ((fs : List Fact) → AreTold self.old.topology.value node past fs → before ≡ shown past fs →
+            AreSending (still_after fs away) first (happen past fs) counts self.old effects.old.items) →
+            (facts : List Fact) → AreTold self.old.topology.value node past facts → before ++ map output_of outputs.items ≡ shown past facts →
             AreSending (still_after facts away) first (happen past facts) counts self.new effects.new.items) }
     {
         for output in outputs {
             self.hand(node, output, effects)?;
         }
         Ok(())
+    }
+
+    /// Hands on the outputs of a node, in their order, and tells what they did.
+    pub fn hand_all(&mut self, node: NodeId, outputs: OutputList) -> Result<Vec<Effect>, NoMemory>
+        ensures kept { OnOk result (KeepsNodes self.old self.new) }
+        ensures sending { IfOk result (λ effects. (away : ℕ → Bool) (first past : Chronicle) (counts : Counts) (facts : List Fact) →
+            AreTold self.old.topology.value node past facts → Hands past outputs (happen past facts) →
+            AreSending away first past counts self.old [] →
+            AreSending (still_after facts away) first (happen past facts) counts self.new effects.items) }
+    {
+        let (entered, more) = outputs.into_parts();
+        let mut effects = room_for(self.alloc, &entered, &more)?;
+        self.hand_first(node, entered, &mut effects)?;
+        self.hand_more(node, more, &mut effects)?;
+        Ok(effects)
     }
 }

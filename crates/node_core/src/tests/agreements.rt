@@ -190,7 +190,7 @@ fn text_of(alloc: Global, messages: &mut Vec<Message>, outputs: Outputs) -> Resu
         Outputs::Idle(reason) => return Ok(format!(in alloc; "idle {reason:?}")?),
     };
     let mut text = String::new(alloc);
-    for output in list.into_vec() {
+    for output in list.into_vec()? {
         if !text.is_empty() {
             text.push_str("; ")?;
         }

@@ -110,7 +110,7 @@ fn text_of(
         return Ok(format!(in alloc; "idle")?);
     };
     let mut text = String::new(alloc);
-    for output in list.into_vec() {
+    for output in list.into_vec()? {
         text = match output {
             Output::Logged { .. } => format!(in alloc; "logged")?,
             Output::Cut { .. } => format!(in alloc; "cut")?,

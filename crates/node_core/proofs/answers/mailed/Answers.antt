@@ -8,11 +8,11 @@ use Rattle.node_core.proofs.Handing.{posted_more, map-same}
 use Rattle.node_core.proofs.answers.mailed.Goals as goal
 
 pub loop-mail-init : goal.loop-mail-init
-loop-mail-init c = record { shown = ap (map output_of) c.in_ok-outputs.ensures.items }
+loop-mail-init c = record { shown = ap (map output_of) c.new-outputs.ensures }
 
 pub loop-mail-preserved : goal.loop-mail-preserved
 loop-mail-preserved c = record {
-  shown = posted_more c.loop-mail.outputs.items c.push.new.self.items c.loop-mail.yielded (c.loop-mail.yielded ++ c.in-Some.mail ∷ []) c.in-Some.mail refl c.in_ok-push.ensures.items c.loop-mail.invariant.shown;
+  shown = posted_more c.loop-mail.outputs c.push.new.self c.loop-mail.yielded (c.loop-mail.yielded ++ c.in-Some.mail ∷ []) c.in-Some.mail refl c.in_ok-push.ensures c.loop-mail.invariant.shown;
 }
 
 pub returns : goal.returns

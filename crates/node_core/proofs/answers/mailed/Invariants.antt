@@ -5,4 +5,4 @@ use Rattle.node_core.specs.Outputs.{output_of}
 use Rattle.node_core.proofs.answers.mailed.Given as goal
 
 abbrev pub invariant-loop-mail : goal.invariant-loop-mail
-invariant-loop-mail l = record { shown : map output_of l.outputs.items ≡ posts (mails_seen l.yielded) }
+invariant-loop-mail l = record { shown : map output_of l.outputs ≡ posts (mails_seen l.yielded) }

@@ -6,4 +6,4 @@ use Rattle.node_core.proofs.marks.mail_report.Given as goal
 
 abbrev pub invariant-loop-to : goal.invariant-loop-to
 invariant-loop-to l =
-    map output_of l.outputs.items ≡ map output_of l.fn.outputs.items ++ map (λ to. Mail to (Reports (report_seen l.report.value))) (take l.to-index l.consolidators)
+    map output_of l.outputs ≡ map output_of l.fn.outputs ++ map (λ to. Mail to (Reports (report_seen l.report.value))) (take l.to-index l.consolidators)

@@ -1,60 +1,13 @@
-use Rattle.std.proofs.Common.{◌≡◌, ◌<◌, length, get_or, subst, sym, ◌∙◌, map, filter_map}
-use Rattle.std.proofs.lemmas.Iterator.Adapters.{YieldsList-from_vec}
-use Rattle.std.proofs.lemmas.Iterator.Consumers.{YieldsList-turn}
-use Rattle.node_core.specs.Outputs.{output_of}
-use Rattle.route_node.specs.Frames.{telling}
-use Rattle.route_node.specs.Told.{told}
-use Rattle.route_node.specs.Writing.{Writes, Breaks}
-use Rattle.route_node.proofs.Written.{handed_on, writes_more, breaks_more}
-use Rattle.route_node.proofs.Replied.{turn_fits, one_more, told_more, told_all, left_behind}
+use Rattle.std.proofs.Common.{◌≡◌, true, sym, subst}
+use Rattle.std.specs.List.{list_all}
+use Rattle.admission_laws.specs.Handing.{output_fits}
 use Rattle.route_node.proofs.replies.write_replies.Goals as goal
 
-pub write_reply-requires : goal.write_reply-requires
-write_reply-requires g c =
-    let iterator = c.into_iter-output-iterator.result in
-    let items = c.into_vec-output-items.result.items in
-    let done = c.loop-output.yielded in
-    let output = c.in-Some.output in
-    let count : iterator.rest.len ≡ length items = c.into_iter-output-iterator.ensures.into_iter_gives.1 ∙ c.into_vec-output-items.result.ok.0 in
-    let turn = subst (λ all. (length done < length all) × (output ≡ get_or all (length done) output)) c.into_vec-output-items.ensures
-    (YieldsList-turn (YieldsList-from_vec {s = iterator} items c.into_iter-output-iterator.ensures.into_iter_gives.0 count) done c.loop-output.output-iterator c.loop-output.yielded_by
-    c.next.result c.next.new.self output c.in-Some.is c.next.ensures.steps) in
-    turn_fits c.args.topology.now c.args.id c.args.outputs (length done) output c.requires turn.0 turn.1
+pub write_each-requires : goal.write_each-requires
+write_each-requires g c = subst (λ all. list_all (output_fits c.args.topology.now c.args.id) all ≡ true) (sym c.in-Ok.ensures) c.requires
 
-pub loop-output-preserved : goal.loop-output-preserved
-loop-output-preserved g c =
-    let iterator = c.into_iter-output-iterator.result in
-    let items = c.into_vec-output-items.result.items in
-    let done = c.loop-output.yielded in
-    let output = c.in-Some.output in
-    let count : iterator.rest.len ≡ length items = c.into_iter-output-iterator.ensures.into_iter_gives.1 ∙ c.into_vec-output-items.result.ok.0 in
-    let turn = subst (λ all. (length done < length all) × (output ≡ get_or all (length done) output)) c.into_vec-output-items.ensures
-    (YieldsList-turn (YieldsList-from_vec {s = iterator} items c.into_iter-output-iterator.ensures.into_iter_gives.0 count) done c.loop-output.output-iterator c.loop-output.yielded_by
-    c.next.result c.next.new.self output c.in-Some.is c.next.ensures.steps) in
-    let link = g.L.Link.seen c.args.link.now in
-    let mid = g.L.Link.seen c.loop-output.link in
-    let link' = g.L.Link.seen c.write_reply.new.link in
-    record {
-      so_far = one_more c.args.outputs done output c.loop-output.invariant.so_far turn.0 turn.1;
-      wrote = subst (λ frames. Writes frames link link') (told_more done output)
-          (writes_more (filter_map telling (map output_of done)) (told (output_of output)) link mid link' c.loop-output.invariant.wrote c.in_ok-write_reply.ensures.ok);
-    }
+pub returns-clause-ok : goal.returns-clause-ok
+returns-clause-ok g c = rw (sym c.in-Ok.ensures) c.write_each.ensures.ok
 
-pub returns-in_err-write_reply-clause-err : goal.returns-in_err-write_reply-clause-err
-returns-in_err-write_reply-clause-err g c =
-    let iterator = c.into_iter-output-iterator.result in
-    let items = c.into_vec-output-items.result.items in
-    let done = c.loop-output.yielded in
-    let output = c.in-Some.output in
-    let count : iterator.rest.len ≡ length items = c.into_iter-output-iterator.ensures.into_iter_gives.1 ∙ c.into_vec-output-items.result.ok.0 in
-    let turn = subst (λ all. (length done < length all) × (output ≡ get_or all (length done) output)) c.into_vec-output-items.ensures
-    (YieldsList-turn (YieldsList-from_vec {s = iterator} items c.into_iter-output-iterator.ensures.into_iter_gives.0 count) done c.loop-output.output-iterator c.loop-output.yielded_by
-    c.next.result c.next.new.self output c.in-Some.is c.next.ensures.steps) in
-    let link = g.L.Link.seen c.args.link.now in
-    let mid = g.L.Link.seen c.loop-output.link in
-    let link' = g.L.Link.seen c.write_reply.new.link in
-    handed_on c.from_residual.result _ (λ status. Breaks (filter_map telling (map output_of c.args.outputs)) link link' status) c.from_residual.ensures
-    (λ status same.
-    subst (λ s. Breaks (filter_map telling (map output_of c.args.outputs)) link link' s) (sym same)
-    (breaks_more (filter_map telling (map output_of c.args.outputs)) (filter_map telling (map output_of done)) (told (output_of output)) (filter_map telling (map output_of (left_behind c.args.outputs done)))
-    link mid link' c.in_err-write_reply.field-0.0 c.loop-output.invariant.wrote c.in_err-write_reply.ensures.err (told_all c.args.outputs done output c.loop-output.invariant.so_far turn.0 turn.1)))
+pub returns-clause-err : goal.returns-clause-err
+returns-clause-err g c = rw (sym c.in-Ok.ensures) c.write_each.ensures.err

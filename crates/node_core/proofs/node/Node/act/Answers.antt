@@ -24,6 +24,6 @@ pub returns-in-Rise-clause-outputs : goal.returns-in-Rise-clause-outputs
 returns-in-Rise-clause-outputs g c = on_ok_weaker c.raise.result
     (λ h policy net u carried past was may none.
     let up = rises (g.P.Policy.rules policy) net carried u past c.args.act c.in-Rise.epoch c.in-Rise.is may in
-    subst (Hands past c.raise.new.outputs.items) (sym up.1)
-    (h policy net u carried past past was.keeps.same_net was.keeps.same_id was.keeps.log (hands_nothing past c.args.outputs.now.items none)))
+    subst (Hands past c.raise.new.outputs) (sym up.1)
+    (h policy net u carried past past was.keeps.same_net was.keeps.same_id was.keeps.log (hands_nothing past c.args.outputs.now none)))
     c.raise.ensures.outputs

@@ -61,7 +61,7 @@ returns-in_ok-mailed-in-Sent-clause-says g c = λ policy net u carried past was.
     (c.deref.ensures ∙ was.keeps.same_net) (ap (λ (k : Agreement). k.consolidator) c.into_inner-reports.ensures) was.agrees.part (λ stands. c.in_ok-consolidator.ensures (control past) u stands) in
     let went = asked_sent rules net carried u past kept input c.in-Sent.mails (subst (λ r. Consults net r kept (control past) u input) c.in-Sent.is asks) in
     subst (λ s. Says u past s (told.Did c.in_ok-mailed-in-Sent.field-0 c.decides-due.result)) (sym went.goes)
-    (hands_posted past went.now c.in-Sent.mails c.in_ok-mailed-in-Sent.field-0.items c.in_ok-mailed-in-Sent.ensures went.shown, subst (MayComplete u past went.now) (sym c.decides-due.ensures) went.completes)
+    (hands_posted past went.now c.in-Sent.mails c.in_ok-mailed-in-Sent.field-0 c.in_ok-mailed-in-Sent.ensures went.shown, subst (MayComplete u past went.now) (sym c.decides-due.ensures) went.completes)
 
 pub returns-then-proposes_large-clause-stopped : goal.returns-then-proposes_large-clause-stopped
 returns-then-proposes_large-clause-stopped g c policy net u carried past was =

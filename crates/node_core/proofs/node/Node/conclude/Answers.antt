@@ -20,7 +20,7 @@ returns-in_default-clause-node g c = λ policy net u past now follows may.
 pub returns-in_default-clause-outputs : goal.returns-in_default-clause-outputs
 returns-in_default-clause-outputs g c = λ policy net u first past now follows may hands.
     let rules = g.P.Policy.rules policy in
-    subst (Hands first c.args.outputs.now.items) (sym (none_due rules net u past now (subst (MayComplete u past now) c.in_default.is may))) hands
+    subst (Hands first c.args.outputs.now) (sym (none_due rules net u past now (subst (MayComplete u past now) c.in_default.is may))) hands
 
 pub returns-in_default-2-clause-node : goal.returns-in_default-2-clause-node
 returns-in_default-2-clause-node g c = λ policy net u past now follows may.
@@ -36,7 +36,7 @@ returns-in_default-2-clause-outputs g c = λ policy net u first past now follows
     let e = c.in-Some.epoch in
     let none = not_complete rules net u past now e (subst (MayComplete u past now) c.in-Some.is may)
     (subst (IsTableOf rules net u e now) c.in_default-2.is (c.in_ok-table.ensures policy net u now follows)) in
-    subst (Hands first c.args.outputs.now.items) (sym none) hands
+    subst (Hands first c.args.outputs.now) (sym none) hands
 
 pub returns-in_ok-push-clause-node : goal.returns-in_ok-push-clause-node
 returns-in_ok-push-clause-node g c = λ policy net u past now follows may.
@@ -59,15 +59,15 @@ returns-in_ok-push-clause-outputs g c = λ policy net u first past now follows m
     let e = c.in-Some.epoch in
     let t : View = c.in-Some-2.table in
     let kept = c.deref_mut.ensures.value in
-    let old = c.args.outputs.now.items in
-    let new = c.push.new.self.items in
+    let old = c.args.outputs.now in
+    let new = c.push.new.self in
     let before = subst (MayComplete u past now) c.in-Some.is may in
     let tabled = subst (IsTableOf rules net u e now) c.in-Some-2.is (c.in_ok-table.ensures policy net u now follows) in
     let stands = subst (λ (k : Agreement). TablesStandFor k.tables (views rules net u now)) (sym kept) follows.agrees.tables in
     let newer = newer_than rules net u e now t c.in_ok-table-2.table.value tabled c.in_ok-table-2.ensures.ok true (sym c.if-is_newest.true ∙ (c.is_ok-is_newest.ensures.value ∙ c.publish.ensures.above (views rules net u now) stands)) in
     subst (Hands first new) (sym (is_published rules net u past now e before t tabled newer))
     (published_hands rules net u e now t tabled first old new
-    (one_more old new (given.Published c.in_ok-shown.shown) c.in_ok-push.ensures.items
+    (one_more old new (given.Published c.in_ok-shown.shown) c.in_ok-push.ensures
     ∙ ap (λ (v : View). map output_of old ++ Published v.epoch v.value v.paths ∷ []) (c.in_ok-shown.ensures.cases ∙ c.in_ok-table-2.ensures.ok))
     hands)
 
@@ -96,4 +96,4 @@ returns-else-is_newest-clause-outputs g c = λ policy net u first past now follo
     let tabled = subst (IsTableOf rules net u e now) c.in-Some-2.is (c.in_ok-table.ensures policy net u now follows) in
     let stands = subst (λ (k : Agreement). TablesStandFor k.tables (views rules net u now)) (sym kept) follows.agrees.tables in
     let older = newer_than rules net u e now t c.in_ok-table-2.table.value tabled c.in_ok-table-2.ensures.ok false (sym c.if-is_newest.false ∙ (c.is_ok-is_newest.ensures.value ∙ c.publish.ensures.above (views rules net u now) stands)) in
-    subst (Hands first c.args.outputs.now.items) (sym (not_newer rules net u past now e before older)) hands
+    subst (Hands first c.args.outputs.now) (sym (not_newer rules net u past now e before older)) hands

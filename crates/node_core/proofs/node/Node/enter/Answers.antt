@@ -1,11 +1,9 @@
-use Rattle.std.proofs.Common.{[], ◌∷◌, ◌++◌, ◌∙◌, refl, ap, map}
+use Rattle.std.proofs.Common.{[], ◌∷◌, ◌∙◌, refl, map}
 use Rattle.trigger_log.specs.Entries.{entry}
 use Rattle.trigger_log.specs.Going.{going_of}
 use Rattle.chronicle.specs.Logs.{log_of}
 use Rattle.node_core.specs.declared.outputs.Output.TheVariants as given
-use Rattle.node_core.specs.Outputs.{Logged, Send}
 use Rattle.node_core.proofs.Entering.{appended, entered, entered_hands}
-use Rattle.node_core.proofs.Handing.{one_more, two_lists}
 use Rattle.node_core.proofs.node.Node.enter.Goals as goal
 
 pub returns-clause-node : goal.returns-clause-node
@@ -13,7 +11,7 @@ returns-clause-node g c policy net u carried past was may =
     let rules = g.P.Policy.rules policy in
     let h = log_of u past in
     let k = entry (c.args.trigger ∷ []) c.args.scope c.args.cause in
-    let made = appended policy rules c.deref.result.now net u h k c.args.self.log.value c.in_ok-log.log.value c.in_ok-log.outgoing.items (c.deref.ensures ∙ was.same_net) was.log may
+    let made = appended policy rules c.deref.result.now net u h k c.args.self.log.value c.in_ok-log.log.value c.in_ok-log.sent.items (c.deref.ensures ∙ was.same_net) was.log may
     (λ stands near placed fits. c.in_ok-log.ensures.log policy u h stands near placed fits)
     (λ stands near placed fits. c.in_ok-log.ensures.outgoing policy u h stands near placed fits) in
     entered policy rules net u carried past k c.args.self _ was refl refl refl refl made.log ((rw c.deref-2.ensures at c.in_ok-updates.ensures) policy net u k h made.log was.listed)
@@ -23,12 +21,9 @@ returns-clause-outputs g c policy net u carried past first was may hands =
     let rules = g.P.Policy.rules policy in
     let h = log_of u past in
     let k = entry (c.args.trigger ∷ []) c.args.scope c.args.cause in
-    let gs = map going_of c.in_ok-log.outgoing.items in
-    let made = appended policy rules c.deref.result.now net u h k c.args.self.log.value c.in_ok-log.log.value c.in_ok-log.outgoing.items (c.deref.ensures ∙ was.same_net) was.log may
+    let made = appended policy rules c.deref.result.now net u h k c.args.self.log.value c.in_ok-log.log.value c.in_ok-log.sent.items (c.deref.ensures ∙ was.same_net) was.log may
     (λ stands near placed fits. c.in_ok-log.ensures.log policy u h stands near placed fits)
     (λ stands near placed fits. c.in_ok-log.ensures.outgoing policy u h stands near placed fits) in
-    entered_hands rules net u carried past first k c.args.outputs.now.items c.send_all.new.outputs.items c.len.result gs
-    ((rw c.deref-4.ensures at c.len.ensures) policy net u (k ∷ h) made.log) made.outgoing_is
-    (two_lists c.args.outputs.now.items c.push.new.self.items c.send_all.new.outputs.items (Logged c.len.result) (map Send gs)
-    (one_more c.args.outputs.now.items c.push.new.self.items (given.Logged c.len.result) (c.in_ok-push.ensures.items ∙ ap (λ l. l ++ given.Logged c.len.result ∷ []) c.make_room.ensures)) c.in_ok-send_all.ensures)
+    entered_hands rules net u carried past first k c.args.outputs.now c.enter.new.self c.len-index.result (map going_of c.in_ok-log.sent.items)
+    ((rw c.deref-3.ensures at c.len-index.ensures) policy net u (k ∷ h) made.log) made.outgoing_is c.in_ok-enter.ensures
     hands

@@ -17,7 +17,7 @@ returns-clause-node g c = IfOk-weaker c.enter.result _ _
 pub returns-clause-outputs : goal.returns-clause-outputs
 returns-clause-outputs g c = on_ok_weaker c.enter.result
     (λ h policy net u carried past first was may hands.
-    with_next (λ k. Hands first c.enter.new.outputs.items (write (g.P.Policy.rules policy) net carried u k past)) u (log_of u past)
+    with_next (λ k. Hands first c.enter.new.outputs (write (g.P.Policy.rules policy) net carried u k past)) u (log_of u past)
     c.next_trigger-trigger.result c.args.scope c.args.cause ((rw c.deref.ensures at c.next_trigger-trigger.ensures) policy net u (log_of u past) was.log)
     (h policy net u carried past first was may hands))
     c.enter.ensures.outputs

@@ -20,7 +20,7 @@ returns-then-ready-clause-outputs g c policy net u carried past first was near h
     let rules = g.P.Policy.rules policy in
     let v = c.args.nbr in
     let known : is_some (ready (reads (log_of u past)) v) ≡ true = sym ((rw c.deref.ensures at c.ready.ensures) policy net u (log_of u past) was.log near) ∙ c.if-ready.true in
-    subst (Hands first c.args.outputs.now.items) (sym (greeted_again rules net carried v u c.args.session past (ready (reads (log_of u past)) v) known)) hands
+    subst (Hands first c.args.outputs.now) (sym (greeted_again rules net carried v u c.args.session past (ready (reads (log_of u past)) v) known)) hands
 
 pub returns-clause-node : goal.returns-clause-node
 returns-clause-node g c = IfOk-weaker c.enter_own.result _ _
@@ -38,6 +38,6 @@ returns-clause-outputs g c = on_ok_weaker c.enter_own.result
     let rules = g.P.Policy.rules policy in
     let v = c.args.nbr in
     let unknown : is_some (ready (reads (log_of u past)) v) ≡ false = sym ((rw c.deref.ensures at c.ready.ensures) policy net u (log_of u past) was.log near) ∙ c.if-ready.false in
-    subst (Hands first c.enter_own.new.outputs.items) (sym (greeted_first rules net carried v u c.args.session past (ready (reads (log_of u past)) v) unknown))
+    subst (Hands first c.enter_own.new.outputs) (sym (greeted_first rules net carried v u c.args.session past (ready (reads (log_of u past)) v) unknown))
     (h policy net u carried past first was (record { near = near; placed = tt; fits = (holds, unopened (reads (log_of u past)) v c.args.session holds unknown) }) hands))
     c.enter_own.ensures.outputs

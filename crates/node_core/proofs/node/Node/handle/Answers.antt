@@ -25,7 +25,7 @@ pub returns-clause-node : goal.returns-clause-node
 returns-clause-node g c policy net u carried past was may =
     let rules = g.P.Policy.rules policy in
     let input = input_of c.args.input in
-    let went = said_parts u past (answer rules net carried u past input) c.in_ok-node.answer c.in-Did.outputs.items c.in-Did.due (ap is_did c.in-Did.is) (ap outputs_of c.in-Did.is) (ap due_of c.in-Did.is)
+    let went = said_parts u past (answer rules net carried u past input) c.in_ok-node.answer c.in-Did.outputs c.in-Did.due (ap is_did c.in-Did.is) (ap outputs_of c.in-Did.is) (ap due_of c.in-Did.is)
     (c.in_ok-node.ensures.says policy net u carried past was may) in
     let follows = c.in_ok-conclude.ensures.node policy net u past went.now
     (follows_now policy rules net u past (answer rules net carried u past input) went.now c.in_ok-node.node went.goes (c.in_ok-node.ensures.node policy net u carried past was may)) went.completes in
@@ -36,18 +36,17 @@ pub returns-clause-outputs : goal.returns-clause-outputs
 returns-clause-outputs g c policy net u carried past was may =
     let rules = g.P.Policy.rules policy in
     let input = input_of c.args.input in
-    let went = said_parts u past (answer rules net carried u past input) c.in_ok-node.answer c.in-Did.outputs.items c.in-Did.due (ap is_did c.in-Did.is) (ap outputs_of c.in-Did.is) (ap due_of c.in-Did.is)
+    let went = said_parts u past (answer rules net carried u past input) c.in_ok-node.answer c.in-Did.outputs c.in-Did.due (ap is_did c.in-Did.is) (ap outputs_of c.in-Did.is) (ap due_of c.in-Did.is)
     (c.in_ok-node.ensures.says policy net u carried past was may) in
     let follows = follows_now policy rules net u past (answer rules net carried u past input) went.now c.in_ok-node.node went.goes (c.in_ok-node.ensures.node policy net u carried past was may) in
-    rw c.new.ensures
-    (then_answers policy rules net u carried past input went.now went.goes c.conclude.new.outputs.items
-    (c.in_ok-conclude.ensures.outputs policy net u past past went.now follows went.completes went.hands))
+    then_answers policy rules net u carried past input went.now went.goes c.conclude.new.outputs
+    (c.in_ok-conclude.ensures.outputs policy net u past past went.now follows went.completes went.hands)
 
 pub returns-in-Some-clause-stopped : goal.returns-in-Some-clause-stopped
 returns-in-Some-clause-stopped g c policy net u carried past was may =
     let rules = g.P.Policy.rules policy in
     let input = input_of c.args.input in
-    let went = said_parts u past (answer rules net carried u past input) c.in_ok-node.answer c.in-Did.outputs.items c.in-Did.due (ap is_did c.in-Did.is) (ap outputs_of c.in-Did.is) (ap due_of c.in-Did.is)
+    let went = said_parts u past (answer rules net carried u past input) c.in_ok-node.answer c.in-Did.outputs c.in-Did.due (ap is_did c.in-Did.is) (ap outputs_of c.in-Did.is) (ap due_of c.in-Did.is)
     (c.in_ok-node.ensures.says policy net u carried past was may) in
     let follows = c.in_ok-conclude.ensures.node policy net u past went.now
     (follows_now policy rules net u past (answer rules net carried u past input) went.now c.in_ok-node.node went.goes (c.in_ok-node.ensures.node policy net u carried past was may)) went.completes in

@@ -23,9 +23,9 @@ returns-clause-outputs g c policy net u carried past first was may hands =
     let rules = g.P.Policy.rules policy in
     let h = log_of u past in
     let e = c.epoch-epoch.result in
-    let mid = c.enter_own.new.outputs.items in
+    let mid = c.enter_own.new.outputs in
     opened_hands policy rules net u c.args.nbr c.args.session carried past
     (λ w. c.an_opening_says_nothing.ensures (making rules net u h (local u h All (Up c.args.nbr c.args.session))) c.args.nbr c.args.session w was.keeps.log.fitting may.fits.0 may.fits.1 refl)
-    first mid c.push.new.self.items e ((rw c.deref.ensures at c.epoch-epoch.ensures) net u was.keeps.acts was.keeps.snapshots ∙ was.keeps.alike.same_epoch)
-    (one_more mid c.push.new.self.items (given.Send (record { to = c.args.nbr; session = c.args.session; item = message.Hello e })) c.in_ok-push.ensures.items)
+    first mid c.push.new.self e ((rw c.deref.ensures at c.epoch-epoch.ensures) net u was.keeps.acts was.keeps.snapshots ∙ was.keeps.alike.same_epoch)
+    (one_more mid c.push.new.self (given.Send (record { to = c.args.nbr; session = c.args.session; item = message.Hello e })) c.in_ok-push.ensures)
     (c.in_ok-node.ensures.outputs policy net u carried past first was.keeps may hands)

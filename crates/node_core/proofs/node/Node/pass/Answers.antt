@@ -16,4 +16,4 @@ returns-clause-says g c policy net u carried past was may =
     let rules = g.P.Policy.rules policy in
     passed_says rules net u past carried c.args.passing c.push.new.self
     (subst (λ l. Hands past l (chronicle_of past (answer rules net carried u past (passing_of c.args.passing))))
-    (sym (c.in_ok-push.ensures.items ∙ ap (λ l. l ++ c.in_ok-output.output ∷ []) c.new-outputs.ensures.items)) (c.in_ok-output.ensures policy net u carried past was may))
+    (sym (c.in_ok-push.ensures ∙ ap (λ l. l ++ c.in_ok-output.output ∷ []) c.new-outputs.ensures)) (c.in_ok-output.ensures policy net u carried past was may))

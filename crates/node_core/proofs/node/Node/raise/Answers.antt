@@ -24,14 +24,14 @@ returns-clause-outputs g c policy net u carried first past same_net same_id log 
     let rules = g.P.Policy.rules policy in
     let e = c.args.epoch in
     let h = log_of u past in
-    let old = c.args.outputs.now.items in
-    let mid = c.push.new.self.items in
-    let marked = c.send_markers.new.outputs.items in
-    let new = c.mail_report.new.outputs.items in
+    let old = c.args.outputs.now in
+    let mid = c.push.new.self in
+    let marked = c.send_markers.new.outputs in
+    let new = c.mail_report.new.outputs in
     let reported = ap report_seen c.in_ok-report.ensures.ok ∙ (rw c.deref.ensures at c.in_ok-report_of.ensures) policy net u h log in
     risen_hands rules net u carried first past e old new
     (three_lists old mid marked new (Cut e) (map Send (markers net u e h)) (posts (reporting rules net u e h))
-    (one_more old mid (given.Cut e) c.in_ok-push.ensures.items)
+    (one_more old mid (given.Cut e) c.in_ok-push.ensures)
     (c.in_ok-send_markers.ensures policy net u h same_net same_id log)
     (c.in_ok-mail_report.ensures
     ∙ ap (λ l. map output_of marked ++ l) (mailed_reports rules c.deref-2.result.now net u e h c.consolidators.result.now (report_seen c.in_ok-report.report.value) c.consolidators.ensures (c.deref-2.ensures ∙ same_net) reported)))

@@ -15,12 +15,12 @@ loop-nbr-preserved-in_default g c = λ policy net u h same_net same_id log.
     let nodes = c.neighbours-nbr-items.result.now in
     let i = c.loop-nbr.nbr-index in
     let w = c.nbr-item.result in
-    let old = c.loop-nbr.outputs.items in
+    let old = c.loop-nbr.outputs in
     let near = c.neighbours-nbr-items.ensures.neighbours ∙ (ap (λ n. neighbours n c.args.self.now.id) (c.deref.ensures ∙ same_net) ∙ ap (neighbours net) same_id) in
     let inside : i < length nodes = omega arith in
     let here : has (neighbours net u) w ≡ true = subst (λ ns. has ns w ≡ true) near (has_at nodes w i inside (get_or_default nodes i 0 w inside ∙ sym c.nbr-item.is)) in
     let none = sym c.in_default.is ∙ (rw c.deref-in-loop-nbr.ensures at c.held.ensures) policy net u h log here in
-    marker_more h c.args.epoch nodes i w None c.args.outputs.now.items old old inside c.nbr-item.is none
+    marker_more h c.args.epoch nodes i w None c.args.outputs.now old old inside c.nbr-item.is none
     (c.loop-nbr.invariant policy net u h same_net same_id log) (sym (append-nil (map output_of old)))
 
 pub loop-nbr-preserved : goal.loop-nbr-preserved
@@ -29,14 +29,14 @@ loop-nbr-preserved g c = λ policy net u h same_net same_id log.
     let i = c.loop-nbr.nbr-index in
     let w = c.nbr-item.result in
     let s = c.in-Some.session in
-    let old = c.loop-nbr.outputs.items in
+    let old = c.loop-nbr.outputs in
     let near = c.neighbours-nbr-items.ensures.neighbours ∙ (ap (λ n. neighbours n c.args.self.now.id) (c.deref.ensures ∙ same_net) ∙ ap (neighbours net) same_id) in
     let inside : i < length nodes = omega arith in
     let here : has (neighbours net u) w ≡ true = subst (λ ns. has ns w ≡ true) near (has_at nodes w i inside (get_or_default nodes i 0 w inside ∙ sym c.nbr-item.is)) in
     let some = sym c.in-Some.is ∙ (rw c.deref-in-loop-nbr.ensures at c.held.ensures) policy net u h log here in
-    marker_more h c.args.epoch nodes i w (Some s) c.args.outputs.now.items old c.push.new.self.items inside c.nbr-item.is some
+    marker_more h c.args.epoch nodes i w (Some s) c.args.outputs.now old c.push.new.self inside c.nbr-item.is some
     (c.loop-nbr.invariant policy net u h same_net same_id log)
-    (one_more old c.push.new.self.items (given.Send (record { to = w; session = s; item = message.Marker c.args.epoch })) c.in_ok-push.ensures.items)
+    (one_more old c.push.new.self (given.Send (record { to = w; session = s; item = message.Marker c.args.epoch })) c.in_ok-push.ensures)
 
 pub returns : goal.returns
 returns g c = λ policy net u h same_net same_id log.
@@ -44,4 +44,4 @@ returns g c = λ policy net u h same_net same_id log.
     let near = c.neighbours-nbr-items.ensures.neighbours ∙ (ap (λ n. neighbours n c.args.self.now.id) (c.deref.ensures ∙ same_net) ∙ ap (neighbours net) same_id) in
     let ends : length nodes ≤ c.loop-nbr.nbr-index = omega arith in
     c.loop-nbr.invariant policy net u h same_net same_id log
-    ∙ ap (λ gs. map output_of c.args.outputs.now.items ++ map Send gs) (ap (flat_map (marker_to h c.args.epoch)) (take_all c.loop-nbr.nbr-index nodes ends) ∙ all_markers h c.args.epoch net u nodes near)
+    ∙ ap (λ gs. map output_of c.args.outputs.now ++ map Send gs) (ap (flat_map (marker_to h c.args.epoch)) (take_all c.loop-nbr.nbr-index nodes ends) ∙ all_markers h c.args.epoch net u nodes near)

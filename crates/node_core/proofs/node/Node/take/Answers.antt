@@ -39,12 +39,12 @@ returns-in-Update-clause-outputs g c = on_ok_weaker c.enter.result
     let n = c.in-Update.seq in
     let t = c.in-Update.trigger in
     let path = c.in-Update.path in
-    news_taken rules net u carried past v s (Hands first c.enter.new.outputs.items) c.args.item p n t path c.in-Update.is
+    news_taken rules net u carried past v s (Hands first c.enter.new.outputs) c.args.item p n t path c.in-Update.is
     (h policy net u carried (Took v u s (News n (record { prefix = p; triggers = t ∷ []; path = path })) ∷ past) first
     (heard_keeps policy rules net u past v s c.args.item p n t path c.in-Update.is may c.args.self _ was.own was.keeps (record { topology = refl; id = refl; log = refl; updates = refl; agreement = record { part = refl; tables = refl } }) refl
     (rw c.deref_mut.ensures.value at c.on_update.ensures net u))
     (may_enter policy rules net u past v s c.args.item p n t path c.in-Update.is may)
-    (hands_took first past c.args.outputs.now.items v u s (News n (record { prefix = p; triggers = t ∷ []; path = path })) hands)))
+    (hands_took first past c.args.outputs.now v u s (News n (record { prefix = p; triggers = t ∷ []; path = path })) hands)))
     c.enter.ensures.outputs
 
 pub returns-in-Marker-clause-node : goal.returns-in-Marker-clause-node
@@ -59,7 +59,7 @@ pub returns-in-Marker-clause-outputs : goal.returns-in-Marker-clause-outputs
 returns-in-Marker-clause-outputs g c = on_ok_weaker c.meet.result
     (λ h policy net u carried past first was may hands.
     let rules = g.P.Policy.rules policy in
-    marker_taken rules net u carried past c.args.from c.args.session (Hands first c.meet.new.outputs.items) c.args.item c.in-Marker.epoch c.in-Marker.is
+    marker_taken rules net u carried past c.args.from c.args.session (Hands first c.meet.new.outputs) c.args.item c.in-Marker.epoch c.in-Marker.is
     (h policy net u carried past (Marker c.in-Marker.epoch) first was hands))
     c.meet.ensures.outputs
 
@@ -85,7 +85,7 @@ returns-in_ok-node-in-Hello-clause-outputs g c = on_ok_weaker c.greet.result
     let e = c.in-Hello.epoch in
     let now = meet_mark rules net carried u e (Took v u s (Hello e) ∷ past) in
     let holds : held (reads (log_of u now)) v ≡ Some s = subst (λ l. held (reads l) v ≡ Some s) (sym (log_meet rules net u carried (Took v u s (Hello e) ∷ past) e)) may.held in
-    hello_taken rules net u carried past v s (Hands first c.greet.new.outputs.items) c.args.item e c.in-Hello.is
+    hello_taken rules net u carried past v s (Hands first c.greet.new.outputs) c.args.item e c.in-Hello.is
     (h policy net u carried now first (c.in_ok-node-in-Hello.ensures.node policy net u carried past (Hello e) was may.near may.held refl) may.near holds
     (c.in_ok-node-in-Hello.ensures.outputs policy net u carried past (Hello e) first was hands)))
     c.greet.ensures.outputs

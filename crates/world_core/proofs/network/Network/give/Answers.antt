@@ -134,11 +134,11 @@ returns-in_err-check_control-clause-stopped g c =
     let sum = total_given net past u (makes_local (input_of i)) s c.args.self.now.triggers c.next_trigger-before.result.count c.next_trigger-after.result.count may.are_nodes.valid c.requires.node
     (others_same policy g.P.Policy.rules net past u i) (logs policy g.P.Policy.rules net past u i) may.counted.total (ap (λ t. t.count) before) (ap (λ t. t.count) after) in
     let counted = c.in_ok-self.ensures.ok in
-    let net_kept = c.in_ok-hand_all.ensures.kept in
+    let net_kept = c.in_ok-effects.ensures.kept in
     let start = sending_begun past counts u (input_of i) (record c.args.self.now { nodes = c.turn.new.nodes; triggers = c.in_ok-self.field-0 }) may.are_links may.are_mails may.are_published may.are_walks in
     let adds = give_adds rules net (carried_by u past) u past (λ w t. refl) may.are_nodes.valid c.requires.node (input_of i) may.may_come may.sender may.passing in
-    let sent = given_sent net past counts u (input_of i) s c.in-Did.list c.into_vec.result.items (record c.args.self.now { nodes = c.turn.new.nodes; triggers = c.in_ok-self.field-0 }) c.hand_all.new.self c.hand_all.new.effects.items (sym c.into_vec.ensures) adds (comes_back rules net u past (input_of i)) answers start
-    (λ away first mid facts told hands sending. c.in_ok-hand_all.ensures.sending away first mid counts facts told hands (rw c.in_ok-effects.ensures sending)) in
+    let sent = given_sent net past counts u (input_of i) s c.in-Did.list c.in-Did.list (record c.args.self.now { nodes = c.turn.new.nodes; triggers = c.in_ok-self.field-0 }) c.hand_all.new.self c.in_ok-effects.effects.items refl adds (comes_back rules net u past (input_of i)) answers start
+    (λ away first mid facts told hands sending. c.in_ok-effects.ensures.sending away first mid counts facts told hands sending) in
     let stopped = c.in_err-check_control.ensures.stopped in
     rw (out.2, stopped.0)
     (stops_at_control policy rules net past c.turn.new.nodes.items s c.in-Did.list now (subst (λ n. n ≤ MOST_TRIGGERS) (counted.0 ∙ sum) counted.1) answers (stopped.1 (chronicle_of past s) counts sent.are_mails)))
@@ -165,11 +165,11 @@ returns-in_err-check_packets-clause-stopped g c =
     let sum = total_given net past u (makes_local (input_of i)) s c.args.self.now.triggers c.next_trigger-before.result.count c.next_trigger-after.result.count may.are_nodes.valid c.requires.node
     (others_same policy g.P.Policy.rules net past u i) (logs policy g.P.Policy.rules net past u i) may.counted.total (ap (λ t. t.count) before) (ap (λ t. t.count) after) in
     let counted = c.in_ok-self.ensures.ok in
-    let net_kept = c.in_ok-hand_all.ensures.kept in
+    let net_kept = c.in_ok-effects.ensures.kept in
     let start = sending_begun past counts u (input_of i) (record c.args.self.now { nodes = c.turn.new.nodes; triggers = c.in_ok-self.field-0 }) may.are_links may.are_mails may.are_published may.are_walks in
     let adds = give_adds rules net (carried_by u past) u past (λ w t. refl) may.are_nodes.valid c.requires.node (input_of i) may.may_come may.sender may.passing in
-    let sent = given_sent net past counts u (input_of i) s c.in-Did.list c.into_vec.result.items (record c.args.self.now { nodes = c.turn.new.nodes; triggers = c.in_ok-self.field-0 }) c.hand_all.new.self c.hand_all.new.effects.items (sym c.into_vec.ensures) adds (comes_back rules net u past (input_of i)) answers start
-    (λ away first mid facts told hands sending. c.in_ok-hand_all.ensures.sending away first mid counts facts told hands (rw c.in_ok-effects.ensures sending)) in
+    let sent = given_sent net past counts u (input_of i) s c.in-Did.list c.in-Did.list (record c.args.self.now { nodes = c.turn.new.nodes; triggers = c.in_ok-self.field-0 }) c.hand_all.new.self c.in_ok-effects.effects.items refl adds (comes_back rules net u past (input_of i)) answers start
+    (λ away first mid facts told hands sending. c.in_ok-effects.ensures.sending away first mid counts facts told hands sending) in
     let few = c.in_ok-check_control.ensures.ok (chronicle_of past s) counts sent.are_mails in
     let stopped = c.in_err-check_packets.ensures.stopped in
     rw (out.2, stopped.0)
@@ -194,15 +194,15 @@ returns-clause-comes g c past counts may =
     let sum = total_given net past u (makes_local (input_of i)) s c.args.self.now.triggers c.next_trigger-before.result.count c.next_trigger-after.result.count may.are_nodes.valid c.requires.node
     (others_same policy g.P.Policy.rules net past u i) (logs policy g.P.Policy.rules net past u i) may.counted.total (ap (λ t. t.count) before) (ap (λ t. t.count) after) in
     let counted = c.in_ok-self.ensures.ok in
-    let net_kept = c.in_ok-hand_all.ensures.kept in
+    let net_kept = c.in_ok-effects.ensures.kept in
     let start = sending_begun past counts u (input_of i) (record c.args.self.now { nodes = c.turn.new.nodes; triggers = c.in_ok-self.field-0 }) may.are_links may.are_mails may.are_published may.are_walks in
     let adds = give_adds rules net (carried_by u past) u past (λ w t. refl) may.are_nodes.valid c.requires.node (input_of i) may.may_come may.sender may.passing in
-    let sent = given_sent net past counts u (input_of i) s c.in-Did.list c.into_vec.result.items (record c.args.self.now { nodes = c.turn.new.nodes; triggers = c.in_ok-self.field-0 }) c.hand_all.new.self c.hand_all.new.effects.items (sym c.into_vec.ensures) adds (comes_back rules net u past (input_of i)) answers start
-    (λ away first mid facts told hands sending. c.in_ok-hand_all.ensures.sending away first mid counts facts told hands (rw c.in_ok-effects.ensures sending)) in
+    let sent = given_sent net past counts u (input_of i) s c.in-Did.list c.in-Did.list (record c.args.self.now { nodes = c.turn.new.nodes; triggers = c.in_ok-self.field-0 }) c.hand_all.new.self c.in_ok-effects.effects.items refl adds (comes_back rules net u past (input_of i)) answers start
+    (λ away first mid facts told hands sending. c.in_ok-effects.ensures.sending away first mid counts facts told hands sending) in
     let few = c.in_ok-check_control.ensures.ok (chronicle_of past s) counts sent.are_mails in
     let few_packets = c.in_ok-check_packets.ensures.ok (chronicle_of past s) sent.are_walks in
     record {
-      stands = sent_stands rules past s counts (record c.args.self.now { nodes = c.turn.new.nodes; triggers = c.in_ok-self.field-0 }) c.hand_all.new.self c.hand_all.new.effects.items (begun u (input_of i) past) net_kept now
+      stands = sent_stands rules past s counts (record c.args.self.now { nodes = c.turn.new.nodes; triggers = c.in_ok-self.field-0 }) c.hand_all.new.self c.in_ok-effects.effects.items (begun u (input_of i) past) net_kept now
           (given_flags rules net past u (input_of i) c.args.self.now.crashed.items may.are_crashed) (counted.0 ∙ sum) counted.1 few few_packets sent;
-      tells = rw c.new.ensures (given_tells past u (input_of i) s c.in-Did.list c.hand_all.new.effects.items answers sent.since);
+      tells = rw c.new.ensures (given_tells past u (input_of i) s c.in-Did.list c.in_ok-effects.effects.items answers sent.since);
     }

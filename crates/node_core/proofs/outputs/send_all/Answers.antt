@@ -5,7 +5,7 @@ use Rattle.std.proofs.lemmas.Iterator.Consumers.{YieldsList-end}
 use Rattle.trigger_log.specs.Going.{going_of}
 use Rattle.node_core.specs.Outputs.{Send, output_of}
 use Rattle.node_core.proofs.Handing.{sent_more, map-same}
-use Rattle.node_core.proofs.acting.send_all.Goals as goal
+use Rattle.node_core.proofs.outputs.send_all.Goals as goal
 
 pub loop-out-init : goal.loop-out-init
 loop-out-init c = record {

@@ -1,0 +1,67 @@
+use Rattle.std.proofs.Common.{ℕ, Bool, List, [], ◌∷◌, ◌++◌, ◌≡◌, refl, sym, ◌∙◌, ap, subst, map, length}
+use Rattle.std.proofs.lemmas.List.{map-append}
+use Rattle.std.proofs.lemmas.Iterator.Adapters.{YieldsList-from_vec}
+use Rattle.std.proofs.lemmas.Iterator.Consumers.{YieldsList-end}
+use Rattle.trigger_log.specs.Going.{going_of}
+use Rattle.chronicle.specs.Facts.{Chronicle, Fact, happen}
+use Rattle.node_core.specs.Outputs.{Logged, Send}
+use Rattle.node_core.proofs.Together.{entry_shown}
+use Rattle.world_core.specs.Happening.{AreSending}
+use Rattle.world_core.specs.Telling.{IsTold}
+use Rattle.world_core.specs.Walks.{still_after}
+use Rattle.world_core.proofs.Places.{map-same}
+use Rattle.world_core.proofs.Handing.{handed_none, handed_next, happen_last}
+use Rattle.world_core.proofs.Returning.{still_last}
+use Rattle.world_core.proofs.Shown.{keeps_on}
+use Rattle.world_core.proofs.network.Network.hand_entry.Goals as goal
+
+pub loop-out-init : goal.loop-out-init
+loop-out-init g c =
+    let net = c.args.self.now.topology.value in
+    let old = c.args.self.now in
+    let new = c.hand.new.self in
+    let told_new = c.hand.new.effects.items in
+    record {
+      kept = c.in_ok-hand.ensures.kept;
+      sent = λ away first past counts facts told shows was.
+          let before = λ (fs : List Fact). AreSending (still_after fs away) first (happen past fs) counts old c.args.effects.now.items in
+          handed_next net past c.args.node before (λ fs. AreSending (still_after fs away) first (happen past fs) counts new told_new)
+          facts [] (Logged c.args.entered.index ∷ []) (Logged c.args.entered.index) told shows refl
+          (λ fs some same. handed_none net past c.args.node before before fs some same was)
+          (λ fs f one same earlier.
+          subst (λ (mid : Chronicle). AreSending (still_after (fs ++ f ∷ []) away) first mid counts new told_new) (sym (happen_last past fs f))
+          (subst (λ (a : ℕ → Bool). AreSending a first (f ∷ happen past fs) counts new told_new) (sym (still_last fs f away))
+          (c.in_ok-hand.ensures.sending (still_after fs away) first (happen past fs) counts f one same earlier)));
+    }
+
+pub loop-out-preserved : goal.loop-out-preserved
+loop-out-preserved g c =
+    let so_far = c.loop-out.invariant.kept in
+    let net = c.args.self.now.topology.value in
+    let done = c.loop-out.yielded in
+    let out = c.in-Some.out in
+    let first_one = Logged c.args.entered.index in
+    let new = c.hand-in-loop-out.new.self in
+    let told_new = c.hand-in-loop-out.new.effects.items in
+    record {
+      kept = keeps_on c.args.self.now c.loop-out.self new so_far c.in_ok-hand-2.ensures.kept;
+      sent = λ away first past counts facts told shows was.
+          handed_next net past c.args.node (λ fs. AreSending (still_after fs away) first (happen past fs) counts c.loop-out.self c.loop-out.effects.items)
+          (λ fs. AreSending (still_after fs away) first (happen past fs) counts new told_new)
+          facts (first_one ∷ map Send (map going_of done)) (first_one ∷ map Send (map going_of (done ++ out ∷ []))) (Send (going_of out)) told shows
+          (ap (λ l. first_one ∷ l) (ap (map Send) (map-append going_of done (out ∷ [])) ∙ map-append Send (map going_of done) (going_of out ∷ [])))
+          (λ fs some same. c.loop-out.invariant.sent away first past counts fs some same was)
+          (λ fs f one same earlier.
+          subst (λ (mid : Chronicle). AreSending (still_after (fs ++ f ∷ []) away) first mid counts new told_new) (sym (happen_last past fs f))
+          (subst (λ (a : ℕ → Bool). AreSending a first (f ∷ happen past fs) counts new told_new) (sym (still_last fs f away))
+          (c.in_ok-hand-2.ensures.sending (still_after fs away) first (happen past fs) counts f (subst (λ n. IsTold n c.args.node (happen past fs) f) (sym (ap (λ t. t.value) so_far.topology)) one) same earlier)));
+    }
+
+pub returns-clause-sending : goal.returns-clause-sending
+returns-clause-sending g c away first past counts facts told shows was =
+    let sent = c.args.entered.sent in
+    let counted : c.into_iter-out-iterator.result.rest.len ≡ length sent.items = c.into_iter-out-iterator.ensures.into_iter_gives.1 ∙ sent.ok.0 in
+    let end = YieldsList-end (YieldsList-from_vec {s = c.into_iter-out-iterator.result} sent.items c.into_iter-out-iterator.ensures.into_iter_gives.0 counted) c.loop-out.yielded c.loop-out.out-iterator c.loop-out.yielded_by c.next.result c.next.new.self c.in-None.is c.next.ensures.steps in
+    let all = sym (map-same c.loop-out.yielded) ∙ end.0 in
+    c.loop-out.invariant.sent away first past counts facts told
+    (ap (λ l. Logged c.args.entered.index ∷ map Send (map going_of l)) all ∙ (sym (entry_shown c.args.entered) ∙ shows)) was

@@ -1,0 +1,17 @@
+use Rattle.std.proofs.Common.{ℕ, Bool, List, ◌∷◌, ◌≡◌, map}
+use Rattle.trigger_log.specs.Going.{going_of}
+use Rattle.chronicle.specs.Facts.{Chronicle, Fact, happen}
+use Rattle.node_core.specs.Outputs.{Logged, Send}
+use Rattle.world_core.specs.Happening.{AreSending, KeepsNodes}
+use Rattle.world_core.specs.Matching.{Counts}
+use Rattle.world_core.specs.Telling.{AreTold, shown}
+use Rattle.world_core.specs.Walks.{still_after}
+use Rattle.world_core.proofs.network.Network.hand_entry.Given as goal
+
+abbrev pub invariant-loop-out : goal.invariant-loop-out
+invariant-loop-out g l = record {
+  kept : KeepsNodes l.fn.self l.self;
+  sent : (away : ℕ → Bool) (first past : Chronicle) (counts : Counts) (facts : List Fact) → AreTold l.fn.self.topology.value l.node past facts
+      → Logged l.index ∷ map Send (map going_of l.yielded) ≡ shown past facts
+      → AreSending away first past counts l.fn.self l.fn.effects.items → AreSending (still_after facts away) first (happen past facts) counts l.self l.effects.items;
+}

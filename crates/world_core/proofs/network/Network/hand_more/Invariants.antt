@@ -1,0 +1,17 @@
+use Rattle.std.proofs.Common.{ℕ, Bool, List, ◌≡◌, ◌++◌, map}
+use Rattle.chronicle.specs.Facts.{Chronicle, Fact, happen}
+use Rattle.node_core.specs.Outputs.{Output, output_of}
+use Rattle.world_core.specs.Happening.{AreSending, KeepsNodes}
+use Rattle.world_core.specs.Matching.{Counts}
+use Rattle.world_core.specs.Telling.{AreTold, shown}
+use Rattle.world_core.specs.Walks.{still_after}
+use Rattle.world_core.proofs.network.Network.hand_more.Given as goal
+
+abbrev pub invariant-loop-output : goal.invariant-loop-output
+invariant-loop-output g l = record {
+  kept : KeepsNodes l.fn.self l.self;
+  sent : (away : ℕ → Bool) (first past : Chronicle) (counts : Counts) (before : List Output)
+      → ((fs : List Fact) → AreTold l.fn.self.topology.value l.node past fs → before ≡ shown past fs → AreSending (still_after fs away) first (happen past fs) counts l.fn.self l.fn.effects.items)
+      → (facts : List Fact) → AreTold l.fn.self.topology.value l.node past facts → before ++ map output_of l.yielded ≡ shown past facts
+      → AreSending (still_after facts away) first (happen past facts) counts l.self l.effects.items;
+}
