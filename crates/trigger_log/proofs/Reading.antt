@@ -14,7 +14,7 @@ use Rattle.path_vector.specs.declared.causes.Cause.TheVariants.{Recv, Down, Up, 
 use Rattle.topology.specs.declared.names.Scope.{Scope}
 use Rattle.topology.specs.declared.names.Scope.TheVariants.{One, All}
 use Rattle.trigger_log.specs.declared.sessions.SessionMark.{SessionMark}
-use Rattle.trigger_log.specs.Entries.{Entry, reads, inbox}
+use Rattle.trigger_log.specs.Entries.{Entry, reads, inbox, is_session}
 use Rattle.trigger_log.specs.Sending.{sent_count}
 use Rattle.trigger_log.specs.Fits.{CauseFits, Fits}
 use Rattle.trigger_log.specs.Sessions.{ever, Says, AreMarks, AreRows}
@@ -170,3 +170,33 @@ module _ (net : Net) (u : ℕ) (h : List Entry) (cause : Cause) (near : IsOfNeig
 
 pub fits_scope : (h : List Entry) (cause : Cause) (scope same : Scope) (r : Bool) → scope ≡ same → IsTrue r ↔ CauseFits h same cause → IsTrue r ↔ CauseFits h scope cause
 fits_scope h cause scope same r is both = subst (λ x. IsTrue r ↔ CauseFits h x cause) (sym is) both
+
+-- what is kept where there is one
+kept_is : (b : Bool) (x t : ℕ) → Some t ≡ (if b then Some x else None) → x ≡ t
+kept_is true x t is = cc is
+kept_is false x t is = absurd (cc is)
+
+module _ (h : List Entry) (w s n : ℕ) (mark : SessionMark) (fits : Fits h) (says : Says h w (last (reads h) w) n mark) where
+  -- no session is held
+  pub received_in_none : None ≡ (if is_none mark.down then Some mark.session else None)
+      → None ≡ (if is_session (held (reads h) w) s then Some (length (inbox h w s)) else None)
+  received_in_none is =
+      let none : held (reads h) w ≡ None = sym (held_shown h w n mark fits says) ∙ sym is in
+      rw none refl
+
+  module _ (t : ℕ) (is : Some t ≡ (if is_none mark.down then Some mark.session else None)) (b : Bool) (test : b ≡ (t == s)) where
+    -- another one is
+    pub received_in_other : b ≡ false → None ≡ (if is_session (held (reads h) w) s then Some (length (inbox h w s)) else None)
+    received_in_other other =
+        let holds : held (reads h) w ≡ Some t = sym (held_shown h w n mark fits says) ∙ sym is in
+        let differs : (t == s) ≡ false = sym test ∙ other in
+        rw holds (rw differs refl)
+
+    -- this one is
+    pub received_in_same : b ≡ true → Some mark.received ≡ (if is_session (held (reads h) w) s then Some (length (inbox h w s)) else None)
+    received_in_same same =
+        let holds : held (reads h) w ≡ Some t = sym (held_shown h w n mark fits says) ∙ sym is in
+        let equal : (t == s) ≡ true = sym test ∙ same in
+        let number : t ≡ s = grind (arith, nat_tests) in
+        let newest : last (reads h) w ≡ s = sym says.session ∙ (kept_is (is_none mark.down) mark.session t is ∙ number) in
+        rw holds (rw equal (ap (λ (k : ℕ). Some k) (subst (λ z. mark.received ≡ length (inbox h w z)) newest says.received)))

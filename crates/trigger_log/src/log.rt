@@ -7,7 +7,7 @@ ghost use Rattle.path_vector.specs.History.{held, last, ready};
 ghost use Rattle.topology.specs.declared.names.Scope.TheVariants.{One, All};
 ghost use Rattle.path_vector.specs.Kept.{IsOfNeighbour};
 ghost use Rattle.path_vector.specs.Standing.{StandsFor as RoutesStandFor};
-ghost use Rattle.trigger_log.specs.Entries.{Entry as Logged, entry, reads, inbox, is_local, next_trigger};
+ghost use Rattle.trigger_log.specs.Entries.{Entry as Logged, entry, reads, inbox, is_local, is_session, next_trigger};
 ghost use Rattle.trigger_log.specs.Sending.{sent_count};
 ghost use Rattle.trigger_log.specs.Going.{going_of, going_by};
 ghost use Rattle.trigger_log.specs.Fits.{CauseFits};
@@ -220,6 +220,20 @@ impl<P: Policy + Copy> NodeLog<P> {
             None => 0,
             Some(mark) => mark.received,
         }
+    }
+
+    /// How many updates were received from a neighbour in a session, where that is the one that is held with it.
+    pub fn received_in_held(&self, nbr: NodeId, session: Session) -> Option<u32>
+        ensures { (policy : P) (net : Net) (u : ℕ) (h : List Logged) →
+            StandsFor policy (P.rules policy) net u self.now h → has (neighbours net u) nbr ≡ true →
+            result ≡ (if is_session (held (reads h) nbr) session then Some (length (inbox h nbr session)) else None) }
+    {
+        let mark = self.newest(nbr)?;
+        let held = mark.held()?;
+        if held == session {
+            return Some(mark.received);
+        }
+        None
     }
 
     /// The session that is held with a neighbour.
