@@ -5,26 +5,32 @@ use Rattle.std.specs.List.{AllZip}
 use Rattle.std.proofs.lemmas.List.{take_all}
 use Rattle.topology.specs.declared.names.Trigger.{Trigger}
 use Rattle.topology.specs.declared.names.Scope.{Scope}
+use Rattle.topology.specs.declared.names.Scope.TheVariants.{One}
 use Rattle.topology.specs.declared.items.Sent.{Sent}
 use Rattle.topology.specs.Net.{Net, neighbours}
 use Rattle.path_vector.specs.declared.causes.Cause.{Cause}
+use Rattle.path_vector.specs.declared.causes.Cause.TheVariants.{Originate, Withdraw, Recv, Down, Up, Ready, Prefer}
 use Rattle.path_vector.specs.Rules.{Rules}
 use Rattle.path_vector.specs.History.{Accepts, change, held}
+use Rattle.path_vector.specs.Kept.{IsOfNeighbour}
 use Rattle.path_vector.specs.declared.state.RouteState.{RouteState}
+use Rattle.path_vector.specs.Selection.{best}
+use Rattle.path_vector.specs.Answers.{Copies}
 use Rattle.path_vector.specs.Standing.{StandsFor as RoutesStandFor}
 use Rattle.trigger_log.specs.declared.offers.Offer.{Offer}
 use Rattle.trigger_log.specs.declared.telling.Turn.{Turn}
 use Rattle.trigger_log.specs.declared.sessions.SessionMark.{SessionMark}
 use Rattle.trigger_log.specs.declared.log.NodeLog.{NodeLog}
 use Rattle.trigger_log.specs.Entries.{Entry, entry, reads, is_local, locals}
-use Rattle.trigger_log.specs.Making.{making}
+use Rattle.trigger_log.specs.Making.{Making, making}
 use Rattle.trigger_log.specs.Sending.{sent_by, sent_to}
 use Rattle.trigger_log.specs.Going.{going_of, going_by, going_in, spread, told}
 use Rattle.trigger_log.specs.Fits.{CauseFits, Fits}
 use Rattle.trigger_log.specs.Standing.{Shows, StandsFor, all_entered}
-use Rattle.trigger_log.specs.Telling.{Speech}
+use Rattle.trigger_log.specs.Telling.{Speech, silence}
 use Rattle.trigger_log.specs.Marked.{Enters, ToldTo}
-use Rattle.trigger_log.specs.Offered.{AreChosen, IsPlaced, asked, prefixes_of}
+use Rattle.trigger_log.specs.Midway.{AreOffers, IsMidway}
+use Rattle.trigger_log.specs.Offered.{IsPlaced, asked}
 use Rattle.trigger_log.proofs.Holding.{accepted}
 use Rattle.trigger_log.proofs.Zips.{zip_push}
 use Rattle.trigger_log.proofs.Rounds.{told_all}
@@ -33,27 +39,26 @@ module _ {P : Type 0} (policy : P) (rules : Rules) (net : Net) (u : ℕ) (h : Li
   abbrev made : Entry
   made = entry (trigger ∷ []) scope cause
 
-  sent_all : (n : ℕ) (sent all : List Sent) → length (neighbours net u) ≤ n → sent ≡ [] → all ≡ sent ++ flat_map (sent_to rules net u h made) (take n (neighbours net u)) → all ≡ sent_by rules net u h made
+  -- what is listed, where all are told
+  sent_all : (n : ℕ) (all : List Sent) → length (neighbours net u) ≤ n → all ≡ flat_map (sent_to rules net u h made) (take n (neighbours net u)) → all ≡ sent_by rules net u h made
   unfolding sent_by
-  sent_all n sent all whole none is =
-      is ∙ (ap (λ l. l ++ flat_map (sent_to rules net u h made) (take n (neighbours net u))) none ∙ ap (flat_map (sent_to rules net u h made)) (take_all n (neighbours net u) whole))
+  sent_all n all whole is = is ∙ ap (flat_map (sent_to rules net u h made)) (take_all n (neighbours net u) whole)
 
-  -- what went out
-  pub went_out : (n : ℕ) (rows : List (List SessionMark)) (before after : Speech) → length (neighbours net u) ≤ n → before.out ≡ [] → ToldTo (making rules net u h made) n rows before after
-      → map going_of after.out ≡ going_by rules net u h made
+  -- what went out, where all are told
+  pub went_out : (n : ℕ) (rows : List (List SessionMark)) (said : Speech) → length (neighbours net u) ≤ n → ToldTo (making rules net u h made) n rows silence said
+      → map going_of said.out ≡ going_by rules net u h made
   unfolding going_by spread
-  went_out n rows before after whole none was =
-      was.out
-      ∙ (ap (λ l. map going_of l ++ flat_map (λ w. going_in w (told (making rules net u h made) w) (held (made.read ∷ reads h) w)) (take n (neighbours net u))) none
-      ∙ ap (flat_map (λ w. going_in w (told (making rules net u h made) w) (held (made.read ∷ reads h) w))) (take_all n (neighbours net u) whole))
+  went_out n rows said whole was =
+      was.out ∙ ap (flat_map (λ w. going_in w (told (making rules net u h made) w) (held (made.read ∷ reads h) w))) (take_all n (neighbours net u) whole)
 
-  pub entered : (old new : NodeLog P) (n : ℕ) (before after : Speech) (kept : List Sent) → StandsFor policy rules net u old h → CauseFits h scope cause
+  -- the log that keeps the entry is that of the entries with it
+  pub entered : (old new : NodeLog P) (n : ℕ) (said : Speech) (kept : List Sent) → StandsFor policy rules net u old h → CauseFits h scope cause
       → RoutesStandFor policy net u new.routes (made.read ∷ reads h) → new.node ≡ old.node → new.sessions.near ≡ old.sessions.near → new.len ≡ suc old.len
       → new.next_count ≡ (if is_local cause then suc old.next_count else old.next_count)
-      → new.entries.items ≡ old.entries.items ++ record { trigger = trigger; scope = scope; cause = cause; sent = kept } ∷ [] → kept ≡ after.sent
-      → length (neighbours net u) ≤ n → before.sent ≡ [] → ToldTo (making rules net u h made) n new.sessions.rows before after
+      → new.entries.items ≡ old.entries.items ++ record { trigger = trigger; scope = scope; cause = cause; sent = kept } ∷ [] → kept ≡ said.sent
+      → length (neighbours net u) ≤ n → ToldTo (making rules net u h made) n new.sessions.rows silence said
       → StandsFor policy rules net u new (made ∷ h)
-  entered old new n before after kept was fits routes node near len next entries same whole none told = record {
+  entered old new n said kept was fits routes node near len next entries same whole told = record {
     routes = routes;
     fitting = (fits, was.fitting);
     node = node ∙ was.node;
@@ -62,14 +67,15 @@ module _ {P : Type 0} (policy : P) (rules : Rules) (net : Net) (u : ℕ) (h : Li
     next = next ∙ (ap (λ m. if is_local cause then suc m else m) was.next ∙ either (is_local cause));
     shown = subst (AllZip (Shows rules net u) (all_entered (made ∷ h))) (sym entries)
         (zip_push (Shows rules net u) (all_entered h) old.entries.items (record { before = h; entry = made }) (record { trigger = trigger; scope = scope; cause = cause; sent = kept }) was.shown
-        (record { trigger = refl; read = refl; sent = same ∙ sent_all n before.sent after.sent whole none told.sent }));
-    marks = told_all rules net u h made (fits, was.fitting) n new.sessions.rows before after whole told;
+        (record { trigger = refl; read = refl; sent = same ∙ sent_all n said.sent whole told.sent }));
+    marks = told_all rules net u h made (fits, was.fitting) n new.sessions.rows silence said whole told;
   }
     where
       either : (b : Bool) → (if b then suc (suc (locals h)) else suc (locals h)) ≡ suc (if b then suc (locals h) else locals h)
       either true = refl
       either false = refl
 
+  -- the entries fit with the new one
   pub fits_now : {log : NodeLog P} → StandsFor policy rules net u log h → CauseFits h scope cause → Fits (made ∷ h)
   fits_now was fits = (fits, was.fitting)
 
@@ -80,16 +86,52 @@ module _ {P : Type 0} (policy : P) (rules : Rules) (net : Net) (u : ℕ) (h : Li
       (subst (λ s. (Accepts (reads h) s cause → RoutesStandFor policy net u new (change s cause ∷ reads h)) → RoutesStandFor policy net u new (made.read ∷ reads h)) (sym is)
       (λ taken. taken (accepted h scope cause fits.1 fits.0))) taken
 
-  pub enters : (routes : RouteState P) (turn : Turn) (before after : List Offer) → Fits (made ∷ h) → RoutesStandFor policy net u routes (made.read ∷ reads h) → trigger ≡ turn.trigger.now → cause ≡ turn.cause.now
-      → turn.before.now ≡ before → turn.after.now ≡ after → IsPlaced net scope → prefixes_of after ≡ asked net scope cause
-      → AreChosen rules net u (reads h) before → AreChosen rules net u (made.read ∷ reads h) after → Enters policy (making rules net u h made) routes turn
-  enters routes turn before after fits stands by of is_before is_after placed covers chosen_before chosen_after = record {
+  -- the routes and the turn are those of the entry
+  pub enters : (routes : RouteState P) (turn : Turn) → Fits (made ∷ h) → RoutesStandFor policy net u routes (made.read ∷ reads h) → trigger ≡ turn.trigger.now → cause ≡ turn.cause.now
+      → IsPlaced net scope → AreOffers (making rules net u h made) turn.before.now turn.after.now → Enters policy (making rules net u h made) routes turn
+  enters routes turn fits stands by of placed offers = record {
     stands = stands;
     fitting = fits;
     lists = ap (λ t. t ∷ []) by;
     cause = of;
     placed = placed;
-    covers = ap prefixes_of is_after ∙ covers;
-    before = subst (AreChosen rules net u (reads h)) (sym is_before) chosen_before;
-    after = subst (AreChosen rules net u (made.read ∷ reads h)) (sym is_after) chosen_after;
+    covers = offers.covers;
+    before = offers.chosen_before;
+    after = offers.chosen_after;
   }
+
+  -- a log whose routes alone took the entry
+  pub midway : (log : NodeLog P) (taken : RouteState P) → StandsFor policy rules net u log h → IsOfNeighbour net u cause → IsPlaced net scope → CauseFits h scope cause
+      → RoutesStandFor policy net u taken (made.read ∷ reads h) → IsMidway policy (making rules net u h made) log.routes (record log { routes = taken })
+  midway log taken was near placed fits stands = record {
+    was = was;
+    near = near;
+    placed = placed;
+    fits = fits;
+    routes = stands;
+  }
+
+-- the causes of one prefix may change its routes
+pub asked_one : (net : Net) (h : List Entry) (p : ℕ) (cause : Cause) → CauseFits h (One p) cause → asked net (One p) cause ≡ p ∷ []
+asked_one net h p Originate fits = refl
+asked_one net h p Withdraw fits = refl
+asked_one net h p (Recv v s seq path) fits = refl
+asked_one net h p (Down v s) fits = absurd fits
+asked_one net h p (Up v s) fits = absurd fits
+asked_one net h p (Ready v s) fits = absurd fits
+asked_one net h p (Prefer v x) fits = absurd fits
+
+-- equal lists are offers too
+pub as_offered : (m : Making) {before after old new : List Offer} → old ≡ before → new ≡ after → AreOffers m before after → AreOffers m old new
+as_offered m {before} {after} {old} {new} is_before is_after offers =
+    subst (λ l. AreOffers m l new) (sym is_before) (subst (AreOffers m before) (sym is_after) offers)
+
+-- the offers of one prefix
+pub one_offered : (rules : Rules) (net : Net) (u : ℕ) (h : List Entry) (trigger : Trigger) (p : ℕ) (cause : Cause) (before after : Offer) → before.prefix ≡ p → after.prefix ≡ p → CauseFits h (One p) cause
+    → Copies net u before.chosen (best rules net u (reads h) p) → Copies net u after.chosen (best rules net u (change (One p) cause ∷ reads h) p)
+    → AreOffers (making rules net u h (entry (trigger ∷ []) (One p) cause)) (before ∷ []) (after ∷ [])
+one_offered rules net u h trigger p cause before after of_before of_after fits was is = record {
+  covers = ap (λ q. q ∷ []) of_after ∙ sym (asked_one net h p cause fits);
+  chosen_before = (subst (λ q. Copies net u before.chosen (best rules net u (reads h) q)) (sym of_before) was, tt);
+  chosen_after = (subst (λ q. Copies net u after.chosen (best rules net u (change (One p) cause ∷ reads h) q)) (sym of_after) is, tt);
+}

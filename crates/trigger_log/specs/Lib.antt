@@ -9,5 +9,6 @@ pub mod Standing
 pub mod Offered
 pub mod Telling
 pub mod Marked
+pub mod Midway
 pub mod Quiet
 pub mod Due

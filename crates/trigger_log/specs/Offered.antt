@@ -13,8 +13,6 @@ use Rattle.path_vector.specs.Selection.{best}
 use Rattle.path_vector.specs.Offers.{offer}
 use Rattle.path_vector.specs.Answers.{Copies}
 use Rattle.trigger_log.specs.declared.offers.Offer.{Offer}
-use Rattle.trigger_log.specs.declared.offers.Offers.{Offers}
-use Rattle.trigger_log.specs.declared.offers.Offers.TheVariants as kept
 use Rattle.trigger_log.specs.Entries.{Update, reads}
 use Rattle.trigger_log.specs.Making.{Making}
 use Rattle.trigger_log.specs.Sending.{update_of}
@@ -38,11 +36,6 @@ asked net scope (Down v s) = places_of net scope
 asked net scope (Up v s) = []
 asked net scope (Ready v s) = places_of net scope
 asked net scope (Prefer v x) = places_of net scope
-
--- the routes one by one
-abbrev pub listed : Offers → List Offer
-listed (kept.One offer) = offer ∷ []
-listed (kept.Many offers) = offers.items
 
 -- the prefixes of these routes
 abbrev pub prefixes_of : List Offer → List ℕ

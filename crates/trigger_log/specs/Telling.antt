@@ -1,5 +1,5 @@
 -- What telling a neighbour adds to the lists of an entry.
-use Rattle.std.specs.Prelude.{ℕ, suc, ◌+◌, ◌≡◌, List, ◌++◌, length, map}
+use Rattle.std.specs.Prelude.{ℕ, suc, ◌+◌, ◌≡◌, List, [], ◌++◌, length, map}
 use Rattle.topology.specs.declared.items.Sent.{Sent}
 use Rattle.trigger_log.specs.declared.outgoing.Outgoing.{Outgoing}
 use Rattle.trigger_log.specs.declared.telling.Listener.{Listener}
@@ -16,6 +16,10 @@ pub record Speech : Type 0 where
 -- what was said, as definitions see it
 abbrev pub speech_of : Said → Speech
 speech_of said = record { sent = said.sent.items; out = said.outgoing.items }
+
+-- nothing said
+abbrev pub silence : Speech
+silence = record { sent = []; out = [] }
 
 -- an update as it goes to the listener
 abbrev pub update_going : Listener → ℕ → Update → Going

@@ -13,14 +13,16 @@ ghost use Rattle.trigger_log.specs.Going.{going_of, going_by};
 ghost use Rattle.trigger_log.specs.Fits.{CauseFits};
 ghost use Rattle.trigger_log.specs.Due.{SendsWhatIsDue};
 ghost use Rattle.trigger_log.specs.Sessions.{ever, Says, AreAllMarks};
-ghost use Rattle.trigger_log.specs.Offered.{IsPlaced};
+ghost use Rattle.trigger_log.specs.Offered.{IsPlaced, prefixes_of};
 ghost use Rattle.trigger_log.specs.Quiet.{Stays};
 ghost use Rattle.trigger_log.specs.Standing.{Entered, all_entered, Shows, StandsFor};
+ghost use Rattle.trigger_log.specs.Making.{making};
+ghost use Rattle.trigger_log.specs.Midway.{AreOffers, IsMade, IsMidway};
 
 use crate::counting::next_number;
 use crate::entries::Entry;
 use crate::marking::mark;
-use crate::offers::offers_for;
+use crate::offers::{Offer, offer_of, offers_for};
 use crate::outgoing::Outgoing;
 use crate::quiet::stays;
 use crate::sessions::{SessionMark, Sessions};
@@ -28,6 +30,7 @@ use crate::telling::{Said, Turn};
 use crate::turns::tell_all;
 use path_vector::{Cause, Policy, RouteState};
 use std::alloc::Global;
+use std::slice;
 use topology::{NoMemory, NodeId, PrefixId, Scope, SentItems, Session, Topology, Trigger};
 
 /// What a node entered, the oldest entry first, and what it needs to make the next one: its routes,
@@ -277,6 +280,7 @@ impl<P: Policy + Copy> NodeLog<P> {
     }
 
     // The same in place. After want of memory the log may be in the midst of the entry.
+    #[inline(always)]
     fn enter(
         &mut self,
         topology: &Topology,
@@ -301,6 +305,7 @@ impl<P: Policy + Copy> NodeLog<P> {
     }
 
     // An entry that has nothing to tell.
+    #[inline(always)]
     fn enter_quietly(
         &mut self,
         trigger: Trigger,
@@ -326,6 +331,7 @@ impl<P: Policy + Copy> NodeLog<P> {
     }
 
     // An entry of which each neighbour is told what changes for it.
+    #[inline(always)]
     fn enter_aloud(
         &mut self,
         topology: &Topology,
@@ -342,18 +348,83 @@ impl<P: Policy + Copy> NodeLog<P> {
             IsPlaced topology.now scope → CauseFits h scope cause →
             map going_of outgoing.items ≡ going_by (P.rules policy) topology.now u h (entry (trigger ∷ []) scope cause)) }
     {
-        let before = offers_for(self.alloc, &self.routes, topology, &scope, &cause)?;
-        self.routes.apply(copied(&scope), &cause)?;
-        let after = offers_for(self.alloc, &self.routes, topology, &scope, &cause)?;
+        match scope {
+            Scope::One(prefix) => Ok(self.enter_one(prefix, trigger, cause)?),
+            Scope::All => Ok(self.enter_all(topology, trigger, cause)?),
+        }
+    }
+
+    // An entry of one prefix, of which each neighbour is told what changes for it.
+    #[inline(always)]
+    fn enter_one(
+        &mut self,
+        prefix: PrefixId,
+        trigger: Trigger,
+        cause: Cause,
+    ) -> Result<Vec<Outgoing>, NoMemory>
+        ensures log { OnOk result ((policy : P) (net : Net) (u : ℕ) (h : List Logged) →
+            StandsFor policy (P.rules policy) net u self.old h → IsOfNeighbour net u cause →
+            prefix < length net.prefixes → CauseFits h (One prefix) cause →
+            StandsFor policy (P.rules policy) net u self.new (entry (trigger ∷ []) (One prefix) cause ∷ h)) }
+        ensures outgoing { IfOk result (λ outgoing. (policy : P) (net : Net) (u : ℕ) (h : List Logged) →
+            StandsFor policy (P.rules policy) net u self.old h → IsOfNeighbour net u cause →
+            prefix < length net.prefixes → CauseFits h (One prefix) cause →
+            map going_of outgoing.items ≡ going_by (P.rules policy) net u h (entry (trigger ∷ []) (One prefix) cause)) }
+    {
+        let before = offer_of(&self.routes, prefix)?;
+        self.routes.apply(Scope::One(prefix), &cause)?;
+        let after = offer_of(&self.routes, prefix)?;
+        let before = slice::from_ref(&before);
+        let after = slice::from_ref(&after);
+        Ok(self.finish(trigger, Scope::One(prefix), cause, before, after)?)
+    }
+
+    // An entry of all prefixes, of which each neighbour is told what changes for it.
+    fn enter_all(
+        &mut self,
+        topology: &Topology,
+        trigger: Trigger,
+        cause: Cause,
+    ) -> Result<Vec<Outgoing>, NoMemory>
+        ensures log { OnOk result ((policy : P) (u : ℕ) (h : List Logged) →
+            StandsFor policy (P.rules policy) topology.now u self.old h → IsOfNeighbour topology.now u cause →
+            CauseFits h All cause →
+            StandsFor policy (P.rules policy) topology.now u self.new (entry (trigger ∷ []) All cause ∷ h)) }
+        ensures outgoing { IfOk result (λ outgoing. (policy : P) (u : ℕ) (h : List Logged) →
+            StandsFor policy (P.rules policy) topology.now u self.old h → IsOfNeighbour topology.now u cause →
+            CauseFits h All cause →
+            map going_of outgoing.items ≡ going_by (P.rules policy) topology.now u h (entry (trigger ∷ []) All cause)) }
+    {
+        let before = offers_for(self.alloc, &self.routes, topology, &cause)?;
+        self.routes.apply(Scope::All, &cause)?;
+        let after = offers_for(self.alloc, &self.routes, topology, &cause)?;
+        Ok(self.finish(trigger, Scope::All, cause, &before, &after)?)
+    }
+
+    // The rest of an entry that the routes took already: its sessions are marked, each neighbour is told, and it is kept.
+    #[inline(always)]
+    fn finish(
+        &mut self,
+        trigger: Trigger,
+        scope: Scope,
+        cause: Cause,
+        before: &[Offer],
+        after: &[Offer],
+    ) -> Result<Vec<Outgoing>, NoMemory>
+        requires same_prefixes { prefixes_of before.now ≡ prefixes_of after.now }
+        ensures { IfOk result (λ outgoing. (policy : P) (net : Net) (u : ℕ) (h : List Logged) (routes : RouteState P) →
+            IsMidway policy (making (P.rules policy) net u h (entry (trigger ∷ []) scope cause)) routes self.old →
+            AreOffers (making (P.rules policy) net u h (entry (trigger ∷ []) scope cause)) before.now after.now →
+            IsMade policy (making (P.rules policy) net u h (entry (trigger ∷ []) scope cause)) self.new outgoing.items) }
+    {
         mark(&mut self.sessions, &trigger, &cause)?;
         let turn = Turn {
             trigger: &trigger,
             cause: &cause,
-            before: before.as_slice(),
-            after: after.as_slice(),
+            before,
+            after,
         };
-        let mut said = Said::with_room(self.alloc, self.sessions.len())?;
-        tell_all(&self.routes, &mut self.sessions, &turn, &mut said)?;
+        let said = tell_all(self.alloc, &self.routes, &mut self.sessions, &turn)?;
         let Said { sent, outgoing } = said;
         let sent = SentItems::new(sent);
         self.keep(Entry {
@@ -366,6 +437,7 @@ impl<P: Policy + Copy> NodeLog<P> {
     }
 
     // Keeps the entry, and counts it.
+    #[inline(always)]
     fn keep(&mut self, entry: Entry) -> Result<(), NoMemory>
         ensures node { OnOk result (self.new.node ≡ self.old.node) }
         ensures routes { OnOk result (self.new.routes ≡ self.old.routes) }

@@ -33,6 +33,7 @@ fn named(cause: &Cause) -> Option<NodeId>
 }
 
 // The newest mark of the neighbour that the entry names, after it.
+#[inline(always)]
 fn turned(mark: &SessionMark, trigger: &Trigger, cause: &Cause) -> Result<SessionMark, NoMemory>
     ensures { IfOk result (λ turned. (h : List Entry) (scope : Scope) (w n : ℕ) →
         Fits (entry (trigger.now ∷ []) scope cause.now ∷ h) → names cause.now ≡ Some w →
@@ -57,6 +58,7 @@ fn turned(mark: &SessionMark, trigger: &Trigger, cause: &Cause) -> Result<Sessio
 }
 
 /// Marks what the entry changes in the sessions. What it says is not yet counted.
+#[inline(always)]
 pub fn mark(sessions: &mut Sessions, trigger: &Trigger, cause: &Cause) -> Result<(), NoMemory>
     ensures marked { OnOk result ((rules : Rules) (net : Net) (u : ℕ) (h : List Entry) (scope : Scope) →
         IsValid net → sessions.old.near ≡ neighbours net u →

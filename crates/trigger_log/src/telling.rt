@@ -12,7 +12,7 @@ ghost use Rattle.trigger_log.specs.Going.{going_of};
 ghost use Rattle.trigger_log.specs.Entries.{Entry, reads};
 ghost use Rattle.trigger_log.specs.Making.{making};
 ghost use Rattle.trigger_log.specs.Offered.{AreChosen, prefixes_of, updates_over};
-ghost use Rattle.trigger_log.specs.Telling.{TellsUpdates, speech_of, update_going};
+ghost use Rattle.trigger_log.specs.Telling.{TellsUpdates, silence, speech_of, update_going};
 
 use crate::counting::next_number;
 use crate::offers::Offer;
@@ -63,10 +63,19 @@ pub struct Said {
 }
 
 impl Said {
+    /// Nothing. Takes no memory.
+    pub fn nothing(alloc: Global) -> Said
+        ensures { speech_of result ≡ silence }
+    {
+        Said {
+            sent: Vec::new(alloc),
+            outgoing: Vec::new(alloc),
+        }
+    }
+
     /// Nothing yet, with room for this many items.
     pub fn with_room(alloc: Global, items: usize) -> Result<Said, NoMemory>
-        ensures sent { IfOk result (λ said. said.sent.items ≡ []) }
-        ensures outgoing { IfOk result (λ said. said.outgoing.items ≡ []) }
+        ensures { IfOk result (λ said. speech_of said ≡ silence) }
     {
         Ok(Said {
             sent: Vec::with_capacity(alloc, items)?,

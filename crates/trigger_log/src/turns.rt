@@ -10,7 +10,7 @@ ghost use Rattle.trigger_log.specs.Making.{making};
 ghost use Rattle.trigger_log.specs.Sending.{sent_count};
 ghost use Rattle.trigger_log.specs.Offered.{prefixes_of};
 ghost use Rattle.trigger_log.specs.Sessions.{Says};
-ghost use Rattle.trigger_log.specs.Telling.{Speech, speech_of};
+ghost use Rattle.trigger_log.specs.Telling.{Speech, silence, speech_of};
 ghost use Rattle.trigger_log.specs.Marked.{Enters, Spoken, ToldTo, ends_with, readies};
 
 use crate::counting::next_number;
@@ -18,6 +18,7 @@ use crate::quiet::is_quiet;
 use crate::sessions::{SessionMark, Sessions};
 use crate::telling::{Listener, Said, Turn, tell};
 use path_vector::{Cause, Policy, RouteState};
+use std::alloc::Global;
 use topology::{NoMemory, NodeId, Sent};
 
 // Whether the entry ends a session with the neighbour.
@@ -136,23 +137,25 @@ fn tell_each<P: Policy + Copy>(
     Ok(())
 }
 
-/// Lists what the entry says to each neighbour, ascending, and counts it. Nothing is looked at
-/// where the entry has nothing to say.
+/// What the entry says to each neighbour, ascending: it is counted in their sessions. Nothing is looked at, and no
+/// memory taken, where the entry has nothing to say.
 pub fn tell_all<P: Policy + Copy>(
+    alloc: Global,
     routes: &RouteState<P>,
     sessions: &mut Sessions,
     turn: &Turn<'_>,
-    said: &mut Said,
-) -> Result<(), NoMemory>
+) -> Result<Said, NoMemory>
     requires same_prefixes { prefixes_of turn.now.before.now ≡ prefixes_of turn.now.after.now }
-    ensures told { OnOk result ((policy : P) (net : Net) (u : ℕ) (h : List Entry) (k : Entry) (first : Speech) →
+    ensures told { IfOk result (λ said. (policy : P) (net : Net) (u : ℕ) (h : List Entry) (k : Entry) →
         Enters policy (making (P.rules policy) net u h k) routes.now turn.now →
-        ToldTo (making (P.rules policy) net u h k) 0 sessions.old.rows first (speech_of said.old) →
-        ToldTo (making (P.rules policy) net u h k) (length sessions.old.rows) sessions.new.rows first (speech_of said.new)) }
+        ToldTo (making (P.rules policy) net u h k) 0 sessions.old.rows silence silence →
+        ToldTo (making (P.rules policy) net u h k) (length sessions.old.rows) sessions.new.rows silence (speech_of said)) }
     ensures near { sessions.new.near ≡ sessions.old.near }
 {
     if is_quiet(turn) {
-        return Ok(());
+        return Ok(Said::nothing(alloc));
     }
-    tell_each(routes, sessions, turn, said)
+    let mut said = Said::with_room(alloc, sessions.len())?;
+    tell_each(routes, sessions, turn, &mut said)?;
+    Ok(said)
 }

@@ -1,7 +1,8 @@
 use Rattle.std.proofs.Common.{◌∙◌, sym}
+use Rattle.topology.specs.declared.names.Scope.TheVariants.{All}
 use Rattle.trigger_log.proofs.Speaking.{asked_all}
 use Rattle.trigger_log.proofs.offers.offers_for.Goals as goal
 
 pub returns-clause-covers : goal.returns-clause-covers
 returns-clause-covers g c =
-    c.in_ok-offers_of.ensures.covers ∙ sym (asked_all c.args.topology.now c.args.scope.now c.args.cause.now (λ v s e. c.in_default.not-Up v s e))
+    c.in_ok-offers_of.ensures.covers ∙ sym (asked_all c.args.topology.now All c.args.cause.now (λ v s e. c.in_default.not-Up v s e))

@@ -1,9 +1,9 @@
-use Rattle.std.proofs.Common.{◌∙◌, ◌∷◌, [], refl, sym, ap, subst, arith, length}
+use Rattle.std.proofs.Common.{◌∙◌, ◌∷◌, [], sym, ap, subst, arith, length}
 use Rattle.topology.specs.Net.{neighbours}
 use Rattle.path_vector.specs.Standing.{StandsFor as RoutesStandFor}
 use Rattle.trigger_log.specs.Entries.{entry, reads}
 use Rattle.trigger_log.specs.Making.{making}
-use Rattle.trigger_log.specs.Telling.{Speech}
+use Rattle.trigger_log.specs.Telling.{silence}
 use Rattle.trigger_log.specs.Marked.{ToldTo}
 use Rattle.trigger_log.specs.Rows.{MarkRows}
 use Rattle.trigger_log.proofs.Rounds.{told_none}
@@ -23,10 +23,9 @@ returns g c = λ policy net u h was near placed fits stays.
     (c.in_ok-apply.ensures.ok policy net u (reads h) was.routes) in
     let marked = c.in_ok-mark.ensures.marked rules net u h scope was.routes.valid was.near fitting near was.marks in
     let n = length (neighbours net u) in
-    let silence : Speech = record { sent = []; out = [] } in
     let told = told_still rules net u h k fitting placed stays n c.mark.new.sessions.rows silence silence (told_none rules net u h k fitting c.mark.new.sessions.rows silence marked) in
     entered policy rules net u h trigger scope cause c.args.self.now c.keep.new.self
-    n silence silence c.new-sent.result
+    n silence c.new-sent.result
     was fits (subst (λ r. RoutesStandFor policy net u r (k.read ∷ reads h)) (sym c.in_ok-keep.ensures.routes) stands) c.in_ok-keep.ensures.node
-    (ap (λ (s : MarkRows). s.near) c.in_ok-keep.ensures.sessions ∙ c.mark.ensures.near) c.in_ok-keep.ensures.count c.in_ok-keep.ensures.next c.in_ok-keep.ensures.entries (c.new-sent.ensures ∙ c.new.ensures.items) (omega arith) refl
+    (ap (λ (s : MarkRows). s.near) c.in_ok-keep.ensures.sessions ∙ c.mark.ensures.near) c.in_ok-keep.ensures.count c.in_ok-keep.ensures.next c.in_ok-keep.ensures.entries (c.new-sent.ensures ∙ c.new.ensures.items) (omega arith)
     (subst (λ (s : MarkRows). ToldTo (making rules net u h k) n s.rows silence silence) (sym c.in_ok-keep.ensures.sessions) told)

@@ -1,0 +1,40 @@
+use Rattle.std.proofs.Common.{◌∷◌, []}
+use Rattle.topology.specs.declared.names.Scope.TheVariants.{All}
+use Rattle.trigger_log.specs.Entries.{entry, reads}
+use Rattle.trigger_log.specs.Making.{making}
+use Rattle.trigger_log.specs.Midway.{AreOffers}
+use Rattle.trigger_log.proofs.Holding.{accepted}
+use Rattle.trigger_log.proofs.Entering.{midway, as_offered}
+use Rattle.trigger_log.proofs.log.NodeLog.enter_all.Goals as goal
+
+pub returns-clause-log : goal.returns-clause-log
+returns-clause-log g c = λ policy u h was near fits.
+    let rules = g.P.Policy.rules policy in
+    let net = c.args.topology.now in
+    let trigger = c.args.trigger in
+    let cause = c.args.cause in
+    let k = entry (trigger ∷ []) All cause in
+    let stands = c.in_ok-apply.ensures.ok policy net u (reads h) was.routes (accepted h All cause was.fitting fits) in
+    let offers : AreOffers (making rules net u h k) c.in_ok-before.before.items c.in_ok-after.after.items = record {
+      covers = c.in_ok-after.ensures.covers;
+      chosen_before = c.in_ok-before.ensures.chosen policy u (reads h) was.routes;
+      chosen_after = c.in_ok-after.ensures.chosen policy u (k.read ∷ reads h) stands;
+    } in
+    (c.in_ok-finish.ensures policy net u h c.args.self.now.routes (midway policy rules net u h trigger All cause c.args.self.now c.apply.new.self was near tt fits stands)
+    (as_offered (making rules net u h k) c.deref.ensures.value c.deref-2.ensures.value offers)).stands
+
+pub returns-clause-outgoing : goal.returns-clause-outgoing
+returns-clause-outgoing g c = λ policy u h was near fits.
+    let rules = g.P.Policy.rules policy in
+    let net = c.args.topology.now in
+    let trigger = c.args.trigger in
+    let cause = c.args.cause in
+    let k = entry (trigger ∷ []) All cause in
+    let stands = c.in_ok-apply.ensures.ok policy net u (reads h) was.routes (accepted h All cause was.fitting fits) in
+    let offers : AreOffers (making rules net u h k) c.in_ok-before.before.items c.in_ok-after.after.items = record {
+      covers = c.in_ok-after.ensures.covers;
+      chosen_before = c.in_ok-before.ensures.chosen policy u (reads h) was.routes;
+      chosen_after = c.in_ok-after.ensures.chosen policy u (k.read ∷ reads h) stands;
+    } in
+    (c.in_ok-finish.ensures policy net u h c.args.self.now.routes (midway policy rules net u h trigger All cause c.args.self.now c.apply.new.self was near tt fits stands)
+    (as_offered (making rules net u h k) c.deref.ensures.value c.deref-2.ensures.value offers)).goes

@@ -1,0 +1,39 @@
+use Rattle.std.proofs.Common.{◌≡◌, ◌∙◌, ◌∷◌, ◌≤◌, [], refl, sym, ap, subst, arith, length}
+use Rattle.topology.specs.Net.{neighbours}
+use Rattle.path_vector.specs.Standing.{StandsFor as RoutesStandFor}
+use Rattle.trigger_log.specs.Entries.{entry, reads}
+use Rattle.trigger_log.specs.Fits.{Fits}
+use Rattle.trigger_log.specs.Making.{making}
+use Rattle.trigger_log.specs.Telling.{silence, speech_of}
+use Rattle.trigger_log.specs.Marked.{ToldTo}
+use Rattle.trigger_log.specs.Rows.{MarkRows}
+use Rattle.trigger_log.proofs.Rounds.{told_none}
+use Rattle.trigger_log.proofs.Entering.{entered, went_out, enters}
+use Rattle.trigger_log.proofs.log.NodeLog.finish.Goals as goal
+
+pub returns : goal.returns
+returns g c = λ policy net u h routes mid offers.
+    let rules = g.P.Policy.rules policy in
+    let trigger = c.args.trigger in
+    let scope = c.args.scope in
+    let cause = c.args.cause in
+    let k = entry (trigger ∷ []) scope cause in
+    let log = c.args.self.now in
+    let fitting : Fits (k ∷ h) = (mid.fits, mid.was.fitting) in
+    let marked = c.in_ok-mark.ensures.marked rules net u h scope mid.was.routes.valid mid.was.near fitting mid.near mid.was.marks in
+    let rows = c.mark.new.sessions.rows in
+    let n = length rows in
+    let none_yet = told_none rules net u h k fitting rows silence marked in
+    let said = speech_of c.in_ok-said.said in
+    let told = c.in_ok-said.ensures.told policy net u h k
+    (enters policy rules net u h trigger scope cause log.routes _ fitting mid.routes refl refl mid.placed offers)
+    none_yet in
+    let whole : length (neighbours net u) ≤ n = let same : n ≡ length (neighbours net u) = none_yet.width in omega arith in
+    record {
+      stands = entered policy rules net u h trigger scope cause (record log { routes = routes }) c.keep.new.self
+          n said c.new-sent.result
+          mid.was mid.fits (subst (λ r. RoutesStandFor policy net u r (k.read ∷ reads h)) (sym c.in_ok-keep.ensures.routes) mid.routes) c.in_ok-keep.ensures.node
+          (ap (λ (s : MarkRows). s.near) c.in_ok-keep.ensures.sessions ∙ (c.tell_all.ensures.near ∙ c.mark.ensures.near)) c.in_ok-keep.ensures.count c.in_ok-keep.ensures.next c.in_ok-keep.ensures.entries c.new-sent.ensures whole
+          (subst (λ (s : MarkRows). ToldTo (making rules net u h k) n s.rows silence said) (sym c.in_ok-keep.ensures.sessions) told);
+      goes = went_out policy rules net u h trigger scope cause n c.tell_all.new.sessions.rows said whole told;
+    }

@@ -1,0 +1,33 @@
+-- A log while it makes an entry: its routes took it, and then all else of the log does.
+use Rattle.std.specs.Prelude.{◌≡◌, List, ◌∷◌, map}
+use Rattle.path_vector.specs.Kept.{IsOfNeighbour}
+use Rattle.path_vector.specs.declared.state.RouteState.{RouteState}
+use Rattle.path_vector.specs.Standing.{StandsFor as RoutesStandFor}
+use Rattle.trigger_log.specs.declared.log.NodeLog.{NodeLog}
+use Rattle.trigger_log.specs.declared.offers.Offer.{Offer}
+use Rattle.trigger_log.specs.declared.outgoing.Outgoing.{Outgoing}
+use Rattle.trigger_log.specs.Entries.{reads}
+use Rattle.trigger_log.specs.Fits.{CauseFits}
+use Rattle.trigger_log.specs.Going.{going_of, going_by}
+use Rattle.trigger_log.specs.Making.{Making}
+use Rattle.trigger_log.specs.Offered.{AreChosen, IsPlaced, asked, prefixes_of}
+use Rattle.trigger_log.specs.Standing.{StandsFor}
+
+-- with its routes from before the entry, the log is that of the entries before, which the entry may follow; its routes took it
+pub record IsMidway {P : Type 0} (policy : P) (m : Making) (before : RouteState P) (log : NodeLog P) : Type 0 where
+  pub was : StandsFor policy m.rules m.net m.node (record log { routes = before }) m.before
+  pub near : IsOfNeighbour m.net m.node m.entry.read.cause
+  pub placed : IsPlaced m.net m.entry.read.scope
+  pub fits : CauseFits m.before m.entry.read.scope m.entry.read.cause
+  pub routes : RoutesStandFor policy m.net m.node log.routes (m.entry.read ∷ reads m.before)
+
+-- the best routes of the prefixes that the entry may change, before and after it
+pub record AreOffers (m : Making) (before after : List Offer) : Type 0 where
+  pub covers : prefixes_of after ≡ asked m.net m.entry.read.scope m.entry.read.cause
+  pub chosen_before : AreChosen m.rules m.net m.node (reads m.before) before
+  pub chosen_after : AreChosen m.rules m.net m.node (m.entry.read ∷ reads m.before) after
+
+-- the log is that of the entries with the new one, and these are what goes out with it
+pub record IsMade {P : Type 0} (policy : P) (m : Making) (log : NodeLog P) (out : List Outgoing) : Type 0 where
+  pub stands : StandsFor policy m.rules m.net m.node log (m.entry ∷ m.before)
+  pub goes : map going_of out ≡ going_by m.rules m.net m.node m.before m.entry
