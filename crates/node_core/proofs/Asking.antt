@@ -1,5 +1,5 @@
 -- What a node's part in the agreements answers.
-use Rattle.std.proofs.Common.{ℕ, Bool, true, false, ◌==◌, ◌&&◌, ◌||◌, Option, Some, None, List, ◌∷◌, ◌++◌, map, ◌≡◌, refl, sym, ◌∙◌, ap, ap₂, subst, arith, is_some}
+use Rattle.std.proofs.Common.{ℕ, Bool, true, false, ◌==◌, ◌&&◌, ◌||◌, Option, Some, None, List, [], ◌∷◌, ◌++◌, map, ◌≡◌, refl, sym, ◌∙◌, ap, ap₂, subst, arith, is_some}
 use Rattle.std.specs.Prelude.{if◌then◌else◌}
 use Rattle.std.proofs.lemmas.Bool.Decides.{nat_tests}
 use Rattle.std.proofs.lemmas.List.{append-nil}
@@ -248,9 +248,11 @@ pub follows_on : {P : Type 0} (policy : P) (rules : Rules) (net : Net) (u : ℕ)
 follows_on policy rules net u past step now new is follows = subst (λ s. Follows policy rules net u new (chronicle_of past s)) (sym is) follows
 
 -- what it says: the reason
-pub says_why : (u : ℕ) (past : Chronicle) (step : Step) (why : Reason) → step ≡ Idle why → Says u past step (told.Idle why)
-says_why u past step why is = subst (λ s. Says u past s (told.Idle why)) (sym is) refl
+pub says_why : (u : ℕ) (past : Chronicle) (step : Step) (why : Reason) (out : List Given) → step ≡ Idle why → Says u past step (told.Idle why) out
+says_why u past step why out is = subst (λ s. Says u past s (told.Idle why) out) (sym is) refl
 
 -- or the messages
-pub hands_posted : (past now : Chronicle) (list : Mails) (out : List Given) → map output_of out ≡ posts (mails_seen list) → outputs now ≡ outputs past ++ posts (mails_seen list) → Hands past out now
-hands_posted past now list out are shown = ap (λ l. outputs past ++ l) are ∙ sym shown
+pub hands_posted : (past now : Chronicle) (list : Mails) (old new : List Given) → old ≡ [] → map output_of new ≡ map output_of old ++ posts (mails_seen list) → outputs now ≡ outputs past ++ posts (mails_seen list)
+    → Hands past new now
+hands_posted past now list old new none are shown =
+    ap (λ l. outputs past ++ l) (are ∙ ap (λ l. map output_of l ++ posts (mails_seen list)) none) ∙ sym shown

@@ -100,13 +100,15 @@ each_more f start old new nodes i n inside is was grown =
     ∙ ap (λ l. map output_of start ++ l) (sym (ap (map f) more ∙ map-append f (take i nodes) (n ∷ [])))))
 
 -- one more of the control messages
-pub posted_more : (old new : List Given) (done all : List Posting) (out : Posting) → all ≡ done ++ out ∷ [] → new ≡ old ++ given.Mail out ∷ [] → map output_of old ≡ posts (mails_seen done)
-    → map output_of new ≡ posts (mails_seen all)
-posted_more old new done all out which is was =
+pub posted_more : (start old new : List Given) (done all : List Posting) (out : Posting) → all ≡ done ++ out ∷ [] → new ≡ old ++ given.Mail out ∷ []
+    → map output_of old ≡ map output_of start ++ posts (mails_seen done) → map output_of new ≡ map output_of start ++ posts (mails_seen all)
+posted_more start old new done all out which is was =
     one_more old new (given.Mail out) is
     ∙ (ap (λ l. l ++ Posted out.to (message_seen out.message) ∷ []) was
-    ∙ sym (ap (λ l. posts (mails_seen l)) which
-    ∙ (ap posts (map-append seen done (out ∷ [])) ∙ map-append shown (mails_seen done) (mails_seen (out ∷ [])))))
+    ∙ (append_assoc (map output_of start) (posts (mails_seen done)) (Posted out.to (message_seen out.message) ∷ [])
+    ∙ ap (λ l. map output_of start ++ l)
+    (sym (ap (λ l. posts (mails_seen l)) which
+    ∙ (ap posts (map-append seen done (out ∷ [])) ∙ map-append shown (mails_seen done) (mails_seen (out ∷ [])))))))
   where
     seen : Posting → ℕ × Message
     seen mail = (mail.to, message_seen mail.message)

@@ -135,7 +135,7 @@ module _ {P : Type 0} (policy : P) (rules : Rules) (net : Net) (u : ℕ) (past :
 
 -- what is handed out is what the node says
 pub passed_says : (rules : Rules) (net : Net) (u : ℕ) (past : Chronicle) (carried : Carried) (passing : Passing) (list : List Given) → Hands past list (chronicle_of past (answer rules net carried u past (passing_of passing)))
-    → Says u past (answer rules net carried u past (passing_of passing)) (Did list None)
+    → Says u past (answer rules net carried u past (passing_of passing)) (Did None) list
 unfolding answer
 passed_says rules net u past carried (Enter id p) list hands =
     (hands, injects_keep rules net u past (λ now. (e : ℕ) → has_both u e now ≡ has_both u e past) (packet_completes u past) id p)

@@ -1,5 +1,5 @@
 -- What an act comes to.
-use Rattle.std.proofs.Common.{ℕ, ◌<◌, Bool, true, false, Option, None, [], ◌≡◌, refl, sym, ap, subst}
+use Rattle.std.proofs.Common.{ℕ, ◌<◌, Option, None, [], ◌≡◌, refl, sym, ap, subst}
 use Rattle.std.specs.Prelude.{Result, Ok, Err, IfOk, IfErr, List}
 use Rattle.topology.specs.declared.status.Reason.{Reason}
 use Rattle.topology.specs.Net.{Net}
@@ -71,39 +71,19 @@ pub record Went (u : ℕ) (past : Chronicle) (step : Step) (outputs : List Given
   pub hands : Hands past outputs now
   pub completes : MayComplete u past now due
 
--- the outputs of an answer
-abbrev pub outputs_of : Answer → List Given
-outputs_of (told.Did outputs due) = outputs
-outputs_of (told.Idle why) = []
-
--- the epoch that may be complete
-abbrev pub due_of : Answer → Option ℕ
-due_of (told.Did outputs due) = due
-due_of (told.Idle why) = None
-
--- it is no reason
-abbrev pub is_did : Answer → Bool
-is_did (told.Did outputs due) = true
-is_did (told.Idle why) = false
-
 -- the step goes on where the answer is no reason
-pub said : (u : ℕ) (past : Chronicle) (step : Step) (a : Answer) → is_did a ≡ true → Says u past step a → Went u past step (outputs_of a) (due_of a)
-said u past (Goes now) (told.Did list due) is says = record { now = now; goes = refl; hands = says.0; completes = says.1 }
-said u past (Goes now) (told.Idle why) is says = absurd says
-said u past (Idle why) (told.Did list due) is says = absurd says
-said u past (Idle why) (told.Idle reason) is says = absurd (cc is)
-
--- the same for its parts
-pub said_parts : (u : ℕ) (past : Chronicle) (step : Step) (a : Answer) (outputs : List Given) (due : Option ℕ) → is_did a ≡ true → outputs_of a ≡ outputs → due_of a ≡ due → Says u past step a
-    → Went u past step outputs due
-said_parts u past step a outputs due is list epoch says =
-    subst (λ d. Went u past step outputs d) epoch (subst (λ l. Went u past step l (due_of a)) list (said u past step a is says))
+pub said : (u : ℕ) (past : Chronicle) (step : Step) (a : Answer) (outputs : List Given) (due : Option ℕ) → a ≡ told.Did due → Says u past step a outputs → Went u past step outputs due
+said u past step a outputs due is says = by step (subst (λ x. Says u past step x outputs) is says)
+  where
+    by : (step : Step) → Says u past step (told.Did due) outputs → Went u past step outputs due
+    by (Goes now) both = record { now = now; goes = refl; hands = both.0; completes = both.1 }
+    by (Idle why) none = absurd none
 
 -- the reason why nothing is done
-pub said_why : (u : ℕ) (past : Chronicle) (step : Step) (a : Answer) (why : Reason) → a ≡ told.Idle why → Says u past step a → step ≡ Idle why
-said_why u past step a why is says = by step (subst (Says u past step) is says)
+pub said_why : (u : ℕ) (past : Chronicle) (step : Step) (a : Answer) (outputs : List Given) (why : Reason) → a ≡ told.Idle why → Says u past step a outputs → step ≡ Idle why
+said_why u past step a outputs why is says = by step (subst (λ x. Says u past step x outputs) is says)
   where
-    by : (step : Step) → Says u past step (told.Idle why) → step ≡ Idle why
+    by : (step : Step) → Says u past step (told.Idle why) outputs → step ≡ Idle why
     by (Idle reason) same = ap (λ r. Idle r) (sym same)
     by (Goes now) same = absurd same
 

@@ -20,6 +20,7 @@ use Rattle.chronicle.specs.Publications.{has_both}
 use Rattle.chronicle.specs.Steps.{Step, Idle, Goes}
 use Rattle.node_core.specs.declared.answers.Answer.{Answer}
 use Rattle.node_core.specs.declared.answers.Answer.TheVariants.{Did, Idle as Declines}
+use Rattle.node_core.specs.declared.outputs.Output.{Output as Given}
 use Rattle.node_core.specs.Outputs.{Output, Mail, Hands}
 
 -- of no epoch did u get both its cut and its decision on the way from the one chronicle to the other, but for this one,
@@ -29,12 +30,12 @@ MayComplete u before now None = (e : ℕ) → has_both u e now ≡ has_both u e 
 MayComplete u before now (Some d) =
     (has_both u d before ≡ false) × ((e : ℕ) → (d == e) ≡ false → has_both u e now ≡ has_both u e before)
 
--- the answer is that of the step: a reason, or the outputs that are new, and the epoch that may be complete now
-abbrev pub Says : ℕ → Chronicle → Step → Answer → Type 0
-Says u past (Idle reason) (Declines told) = told ≡ reason
-Says u past (Idle reason) (Did outputs due) = ⊥
-Says u past (Goes now) (Declines told) = ⊥
-Says u past (Goes now) (Did outputs due) = Hands past outputs now × MayComplete u past now due
+-- the answer is that of the step: a reason, or these are the outputs that are new, and the epoch that may be complete now
+abbrev pub Says : ℕ → Chronicle → Step → Answer → List Given → Type 0
+Says u past (Idle reason) (Declines told) outputs = told ≡ reason
+Says u past (Idle reason) (Did due) outputs = ⊥
+Says u past (Goes now) (Declines told) outputs = ⊥
+Says u past (Goes now) (Did due) outputs = Hands past outputs now × MayComplete u past now due
 
 -- the table of e by u's cut and the decision that it knows
 pub record Tabled (rules : Rules) (net : Net) (u e : ℕ) (now : Chronicle) (table : View) : Type 0 where

@@ -1,5 +1,6 @@
 -- What a node is to do, and that it may.
-use Rattle.std.specs.Prelude.{ℕ, suc, ◌≡◌, ◌<◌, true, Some, length}
+use Rattle.std.specs.Prelude.{ℕ, suc, ◌≡◌, ◌<◌, true, Some, Result, Ok, Err, length}
+use Rattle.topology.specs.declared.status.Reason.{Reason}
 use Rattle.topology.specs.declared.names.Scope.TheVariants.{All}
 use Rattle.topology.specs.Lists.{has}
 use Rattle.topology.specs.Net.{Net, neighbours}
@@ -15,15 +16,13 @@ use Rattle.chronicle.specs.Inputs.{Input, Propose, Control, Inject, Hop, arrival
 use Rattle.chronicle.specs.Logs.{log_of}
 use Rattle.chronicle.specs.Run.{held_with}
 use Rattle.chronicle.specs.Giving.{answer}
-use Rattle.chronicle.specs.Steps.{Carried, Goes, open_session, raise, take_item, write}
+use Rattle.chronicle.specs.Steps.{Carried, Goes, Idle, open_session, raise, take_item, write}
 use Rattle.node_core.specs.declared.deciding.Act.{Act}
 use Rattle.node_core.specs.declared.deciding.Act.TheVariants.{Enter, Open, Take, Rise}
 use Rattle.node_core.specs.declared.deciding.Asked.{Asked}
 use Rattle.node_core.specs.declared.deciding.Asked.TheVariants as asked
 use Rattle.node_core.specs.declared.deciding.Passing.{Passing}
 use Rattle.node_core.specs.declared.deciding.Passing.TheVariants.{Enter as Enters, GoOn}
-use Rattle.node_core.specs.declared.deciding.Task.{Task}
-use Rattle.node_core.specs.declared.deciding.Task.TheVariants.{Perform, Ask, Pass}
 use Rattle.node_core.specs.Coming.{IsPlaced}
 use Rattle.node_core.specs.Keeping.{MayEnter}
 
@@ -66,10 +65,9 @@ abbrev pub passing_of : Passing → Input
 passing_of (Enters id prefix) = Inject id prefix
 passing_of (GoOn packet up) = Hop packet.value up.items
 
--- this is what the input asks for: an act that u may do, by which the chronicle goes on; or its part in the agreements
--- is asked about the input; or a packet goes on by it
-abbrev pub IsTask : Rules → Net → ℕ → Chronicle → Task → Input → Type 0
-IsTask rules net u past (Perform act) input =
+-- this is what the input comes to: an act that u may do, by which the chronicle goes on, whatever the links carry; or
+-- nothing is done, for a reason
+abbrev pub IsDecided : Rules → Net → ℕ → Chronicle → Input → Result Act Reason → Type 0
+IsDecided rules net u past input (Ok act) =
     MayDo net u past act × ((carried : Carried) → answer rules net carried u past input ≡ Goes (acted rules net carried u past act))
-IsTask rules net u past (Ask asked) input = input ≡ asked_of asked
-IsTask rules net u past (Pass passing) input = input ≡ passing_of passing
+IsDecided rules net u past input (Err reason) = (carried : Carried) → answer rules net carried u past input ≡ Idle reason

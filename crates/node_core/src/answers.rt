@@ -1,38 +1,39 @@
 //! What a node answers to an input, before the table is published that may be due.
-ghost use Rattle.std.specs.Prelude.{◌≡◌, ◌==◌, ℕ, None, Some, map, IfOk, IfErr, if◌then◌else◌};
+ghost use Rattle.std.specs.Prelude.{◌≡◌, ◌==◌, ◌++◌, [], ℕ, None, Some, map, IfOk, IfErr, OnOk, if◌then◌else◌};
 ghost use Rattle.topology.specs.Net.{Net};
 ghost use Rattle.consolidator.specs.Facts as consolidator;
 ghost use Rattle.consolidator.specs.Seen.{mails_seen};
 ghost use Rattle.consolidator.specs.Standing.{StandsFor as PartStandsFor};
 ghost use Rattle.chronicle.specs.Facts.{Chronicle};
+ghost use Rattle.trigger_log.specs.Going.{item_of};
 ghost use Rattle.chronicle.specs.Giving.{answer};
+ghost use Rattle.chronicle.specs.Inputs.{Arrive, Input as Comes};
 ghost use Rattle.chronicle.specs.Run.{chronicle_of};
 ghost use Rattle.chronicle.specs.Steps.{Carried, Goes};
 ghost use Rattle.node_core.specs.Answering.{Consults, Says, decided_by, posts};
 ghost use Rattle.node_core.specs.Coming.{MayCome};
-ghost use Rattle.node_core.specs.Deciding.{MayDo, acted, asked_of};
+ghost use Rattle.node_core.specs.Deciding.{IsDecided, MayDo, acted, asked_of};
 ghost use Rattle.node_core.specs.Inputs.{input_of};
 ghost use Rattle.node_core.specs.NodeLimits.{node_limit, StopsAt};
 ghost use Rattle.node_core.specs.Outputs.{output_of};
 ghost use Rattle.node_core.specs.Standing.{Follows, StandsFor};
 
 use crate::agreement::Agreement;
-use crate::deciding::{Act, Asked, Task};
+use crate::deciding::{Act, Asked, Passing};
 use crate::inputs::Input;
 use crate::limits::{MOST_TRIGGERS, proposes_large};
 use crate::node::Node;
 use crate::outputs::{Output, OutputList, Stop};
 use consolidator::{Consolidator, Mails, Reply};
-use path_vector::Policy;
-use std::alloc::Global;
-use topology::{Epoch, LimitKind, NoMemory, Reason, Topology};
+use path_vector::{Cause, Policy};
+use topology::{Epoch, Item, LimitKind, NoMemory, NodeId, Reason, Scope, Session, Topology};
 
 /// What a node answers.
 #[derive(Drop)]
 pub enum Answer {
-    /// It hands these out. Of this epoch, if there is one, it may have its cut and its decision now, and had not
-    /// both before.
-    Did(OutputList, Option<Epoch>),
+    /// It hands out what was added to the outputs. Of this epoch, if there is one, it may have its cut and its decision
+    /// now, and had not both before.
+    Did(Option<Epoch>),
     Idle(Reason),
 }
 
@@ -46,16 +47,15 @@ fn risen(before: Epoch, now: Epoch) -> Option<Epoch>
     Some(now)
 }
 
-// The control messages, as outputs.
-fn mailed(alloc: Global, mails: Mails) -> Result<OutputList, NoMemory>
-    ensures { IfOk result (λ outputs. map output_of outputs ≡ posts (mails_seen mails)) }
+// Adds the control messages, as outputs.
+fn mail_all(mails: Mails, outputs: &mut OutputList) -> Result<(), NoMemory>
+    ensures { OnOk result (map output_of outputs.new ≡ map output_of outputs.old ++ posts (mails_seen mails)) }
 {
     let list = mails.into_list();
-    let mut outputs = OutputList::new(alloc);
     for mail in list {
         outputs.push(Output::Mail(mail))?;
     }
-    Ok(outputs)
+    Ok(())
 }
 
 impl Asked {
@@ -93,31 +93,80 @@ fn consult(
 impl<P: Policy + Copy> Node<P> {
     /// Does what the node is to do.
     #[inline(always)]
-    fn perform(self, act: Act) -> Result<(Node<P>, Answer), NoMemory>
+    fn perform(self, act: Act, outputs: &mut OutputList) -> Result<(Node<P>, Answer), NoMemory>
         ensures node { IfOk result (λ r. (policy : P) (net : Net) (u : ℕ) (carried : Carried) (past : Chronicle) →
             StandsFor policy (P.rules policy) net u self past → MayDo net u past act →
             Follows policy (P.rules policy) net u r.0 (acted (P.rules policy) net carried u past act)) }
         ensures says { IfOk result (λ r. (policy : P) (net : Net) (u : ℕ) (carried : Carried) (past : Chronicle) →
-            StandsFor policy (P.rules policy) net u self past → MayDo net u past act →
-            Says u past (Goes (acted (P.rules policy) net carried u past act)) r.1) }
+            StandsFor policy (P.rules policy) net u self past → MayDo net u past act → outputs.old ≡ [] →
+            Says u past (Goes (acted (P.rules policy) net carried u past act)) r.1 outputs.new) }
     {
         let before = self.snapshots.epoch();
-        let mut outputs = OutputList::new(self.alloc);
-        let node = self.act(act, &mut outputs)?;
+        let node = self.act(act, outputs)?;
         let due = risen(before, node.snapshots.epoch());
-        Ok((node, Answer::Did(outputs, due)))
+        Ok((node, Answer::Did(due)))
+    }
+
+    /// Does what was decided, if it is to be done.
+    fn follow(
+        self,
+        decided: Result<Act, Reason>,
+        outputs: &mut OutputList,
+    ) -> Result<(Node<P>, Answer), NoMemory>
+        ensures node { IfOk result (λ r. (policy : P) (net : Net) (u : ℕ) (carried : Carried) (past : Chronicle) (input : Comes) →
+            StandsFor policy (P.rules policy) net u self past → IsDecided (P.rules policy) net u past input decided →
+            Follows policy (P.rules policy) net u r.0
+            (chronicle_of past (answer (P.rules policy) net carried u past input))) }
+        ensures says { IfOk result (λ r. (policy : P) (net : Net) (u : ℕ) (carried : Carried) (past : Chronicle) (input : Comes) →
+            StandsFor policy (P.rules policy) net u self past → IsDecided (P.rules policy) net u past input decided → outputs.old ≡ [] →
+            Says u past (answer (P.rules policy) net carried u past input) r.1 outputs.new) }
+    {
+        match decided {
+            Ok(act) => self.perform(act, outputs),
+            Err(reason) => Ok((self, Answer::Idle(reason))),
+        }
+    }
+
+    /// Takes an item of a neighbour, if it is one of the session that is held, and next in its turn.
+    #[inline(always)]
+    fn receive(
+        self,
+        from: NodeId,
+        session: Session,
+        item: Item,
+        outputs: &mut OutputList,
+    ) -> Result<(Node<P>, Answer), NoMemory>
+        ensures node { IfOk result (λ r. (policy : P) (net : Net) (u : ℕ) (carried : Carried) (past : Chronicle) →
+            StandsFor policy (P.rules policy) net u self past → MayCome net u (Arrive from session (item_of item)) →
+            Follows policy (P.rules policy) net u r.0
+            (chronicle_of past (answer (P.rules policy) net carried u past (Arrive from session (item_of item))))) }
+        ensures says { IfOk result (λ r. (policy : P) (net : Net) (u : ℕ) (carried : Carried) (past : Chronicle) →
+            StandsFor policy (P.rules policy) net u self past → MayCome net u (Arrive from session (item_of item)) → outputs.old ≡ [] →
+            Says u past (answer (P.rules policy) net carried u past (Arrive from session (item_of item))) r.1 outputs.new) }
+    {
+        if let Some(reason) = self.declines(from, session, &item) {
+            return Ok((self, Answer::Idle(reason)));
+        }
+        self.perform(
+            Act::Take {
+                from,
+                session,
+                item,
+            },
+            outputs,
+        )
     }
 
     /// Asks the node's part in the agreements. Stops where it would propose a value with more triggers than one may
     /// have.
-    fn ask(self, asked: Asked) -> Result<(Node<P>, Answer), Stop>
+    fn ask(self, asked: Asked, outputs: &mut OutputList) -> Result<(Node<P>, Answer), Stop>
         ensures node { IfOk result (λ r. (policy : P) (net : Net) (u : ℕ) (carried : Carried) (past : Chronicle) →
             StandsFor policy (P.rules policy) net u self past →
             Follows policy (P.rules policy) net u r.0
             (chronicle_of past (answer (P.rules policy) net carried u past (asked_of asked)))) }
         ensures says { IfOk result (λ r. (policy : P) (net : Net) (u : ℕ) (carried : Carried) (past : Chronicle) →
-            StandsFor policy (P.rules policy) net u self past →
-            Says u past (answer (P.rules policy) net carried u past (asked_of asked)) r.1) }
+            StandsFor policy (P.rules policy) net u self past → outputs.old ≡ [] →
+            Says u past (answer (P.rules policy) net carried u past (asked_of asked)) r.1 outputs.new) }
         ensures stopped { IfErr result (λ stop. (policy : P) (net : Net) (u : ℕ) (carried : Carried) (past : Chronicle) →
             StandsFor policy (P.rules policy) net u self past →
             StopsAt (node_limit (P.rules policy) net u (answer (P.rules policy) net carried u past (asked_of asked))) stop) }
@@ -158,32 +207,66 @@ impl<P: Policy + Copy> Node<P> {
         };
         match reply {
             Reply::Idle(reason) => Ok((node, Answer::Idle(reason))),
-            Reply::Sent(mails) => Ok((node, Answer::Did(mailed(alloc, mails)?, due))),
+            Reply::Sent(mails) => {
+                mail_all(mails, outputs)?;
+                Ok((node, Answer::Did(due)))
+            }
         }
     }
 
     /// What the node answers to an input, before the table is published that may be due.
     #[inline(always)]
-    pub(crate) fn answer(self, input: Input) -> Result<(Node<P>, Answer), Stop>
+    pub(crate) fn answer(
+        self,
+        input: Input,
+        outputs: &mut OutputList,
+    ) -> Result<(Node<P>, Answer), Stop>
         ensures node { IfOk result (λ r. (policy : P) (net : Net) (u : ℕ) (carried : Carried) (past : Chronicle) →
             StandsFor policy (P.rules policy) net u self past → MayCome net u (input_of input) →
             Follows policy (P.rules policy) net u r.0
             (chronicle_of past (answer (P.rules policy) net carried u past (input_of input)))) }
         ensures says { IfOk result (λ r. (policy : P) (net : Net) (u : ℕ) (carried : Carried) (past : Chronicle) →
-            StandsFor policy (P.rules policy) net u self past → MayCome net u (input_of input) →
-            Says u past (answer (P.rules policy) net carried u past (input_of input)) r.1) }
+            StandsFor policy (P.rules policy) net u self past → MayCome net u (input_of input) → outputs.old ≡ [] →
+            Says u past (answer (P.rules policy) net carried u past (input_of input)) r.1 outputs.new) }
         ensures stopped { IfErr result (λ stop. (policy : P) (net : Net) (u : ℕ) (carried : Carried) (past : Chronicle) →
             StandsFor policy (P.rules policy) net u self past → MayCome net u (input_of input) →
             StopsAt (node_limit (P.rules policy) net u (answer (P.rules policy) net carried u past (input_of input))) stop) }
     {
-        let task = match self.decide(input) {
-            Ok(task) => task,
-            Err(reason) => return Ok((self, Answer::Idle(reason))),
-        };
-        match task {
-            Task::Perform(act) => Ok(self.perform(act)?),
-            Task::Ask(asked) => self.ask(asked),
-            Task::Pass(passing) => Ok(self.pass(passing)?),
+        match input {
+            Input::Arrive {
+                from,
+                session,
+                item,
+            } => Ok(self.receive(from, session, item, outputs)?),
+            Input::Propose(epoch) => self.ask(Asked::Propose(epoch), outputs),
+            Input::Control { from, message } => self.ask(Asked::Hear { from, message }, outputs),
+            Input::Inject { id, prefix } => Ok(self.pass(Passing::Enter { id, prefix }, outputs)?),
+            Input::Hop { packet, up } => Ok(self.pass(Passing::GoOn { packet, up }, outputs)?),
+            Input::Originate(prefix) => {
+                let decided = self.decide_originating(prefix);
+                Ok(self.follow(decided, outputs)?)
+            }
+            Input::Withdraw(prefix) => {
+                let decided = self.decide_withdrawing(prefix);
+                Ok(self.follow(decided, outputs)?)
+            }
+            Input::Prefer { nbr, value } => {
+                let scope = Scope::All;
+                let cause = Cause::Prefer { nbr, value };
+                Ok(self.perform(Act::Enter { scope, cause }, outputs)?)
+            }
+            Input::Notice(nbr) => {
+                let decided = self.decide_closing(nbr);
+                Ok(self.follow(decided, outputs)?)
+            }
+            Input::OpenSession { nbr, session } => {
+                let decided = self.decide_opening(nbr, session);
+                Ok(self.follow(decided, outputs)?)
+            }
+            Input::Snap => {
+                let epoch = self.next_epoch();
+                Ok(self.perform(Act::Rise { epoch }, outputs)?)
+            }
         }
     }
 }

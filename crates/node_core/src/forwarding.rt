@@ -209,18 +209,21 @@ impl<P: Policy + Copy> Node<P> {
     }
 
     /// Passes a packet on. The node is as it was: it keeps nothing of packets.
-    pub(crate) fn pass(self, passing: Passing) -> Result<(Node<P>, Answer), NoMemory>
+    pub(crate) fn pass(
+        self,
+        passing: Passing,
+        outputs: &mut OutputList,
+    ) -> Result<(Node<P>, Answer), NoMemory>
         ensures node { IfOk result (λ r. (policy : P) (net : Net) (u : ℕ) (carried : Carried) (past : Chronicle) →
             StandsFor policy (P.rules policy) net u self past →
             Follows policy (P.rules policy) net u r.0
             (chronicle_of past (answer (P.rules policy) net carried u past (passing_of passing)))) }
         ensures says { IfOk result (λ r. (policy : P) (net : Net) (u : ℕ) (carried : Carried) (past : Chronicle) →
-            StandsFor policy (P.rules policy) net u self past → MayCome net u (passing_of passing) →
-            Says u past (answer (P.rules policy) net carried u past (passing_of passing)) r.1) }
+            StandsFor policy (P.rules policy) net u self past → MayCome net u (passing_of passing) → outputs.old ≡ [] →
+            Says u past (answer (P.rules policy) net carried u past (passing_of passing)) r.1 outputs.new) }
     {
         let output = self.passed(passing)?;
-        let mut outputs = OutputList::new(self.alloc);
         outputs.push(output)?;
-        Ok((self, Answer::Did(outputs, None)))
+        Ok((self, Answer::Did(None)))
     }
 }

@@ -22,7 +22,7 @@ ghost use Rattle.node_core.specs.Views.{views};
 use crate::agreement::Agreement;
 use crate::answers::Answer;
 use crate::inputs::Input;
-use crate::outputs::{Outputs, Stop};
+use crate::outputs::{OutputList, Outputs, Stop};
 use crate::reports::Reports;
 use consolidator::Consolidator;
 use incomplete_closure::{Report, Value};
@@ -96,9 +96,10 @@ impl<P: Policy + Copy> Node<P> {
             StandsFor policy (P.rules policy) net u self past → MayCome net u (input_of input) →
             StopsAt (node_limit (P.rules policy) net u (give (P.rules policy) net carried u past (input_of input))) stop) }
     {
-        let (node, answer) = self.answer(input)?;
-        let (mut outputs, due) = match answer {
-            Answer::Did(outputs, due) => (outputs, due),
+        let mut outputs = OutputList::new(self.alloc);
+        let (node, answer) = self.answer(input, &mut outputs)?;
+        let due = match answer {
+            Answer::Did(due) => due,
             Answer::Idle(reason) => return Ok((node, Outputs::Idle(reason))),
         };
         let mut node = node;

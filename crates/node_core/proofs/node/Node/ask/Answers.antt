@@ -27,17 +27,17 @@ returns-in-Idle-clause-node g c = λ policy net u carried past was.
     (subst (λ (k : Agreement). PartStandsFor net k.consolidator (control past) u) (sym made) idle.1) was.agrees (values_small rules net u past was.within))
 
 pub returns-in-Idle-clause-says : goal.returns-in-Idle-clause-says
-returns-in-Idle-clause-says g c = λ policy net u carried past was.
+returns-in-Idle-clause-says g c = λ policy net u carried past was none.
     let rules = g.P.Policy.rules policy in
     let input = asked_of c.args.asked in
     let kept = c.in_ok-consolidator.consolidator in
     let asks = consulted c.deref.result.now net c.into_inner-reports.result.consolidator c.args.self.agreement.value.consolidator kept c.in_ok-consolidator.reply (control past) u input
     (c.deref.ensures ∙ was.keeps.same_net) (ap (λ (k : Agreement). k.consolidator) c.into_inner-reports.ensures) was.agrees.part (λ stands. c.in_ok-consolidator.ensures (control past) u stands) in
     let idle = asked_idle rules net carried u past kept input c.in-Idle.reason (subst (λ r. Consults net r kept (control past) u input) c.in-Idle.is asks) in
-    says_why u past (answer rules net carried u past input) c.in-Idle.reason idle.0
+    says_why u past (answer rules net carried u past input) c.in-Idle.reason c.args.outputs.now idle.0
 
-pub returns-in_ok-mailed-in-Sent-clause-node : goal.returns-in_ok-mailed-in-Sent-clause-node
-returns-in_ok-mailed-in-Sent-clause-node g c = λ policy net u carried past was.
+pub returns-in_ok-mail_all-in-Sent-clause-node : goal.returns-in_ok-mail_all-in-Sent-clause-node
+returns-in_ok-mail_all-in-Sent-clause-node g c = λ policy net u carried past was.
     let rules = g.P.Policy.rules policy in
     let input = asked_of c.args.asked in
     let kept = c.in_ok-consolidator.consolidator in
@@ -52,16 +52,16 @@ returns-in_ok-mailed-in-Sent-clause-node g c = λ policy net u carried past was.
     (subst (λ (k : Agreement). PartStandsFor net k.consolidator (control went.now) u) (sym made) went.part) was.agrees
     (small_sent net u past (answer rules net carried u past input) c.in_ok-consolidator.reply c.in-Sent.mails kept (decided_by input) went c.in-Sent.is (sym c.proposes_large.ensures ∙ c.if-proposes_large.false) (values_small rules net u past was.within)))
 
-pub returns-in_ok-mailed-in-Sent-clause-says : goal.returns-in_ok-mailed-in-Sent-clause-says
-returns-in_ok-mailed-in-Sent-clause-says g c = λ policy net u carried past was.
+pub returns-in_ok-mail_all-in-Sent-clause-says : goal.returns-in_ok-mail_all-in-Sent-clause-says
+returns-in_ok-mail_all-in-Sent-clause-says g c = λ policy net u carried past was none.
     let rules = g.P.Policy.rules policy in
     let input = asked_of c.args.asked in
     let kept = c.in_ok-consolidator.consolidator in
     let asks = consulted c.deref.result.now net c.into_inner-reports.result.consolidator c.args.self.agreement.value.consolidator kept c.in_ok-consolidator.reply (control past) u input
     (c.deref.ensures ∙ was.keeps.same_net) (ap (λ (k : Agreement). k.consolidator) c.into_inner-reports.ensures) was.agrees.part (λ stands. c.in_ok-consolidator.ensures (control past) u stands) in
     let went = asked_sent rules net carried u past kept input c.in-Sent.mails (subst (λ r. Consults net r kept (control past) u input) c.in-Sent.is asks) in
-    subst (λ s. Says u past s (told.Did c.in_ok-mailed-in-Sent.field-0 c.decides-due.result)) (sym went.goes)
-    (hands_posted past went.now c.in-Sent.mails c.in_ok-mailed-in-Sent.field-0 c.in_ok-mailed-in-Sent.ensures went.shown, subst (MayComplete u past went.now) (sym c.decides-due.ensures) went.completes)
+    subst (λ s. Says u past s (told.Did c.decides-due.result) c.mail_all.new.outputs) (sym went.goes)
+    (hands_posted past went.now c.in-Sent.mails c.args.outputs.now c.mail_all.new.outputs none c.in_ok-mail_all-in-Sent.ensures went.shown, subst (MayComplete u past went.now) (sym c.decides-due.ensures) went.completes)
 
 pub returns-then-proposes_large-clause-stopped : goal.returns-then-proposes_large-clause-stopped
 returns-then-proposes_large-clause-stopped g c policy net u carried past was =

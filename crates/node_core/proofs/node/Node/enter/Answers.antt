@@ -2,7 +2,6 @@ use Rattle.std.proofs.Common.{[], ◌∷◌, ◌∙◌, refl, map}
 use Rattle.trigger_log.specs.Entries.{entry}
 use Rattle.trigger_log.specs.Going.{going_of}
 use Rattle.chronicle.specs.Logs.{log_of}
-use Rattle.node_core.specs.declared.outputs.Output.TheVariants as given
 use Rattle.node_core.proofs.Entering.{appended, entered, entered_hands}
 use Rattle.node_core.proofs.node.Node.enter.Goals as goal
 

@@ -18,11 +18,11 @@ returns-clause-node g c = λ policy net u carried past was may.
     }
 
 pub returns-clause-says : goal.returns-clause-says
-returns-clause-says g c = λ policy net u carried past was may.
+returns-clause-says g c = λ policy net u carried past was may none.
     let rules = g.P.Policy.rules policy in
     let now = acted rules net carried u past c.args.act in
     let keeps = c.in_ok-node.ensures.node policy net u carried past was may in (
-      c.in_ok-node.ensures.outputs policy net u carried past was may c.new-outputs.ensures,
+      c.in_ok-node.ensures.outputs policy net u carried past was may none,
       subst (MayComplete u past now) (sym c.risen-due.ensures)
           (risen_completes u past now (no_later_cut policy rules net u past c.args.self was.keeps) c.epoch-before.result c.epoch.result
           ((rw c.deref.ensures at c.epoch-before.ensures) net u was.keeps.acts was.keeps.snapshots ∙ was.keeps.alike.same_epoch) ((rw c.deref-2.ensures at c.epoch.ensures) net u keeps.acts keeps.snapshots ∙ keeps.alike.same_epoch)
