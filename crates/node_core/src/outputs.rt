@@ -1,8 +1,7 @@
 //! What a node hands out.
-ghost use Rattle.std.specs.Prelude.{◌≡◌, [], ◌∷◌, ◌++◌, map, IfOk, OnOk};
-ghost use Rattle.trigger_log.specs.Going.{going_of};
+ghost use Rattle.std.specs.Prelude.{◌≡◌, [], ◌∷◌, ◌++◌, Some, map, IfOk, OnOk};
 ghost use Rattle.node_core.specs.Entries.{first_of};
-ghost use Rattle.node_core.specs.Outputs.{Logged, Send, output_of};
+ghost use Rattle.node_core.specs.declared.outputs.Output.TheVariants.{Send};
 ghost use Rattle.node_core.specs.declared.outputs.Stop.TheVariants.{NoMemory};
 
 use consolidator::Mail;
@@ -64,8 +63,7 @@ impl Model for OutputList {
 
 // Adds what goes out, in its order.
 fn send_all(list: Vec<Outgoing>, outputs: &mut Vec<Output>) -> Result<(), NoMemory>
-    ensures { OnOk result (map output_of outputs.new.items
-        ≡ map output_of outputs.old.items ++ map Send (map going_of list.items)) }
+    ensures { OnOk result (outputs.new.items ≡ outputs.old.items ++ map (λ out. Send out) list.items) }
 {
     for out in list {
         outputs.push(Output::Send(out))?;
@@ -75,8 +73,7 @@ fn send_all(list: Vec<Outgoing>, outputs: &mut Vec<Output>) -> Result<(), NoMemo
 
 // Adds an entry and what goes out with it.
 fn enter_all(entered: Entered, outputs: &mut Vec<Output>) -> Result<(), NoMemory>
-    ensures { OnOk result (map output_of outputs.new.items
-        ≡ map output_of outputs.old.items ++ Logged entered.index ∷ map Send (map going_of entered.sent.items)) }
+    ensures { OnOk result (outputs.new.items ≡ outputs.old.items ++ first_of (Some entered)) }
 {
     let Entered { index, sent } = entered;
     outputs.push(Output::Logged { index })?;
@@ -106,8 +103,7 @@ impl OutputList {
     /// Adds an entry and what goes out with it.
     #[inline(always)]
     pub(crate) fn enter(&mut self, entered: Entered) -> Result<(), NoMemory>
-        ensures { OnOk result (map output_of self.new
-            ≡ map output_of self.old ++ Logged entered.index ∷ map Send (map going_of entered.sent.items)) }
+        ensures { OnOk result (self.new ≡ self.old ++ first_of (Some entered)) }
     {
         if self.entered.is_some() || !self.more.is_empty() {
             return enter_all(entered, &mut self.more);
@@ -125,7 +121,7 @@ impl OutputList {
 
     /// All outputs, one by one.
     pub fn into_vec(self) -> Result<Vec<Output>, NoMemory>
-        ensures { IfOk result (λ list. map output_of list.items ≡ map output_of self) }
+        ensures { IfOk result (λ list. list.items ≡ self) }
     {
         let OutputList {
             alloc,

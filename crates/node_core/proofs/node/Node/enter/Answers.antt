@@ -3,6 +3,7 @@ use Rattle.trigger_log.specs.Entries.{entry}
 use Rattle.trigger_log.specs.Going.{going_of}
 use Rattle.chronicle.specs.Logs.{log_of}
 use Rattle.node_core.proofs.Entering.{appended, entered, entered_hands}
+use Rattle.node_core.proofs.Together.{entry_shown}
 use Rattle.node_core.proofs.node.Node.enter.Goals as goal
 
 pub returns-clause-node : goal.returns-clause-node
@@ -24,5 +25,5 @@ returns-clause-outputs g c policy net u carried past first was may hands =
     (λ stands near placed fits. c.in_ok-log.ensures.log policy u h stands near placed fits)
     (λ stands near placed fits. c.in_ok-log.ensures.outgoing policy u h stands near placed fits) in
     entered_hands rules net u carried past first k c.args.outputs.now c.enter.new.self c.len-index.result (map going_of c.in_ok-log.sent.items)
-    ((rw c.deref-3.ensures at c.len-index.ensures) policy net u (k ∷ h) made.log) made.outgoing_is c.in_ok-enter.ensures
+    ((rw c.deref-3.ensures at c.len-index.ensures) policy net u (k ∷ h) made.log) made.outgoing_is (entry_shown c.args.outputs.now c.enter.new.self (record { index = c.len-index.result; sent = c.in_ok-log.sent }) c.in_ok-enter.ensures)
     hands

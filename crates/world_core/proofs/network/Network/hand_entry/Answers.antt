@@ -1,9 +1,10 @@
-use Rattle.std.proofs.Common.{ℕ, Bool, List, [], ◌∷◌, ◌++◌, ◌≡◌, refl, sym, ◌∙◌, ap, subst, map, length}
+use Rattle.std.proofs.Common.{ℕ, Bool, Some, List, [], ◌∷◌, ◌++◌, ◌≡◌, refl, sym, ◌∙◌, ap, subst, map, length}
 use Rattle.std.proofs.lemmas.List.{map-append}
 use Rattle.std.proofs.lemmas.Iterator.Adapters.{YieldsList-from_vec}
 use Rattle.std.proofs.lemmas.Iterator.Consumers.{YieldsList-end}
 use Rattle.trigger_log.specs.Going.{going_of}
 use Rattle.chronicle.specs.Facts.{Chronicle, Fact, happen}
+use Rattle.node_core.specs.Entries.{first_of}
 use Rattle.node_core.specs.Outputs.{Logged, Send}
 use Rattle.node_core.proofs.Together.{entry_shown}
 use Rattle.world_core.specs.Happening.{AreSending}
@@ -64,4 +65,4 @@ returns-clause-sending g c away first past counts facts told shows was =
     let end = YieldsList-end (YieldsList-from_vec {s = c.into_iter-out-iterator.result} sent.items c.into_iter-out-iterator.ensures.into_iter_gives.0 counted) c.loop-out.yielded c.loop-out.out-iterator c.loop-out.yielded_by c.next.result c.next.new.self c.in-None.is c.next.ensures.steps in
     let all = sym (map-same c.loop-out.yielded) ∙ end.0 in
     c.loop-out.invariant.sent away first past counts facts told
-    (ap (λ l. Logged c.args.entered.index ∷ map Send (map going_of l)) all ∙ (sym (entry_shown c.args.entered) ∙ shows)) was
+    (ap (λ l. Logged c.args.entered.index ∷ map Send (map going_of l)) all ∙ (sym (entry_shown [] (first_of (Some c.args.entered)) c.args.entered refl) ∙ shows)) was
