@@ -121,8 +121,7 @@ pub(crate) fn drain<P: Policy + Copy>(world: World<P>, times: u32) -> Result<Wor
             return Ok(world);
         };
         let (from, to) = way;
-        let (next, _outcome) = world.step(Event::Deliver { from, to })?;
-        world = next;
+        world = world.step_unseen(Event::Deliver { from, to })?;
     }
     Ok(world)
 }

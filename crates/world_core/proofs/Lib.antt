@@ -27,5 +27,6 @@ pub mod Opened
 pub mod Next
 pub mod Lawful
 pub mod Stepped
+pub mod Held
 mod Steady
 mod Crashing

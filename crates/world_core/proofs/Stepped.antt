@@ -14,7 +14,6 @@ use Rattle.world_core.specs.declared.network.Network.{Network}
 use Rattle.world_core.specs.declared.outcomes.Outcome.{Outcome}
 use Rattle.world_core.specs.Happening.{Comes, IsAsWas}
 use Rattle.world_core.specs.Matching.{Counts, Stands}
-use Rattle.world_core.specs.View.{WorldView}
 use Rattle.world_core.specs.Waiting.{AreWaiting}
 use Rattle.world_core.proofs.Comes.{run-push}
 use Rattle.world_core.proofs.Mailing.{same_counts}
@@ -75,14 +74,6 @@ module _ {P : Type 0} (rules : P → Rules) (old new : Network P) (events : List
       → AreWaiting new.topology.value (run (rules new.policy) new.topology.value list) has
   waits_new list has is waits =
       subst (λ past. AreWaiting new.topology.value past has) (sym (ap (run (rules new.policy) new.topology.value) is ∙ run-push (rules new.policy) new.topology.value events event)) waits
-
-  -- the view of the new world
-  pub view_new : (list : List Event) → list ≡ events ++ event ∷ [] → ◌≡◌ {A = WorldView P} (record { policy = new.policy; net = new.topology.value; events = list })
-      (record { policy = old.policy; net = old.topology.value; events = events ++ event ∷ [] })
-  view_new list is =
-      let view : P → Net → List Event → WorldView P = λ policy net all. record { policy = policy; net = net; events = all } in
-      ap (λ all. view new.policy new.topology.value all) is
-      ∙ (ap (λ net. view new.policy net (events ++ event ∷ [])) (sym same_net) ∙ ap (λ policy. view policy old.topology.value (events ++ event ∷ [])) same.policy)
 
 -- what a step publishes, said of the run that it leaves
 module _ (rules : Rules) (net : Net) (events : List Event) (event : Event) where

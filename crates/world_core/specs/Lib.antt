@@ -14,3 +14,5 @@ pub mod Happening
 pub mod Telling
 pub mod Refreshing
 pub mod Sound
+pub mod Holding
+pub mod Stepping

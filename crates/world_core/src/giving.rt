@@ -49,6 +49,7 @@ impl<P: Policy + Copy> Network<P> {
 
     /// The node handles the input: what it hands out goes over the links, or is lost there. After an
     /// `Err` the network is of no use.
+    #[inline(always)]
     pub fn give(&mut self, node: NodeId, input: Input) -> Result<Outcome, Stop>
         requires node { has self.old.topology.value.nodes node ≡ true }
         requires places { HasPlaces self.old.topology.value (length self.old.nodes.items) }

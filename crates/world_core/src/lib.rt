@@ -18,6 +18,7 @@ mod turning;
 mod waiting;
 pub mod walks;
 pub mod world;
+mod world_state;
 
 pub use chronicle::Event;
 pub use link_model::Links;

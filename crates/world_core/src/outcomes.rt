@@ -50,6 +50,13 @@ impl Effects {
         Effects { list }
     }
 
+    /// The effects as a list. Takes no memory.
+    pub(crate) fn into_list(self) -> Vec<Effect>
+        ensures { result.items ≡ self }
+    {
+        self.list
+    }
+
     pub fn as_slice(&self) -> &[Effect]
         ensures { result.now ≡ self.now }
     {

@@ -28,25 +28,10 @@ use link_model::Links;
 use node_core::{Entered, Output, OutputList};
 use path_vector::Policy;
 use stable_table::Table;
-use std::alloc::Global;
+use std::mem;
 use std::rc::Rc;
 use topology::{NoMemory, NodeId};
 use trigger_log::Outgoing;
-
-// An empty list with room for what is told of these outputs.
-fn room_for(
-    alloc: Global,
-    entered: &Option<Entered>,
-    more: &[Output],
-) -> Result<Vec<Effect>, NoMemory>
-    ensures { IfOk result (λ effects. effects.items ≡ []) }
-{
-    let first = match entered {
-        Some(entered) => entered.sent.len().saturating_add(1),
-        None => 0,
-    };
-    Ok(Vec::with_capacity(alloc, first.saturating_add(more.len()))?)
-}
 
 // What is shown of an item.
 fn shown(from: NodeId, to: NodeId, queued: bool) -> Effect
@@ -237,6 +222,17 @@ impl<P: Policy + Copy> Network<P> {
         Ok(())
     }
 
+    // An empty list for effects, in the memory of the spare one.
+    #[inline(always)]
+    fn take_spare(&mut self) -> Vec<Effect>
+        ensures empty { result.items ≡ [] }
+        ensures kept { self.new ≡ record self.old { spare = self.new.spare } }
+    {
+        let mut list = mem::replace(&mut self.spare, Vec::new(self.alloc));
+        list.clear();
+        list
+    }
+
     /// Hands on the outputs of a node, in their order, and tells what they did.
     pub fn hand_all(&mut self, node: NodeId, outputs: OutputList) -> Result<Vec<Effect>, NoMemory>
         ensures kept { OnOk result (KeepsNodes self.old self.new) }
@@ -246,7 +242,7 @@ impl<P: Policy + Copy> Network<P> {
             AreSending (still_after facts away) first (happen past facts) counts self.new effects.items) }
     {
         let (entered, more) = outputs.into_parts();
-        let mut effects = room_for(self.alloc, &entered, &more)?;
+        let mut effects = self.take_spare();
         self.hand_first(node, entered, &mut effects)?;
         self.hand_more(node, more, &mut effects)?;
         Ok(effects)

@@ -1,5 +1,5 @@
 //! The world: a network and what happened in it.
-ghost use Rattle.std.specs.Prelude.{ℕ, ◌≡◌, ◌⊎◌, ◌≤◌, [], ◌∷◌, ◌++◌, ◌&&◌, false, nat_lt, nat_le, length, Some, None, IsTrue, IsNone, IfOk, IfErr, IfSome, option_map, ◌↔◌};
+ghost use Rattle.std.specs.Prelude.{ℕ, ◌≡◌, ◌⊎◌, ◌≤◌, [], ◌∷◌, ◌++◌, ◌&&◌, false, nat_lt, nat_le, length, Some, None, IsTrue, IsNone, IfOk, IfErr, OnOk, IfSome, option_map, ◌↔◌};
 ghost use Rattle.topology.specs.Lists.{has};
 ghost use Rattle.topology.specs.Net.{linked};
 ghost use Rattle.consolidator.specs.Seen.{message_seen};
@@ -19,14 +19,15 @@ ghost use Rattle.world_core.specs.Limits.{limit_of, StopsAt};
 ghost use Rattle.world_core.specs.Matching.{AreLinks};
 ghost use Rattle.world_core.specs.Publications.{all_published};
 ghost use Rattle.world_core.specs.Sound.{IsNoStray, IsSound};
+ghost use Rattle.world_core.specs.Stepping.{IsStep};
 ghost use Rattle.world_core.specs.Walks.{walk_of};
 
-use crate::bounds::{HIGHEST_MESSAGE, MOST_EVENTS};
-use crate::laws;
+use crate::bounds::HIGHEST_MESSAGE;
 use crate::network::Network;
 use crate::outcomes::{Outcome, Stop};
 use crate::publications::Publication;
 use crate::waiting::Waiting;
+use crate::world_state::WorldState;
 use chronicle::Event;
 use consolidator::Mail;
 use epoch_packet::{End, Visit};
@@ -37,33 +38,24 @@ use path_vector::Policy;
 use std::alloc::Global;
 use std::marker::Model;
 use std::rc::Rc;
-use topology::{Epoch, LimitKind, NoMemory, NodeId, PrefixId, Topology};
+use topology::{Epoch, NoMemory, NodeId, PrefixId, Topology};
 
 /// All nodes and links of a network, its control messages, what was published, and the events so far.
 #[derive(Drop)]
 pub struct World<P: Policy + Copy> {
-    // Behind a box, so that a world that moves carries a few words.
-    network: Box<Network<P>>,
-    // The ways over which a delivery would not be idle.
-    waiting: Waiting,
-    events: Vec<Event>,
+    // Behind a box, so that a world that moves carries one word, and its state changes in place.
+    state: Box<WorldState<P>>,
 }
 
 impl<P: Policy + Copy> Model for World<P> {
     ghost use Rattle.world_core.specs.View.{WorldView};
-    ghost use Rattle.world_core.specs.Matching.{Stands};
-    ghost use Rattle.world_core.specs.Waiting.{AreWaiting};
-    ghost use Rattle.world_core.specs.WaySets.{has_way};
-    ghost use Rattle.chronicle.specs.Deliveries.{deliveries};
-    ghost use Rattle.chronicle.specs.Run.{run};
+    ghost use Rattle.world_core.specs.Holding.{Holds};
 
     ghost Value = { WorldView P };
 
-    ghost view = { λ w. record { policy = w.network.value.policy; net = w.network.value.topology.value; events = w.events.items } };
+    ghost view = { λ w. record { policy = w.state.value.network.policy; net = w.state.value.network.topology.value; events = w.state.value.events.items } };
 
-    ghost invariant = { λ w. let past = run (P.rules w.network.value.policy) w.network.value.topology.value w.events.items in
-        Stands (P.rules w.network.value.policy) past (deliveries (P.rules w.network.value.policy) w.network.value.topology.value w.events.items) w.network.value
-        × AreWaiting w.network.value.topology.value past (has_way w.network.value.topology.value w.waiting) };
+    ghost invariant = { λ w. Holds P.rules w.state.value };
 }
 
 // Whether there is such a node and such a prefix.
@@ -94,10 +86,13 @@ impl<P: Policy + Copy> World<P> {
         ensures { IfOk result (λ world. world ≡ record { policy = policy; net = topology.value; events = [] }) }
     {
         let network = Network::new(alloc, topology, policy)?;
-        Ok(World {
-            network: Box::new(alloc, network)?,
+        let state = WorldState {
+            network,
             waiting: Waiting::new(alloc)?,
             events: Vec::new(alloc),
+        };
+        Ok(World {
+            state: Box::new(alloc, state)?,
         })
     }
 
@@ -105,14 +100,14 @@ impl<P: Policy + Copy> World<P> {
     pub fn events(&self) -> &[Event]
         ensures { result.now ≡ self.now.events }
     {
-        &self.events
+        &self.state.events
     }
 
     /// The topology of the network.
     pub fn topology(&self) -> &Topology
         ensures { result.now ≡ self.now.net }
     {
-        &self.network.topology
+        &self.state.network.topology
     }
 
     /// Whether the names of the event are in the network, a preference is a million at most, an epoch 1 to 32, the
@@ -120,7 +115,7 @@ impl<P: Policy + Copy> World<P> {
     pub fn fits(&self, event: &Event) -> bool
         ensures { result ≡ fits self.now.net event.now }
     {
-        let topology = &self.network.topology;
+        let topology = &self.state.network.topology;
         match event {
             Event::Originate { node, prefix } => names(topology, *node, *prefix),
             Event::Withdraw { node, prefix } => names(topology, *node, *prefix),
@@ -152,22 +147,22 @@ impl<P: Policy + Copy> World<P> {
             (run (P.rules self.now.policy) self.now.net self.now.events)) }
         ensures none { IsNone result ↔ (has self.now.net.nodes id ≡ false) }
     {
-        let rank = self.network.topology.rank_of(id)?;
-        Some(&self.network.nodes[rank])
+        let rank = self.state.network.topology.rank_of(id)?;
+        Some(&self.state.network.nodes[rank])
     }
 
     /// Whether the node is crashed. Not so where there is no such node. Takes no memory.
     pub fn crashed(&self, id: NodeId) -> bool
         ensures { result ≡ (has self.now.net.nodes id && crashed id (run (P.rules self.now.policy) self.now.net self.now.events)) }
     {
-        self.network.topology.rank_of(id).is_some() && self.network.is_crashed(id)
+        self.state.network.topology.rank_of(id).is_some() && self.state.network.is_crashed(id)
     }
 
     /// The links, and what is on its way over them.
     pub fn links(&self) -> &Links
         ensures { AreLinks self.now.net (run (P.rules self.now.policy) self.now.net self.now.events) result.now }
     {
-        &self.network.links
+        &self.state.network.links
     }
 
     /// The first way, by sender, then receiver, over which a delivery would not be idle. Takes no
@@ -176,8 +171,8 @@ impl<P: Policy + Copy> World<P> {
         ensures { result ≡ option_map (λ (way : Way). (way.from, way.to))
             (next_delivery self.now.net (run (P.rules self.now.policy) self.now.net self.now.events)) }
     {
-        let number = self.waiting.first()?;
-        let ends = self.network.links.ends(number)?;
+        let number = self.state.waiting.first()?;
+        let ends = self.state.network.links.ends(number)?;
         Some((ends.from, ends.to))
     }
 
@@ -189,7 +184,7 @@ impl<P: Policy + Copy> World<P> {
             × (mail.2 ≡ deliveries (P.rules self.now.policy) self.now.net self.now.events number)) }
         ensures none { IsNone result ↔ (mail_with number (run (P.rules self.now.policy) self.now.net self.now.events) ≡ None) }
     {
-        let kept = self.network.mails.kept(number)?;
+        let kept = self.state.network.mails.kept(number)?;
         Some((kept.from, &kept.mail, kept.deliveries))
     }
 
@@ -197,7 +192,7 @@ impl<P: Policy + Copy> World<P> {
     pub fn mail_count(&self) -> u32
         ensures { result ≡ length (mailed (run (P.rules self.now.policy) self.now.net self.now.events)) }
     {
-        self.network.mails.count()
+        self.state.network.mails.count()
     }
 
     /// The number of the next control message: the lowest that was never delivered and whose addressee is not
@@ -206,14 +201,14 @@ impl<P: Policy + Copy> World<P> {
         ensures next { result ≡ next_mail (P.rules self.now.policy) self.now.net self.now.events }
         ensures bound { IfSome result (λ number. number ≤ MOST_CONTROL) }
     {
-        self.network.mails.next()
+        self.state.network.mails.next()
     }
 
     /// All that was published, the oldest first.
     pub fn publications(&self) -> &[Publication]
         ensures { result.now ≡ all_published (run (P.rules self.now.policy) self.now.net self.now.events) }
     {
-        &self.network.publications
+        &self.state.network.publications
     }
 
     /// The walk of a packet: its visits, the oldest first, and how it ended. None exactly where no packet with this
@@ -222,7 +217,7 @@ impl<P: Policy + Copy> World<P> {
         ensures { option_map (λ walk. (walk.0.now, walk.1)) result
             ≡ walk_of packet (run (P.rules self.now.policy) self.now.net self.now.events) }
     {
-        let journey = self.network.walks.of(packet)?;
+        let journey = self.state.network.walks.of(packet)?;
         Some((journey.visits(), journey.end()))
     }
 
@@ -252,32 +247,24 @@ impl<P: Policy + Copy> World<P> {
         ensures within { IfOk result (λ r. limit_of (P.rules self.policy) self.net self.events event ≡ None) }
         ensures stopped { IfErr result (StopsAt (limit_of (P.rules self.policy) self.net self.events event)) }
     {
-        let World {
-            mut network,
-            mut waiting,
-            mut events,
-        } = self;
-        if events.len() >= MOST_EVENTS as usize {
-            return Err(Stop::Limit(LimitKind::Events, MOST_EVENTS));
-        }
-        laws::every_run_is_sound();
-        cut_laws::laws::the_front_item_is_the_next();
-        cut_laws::laws::what_arrives_may_be_heard();
-        cut_laws::laws::sessions_are_few();
-        cut_laws::laws::no_world_is_out_of_turn();
-        agreement_laws::laws::rounds_are_few();
-        agreement_laws::laws::values_have_few_triggers();
-        agreement_laws::laws::a_table_is_published_in_time();
-        let outcome = network.advance(&event, &waiting)?;
-        network.refresh(&event, &outcome, &mut waiting);
-        let Ok(()) = events.push(event) else {
-            return Err(Stop::NoMemory);
+        let World { mut state } = self;
+        let outcome = state.happen(event)?;
+        Ok((World { state }, outcome))
+    }
+
+    /// The same, where nobody asks what came of the event: that is not told, and its memory is used again.
+    pub fn step_unseen(self, event: Event) -> Result<World<P>, Stop>
+        requires { IsTrue (fits self.net event) }
+        ensures world { IfOk result (λ world. world ≡ record self { events = self.events ++ event ∷ [] }) }
+        ensures step { OnOk result (IsStep (P.rules self.policy) self.net self.events event) }
+        ensures stopped { IfErr result (StopsAt (limit_of (P.rules self.policy) self.net self.events event)) }
+    {
+        let World { mut state } = self;
+        let outcome = state.happen(event)?;
+        let Outcome::Did(effects) = outcome else {
+            return Ok(World { state });
         };
-        let world = World {
-            network,
-            waiting,
-            events,
-        };
-        Ok((world, outcome))
+        state.network.spare = effects.into_list();
+        Ok(World { state })
     }
 }

@@ -44,25 +44,25 @@ returns-in_default-clause-world g c =
       leads = sym was.leads ∙ (sym (left_more rules net c.loop.world.events c.args.times c.loop.counter c.loop-test.true) ∙ drain_ends rules net c.loop.world.events (c.args.times - (c.loop.counter + 1)) none);
     }
 
-pub step-requires : goal.step-requires
-step-requires g c =
+pub step_unseen-requires : goal.step_unseen-requires
+step_unseen-requires g c =
     let found = way_of _ c.in-Some.way.0 c.in-Some.way.1 (sym c.next_delivery.ensures ∙ c.in-Some.is) in
     delivery_fits _ _ (record { from = c.in-Some.way.0; to = c.in-Some.way.1 }) found
 
 -- a limit stops it
-pub returns-in_err-next-clause-stopped : goal.returns-in_err-next-clause-stopped
-returns-in_err-next-clause-stopped g c =
+pub returns-in_err-world-clause-stopped : goal.returns-in_err-world-clause-stopped
+returns-in_err-world-clause-stopped g c =
     let was = c.loop.invariant in
     let rules = g.P.Policy.rules c.args.world.policy in
     let net = c.args.world.net in
     let way : Way = record { from = c.in-Some.way.0; to = c.in-Some.way.1 } in
     let found = rw (was.same_policy, was.same_net) at (way_of _ c.in-Some.way.0 c.in-Some.way.1 (sym c.next_delivery.ensures ∙ c.in-Some.is)) in
-    let stopped = rw (was.same_policy, was.same_net) at c.in_err-next.ensures.stopped in
+    let stopped = rw (was.same_policy, was.same_net) at c.in_err-world.ensures.stopped in
     let n = c.args.times - (c.loop.counter + 1) in
     handed_on c.from_residual.result _ _ c.from_residual.ensures (λ why same.
-    rw same (stops_as (drained rules net c.args.times c.args.world.events) (drained rules net (suc n) c.loop.world.events) c.in_err-next.field-0.0
+    rw same (stops_as (drained rules net c.args.times c.args.world.events) (drained rules net (suc n) c.loop.world.events) c.in_err-world.field-0.0
     (left_more rules net c.loop.world.events c.args.times c.loop.counter c.loop-test.true ∙ was.leads)
-    (drain_stops rules net c.loop.world.events n way c.in_err-next.field-0.0 found stopped)))
+    (drain_stops rules net c.loop.world.events n way c.in_err-world.field-0.0 found stopped)))
 
 -- one delivery more
 pub loop-preserved : goal.loop-preserved
@@ -72,8 +72,8 @@ loop-preserved g c =
     let net = c.args.world.net in
     let way : Way = record { from = c.in-Some.way.0; to = c.in-Some.way.1 } in
     let found = rw (was.same_policy, was.same_net) at (way_of _ c.in-Some.way.0 c.in-Some.way.1 (sym c.next_delivery.ensures ∙ c.in-Some.is)) in
-    let within = rw (was.same_policy, was.same_net) at c.in_ok-next.ensures.within in
-    let next = c.in_ok-next.ensures.world in
+    let within = (rw (was.same_policy, was.same_net) at c.in_ok-world.ensures.step).within in
+    let next = c.in_ok-world.ensures.world in
     let n = c.args.times - (c.loop.counter + 1) in
     record {
       same_policy = ap (λ (w : WorldView _). w.policy) next ∙ was.same_policy;

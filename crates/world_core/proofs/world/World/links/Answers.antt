@@ -1,4 +1,4 @@
 use Rattle.world_core.proofs.world.World.links.Goals as goal
 
 pub returns : goal.returns
-returns g c = rw (c.deref.ensures, ← c.self.view_is) c.self.invariant.0.are_links
+returns g c = rw (c.deref.ensures, ← c.self.view_is) c.self.invariant.stands.are_links

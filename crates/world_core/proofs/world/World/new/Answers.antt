@@ -13,7 +13,10 @@ use Rattle.world_core.proofs.world.World.new.Goals as goal
 pub invariant_of-result : goal.invariant_of-result
 invariant_of-result g c =
     let network = c.in_ok-network.network in
-    let waiting = c.in_ok-new-2.field-0 in
+    let waiting = c.in_ok-new.field-0 in
     let rules = g.P.Policy.rules network.policy in
     let net = network.topology.value in
-    rw (c.new-4.ensures.items, c.in_ok-new.ensures.ok, run-none rules net) (counts_so rules [] no_deliveries (deliveries rules net []) network (none_delivered rules net) c.in_ok-network.ensures.stands, fresh_waiting net (has_way net waiting) (no_number (has_number waiting) (ways_of net) c.in_ok-new-2.ensures))
+    rw c.in_ok-new-2.ensures.ok (record {
+      stands = rw (c.new-3.ensures.items, run-none rules net) (counts_so rules [] no_deliveries (deliveries rules net []) network (none_delivered rules net) c.in_ok-network.ensures.stands);
+      waiting = rw (c.new-3.ensures.items, run-none rules net) (fresh_waiting net (has_way net waiting) (no_number (has_number waiting) (ways_of net) c.in_ok-new.ensures));
+    })
