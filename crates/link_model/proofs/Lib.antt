@@ -7,3 +7,4 @@ mod Keeping
 mod Again
 pub mod Standing
 mod Fresh
+mod Bits

@@ -10,12 +10,14 @@ pub mod ends;
 pub mod laws;
 pub mod links;
 mod ranks;
+mod way_set;
 mod way_table;
 
 pub use channels::Channel;
 pub use ends::{Ends, MOST_WAYS};
 pub use links::Links;
 pub use topology::LinkState;
+pub use way_set::WaySet;
 
 #[cfg(test)]
 mod tests;

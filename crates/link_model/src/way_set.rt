@@ -1,0 +1,65 @@
+//! Some of the ways of a network.
+ghost use Rattle.std.specs.Prelude.{ℕ, ◌≡◌, ◌<◌, ◌==◌, false, length, IfOk, IfSome, IfNone, if◌then◌else◌};
+ghost use Rattle.link_model.specs.declared.ends.TheConstants.{MOST_WAYS};
+
+use std::alloc::Global;
+use topology::NoMemory;
+
+// As many words as have a bit for each way.
+const WORDS: usize = 64;
+
+/// Some of the ways of a network: a bit for the number of each.
+#[derive(Drop)]
+pub struct WaySet {
+    words: Vec<u64>,
+    ghost full: { length words.items ≡ 64 },
+}
+
+impl WaySet {
+    ghost use Rattle.link_model.specs.WaySets.{has_number, has_both, IsLowest};
+
+    /// No way.
+    pub fn new(alloc: Global) -> Result<WaySet, NoMemory>
+        ensures { IfOk result (λ ways. (number : ℕ) → has_number ways number ≡ false) }
+    {
+        Ok(WaySet {
+            words: vec![in alloc; 0; WORDS]?,
+        })
+    }
+
+    /// Puts the way with this number in, or takes it out. Takes no memory.
+    pub fn put(&mut self, number: usize, is: bool)
+        requires { number < MOST_WAYS }
+        ensures { (other : ℕ) → has_number self.new other ≡ (if other == number then is else has_number self.old other) }
+    {
+        let place = number / 64;
+        let bit = 1u64 << (number % 64);
+        if is {
+            self.words[place] |= bit;
+        } else {
+            self.words[place] &= !bit;
+        }
+    }
+
+    /// Whether the way with this number is in. Takes no memory.
+    pub fn has(&self, number: usize) -> bool
+        requires { number < MOST_WAYS }
+        ensures { result ≡ has_number self.now number }
+    {
+        self.words[number / 64] >> (number % 64) & 1 == 1
+    }
+
+    /// The lowest number of a way that is in both. Takes no memory.
+    pub fn first_common(&self, other: &WaySet) -> Option<usize>
+        ensures some { IfSome result (IsLowest (has_both self.now other.now)) }
+        ensures none { IfNone result ((number : ℕ) → has_both self.now other.now number ≡ false) }
+    {
+        for place in 0..WORDS {
+            let word = self.words[place] & other.words[place];
+            if word != 0 {
+                return Some(place * 64 + word.trailing_zeros() as usize);
+            }
+        }
+        None
+    }
+}
