@@ -8,3 +8,5 @@ mod Again
 pub mod Standing
 mod Fresh
 mod Bits
+mod Marked
+mod Pushing

@@ -1,5 +1,5 @@
 -- What is kept of the way from a node to a neighbour.
-use Rattle.std.specs.Prelude.{ℕ, List, [], ◌∷◌, ◌++◌, if◌then◌else◌}
+use Rattle.std.specs.Prelude.{ℕ, Bool, true, false, Option, Some, None, List, [], ◌∷◌, ◌++◌, if◌then◌else◌}
 use Rattle.topology.specs.declared.items.Item.{Item}
 use Rattle.topology.specs.declared.links.LinkState.{LinkState}
 use Rattle.topology.specs.declared.links.LinkState.TheVariants.{Up}
@@ -22,3 +22,13 @@ unused = emptied (Up 1)
 abbrev pub after_push : ℕ → Item → OneWay → OneWay
 after_push session item way =
     if carries way.state session then record { state = way.state; items = way.items ++ item ∷ [] } else way
+
+-- something is among these items
+abbrev pub has_items : List Item → Bool
+has_items [] = false
+has_items (item ∷ items) = true
+
+-- there is a way, and something is on it
+abbrev pub holds_some : Option OneWay → Bool
+holds_some None = false
+holds_some (Some way) = has_items way.items

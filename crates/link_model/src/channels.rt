@@ -1,8 +1,8 @@
 //! One way of a link.
-ghost use Rattle.std.specs.Prelude.{◌≡◌, [], ◌∷◌, IfOk, OnErr, IfSome, IfNone};
+ghost use Rattle.std.specs.Prelude.{◌≡◌, [], ◌∷◌, not, IfOk, OnErr, IfSome, IfNone};
 ghost use Rattle.topology.specs.LinkStates.{carries};
 ghost use Rattle.link_model.specs.Readings.{behind_front};
-ghost use Rattle.link_model.specs.Ways.{unused, emptied, after_push};
+ghost use Rattle.link_model.specs.Ways.{unused, emptied, after_push, has_items};
 
 use std::alloc::Global;
 use std::collections::VecDeque;
@@ -63,6 +63,13 @@ impl Channel {
     {
         self.state = state;
         self.items.clear();
+    }
+
+    /// Whether nothing is on its way. Takes no memory.
+    pub fn is_empty(&self) -> bool
+        ensures { result ≡ not (has_items self.now.items) }
+    {
+        self.items.is_empty()
     }
 
     /// The oldest item on its way. Takes no memory.

@@ -1,5 +1,5 @@
 //! The links of a network.
-ghost use Rattle.std.specs.Prelude.{ℕ, ◌≡◌, ◌<◌, ◌-◌, ◌^◌, [], ◌∷◌, List, Some, true, false, not, length, slice_get, IfOk, OnErr, IfSome, IfNone};
+ghost use Rattle.std.specs.Prelude.{ℕ, ◌≡◌, ◌<◌, ◌≤◌, ◌-◌, ◌^◌, [], ◌∷◌, List, Some, true, false, not, length, slice_get, nat_lt, IfOk, OnErr, IfSome, IfNone};
 ghost use Rattle.topology.specs.declared.items.Item.{Item as Carried};
 ghost use Rattle.topology.specs.Net.{Net, linked};
 ghost use Rattle.topology.specs.LinkStates.{carries, is_up, number_of};
@@ -7,10 +7,12 @@ ghost use Rattle.link_model.specs.declared.ends.TheConstants.{MOST_WAYS};
 ghost use Rattle.link_model.specs.Acts.{Acts, Push, Take, Fail, Restore};
 ghost use Rattle.link_model.specs.Readings.{state, channel_after};
 ghost use Rattle.link_model.specs.Tables.{ways_of};
-ghost use Rattle.link_model.specs.Ways.{OneWay, emptied, unused};
+ghost use Rattle.link_model.specs.Ways.{OneWay, emptied, unused, has_items, holds_some};
+ghost use Rattle.link_model.specs.WaySets.{has_number};
 
 use crate::channels::Channel;
 use crate::ends::Ends;
+use crate::way_set::WaySet;
 use crate::way_table::WayTable;
 use std::alloc::Global;
 use topology::{Item, LinkState, NoMemory, NodeId, Session, Topology};
@@ -22,7 +24,11 @@ pub struct Links {
     table: WayTable,
     // Each way at its number.
     channels: Vec<Channel>,
+    // Those on which there is something.
+    busy: WaySet,
     ghost sized: { length channels.items ≡ length table },
+    ghost few: { length table ≤ MOST_WAYS },
+    ghost marked: { (number : ℕ) → has_number busy number ≡ holds_some (slice_get channels.items number) },
 }
 
 // So many ways, each link up in its session 1, and nothing on its way.
@@ -48,7 +54,11 @@ impl Links {
         let _valid = topology.nodes();
         let table = WayTable::new(alloc, topology)?;
         let channels = fresh_channels(alloc, table.len())?;
-        Ok(Links { table, channels })
+        Ok(Links {
+            table,
+            channels,
+            busy: WaySet::new(alloc)?,
+        })
     }
 
     /// The number of the way from one node to another: ways are numbered by sender, then receiver. None
@@ -90,6 +100,26 @@ impl Links {
         &self.channels[way]
     }
 
+    /// All ways.
+    pub fn all(&self, alloc: Global) -> Result<WaySet, NoMemory>
+        ensures { IfOk result (λ ways. (way : ℕ) → has_number ways way ≡ nat_lt way (length self.now.table)) }
+    {
+        let mut ways = WaySet::new(alloc)?;
+        for way in 0..self.table.len() {
+            ways.put(way, true);
+        }
+        Ok(ways)
+    }
+
+    /// The ways on which there is something. Takes no memory.
+    pub fn busy(&self) -> &WaySet
+        ensures placed { (net : Net) (acts : Acts) (from to way : ℕ) → StandsFor net self.now acts →
+            IsPlaced self.now from to way → has_number result.now way ≡ has_items (channel_after from to acts) }
+        ensures within { (way : ℕ) → length self.now.table ≤ way → has_number result.now way ≡ false }
+    {
+        &self.busy
+    }
+
     /// Sends an item on its way in a session. True where it is queued; false where the link does not
     /// carry that session: the item is lost then.
     pub fn push(
@@ -108,6 +138,9 @@ impl Links {
             return Ok(false);
         };
         let queued = self.channels[way].push(session, item)?;
+        if queued {
+            self.busy.put(way, true);
+        }
         Ok(queued)
     }
 
@@ -119,6 +152,7 @@ impl Links {
         ensures table { self.new.table ≡ self.old.table }
     {
         self.channels[way].restart(state);
+        self.busy.put(way, false);
     }
 
     /// The link fails: what is on its way over it, both ways, is lost. False exactly where it is down
@@ -219,6 +253,8 @@ impl Links {
             IsPlaced self.old from to way → channel_after from to acts ≡ []) }
         ensures unchanged { IfNone result (self.new ≡ self.old) }
     {
-        self.channels[way].pop_front()
+        let item = self.channels[way].pop_front()?;
+        self.busy.put(way, !self.channels[way].is_empty());
+        Some(item)
     }
 }

@@ -1,5 +1,5 @@
 //! The ways over the links of a network, by number.
-ghost use Rattle.std.specs.Prelude.{ℕ, ◌≡◌, ◌<◌, ◌++◌, ◌∷◌, [], Some, None, map, length, slice_get, IfOk, OnOk, IfSome, if◌then◌else◌};
+ghost use Rattle.std.specs.Prelude.{ℕ, ◌≡◌, ◌<◌, ◌≤◌, ◌++◌, ◌∷◌, [], Some, None, map, length, slice_get, IfOk, OnOk, IfSome, if◌then◌else◌};
 ghost use Rattle.std.specs.List.Sorted.{IsStrictlyIncreasing};
 ghost use Rattle.topology.specs.Lists.{ascending, has};
 ghost use Rattle.topology.specs.Net.{linked, neighbours};
@@ -99,7 +99,8 @@ impl WayTable {
 
     /// How many ways there are.
     pub fn len(&self) -> usize
-        ensures { result ≡ length self.now }
+        ensures length { result ≡ length self.now }
+        ensures few { length self.now ≤ MOST_WAYS }
     {
         self.ways.len()
     }

@@ -1,8 +1,9 @@
-use Rattle.std.proofs.Common.{◌∙◌, ap, set, arith, refl}
-use Rattle.topology.specs.LinkStates.{carries}
-use Rattle.link_model.specs.Ways.{OneWay, after_push}
-use Rattle.link_model.proofs.Keeping.{way_inside, keeps_with, way_at}
-use Rattle.link_model.proofs.Standing.{ways_after, keeps_of, not_linked, pushed}
+use Rattle.std.proofs.Common.{◌<◌, refl, arith, length}
+use Rattle.link_model.specs.WaySets.{has_number}
+use Rattle.link_model.proofs.Keeping.{way_inside}
+use Rattle.link_model.proofs.Marked.{marked_with}
+use Rattle.link_model.proofs.Pushing.{after_pushed, is_busy}
+use Rattle.link_model.proofs.Standing.{not_linked}
 use Rattle.link_model.proofs.links.Links.push.Goals as goal
 
 pub returns-in_default-clause-ok : goal.returns-in_default-clause-ok
@@ -13,12 +14,20 @@ index_mut-requires c =
     let inside = way_inside c.args.self.now c.args.from c.args.to c.in-Some.way c.in-Some.ensures.some in
     omega (arith, inside, c.args.self.now.sized, c.args.self.now.channels.ok.0)
 
-pub returns-clause-ok : goal.returns-clause-ok
-returns-clause-ok c net acts stands link =
-    let keeps = keeps_of net c.args.self.now acts stands in
-    let was = way_at net c.args.self.now (ways_after acts) c.args.from c.args.to c.in-Some.way c.index_mut.result.now c.args.self.now.sized keeps c.in-Some.ensures.some c.index_mut.ensures.value in (
-      c.in_ok-queued.ensures.ok ∙ ap (λ (k : OneWay). carries k.state c.args.session) was,
-      pushed net _ acts c.args.from c.args.to c.args.session c.args.item
-          (keeps_with net c.args.self.now _ (ways_after acts) c.args.from c.args.to c.in-Some.way _ c.args.self.now.sized c.in-Some.ensures.some refl
-          (ap (λ k. set c.args.self.now.channels.items c.in-Some.way k) (c.in_ok-queued.ensures.new ∙ ap (after_push c.args.session c.args.item) was)) keeps),
-    )
+pub invariant_of-self-then-queued-clause-marked : goal.invariant_of-self-then-queued-clause-marked
+invariant_of-self-then-queued-clause-marked c =
+    let links = c.args.self.now in
+    let within = way_inside links c.args.from c.args.to c.in-Some.way c.in-Some.ensures.some in
+    let inside : c.in-Some.way < length links.channels.items = omega (arith, within, links.sized) in
+    marked_with links.channels.items c.in-Some.way c.push.new.self (has_number links.busy) (has_number c.put.new.self) _ inside
+    (is_busy c.args.session c.args.item c.index_mut.result.now c.push.new.self c.in_ok-queued.queued c.in_ok-queued.ensures.new c.in_ok-queued.ensures.ok c.if-queued.true) links.marked c.put.ensures
+
+pub returns-then-queued-clause-ok : goal.returns-then-queued-clause-ok
+returns-then-queued-clause-ok c net acts stands link =
+    after_pushed net c.args.self.now _ acts c.args.from c.args.to c.in-Some.way c.args.session c.args.item _ _ _ c.args.self.now.sized c.in-Some.ensures.some c.index_mut.ensures.value
+    c.in_ok-queued.ensures.ok c.in_ok-queued.ensures.new refl refl stands
+
+pub returns-else-queued-clause-ok : goal.returns-else-queued-clause-ok
+returns-else-queued-clause-ok c net acts stands link =
+    after_pushed net c.args.self.now _ acts c.args.from c.args.to c.in-Some.way c.args.session c.args.item _ _ _ c.args.self.now.sized c.in-Some.ensures.some c.index_mut.ensures.value
+    c.in_ok-queued.ensures.ok c.in_ok-queued.ensures.new refl refl stands
