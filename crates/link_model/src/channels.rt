@@ -53,7 +53,9 @@ impl Channel {
         if self.state != LinkState::Up(session) {
             return Ok(false);
         }
-        self.items.push_back(item)?;
+        // Room first: a push that may fail has to be ready to give the item back.
+        self.items.reserve(1)?;
+        self.items.push_back_reserved(item);
         Ok(true)
     }
 

@@ -122,6 +122,7 @@ impl Links {
 
     /// Sends an item on its way in a session. True where it is queued; false where the link does not
     /// carry that session: the item is lost then.
+    #[inline(always)]
     pub fn push(
         &mut self,
         from: NodeId,

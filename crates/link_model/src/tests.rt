@@ -1,4 +1,4 @@
-use crate::{LinkState, Links};
+use crate::{LinkState, Links, WaySet};
 use std::process::Abort;
 use std::test::Fail;
 use topology::{Epoch, Item, NodeId, Relation, Session, Topology};
@@ -17,15 +17,18 @@ enum Act {
     Restore(u16, u16, bool),
     // whether the link of two nodes is up, and its session
     State(u16, u16, bool, u32),
+    // whether something is on the way from one node to another
+    Busy(u16, u16, bool),
 }
 
 // The links 1 2 and 2 3, by hand.
-const ACTS: [Act; 33] = [
+const ACTS: [Act; 41] = [
     // the start: session 1, and nothing on its way
     Act::State(1, 2, true, 1),
     Act::State(3, 2, true, 1),
     Act::Front(1, 2, None),
     Act::Take(1, 2, None),
+    Act::Busy(1, 2, false),
     // in the session carried, and in another one
     Act::Push(1, 2, 1, 10, true),
     Act::Push(1, 2, 1, 11, true),
@@ -36,6 +39,8 @@ const ACTS: [Act; 33] = [
     Act::Front(1, 2, Some(10)),
     Act::Take(1, 2, Some(10)),
     Act::Front(1, 2, Some(11)),
+    Act::Busy(1, 2, true),
+    Act::Busy(2, 1, true),
     // a failure loses both ways of its link, once, and both ends see it
     Act::Fail(2, 1, true),
     Act::Fail(1, 2, false),
@@ -43,6 +48,8 @@ const ACTS: [Act; 33] = [
     Act::State(2, 1, false, 1),
     Act::Front(1, 2, None),
     Act::Take(2, 1, None),
+    Act::Busy(1, 2, false),
+    Act::Busy(2, 1, false),
     Act::Push(1, 2, 1, 13, false),
     Act::Front(2, 3, Some(30)),
     // the next session, once, without what was lost
@@ -55,10 +62,13 @@ const ACTS: [Act; 33] = [
     // an item of the old session is lost, one of the new session is queued
     Act::Push(1, 2, 1, 14, false),
     Act::Push(2, 1, 2, 21, true),
+    Act::Busy(2, 1, true),
     Act::Take(2, 1, Some(21)),
+    Act::Busy(2, 1, false),
     Act::Take(2, 1, None),
     // the other link knew nothing of it
     Act::State(2, 3, true, 1),
+    Act::Busy(2, 3, true),
     Act::Take(2, 3, Some(30)),
     Act::Front(3, 2, None),
 ];
@@ -95,6 +105,13 @@ fn is(rt: &impl Abort, links: &Links, a: NodeId, b: NodeId, up: bool, session: u
     assert!(rt; links.state(a, b) == state);
 }
 
+fn busy(rt: &impl Abort, links: &Links, from: NodeId, to: NodeId, busy: bool) {
+    match links.way_of(from, to) {
+        Some(way) => assert!(rt; links.busy().has(way) == busy),
+        None => assert!(rt; false),
+    }
+}
+
 fn play(rt: &impl Abort, links: &mut Links, act: Act) -> Result<(), Fail> {
     match act {
         Act::Push(from, to, session, tag, queued) => {
@@ -114,6 +131,7 @@ fn play(rt: &impl Abort, links: &mut Links, act: Act) -> Result<(), Fail> {
         Act::State(a, b, up, session) => {
             is(rt, links, NodeId::new(a), NodeId::new(b), up, session)
         }
+        Act::Busy(from, to, is) => busy(rt, links, NodeId::new(from), NodeId::new(to), is),
     }
     Ok(())
 }
@@ -132,6 +150,42 @@ fn fill(topology: &mut Topology) -> Result<(), Fail> {
     for id in 1..3 {
         topology.add_link(NodeId::new(id), NodeId::new(id + 1), Relation::Any)?;
     }
+    Ok(())
+}
+
+// The ways 1 to 2, 2 to 1, 2 to 3 and 3 to 2 have the numbers 0 to 3.
+fn finds(rt: &impl Abort, links: &mut Links, all: &WaySet) -> Result<(), Fail> {
+    assert!(rt; links.busy().first_common(all).is_none());
+    let item = Item::Hello(Epoch::new(1));
+    links.push(NodeId::new(3), NodeId::new(2), Session::new(1), item)?;
+    assert_eq!(rt; links.busy().first_common(all), Some(3));
+    Ok(())
+}
+
+#[test]
+fn the_first_busy_way_is_found(rt: HostRuntime) -> Result<(), Fail> {
+    let mut topology = Topology::empty(rt.alloc());
+    fill(&mut topology)?;
+    let mut links = Links::new(rt.alloc(), &topology)?;
+    let all = links.all(rt.alloc())?;
+    finds(&rt, &mut links, &all)
+}
+
+#[test]
+fn two_sets_of_ways_share_some(rt: HostRuntime) -> Result<(), Fail> {
+    let mut ways = WaySet::new(rt.alloc())?;
+    let mut others = WaySet::new(rt.alloc())?;
+    ways.put(3, true);
+    ways.put(64, true);
+    ways.put(4_095, true);
+    others.put(2, true);
+    others.put(64, true);
+    others.put(4_095, true);
+    assert_eq!(rt; ways.first_common(&others), Some(64));
+    others.put(64, false);
+    assert_eq!(rt; ways.first_common(&others), Some(4_095));
+    ways.put(4_095, false);
+    assert!(rt; ways.first_common(&others).is_none());
     Ok(())
 }
 
