@@ -1,5 +1,5 @@
 //! What a node keeps of its neighbours.
-ghost use Rattle.std.specs.Prelude.{◌≡◌, ℕ, [], ◌∷◌, Some, None, IfOk, IfSome, IfNone, IsTrue, true, false, if◌then◌else◌, length, replicate, slice_get, option_map, option_and_then};
+ghost use Rattle.std.specs.Prelude.{◌≡◌, ℕ, [], ◌∷◌, Some, None, IfOk, OnOk, OnErr, IfSome, IfNone, IsTrue, true, false, if◌then◌else◌, length, replicate, slice_get, option_map, option_and_then};
 ghost use Rattle.std.specs.List.{AllZip};
 ghost use Rattle.topology.specs.Lists.{Among, has};
 ghost use Rattle.topology.specs.Net.{Net, neighbours};
@@ -9,7 +9,7 @@ ghost use Rattle.topology.specs.declared.names.Scope.TheVariants.{All};
 ghost use Rattle.path_vector.specs.Standing.{Remembers};
 ghost use Rattle.path_vector.specs.Kept.{IsCopy, Hears, Turns, Keeps, Rises, ids, names, led_by, kept_path, kept_choice, first_kept, is_sooner, told_rank, IsAhead, Outranks, IsOutranked, WithdrawsNothing};
 
-use crate::{Cause, LikelyPlaces, Policy, Ranked};
+use crate::{Cause, LikelyPlaces, Policy, Ranked, leading};
 use std::alloc::Global;
 use topology::{NoMemory, NodeId, Path, PrefixId, Relation, Scope, Session, Topology};
 
@@ -22,6 +22,9 @@ pub struct Neighbour {
     pub highest: Session,
     pub preference: u32,
     pub told: Vec<Option<Path>>,
+    /// The own node before the last long path that it told, which is mostly the next one too: nothing is promised of
+    /// it.
+    pub long: Option<Path>,
 }
 
 // A candidate: the place of its neighbour, and its rank.
@@ -100,7 +103,21 @@ impl Neighbour {
             highest: self.highest,
             preference: self.preference,
             told: copy_row(&self.told)?,
+            long: None,
         })
+    }
+
+    // Takes an entry of this node that names this neighbour.
+    fn take(&mut self, scope: Scope, cause: &Cause, node: NodeId) -> Result<(), NoMemory>
+        ensures remembers { OnOk result ((net : Net) (past : History) → Remembers net node past self.old →
+            Accepts past scope cause.now → names cause.now ≡ Some self.old.id →
+            Remembers net node (change scope cause.now ∷ past) self.new) }
+        ensures id { OnOk result (self.new.id ≡ self.old.id) }
+        ensures err { OnErr result (self.new ≡ self.old) }
+    {
+        let led = leading::lead(self, cause, node)?;
+        self.heed(scope, cause, led);
+        Ok(())
     }
 
     // Takes an entry that names this neighbour. `led` is the own node before the path of an
@@ -228,6 +245,7 @@ fn neighbour_of(
         highest: Session::new(1),
         preference: topology.pref(node, id),
         told: nothing_told(alloc, topology.prefix_count())?,
+        long: None,
     })
 }
 
@@ -261,26 +279,6 @@ fn named(cause: &Cause) -> Option<NodeId>
         Cause::Up { nbr, .. } => Some(*nbr),
         Cause::Ready { nbr, .. } => Some(*nbr),
         Cause::Prefer { nbr, .. } => Some(*nbr),
-    }
-}
-
-// The own node before the path of an update.
-pub(crate) fn lead(cause: &Cause, node: NodeId) -> Result<Option<Path>, NoMemory>
-    ensures { IfOk result (λ path. path ≡ led_by node cause.now) }
-{
-    match cause {
-        Cause::Recv { path, .. } => lead_path(path, node),
-        _ => Ok(None),
-    }
-}
-
-fn lead_path(path: &Option<Path>, node: NodeId) -> Result<Option<Path>, NoMemory>
-    ensures { IfOk result (λ led. led ≡ option_and_then
-        (λ nodes. if has nodes node then None else Some (node ∷ nodes)) path.now) }
-{
-    match path {
-        None => Ok(None),
-        Some(path) => path.led_by(node),
     }
 }
 
@@ -326,25 +324,27 @@ pub(crate) fn find<'a>(
     }
 }
 
-// Takes an entry. `led` is the own node before the path of an update.
+// Takes an entry of this node.
 pub(crate) fn heed(
     neighbours: &mut Vec<Neighbour>,
     likely: &LikelyPlaces,
     scope: &Scope,
     cause: &Cause,
-    led: Option<Path>,
-)
-    ensures { (net : Net) (u : ℕ) (past : History) → Keeps net u past neighbours.old.items →
-        Accepts past scope.now cause.now → led ≡ led_by u cause.now →
-        Keeps net u (change scope.now cause.now ∷ past) neighbours.new.items }
+    node: NodeId,
+) -> Result<(), NoMemory>
+    ensures ok { OnOk result ((net : Net) (past : History) → Keeps net node past neighbours.old.items →
+        Accepts past scope.now cause.now →
+        Keeps net node (change scope.now cause.now ∷ past) neighbours.new.items) }
+    ensures err { OnErr result (neighbours.new ≡ neighbours.old) }
 {
     let Some(id) = named(cause) else {
-        return;
+        return Ok(());
     };
     let Some(place) = place_of(neighbours, likely, id) else {
-        return;
+        return Ok(());
     };
-    neighbours[place].heed(*scope, cause, led);
+    neighbours[place].take(*scope, cause, node)?;
+    Ok(())
 }
 
 // Whether nothing was found so far, or this is before it.

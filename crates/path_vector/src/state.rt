@@ -127,9 +127,9 @@ impl<P: Policy + Copy> RouteState<P> {
             StandsFor policy net u self.new (change scope cause.now ∷ past)) }
         ensures err { OnErr result (self.new ≡ self.old) }
     {
-        let led = neighbours::lead(cause, self.node())?;
+        let node = self.node();
+        neighbours::heed(&mut self.neighbours, &self.likely, &scope, cause, node)?;
         mark(&mut self.owned, &scope, cause);
-        neighbours::heed(&mut self.neighbours, &self.likely, &scope, cause, led);
         Ok(())
     }
 
@@ -209,6 +209,7 @@ impl<P: Policy + Copy> RouteState<P> {
     }
 
     /// A copy of the best route, to be compared with a later one.
+    #[inline(always)]
     pub fn chosen(&self, prefix: PrefixId) -> Result<Chosen, NoMemory>
         ensures { IfOk result (λ chosen. (policy : P) (net : Net) (u : ℕ) (h : History) →
             StandsFor policy net u self.now h → prefix < length net.prefixes →
@@ -292,6 +293,7 @@ impl<P: Policy + Copy> RouteState<P> {
     }
 
     /// The path that the node offered a neighbour while this was its best route.
+    #[inline(always)]
     pub fn offered_path<'a>(&self, chosen: &'a Chosen, nbr: NodeId) -> Option<&'a Path>
         ensures { (policy : P) (net : Net) (u : ℕ) (h : History) (route : Route) →
             StandsFor policy net u self.now h →
@@ -314,6 +316,7 @@ impl<P: Policy + Copy> RouteState<P> {
     }
 
     // What a neighbour is to the node.
+    #[inline(always)]
     fn relation_to(&self, nbr: NodeId) -> Option<Relation>
         ensures { (policy : P) (net : Net) (u : ℕ) (h : History) →
             StandsFor policy net u self.now h →
@@ -323,6 +326,7 @@ impl<P: Policy + Copy> RouteState<P> {
     }
 
     // The best route of a prefix.
+    #[inline(always)]
     fn taken(&self, prefix: PrefixId) -> Option<Taken<'_>>
         ensures { (policy : P) (net : Net) (u : ℕ) (h : History) →
             StandsFor policy net u self.now h →
@@ -346,6 +350,7 @@ impl<P: Policy + Copy> RouteState<P> {
     }
 
     // Whether what was learned so is told to a neighbour of this relation.
+    #[inline(always)]
     fn tells(&self, learned: Learned, to: Option<Relation>) -> bool
         ensures { result ≡ may_tell (P.rules self.now.policy) (Some learned) to }
     {

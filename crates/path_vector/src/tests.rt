@@ -99,3 +99,4 @@ fn each_call_answers_where_there_is_memory(rt: HostRuntime) -> Result<(), Fail> 
 }
 
 mod histories;
+mod long_paths;

@@ -2,14 +2,16 @@ use Rattle.std.proofs.Common.{◌≡◌, Some, None, false, slice_get, sym, ◌�
 use Rattle.topology.specs.Lists.{has}
 use Rattle.path_vector.specs.Kept.{ids, names}
 use Rattle.path_vector.proofs.Listing.{keeps_rise, about_none, about_one, ids_within, old_at}
+use Rattle.path_vector.proofs.Again.{with_again, on_err}
 use Rattle.path_vector.proofs.neighbours.heed.Goals as goal
 
-pub returns-in_default : goal.returns-in_default
-returns-in_default c = λ net u past k a l.
-    about_none net u past c.args.scope.now c.args.cause.now c.args.neighbours.now.items (λ v e. let none : None ≡ names c.args.cause.now = c.in_default.ensures in absurd (cc (none ∙ e))) k
+pub returns-in_default-clause-ok : goal.returns-in_default-clause-ok
+returns-in_default-clause-ok c = λ net past k a.
+    about_none net c.args.node past c.args.scope.now c.args.cause.now c.args.neighbours.now.items (λ v e. let none : None ≡ names c.args.cause.now = c.in_default.ensures in absurd (cc (none ∙ e))) k
 
-pub returns-in_default-place_of : goal.returns-in_default-place_of
-returns-in_default-place_of c = λ net u past k a l.
+pub returns-in_default-place_of-clause-ok : goal.returns-in_default-place_of-clause-ok
+returns-in_default-place_of-clause-ok c = λ net past k a.
+    let u = c.args.node in
     let off = c.in_default-place_of.ensures.none in
     let items = c.deref.ensures.value in
     about_none net u past c.args.scope.now c.args.cause.now c.args.neighbours.now.items
@@ -18,8 +20,12 @@ returns-in_default-place_of c = λ net u past k a l.
 pub index_mut-requires : goal.index_mut-requires
 index_mut-requires c = let within = ids_within c.args.neighbours.now.items c.in-Some-place_of.place c.in-Some.id (rw c.deref.ensures.value at c.in-Some-place_of.ensures.some) in rw c.args.neighbours.now.ok.0 within
 
-pub returns : goal.returns
-returns c = λ net u past k a l.
+pub returns-in_err-take-clause-err : goal.returns-in_err-take-clause-err
+returns-in_err-take-clause-err c = on_err c.from_residual.result (with_again c.args.neighbours.now c.in-Some-place_of.place c.index_mut.result.now c.take.new.self c.index_mut.ensures.value c.in_err-take.ensures.err)
+
+pub returns-clause-ok : goal.returns-clause-ok
+returns-clause-ok c = λ net past k a.
+    let u = c.args.node in
     let items = c.args.neighbours.now.items in
     let place = c.in-Some-place_of.place in
     let id = c.in-Some.id in
@@ -28,5 +34,5 @@ returns c = λ net u past k a l.
     let old = old_at items place id c.index_mut.result.now at_place c.index_mut.ensures.value in
     let own : c.index_mut.result.now.id ≡ id = old.0 in
     let names_old : names c.args.cause.now ≡ Some c.index_mut.result.now.id = names_it ∙ ap (λ v. Some v) (sym own) in
-    about_one net u past c.args.scope.now c.args.cause.now items place c.heed.new.self id names_it at_place (c.heed.ensures.id ∙ own)
-    (c.heed.ensures.remembers net u past (old.1 net u past k.each) a names_old l) k
+    about_one net u past c.args.scope.now c.args.cause.now items place c.take.new.self id names_it at_place (c.in_ok-take.ensures.id ∙ own)
+    (c.in_ok-take.ensures.remembers net past (old.1 net u past k.each) a names_old) k

@@ -1,13 +1,14 @@
-use Rattle.std.proofs.Common.{◌≡◌, ◌∙◌}
-use Rattle.path_vector.specs.Kept.{led_by}
+use Rattle.std.proofs.Common.{◌∷◌, ◌∙◌, sym, subst}
+use Rattle.path_vector.specs.History.{change}
+use Rattle.path_vector.specs.Kept.{Keeps}
 use Rattle.path_vector.proofs.Answering.{keeps_of}
 use Rattle.path_vector.proofs.state.RouteState.apply.Goals as goal
 
 pub returns-clause-ok : goal.returns-clause-ok
 returns-clause-ok g c = λ policy net u past s a.
-    let own = c.node.ensures policy net u past s in
-    let led : c.in_ok-led.led ≡ led_by u c.args.cause.now = rw own at c.in_ok-led.ensures in
-    let kept = c.heed.ensures net u past (keeps_of policy net u c.args.self.now past s) a led in
+    let own = c.node-node.ensures policy net u past s in
+    let before = subst (λ n. Keeps net n past c.args.self.now.neighbours.items) (sym own) (keeps_of policy net u c.args.self.now past s) in
+    let kept = subst (λ n. Keeps net n (change c.args.scope c.args.cause.now ∷ past) c.heed.new.neighbours.items) own (c.in_ok-heed.ensures.ok net past before a) in
     record {
       same_policy = s.same_policy;
       valid = s.valid;

@@ -1,0 +1,75 @@
+//! The own node before the path of an update.
+ghost use Rattle.std.specs.Prelude.{◌≡◌, ◌∷◌, Some, None, IfOk, IfSome, IsTrue, OnErr, if◌then◌else◌};
+ghost use Rattle.topology.specs.Lists.{has};
+ghost use Rattle.path_vector.specs.Kept.{led_by};
+
+use crate::Cause;
+use crate::neighbours::Neighbour;
+use topology::{NoMemory, NodeId, Path};
+
+// A path of so many nodes takes memory when the own node goes before it. A shorter one stands in place, and is led at
+// once.
+const LONG: usize = 11;
+
+// Whether this is the node before the path.
+fn leads(led: &Path, node: NodeId, path: &Path) -> bool
+    ensures { IsTrue result → led.now ≡ node ∷ path.now }
+{
+    match led.nodes() {
+        [] => false,
+        [first, rest @ ..] => *first == node && rest == path.nodes(),
+    }
+}
+
+// The node before the path, where this is the long path that the neighbour told last.
+fn known<'a>(neighbour: &'a Neighbour, node: NodeId, path: &Path) -> Option<&'a Path>
+    ensures { IfSome result (λ led. led.now ≡ node ∷ path.now) }
+{
+    let led = neighbour.long.as_ref()?;
+    if leads(led, node, path) {
+        Some(led)
+    } else {
+        None
+    }
+}
+
+// The node before a path that the neighbour told: None where the node is on it. The copies of a long one share its
+// list, and a neighbour mostly tells it for many prefixes, so it is made once for all of them.
+fn lead_for(neighbour: &mut Neighbour, node: NodeId, path: &Path) -> Result<Option<Path>, NoMemory>
+    ensures led { IfOk result (λ led. led ≡ (if has path.now node then None else Some (node ∷ path.now))) }
+    ensures kept { neighbour.new ≡ record neighbour.old { long = neighbour.new.long } }
+    ensures err { OnErr result (neighbour.new ≡ neighbour.old) }
+{
+    let is_long = path.nodes().len() >= LONG;
+    if is_long {
+        if let Some(led) = known(neighbour, node, path) {
+            return Ok(Some(led.copy()?));
+        }
+    }
+    let led = path.led_by(node)?;
+    if is_long {
+        if let Some(led) = &led {
+            neighbour.long = Some(led.copy()?);
+        }
+    }
+    Ok(led)
+}
+
+// The own node before the path of an update of this neighbour.
+pub(crate) fn lead(
+    neighbour: &mut Neighbour,
+    cause: &Cause,
+    node: NodeId,
+) -> Result<Option<Path>, NoMemory>
+    ensures led { IfOk result (λ path. path ≡ led_by node cause.now) }
+    ensures kept { neighbour.new ≡ record neighbour.old { long = neighbour.new.long } }
+    ensures err { OnErr result (neighbour.new ≡ neighbour.old) }
+{
+    match cause {
+        Cause::Recv {
+            path: Some(path),
+            ..
+        } => lead_for(neighbour, node, path),
+        _ => Ok(None),
+    }
+}
