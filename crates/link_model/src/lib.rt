@@ -10,7 +10,7 @@ pub mod ends;
 pub mod laws;
 pub mod links;
 mod ranks;
-mod way_set;
+pub mod way_set;
 mod way_table;
 
 pub use channels::Channel;
