@@ -40,6 +40,7 @@ use Rattle.cut_laws.proofs.Agreeing.{control_mails}
 use Rattle.node_core.specs.declared.answers.Answer.TheVariants as told
 use Rattle.node_core.specs.declared.limits.TheConstants.{MOST_TRIGGERS}
 use Rattle.node_core.specs.declared.node.Node.{Node}
+use Rattle.node_core.specs.declared.parts.NodeParts.{NodeParts}
 use Rattle.node_core.specs.declared.outputs.Output.{Output as Given}
 use Rattle.node_core.specs.declared.outputs.Stop.TheVariants as stop
 use Rattle.node_core.specs.Agreeing.{Agrees}
@@ -223,18 +224,20 @@ pub small_sent : (net : Net) (u : ℕ) (past : Chronicle) (step : Step) (r : Rep
 small_sent net u past step r list kept due went is small was = went.proposed ∙ ap₂ (λ a b. a || b) (reply_large r list false is small) was
 
 -- the part of the node is asked in its network
-pub consulted : (topo net : Net) (part old kept : Kept) (r : Reply) (past : consolidator.Chronicle) (u : ℕ) (i : Input) → topo ≡ net → part ≡ old → PartStandsFor net old past u
-    → (PartStandsFor topo part past u → Consults topo r kept past u i) → Consults net r kept past u i
-consulted topo net part old kept r past u i same is stands asks =
-    subst (λ (n : Net). PartStandsFor n part past u → Consults n r kept past u i) same asks (subst (λ k. PartStandsFor net k past u) (sym is) stands)
+pub consulted : {parts held : NodeParts} (net : Net) (kept : Kept) (r : Reply) (past : consolidator.Chronicle) (u : ℕ) (i : Input) → held ≡ parts → parts.topology.value ≡ net → PartStandsFor net parts.agreement.consolidator past u
+    → (PartStandsFor held.topology.value held.agreement.consolidator past u → Consults held.topology.value r kept past u i) → Consults net r kept past u i
+consulted {parts} net kept r past u i same is stands asks =
+    subst (λ (n : Net). Consults n r kept past u i) is
+    ((subst (λ (k : NodeParts). PartStandsFor k.topology.value k.agreement.consolidator past u → Consults k.topology.value r kept past u i) same asks)
+    (subst (λ (n : Net). PartStandsFor n parts.agreement.consolidator past u) (sym is) stands))
 
 -- what the node keeps then
 pub follows_quietly : {P : Type 0} (policy : P) (rules : Rules) (net : Net) (u : ℕ) (past now : Chronicle) (old new : Node P) → Quietly u past now → Keeps policy rules net u new past
-    → new.agreement.value.tables ≡ old.agreement.value.tables → PartStandsFor net new.agreement.value.consolidator (control now) u → Agrees rules net u old.agreement.value past → has_large_value u now ≡ false → Follows policy rules net u new now
+    → new.parts.value.agreement.tables ≡ old.parts.value.agreement.tables → PartStandsFor net new.parts.value.agreement.consolidator (control now) u → Agrees rules net u old.parts.value.agreement past → has_large_value u now ≡ false → Follows policy rules net u new now
 follows_quietly policy rules net u past now old new quiet keeps tables part was small = record {
   small = small;
   keeps = same_keeps policy rules net u new past now quiet.logs quiet.epochs quiet.cuts quiet.items keeps;
-  agrees = agrees_on rules net u past now old.agreement.value new.agreement.value tables part quiet.tables (let same = quiet.epochs in omega (arith, same)) (λ e low. quiet.cuts e) was;
+  agrees = agrees_on rules net u past now old.parts.value.agreement new.parts.value.agreement tables part quiet.tables (let same = quiet.epochs in omega (arith, same)) (λ e low. quiet.cuts e) was;
 }
 
 -- where nothing is done it follows what was

@@ -207,14 +207,14 @@ table_is policy other ruling topo net u e count log now value found (Some c) t b
 
 -- nothing that is read of a node but its tables changes by a table
 pub publishes : {P : Type 0} (policy : P) (rules : Rules) (net : Net) (u d : ℕ) (now : Chronicle) (old new : Node P) (kept : Agreement) (t : View) (tabled : Tabled rules net u d now t)
-    → Follows policy rules net u old now → Keeps policy rules net u new now → kept ≡ old.agreement.value → new.agreement.value.consolidator ≡ kept.consolidator
-    → (TablesStandFor kept.tables (views rules net u now) → TablesStandFor new.agreement.value.tables (t ∷ views rules net u now))
+    → Follows policy rules net u old now → Keeps policy rules net u new now → kept ≡ old.parts.value.agreement → new.parts.value.agreement.consolidator ≡ kept.consolidator
+    → (TablesStandFor kept.tables (views rules net u now) → TablesStandFor new.parts.value.agreement.tables (t ∷ views rules net u now))
     → Follows policy rules net u new (Publish u d tabled.value (table rules net u tabled.value tabled.entries) ∷ now)
 publishes policy rules net u d now old new kept t tabled was keeps same part stands =
     let then' : Chronicle = Publish u d tabled.value (table rules net u tabled.value tabled.entries) ∷ now in
     record {
       keeps = same_keeps policy rules net u new now then' refl refl (λ e. refl) (λ v s. refl) keeps;
-      agrees = published_agrees rules net u d now t tabled old.agreement.value new.agreement.value was.agrees (cut_low policy rules net u d now old tabled.entries was.keeps tabled.has_cut)
+      agrees = published_agrees rules net u d now t tabled old.parts.value.agreement new.parts.value.agreement was.agrees (cut_low policy rules net u d now old tabled.entries was.keeps tabled.has_cut)
           (part ∙ ap (λ (k : Agreement). k.consolidator) same)
           (stands (subst (λ (k : Agreement). TablesStandFor k.tables (views rules net u now)) (sym same) was.agrees.tables));
       small = was.small;
@@ -222,9 +222,9 @@ publishes policy rules net u d now old new kept t tabled was keeps same part sta
 
 -- a node whose parts are equal follows as well
 pub follows_as : {P : Type 0} (policy : P) (rules : Rules) (net : Net) (u : ℕ) (now : Chronicle) (old new : Node P) → Keeps policy rules net u new now
-    → new.agreement.value.consolidator ≡ old.agreement.value.consolidator → new.agreement.value.tables ≡ old.agreement.value.tables → Follows policy rules net u old now → Follows policy rules net u new now
+    → new.parts.value.agreement.consolidator ≡ old.parts.value.agreement.consolidator → new.parts.value.agreement.tables ≡ old.parts.value.agreement.tables → Follows policy rules net u old now → Follows policy rules net u new now
 follows_as policy rules net u now old new keeps part tables was = record {
   keeps = keeps;
-  agrees = agrees_as rules net u old.agreement.value new.agreement.value now (record { part = part; tables = tables }) was.agrees;
+  agrees = agrees_as rules net u old.parts.value.agreement new.parts.value.agreement now (record { part = part; tables = tables }) was.agrees;
   small = was.small;
 }

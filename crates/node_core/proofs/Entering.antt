@@ -26,8 +26,10 @@ use Rattle.chronicle.specs.Epochs.{epoch, cut}
 use Rattle.chronicle.specs.Messages.{took}
 use Rattle.chronicle.specs.Steps.{Carried, sends, write, open_session, unless_ready}
 use Rattle.chronicle.proofs.Blocks.{log_own, took_write, epoch_write, cut_write}
+use Rattle.node_core.specs.declared.agreement.Agreement.{Agreement}
 use Rattle.node_core.specs.declared.node.Node.{Node}
 use Rattle.node_core.specs.declared.outputs.Output.{Output as Given}
+use Rattle.node_core.specs.declared.parts.NodeParts.{NodeParts}
 use Rattle.node_core.specs.Keeping.{Keeps, MayEnter}
 use Rattle.node_core.specs.Outputs.{Logged, Send, output_of, Hands}
 use Rattle.node_core.specs.Reports.{AreReports}
@@ -72,37 +74,37 @@ same_keeps policy rules net u node past now logs epochs cuts items was = record 
   reports = was.reports;
 }
 
--- the part in the agreements and the tables are not read
-pub keeps_as : {P : Type 0} (policy : P) (rules : Rules) (net : Net) (u : ℕ) (old new : Node P) (past : Chronicle) → new.topology.value ≡ old.topology.value → new.id ≡ old.id → new.log ≡ old.log
-    → new.updates ≡ old.updates → new.snapshots ≡ old.snapshots → new.agreement.value.reports ≡ old.agreement.value.reports → Keeps policy rules net u old past → Keeps policy rules net u new past
-keeps_as policy rules net u old new past nets ids logs updates snapshots reports was = record {
-  same_net = nets ∙ was.same_net;
-  same_id = ids ∙ was.same_id;
+-- of what it keeps of agreements the reports alone are read
+pub keeps_as : {P : Type 0} {kept : NodeParts} {made : Agreement} (policy : P) (rules : Rules) (net : Net) (u : ℕ) (old new : Node P) (past : Chronicle) → kept ≡ old.parts.value → new.log ≡ old.log
+    → new.parts.value ≡ record kept { agreement = made } → made.reports ≡ kept.agreement.reports → Keeps policy rules net u old past → Keeps policy rules net u new past
+keeps_as policy rules net u old new past same logs written reports was = record {
+  same_net = ap (λ (k : NodeParts). k.topology.value) written ∙ (ap (λ (k : NodeParts). k.topology.value) same ∙ was.same_net);
+  same_id = ap (λ (k : NodeParts). k.id) written ∙ (ap (λ (k : NodeParts). k.id) same ∙ was.same_id);
   log = subst (λ l. LogStandsFor policy rules net u l.value (log_of u past)) (sym logs) was.log;
-  listed = updates ∙ was.listed;
+  listed = ap (λ (k : NodeParts). k.updates) written ∙ (ap (λ (k : NodeParts). k.updates) same ∙ was.listed);
   acts = was.acts;
-  snapshots = subst (λ k. SnapshotsStandFor net u k.value was.acts) (sym snapshots) was.snapshots;
+  snapshots = subst (λ kept. SnapshotsStandFor net u kept was.acts) (sym (ap (λ (k : NodeParts). k.snapshots) written ∙ ap (λ (k : NodeParts). k.snapshots) same)) was.snapshots;
   alike = was.alike;
-  reports = subst (AreReports rules net u was.acts) (sym reports) was.reports;
+  reports = subst (AreReports rules net u was.acts) (sym (ap (λ (k : NodeParts). k.agreement.reports) written ∙ (reports ∙ ap (λ (k : NodeParts). k.agreement.reports) same))) was.reports;
 }
 
--- an entry is made
-pub entered : {P : Type 0} (policy : P) (rules : Rules) (net : Net) (u : ℕ) (carried : Carried) (past : Chronicle) (k : Entry) (old new : Node P)
-    → Keeps policy rules net u old past → new.topology.value ≡ old.topology.value → new.id ≡ old.id → new.snapshots ≡ old.snapshots → new.agreement.value.reports ≡ old.agreement.value.reports
-    → LogStandsFor policy rules net u new.log.value (k ∷ log_of u past) → new.updates ≡ length (sent_of rules net u (k ∷ log_of u past))
+-- an entry is made, and beside the log their number alone is written
+pub entered : {P : Type 0} {kept : NodeParts} {more : ℕ} (policy : P) (rules : Rules) (net : Net) (u : ℕ) (carried : Carried) (past : Chronicle) (k : Entry) (old new : Node P)
+    → Keeps policy rules net u old past → kept ≡ old.parts.value → new.parts.value ≡ record kept { updates = more }
+    → LogStandsFor policy rules net u new.log.value (k ∷ log_of u past) → more ≡ length (sent_of rules net u (k ∷ log_of u past))
     → Keeps policy rules net u new (write rules net carried u k past)
-entered policy rules net u carried past k old new was nets ids snapshots reports log updates =
+entered policy rules net u carried past k old new was kept_is written log updates =
     let same = sym (log_own rules net carried u k past) in
     record {
-      same_net = nets ∙ was.same_net;
-      same_id = ids ∙ was.same_id;
+      same_net = ap (λ (p : NodeParts). p.topology.value) written ∙ (ap (λ (p : NodeParts). p.topology.value) kept_is ∙ was.same_net);
+      same_id = ap (λ (p : NodeParts). p.id) written ∙ (ap (λ (p : NodeParts). p.id) kept_is ∙ was.same_id);
       log = subst (LogStandsFor policy rules net u new.log.value) same log;
-      listed = updates ∙ ap (λ h. length (sent_of rules net u h)) same;
+      listed = ap (λ (p : NodeParts). p.updates) written ∙ (updates ∙ ap (λ h. length (sent_of rules net u h)) same);
       acts = was.acts;
-      snapshots = subst (λ kept. SnapshotsStandFor net u kept.value was.acts) (sym snapshots) was.snapshots;
+      snapshots = subst (λ kept. SnapshotsStandFor net u kept was.acts) (sym (ap (λ (p : NodeParts). p.snapshots) written ∙ ap (λ (p : NodeParts). p.snapshots) kept_is)) was.snapshots;
       alike = same_alike was.acts u past (write rules net carried u k past) (epoch_write rules net carried u k past u) (cut_write rules net carried u k past u)
           (λ v s. took_write rules net carried u k past v u s) was.alike;
-      reports = subst (AreReports rules net u was.acts) (sym reports) was.reports;
+      reports = subst (AreReports rules net u was.acts) (sym (ap (λ (p : NodeParts). p.agreement.reports) written ∙ ap (λ (p : NodeParts). p.agreement.reports) kept_is)) was.reports;
     }
 
 -- its place and what goes out are handed out

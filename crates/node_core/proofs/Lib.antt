@@ -21,3 +21,4 @@ pub mod Others
 pub mod Ordering
 pub mod Sighting
 pub mod Passed
+pub mod Unboxed

@@ -65,12 +65,12 @@ same_above rules net u past now same large = rw (same.same_epoch, large, same.sa
 
 module _ {P : Type 0} (policy : P) (rules : Rules) (net : Net) (u : ℕ) (past : Chronicle) where
   -- a node keeps what it has where all that is read of it stays as it was
-  same_stands : (node : Node P) (now : Chronicle) → SameNode u past now → has_large_value u now ≡ has_large_value u past → PartStandsFor net node.agreement.value.consolidator (control now) u → StandsFor policy rules net u node past
+  same_stands : (node : Node P) (now : Chronicle) → SameNode u past now → has_large_value u now ≡ has_large_value u past → PartStandsFor net node.parts.value.agreement.consolidator (control now) u → StandsFor policy rules net u node past
       → StandsFor policy rules net u node now
   same_stands node now same large part was = record {
     own = own_same rules net past now u was.own same;
     keeps = same_keeps policy rules net u node past now same.same_log same.same_epoch same.same_cut (λ v s. same.same_took v s) was.keeps;
-    agrees = agrees_on rules net u past now node.agreement.value node.agreement.value refl part same.same_publications (let still = same.same_epoch in omega (arith, still)) (λ e low. same.same_cut e) was.agrees;
+    agrees = agrees_on rules net u past now node.parts.value.agreement node.parts.value.agreement refl part same.same_publications (let still = same.same_epoch in omega (arith, still)) (λ e low. same.same_cut e) was.agrees;
     within = same_above rules net u past now same large ∙ was.within;
   }
 
@@ -78,23 +78,23 @@ module _ {P : Type 0} (policy : P) (rules : Rules) (net : Net) (u : ℕ) (past :
   pub beside_stands : (node : Node P) (f : Fact) → IsBeside u f → StandsFor policy rules net u node past → StandsFor policy rules net u node (f ∷ past)
   beside_stands node f beside was =
       same_stands node (f ∷ past) (same_by_fact u f past (cut_beside u f beside)) (small_on u f past (beside_small u f beside))
-      (stands_beside net node.agreement.value.consolidator (control past) u (control_by f) (control_beside u f beside) was.agrees.part) was
+      (stands_beside net node.parts.value.agreement.consolidator (control past) u (control_by f) (control_beside u f beside) was.agrees.part) was
 
   -- where another node gets an input
   pub given_stands : (v : ℕ) (node : Node P) (carried : Carried) (i : Input) → (v == u) ≡ false → StandsFor policy rules net u node past
       → StandsFor policy rules net u node (chronicle_of past (give rules net carried v past i))
   given_stands v node carried i off was =
       same_stands node (chronicle_of past (give rules net carried v past i)) (give_same rules net u v off past carried i) (given_small rules net u v off carried past i)
-      (give_agreeing rules net u v off past node.agreement.value.consolidator carried i was.agrees.part) was
+      (give_agreeing rules net u v off past node.parts.value.agreement.consolidator carried i was.agrees.part) was
 
   -- where it crashes itself: its part in the agreements forgets
-  pub crash_stands : (old new : Node P) → Keeps policy rules net u new past → new.agreement.value.tables ≡ old.agreement.value.tables → PartStandsFor net new.agreement.value.consolidator (control (Crash u ∷ past)) u
+  pub crash_stands : (old new : Node P) → Keeps policy rules net u new past → new.parts.value.agreement.tables ≡ old.parts.value.agreement.tables → PartStandsFor net new.parts.value.agreement.consolidator (control (Crash u ∷ past)) u
       → StandsFor policy rules net u old past → StandsFor policy rules net u new (Crash u ∷ past)
   crash_stands old new keeps tables part was =
       let same = same_by_fact u (Crash u) past tt in
       record {
         own = own_same rules net past (Crash u ∷ past) u was.own same;
         keeps = same_keeps policy rules net u new past (Crash u ∷ past) refl refl (λ e. refl) (λ v s. refl) keeps;
-        agrees = agrees_on rules net u past (Crash u ∷ past) old.agreement.value new.agreement.value tables part refl (omega arith) (λ e low. refl) was.agrees;
+        agrees = agrees_on rules net u past (Crash u ∷ past) old.parts.value.agreement new.parts.value.agreement tables part refl (omega arith) (λ e low. refl) was.agrees;
         within = same_above rules net u past (Crash u ∷ past) same refl ∙ was.within;
       }

@@ -75,7 +75,7 @@ taken_at policy rules topo net u log h old new acts e same taken =
 
 -- its snapshots were told more, its reports are those of its cuts, and the log is as it was
 pub told_keeps : {P : Type 0} (policy : P) (rules : Rules) (net : Net) (u : ℕ) (past now : Chronicle) (old new : Node P) (acts : Acts)
-    → Keeps policy rules net u old past → KeepsAllBut old new → log_of u now ≡ log_of u past → SnapshotsStandFor net u new.snapshots.value acts → Alike acts u now → AreReports rules net u acts new.agreement.value.reports
+    → Keeps policy rules net u old past → KeepsAllBut old new → log_of u now ≡ log_of u past → SnapshotsStandFor net u new.parts.value.snapshots acts → Alike acts u now → AreReports rules net u acts new.parts.value.agreement.reports
     → Keeps policy rules net u new now
 told_keeps policy rules net u past now old new acts was rest logs snapshots alike reports = record {
   same_net = (λ k. (rest.topology k).value) ∙ was.same_net;
@@ -91,14 +91,14 @@ told_keeps policy rules net u past now old new acts was rest logs snapshots alik
 -- the epoch rises
 pub risen : {P : Type 0} (policy : P) (rules : Rules) (net : Net) (u : ℕ) (carried : Carried) (past : Chronicle) (e : ℕ) (old new : Node P)
     → Own rules net past u → Keeps policy rules net u old past → epoch u past < e → KeepsAllBut old new
-    → ((acts : Acts) → SnapshotsStandFor net u old.snapshots.value acts → epoch_of acts < e → SnapshotsStandFor net u new.snapshots.value (Takes e (log_of u past) ∷ acts))
-    → new.agreement.value.reports ≡ old.agreement.value.reports ++ report_of rules net u e (log_of u past) ∷ []
+    → ((acts : Acts) → SnapshotsStandFor net u old.parts.value.snapshots acts → epoch_of acts < e → SnapshotsStandFor net u new.parts.value.snapshots (Takes e (log_of u past) ∷ acts))
+    → new.parts.value.agreement.reports ≡ old.parts.value.agreement.reports ++ report_of rules net u e (log_of u past) ∷ []
     → Keeps policy rules net u new (raise rules net carried u e past)
 risen policy rules net u carried past e old new own was high rest taken kept =
     let above : epoch_of was.acts < e = subst (λ n. n < e) (sym was.alike.same_epoch) high in
     told_keeps policy rules net u past (raise rules net carried u e past) old new (Takes e (log_of u past) ∷ was.acts) was rest (log_raise rules net carried u e past u)
     (taken was.acts was.snapshots above) (rise_alike rules net u carried e past was.acts own was.alike high)
-    (one_report_more rules net u was.acts old.agreement.value.reports new.agreement.value.reports e (log_of u past) was.reports (was.snapshots.newest e above) kept)
+    (one_report_more rules net u was.acts old.parts.value.agreement.reports new.parts.value.agreement.reports e (log_of u past) was.reports (was.snapshots.newest e above) kept)
 
 -- the report to each consolidator
 pub mailed_reports : (rules : Rules) (topo net : Net) (u e : ℕ) (h : List Entry) (nodes : List ℕ) (r : Report) → nodes ≡ ascending topo.consolidators → topo ≡ net → r ≡ report_of rules net u e h
@@ -153,7 +153,7 @@ is_below a b c t test off same = let so : is_lt (nat_cmp a b) ≡ false = sym te
 
 module _ {P : Type 0} (policy : P) (rules : Rules) (net : Net) (u : ℕ) (carried : Carried) (past : Chronicle) (v s e : ℕ) (x : Item) (old mid new : Node P)
     (own : Own rules net past u) (was : Keeps policy rules net u old past) (is : mark_of x ≡ Some e)
-    (meets : (acts : Acts) → SnapshotsStandFor net u mid.snapshots.value acts → SnapshotsStandFor net u new.snapshots.value (Meets v s e ∷ acts)) (rest : KeepsAllBut mid new) (same_reports : new.agreement.value.reports ≡ mid.agreement.value.reports) where
+    (meets : (acts : Acts) → SnapshotsStandFor net u mid.parts.value.snapshots acts → SnapshotsStandFor net u new.parts.value.snapshots (Meets v s e ∷ acts)) (rest : KeepsAllBut mid new) (same_reports : new.parts.value.agreement.reports ≡ mid.parts.value.agreement.reports) where
   -- a mark is met
   marked_keeps : (now : Chronicle) → Keeps policy rules net u mid now → Keeps policy rules net u new (Took v u s x ∷ now)
   marked_keeps now then' =
@@ -162,8 +162,8 @@ module _ {P : Type 0} (policy : P) (rules : Rules) (net : Net) (u : ℕ) (carrie
 
   -- a higher one is met after the cut that it asks for
   pub met_above : (raised : Node P) → mid ≡ raised → epoch u past < e → KeepsAllBut old raised
-      → ((acts : Acts) → SnapshotsStandFor net u old.snapshots.value acts → epoch_of acts < e → SnapshotsStandFor net u raised.snapshots.value (Takes e (log_of u past) ∷ acts))
-      → raised.agreement.value.reports ≡ old.agreement.value.reports ++ report_of rules net u e (log_of u past) ∷ []
+      → ((acts : Acts) → SnapshotsStandFor net u old.parts.value.snapshots acts → epoch_of acts < e → SnapshotsStandFor net u raised.parts.value.snapshots (Takes e (log_of u past) ∷ acts))
+      → raised.parts.value.agreement.reports ≡ old.parts.value.agreement.reports ++ report_of rules net u e (log_of u past) ∷ []
       → Keeps policy rules net u new (meet_mark rules net carried u e (Took v u s x ∷ past))
   met_above raised same high others taken kept =
       let keeps : Keeps policy rules net u mid (raise rules net carried u e past) =

@@ -59,8 +59,8 @@ module _ {P : Type 0} (policy : P) (rules : Rules) (net : Net) (u : ℕ) (past :
   may_enter = record { near = may_so.near; placed = may_so.placed; fits = (may_so.held, may_so.in_turn) }
 
   -- the snapshots were told of it
-  pub heard_keeps : (old new : Node P) → Own rules net past u → Keeps policy rules net u old past → KeepsAllBut old new → new.agreement.value.reports ≡ old.agreement.value.reports
-      → ((acts : Acts) → SnapshotsStandFor net u old.snapshots.value acts → Continues acts v s n → SnapshotsStandFor net u new.snapshots.value (Hears v s n ∷ acts))
+  pub heard_keeps : (old new : Node P) → Own rules net past u → Keeps policy rules net u old past → KeepsAllBut old new → new.parts.value.agreement.reports ≡ old.parts.value.agreement.reports
+      → ((acts : Acts) → SnapshotsStandFor net u old.parts.value.snapshots acts → Continues acts v s n → SnapshotsStandFor net u new.parts.value.snapshots (Hears v s n ∷ acts))
       → Keeps policy rules net u new (Took v u s (News n (record { prefix = p; triggers = t ∷ []; path = path })) ∷ past)
   heard_keeps old new own was rest same hears =
       let x : Update = record { prefix = p; triggers = t ∷ []; path = path } in

@@ -28,19 +28,19 @@ pub record MayEnter (net : Net) (u : ℕ) (h : List Entry) (scope : Scope) (caus
 -- the node is u in this network; its log, and how many items that lists, are those of u after these facts,
 -- its snapshots were told what u did, and its reports are those of the cuts of u
 pub record Keeps {P : Type 0} (policy : P) (rules : Rules) (net : Net) (u : ℕ) (node : Node P) (past : Chronicle) : Type 0 where
-  pub same_net : node.topology.value ≡ net
-  pub same_id : node.id ≡ u
+  pub same_net : node.parts.value.topology.value ≡ net
+  pub same_id : node.parts.value.id ≡ u
   pub log : LogStandsFor policy rules net u node.log.value (log_of u past)
-  pub listed : node.updates ≡ length (sent_of rules net u (log_of u past))
+  pub listed : node.parts.value.updates ≡ length (sent_of rules net u (log_of u past))
   pub acts : Acts
-  pub snapshots : SnapshotsStandFor net u node.snapshots.value acts
+  pub snapshots : SnapshotsStandFor net u node.parts.value.snapshots acts
   pub alike : Alike acts u past
-  pub reports : AreReports rules net u acts node.agreement.value.reports
+  pub reports : AreReports rules net u acts node.parts.value.agreement.reports
 
 -- the second is as the first but for its snapshots and its reports
 pub record KeepsAllBut {P : Type 0} (old new : Node P) : Type 0 where
-  pub topology : new.topology ≡ old.topology
-  pub id : new.id ≡ old.id
+  pub topology : new.parts.value.topology ≡ old.parts.value.topology
+  pub id : new.parts.value.id ≡ old.parts.value.id
   pub log : new.log ≡ old.log
-  pub updates : new.updates ≡ old.updates
-  pub agreement : AgreesAs old.agreement.value new.agreement.value
+  pub updates : new.parts.value.updates ≡ old.parts.value.updates
+  pub agreement : AgreesAs old.parts.value.agreement new.parts.value.agreement

@@ -16,7 +16,7 @@ use Rattle.node_core.specs.NodeLimits.{has_large_value, node_above}
 -- it keeps what is read of the facts of u; and u proposed no value with more triggers than one may have
 pub record Follows {P : Type 0} (policy : P) (rules : Rules) (net : Net) (u : ℕ) (node : Node P) (past : Chronicle) : Type 0 where
   pub keeps : Keeps policy rules net u node past
-  pub agrees : Agrees rules net u node.agreement.value past
+  pub agrees : Agrees rules net u node.parts.value.agreement past
   pub small : has_large_value u past ≡ false
 
 -- the same, where they are such as a node makes that answers its inputs, and it has no count above its number; what
@@ -24,7 +24,7 @@ pub record Follows {P : Type 0} (policy : P) (rules : Rules) (net : Net) (u : �
 pub record StandsFor {P : Type 0} (policy : P) (rules : Rules) (net : Net) (u : ℕ) (node : Node P) (past : Chronicle) : Type 0 where
   pub own : Own rules net past u
   pub keeps : Keeps policy rules net u node past
-  pub agrees : Agrees rules net u node.agreement.value past
+  pub agrees : Agrees rules net u node.parts.value.agreement past
   pub within : node_above rules net u past ≡ None
 
 -- the snapshots were told what u did

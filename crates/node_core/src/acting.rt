@@ -64,7 +64,7 @@ impl<P: Policy + Copy> Node<P> {
         cause: Cause,
         outputs: &mut OutputList,
     ) -> Result<Node<P>, NoMemory>
-        ensures agreement { IfOk result (λ node. AgreesAs self.agreement.value node.agreement.value) }
+        ensures agreement { IfOk result (λ node. AgreesAs self.parts.value.agreement node.parts.value.agreement) }
         ensures node { IfOk result (λ node. (policy : P) (net : Net) (u : ℕ) (carried : Carried) (past : Chronicle) →
             Keeps policy (P.rules policy) net u self past → MayEnter net u (log_of u past) scope cause →
             Keeps policy (P.rules policy) net u node
@@ -74,28 +74,12 @@ impl<P: Policy + Copy> Node<P> {
             Hands first outputs.old past → Hands first outputs.new
             (write (P.rules policy) net carried u (entry (trigger ∷ []) scope cause) past)) }
     {
-        let Node {
-            alloc,
-            topology,
-            id,
-            log,
-            updates,
-            snapshots,
-            agreement,
-        } = self;
-        let (log, sent) = NodeLog::append_boxed(log, &topology, trigger, scope, cause)?;
-        let updates = more(updates, &log)?;
+        let Node { log, mut parts } = self;
+        let (log, sent) = NodeLog::append_boxed(log, &parts.topology, trigger, scope, cause)?;
+        parts.updates = more(parts.updates, &log)?;
         let index = log.len();
         outputs.enter(Entered { index, sent })?;
-        Ok(Node {
-            alloc,
-            topology,
-            id,
-            log,
-            updates,
-            snapshots,
-            agreement,
-        })
+        Ok(Node { log, parts })
     }
 
     // The node makes an entry of its own accord, with its next trigger.
@@ -106,7 +90,7 @@ impl<P: Policy + Copy> Node<P> {
         cause: Cause,
         outputs: &mut OutputList,
     ) -> Result<Node<P>, NoMemory>
-        ensures agreement { IfOk result (λ node. AgreesAs self.agreement.value node.agreement.value) }
+        ensures agreement { IfOk result (λ node. AgreesAs self.parts.value.agreement node.parts.value.agreement) }
         ensures node { IfOk result (λ node. (policy : P) (net : Net) (u : ℕ) (carried : Carried) (past : Chronicle) →
             Keeps policy (P.rules policy) net u self past → MayEnter net u (log_of u past) scope cause →
             Keeps policy (P.rules policy) net u node
@@ -128,7 +112,7 @@ impl<P: Policy + Copy> Node<P> {
         session: Session,
         outputs: &mut OutputList,
     ) -> Result<Node<P>, NoMemory>
-        ensures agreement { IfOk result (λ node. AgreesAs self.agreement.value node.agreement.value) }
+        ensures agreement { IfOk result (λ node. AgreesAs self.parts.value.agreement node.parts.value.agreement) }
         ensures node { IfOk result (λ node. (policy : P) (net : Net) (u : ℕ) (carried : Carried) (past : Chronicle) →
             StandsFor policy (P.rules policy) net u self past → MayEnter net u (log_of u past) All (Up nbr session) →
             Keeps policy (P.rules policy) net u node (open_session carried u nbr session past)) }
@@ -138,7 +122,7 @@ impl<P: Policy + Copy> Node<P> {
             Hands first outputs.new (open_session carried u nbr session past)) }
     {
         trigger_log::laws::an_opening_says_nothing();
-        let epoch = self.snapshots.epoch();
+        let epoch = self.parts.snapshots.epoch();
         let scope = Scope::All;
         let node = self.enter_own(scope, Cause::Up { nbr, session }, outputs)?;
         outputs.push(Output::Send(Outgoing {
@@ -158,7 +142,7 @@ impl<P: Policy + Copy> Node<P> {
         session: Session,
         outputs: &mut OutputList,
     ) -> Result<Node<P>, NoMemory>
-        ensures agreement { IfOk result (λ node. AgreesAs self.agreement.value node.agreement.value) }
+        ensures agreement { IfOk result (λ node. AgreesAs self.parts.value.agreement node.parts.value.agreement) }
         ensures node { IfOk result (λ node. (policy : P) (net : Net) (u : ℕ) (carried : Carried) (past : Chronicle) →
             Keeps policy (P.rules policy) net u self past → has (neighbours net u) nbr ≡ true →
             held_with u nbr past ≡ Some session →
@@ -189,7 +173,7 @@ impl<P: Policy + Copy> Node<P> {
         item: Item,
         outputs: &mut OutputList,
     ) -> Result<Node<P>, NoMemory>
-        ensures agreement { IfOk result (λ node. AgreesAs self.agreement.value node.agreement.value) }
+        ensures agreement { IfOk result (λ node. AgreesAs self.parts.value.agreement node.parts.value.agreement) }
         ensures node { IfOk result (λ node. (policy : P) (net : Net) (u : ℕ) (carried : Carried) (past : Chronicle) →
             StandsFor policy (P.rules policy) net u self past → MayTake net u past from session (item_of item) →
             Keeps policy (P.rules policy) net u node
@@ -207,7 +191,7 @@ impl<P: Policy + Copy> Node<P> {
                 path,
             } => {
                 let mut node = self;
-                node.snapshots.on_update(from, session, seq);
+                node.parts.snapshots.on_update(from, session, seq);
                 let scope = Scope::One(prefix);
                 let cause = Cause::Recv {
                     from,
@@ -228,7 +212,7 @@ impl<P: Policy + Copy> Node<P> {
     /// Does what the node is to do, and hands out what comes of it.
     #[inline(always)]
     pub(crate) fn act(self, act: Act, outputs: &mut OutputList) -> Result<Node<P>, NoMemory>
-        ensures agreement { IfOk result (λ node. AgreesAs self.agreement.value node.agreement.value) }
+        ensures agreement { IfOk result (λ node. AgreesAs self.parts.value.agreement node.parts.value.agreement) }
         ensures node { IfOk result (λ node. (policy : P) (net : Net) (u : ℕ) (carried : Carried) (past : Chronicle) →
             StandsFor policy (P.rules policy) net u self past → MayDo net u past act →
             Keeps policy (P.rules policy) net u node (acted (P.rules policy) net carried u past act)) }

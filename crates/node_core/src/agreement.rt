@@ -1,5 +1,5 @@
 //! What a node keeps of epochs: its reports, its part in agreements, its tables.
-ghost use Rattle.std.specs.Prelude.{ℕ, ◌≡◌, ◌∷◌, IfOk};
+ghost use Rattle.std.specs.Prelude.{ℕ, ◌≡◌, ◌∷◌};
 ghost use Rattle.topology.specs.Net.{Net};
 ghost use Rattle.consolidator.specs.Facts.{Chronicle, Crash};
 ghost use Rattle.consolidator.specs.Standing.{StandsFor};
@@ -7,11 +7,9 @@ ghost use Rattle.consolidator.specs.Standing.{StandsFor};
 use crate::reports::Reports;
 use consolidator::Consolidator;
 use stable_table::TwoTables;
-use std::alloc::Global;
-use topology::NoMemory;
 
 /// The reports that a node made, its part in the agreement on each epoch, and its published tables. Few inputs
-/// touch them: they stand behind a box, so that a node that moves carries no more than a pointer.
+/// touch them.
 #[derive(Drop)]
 pub struct Agreement {
     pub(crate) reports: Reports,
@@ -20,13 +18,6 @@ pub struct Agreement {
 }
 
 impl Agreement {
-    /// The same, behind a box.
-    pub(crate) fn boxed(self, alloc: Global) -> Result<Box<Agreement>, NoMemory>
-        ensures { IfOk result (λ kept. kept.value ≡ self) }
-    {
-        Ok(Box::new(alloc, self)?)
-    }
-
     /// A crash of the node: what its part in the agreements collected is lost, and nothing else. Takes no memory.
     pub(crate) fn forget(&mut self)
         ensures part { (net : Net) (past : Chronicle) (u : ℕ) → StandsFor net self.old.consolidator past u →

@@ -24,6 +24,7 @@ use crate::inputs::Input;
 use crate::limits::{MOST_TRIGGERS, proposes_large};
 use crate::node::Node;
 use crate::outputs::{Output, OutputList, Stop};
+use crate::parts::NodeParts;
 use consolidator::{Consolidator, Mails, Reply};
 use path_vector::{Cause, Policy};
 use topology::{Epoch, Item, LimitKind, NoMemory, NodeId, Reason, Scope, Session, Topology};
@@ -90,6 +91,45 @@ fn consult(
     }
 }
 
+// The same of all that a node keeps beside its log: its part goes on, and nothing else changes.
+#[inline(always)]
+fn consult_parts(parts: NodeParts, asked: Asked) -> Result<(NodeParts, Reply), NoMemory>
+    ensures part { IfOk result (λ done. (past : consolidator.Chronicle) (u : ℕ) →
+        PartStandsFor parts.topology.value parts.agreement.consolidator past u →
+        Consults parts.topology.value done.1 done.0.agreement.consolidator past u (asked_of asked)) }
+    ensures rest { IfOk result (λ done. done.0
+        ≡ record parts { agreement = record parts.agreement { consolidator = done.0.agreement.consolidator } }) }
+{
+    let NodeParts {
+        alloc,
+        topology,
+        id,
+        updates,
+        snapshots,
+        agreement,
+    } = parts;
+    let Agreement {
+        reports,
+        consolidator,
+        tables,
+    } = agreement;
+    let (consolidator, reply) = consult(consolidator, &topology, asked)?;
+    let agreement = Agreement {
+        reports,
+        consolidator,
+        tables,
+    };
+    let parts = NodeParts {
+        alloc,
+        topology,
+        id,
+        updates,
+        snapshots,
+        agreement,
+    };
+    Ok((parts, reply))
+}
+
 impl<P: Policy + Copy> Node<P> {
     /// Does what the node is to do.
     #[inline(always)]
@@ -101,9 +141,9 @@ impl<P: Policy + Copy> Node<P> {
             StandsFor policy (P.rules policy) net u self past → MayDo net u past act → outputs.old ≡ [] →
             Says u past (Goes (acted (P.rules policy) net carried u past act)) r.1 outputs.new) }
     {
-        let before = self.snapshots.epoch();
+        let before = self.parts.snapshots.epoch();
         let node = self.act(act, outputs)?;
-        let due = risen(before, node.snapshots.epoch());
+        let due = risen(before, node.parts.snapshots.epoch());
         Ok((node, Answer::Did(due)))
     }
 
@@ -172,39 +212,13 @@ impl<P: Policy + Copy> Node<P> {
             StopsAt (node_limit (P.rules policy) net u (answer (P.rules policy) net carried u past (asked_of asked))) stop) }
     {
         let due = asked.decides();
-        let Node {
-            alloc,
-            topology,
-            id,
-            log,
-            updates,
-            snapshots,
-            agreement,
-        } = self;
-        let Agreement {
-            reports,
-            consolidator,
-            tables,
-        } = Box::into_inner(agreement);
-        let (consolidator, reply) = consult(consolidator, &topology, asked)?;
+        let Node { log, parts } = self;
+        let (parts, reply) = consult_parts(Box::into_inner(parts), asked)?;
         if proposes_large(&reply) {
             return Err(Stop::Limit(LimitKind::Triggers, MOST_TRIGGERS));
         }
-        let kept = Agreement {
-            reports,
-            consolidator,
-            tables,
-        };
-        let agreement = kept.boxed(alloc)?;
-        let node = Node {
-            alloc,
-            topology,
-            id,
-            log,
-            updates,
-            snapshots,
-            agreement,
-        };
+        let parts = parts.boxed()?;
+        let node = Node { log, parts };
         match reply {
             Reply::Idle(reason) => Ok((node, Answer::Idle(reason))),
             Reply::Sent(mails) => {

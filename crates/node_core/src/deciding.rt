@@ -155,6 +155,6 @@ impl<P: Policy + Copy> Node<P> {
         ensures { (policy : P) (net : Net) (u : ℕ) (past : Chronicle) →
             StandsFor policy (P.rules policy) net u self.now past → result ≡ suc (epoch u past) }
     {
-        Epoch::new(self.snapshots.epoch().number().saturating_add(1))
+        Epoch::new(self.parts.snapshots.epoch().number().saturating_add(1))
     }
 }

@@ -94,8 +94,8 @@ impl<P: Policy + Copy> Node<P> {
             StandsFor policy (P.rules policy) net u self.now past → result ≡ fits net u (input_of input.now) }
     {
         match input {
-            Input::Originate(prefix) => prefix.place() < self.topology.prefix_count(),
-            Input::Withdraw(prefix) => prefix.place() < self.topology.prefix_count(),
+            Input::Originate(prefix) => prefix.place() < self.parts.topology.prefix_count(),
+            Input::Withdraw(prefix) => prefix.place() < self.parts.topology.prefix_count(),
             Input::Prefer { nbr, value } => self.is_near(*nbr) && *value <= MOST_PREFERENCE,
             Input::Arrive {
                 from,
@@ -104,19 +104,20 @@ impl<P: Policy + Copy> Node<P> {
             } => {
                 self.is_near(*from)
                     && is_number(session.number())
-                    && item_fits(&self.topology, *from, item)
+                    && item_fits(&self.parts.topology, *from, item)
             }
             Input::Notice(nbr) => self.is_near(*nbr),
             Input::OpenSession { nbr, session } => self.is_near(*nbr)
                 && is_number(session.number()),
             Input::Snap => true,
             Input::Propose(epoch) => epoch_fits(*epoch),
-            Input::Control { from, message } => message_fits(&self.topology, *from, message),
+            Input::Control { from, message } => message_fits(&self.parts.topology, *from, message),
             Input::Inject { id, prefix } => {
-                is_number(*id) && prefix.place() < self.topology.prefix_count()
+                is_number(*id) && prefix.place() < self.parts.topology.prefix_count()
             }
             Input::Hop { packet, up } => {
-                packet_fits(&self.topology, packet) && are_links(&self.topology, self.id, up)
+                packet_fits(&self.parts.topology, packet)
+                    && are_links(&self.parts.topology, self.parts.id, up)
             }
         }
     }
@@ -126,6 +127,6 @@ impl<P: Policy + Copy> Node<P> {
         ensures { (policy : P) (net : Net) (u : ℕ) (past : Chronicle) →
             StandsFor policy (P.rules policy) net u self.now past → result ≡ has (neighbours net u) nbr }
     {
-        is_among(self.topology.neighbours(self.id), nbr)
+        is_among(self.parts.topology.neighbours(self.parts.id), nbr)
     }
 }

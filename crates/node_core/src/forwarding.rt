@@ -53,7 +53,7 @@ impl<P: Policy + Copy> Node<P> {
         ensures { (policy : P) (net : Net) (u : ℕ) (past : Chronicle) →
             StandsFor policy (P.rules policy) net u self.now past → result ≡ newest_epoch u past }
     {
-        Some(self.agreement.tables.newest()?.epoch())
+        Some(self.parts.agreement.tables.newest()?.epoch())
     }
 
     // A packet enters the network here, stamped with the epoch of the newest table.
@@ -63,8 +63,9 @@ impl<P: Policy + Copy> Node<P> {
             Hands past (output ∷ []) (injects net u past id prefix)) }
     {
         let newest = self.newest_epoch();
-        let packet = stamp(self.alloc, &self.topology, id, prefix, self.id, newest);
-        forward(self.alloc, self.id, packet)
+        let parts = &*self.parts;
+        let packet = stamp(parts.alloc, &parts.topology, id, prefix, parts.id, newest);
+        forward(parts.alloc, parts.id, packet)
     }
 
     // The path of the prefix in the table of the epoch, where that is kept.
@@ -73,7 +74,7 @@ impl<P: Policy + Copy> Node<P> {
             StandsFor policy (P.rules policy) net u self.now past →
             option_map (λ nodes. nodes.now) result ≡ kept_path u epoch prefix past }
     {
-        self.agreement.tables.of(epoch)?.path(prefix)
+        self.parts.agreement.tables.of(epoch)?.path(prefix)
     }
 
     // A packet on the tables ends, moves, or leaves them here.
@@ -82,19 +83,19 @@ impl<P: Policy + Copy> Node<P> {
             StandsFor policy (P.rules policy) net u self.now past →
             Hands past (output ∷ []) (on_tables net u past packet step)) }
     {
+        let parts = &*self.parts;
         match step {
             StableStep::Arrived => Ok(Output::Ended {
                 id: packet.id,
                 end: End::Delivered,
             }),
             StableStep::Next(next) => {
-                forward(self.alloc, next, packet.moved_to(&self.topology, next))
+                forward(parts.alloc, next, packet.moved_to(&parts.topology, next))
             }
-            StableStep::Turn => forward(
-                self.alloc,
-                self.id,
-                packet.turned(&self.topology, self.id),
-            ),
+            StableStep::Turn => {
+                let turned = packet.turned(&parts.topology, parts.id);
+                forward(parts.alloc, parts.id, turned)
+            }
         }
     }
 
@@ -115,7 +116,7 @@ impl<P: Policy + Copy> Node<P> {
             StandsFor policy (P.rules policy) net u self.now past →
             option_map (λ nodes. nodes.now) result ≡ newest_path u prefix past }
     {
-        self.agreement.tables.newest()?.path(prefix)
+        self.parts.agreement.tables.newest()?.path(prefix)
     }
 
     // The backups of the prefix in the newest table.
@@ -124,7 +125,7 @@ impl<P: Policy + Copy> Node<P> {
             StandsFor policy (P.rules policy) net u self.now past → prefix < length net.prefixes →
             result.now ≡ newest_backups (P.rules policy) net u prefix past }
     {
-        match self.agreement.tables.newest() {
+        match self.parts.agreement.tables.newest() {
             None => &[],
             Some(table) => table.backups(prefix),
         }
@@ -148,11 +149,11 @@ impl<P: Policy + Copy> Node<P> {
     {
         let prefix = packet.prefix;
         let owns = self.log.live().owns(prefix);
-        let asks = asks_for_order(&self.topology, packet, self.id, owns);
+        let asks = asks_for_order(&self.parts.topology, packet, self.parts.id, owns);
         if asks {
             return self.order(prefix);
         }
-        Ok(Vec::new(self.alloc))
+        Ok(Vec::new(self.parts.alloc))
     }
 
     // What the node knows for a packet of the prefix, where these links are up, with this order.
@@ -162,7 +163,7 @@ impl<P: Policy + Copy> Node<P> {
             result ≡ record (sight (P.rules policy) net u past prefix up.now) { order = order.now } }
     {
         View {
-            at: self.id,
+            at: self.parts.id,
             owns: self.log.live().owns(prefix),
             order,
             up,
@@ -180,8 +181,8 @@ impl<P: Policy + Copy> Node<P> {
         let prefix = packet.prefix;
         let order = self.order_for(&packet)?;
         let view = self.view(prefix, &order, up);
-        let (packet, gone) = transient_hop(&self.topology, packet, view)?;
-        gone_on(self.alloc, packet, gone)
+        let (packet, gone) = transient_hop(&self.parts.topology, packet, view)?;
+        gone_on(self.parts.alloc, packet, gone)
     }
 
     // A packet that stands here goes on.

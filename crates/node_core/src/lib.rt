@@ -15,6 +15,7 @@ mod marks;
 pub mod node;
 pub mod outputs;
 mod packet_fitting;
+pub mod parts;
 mod publishing;
 mod reports;
 
@@ -23,6 +24,8 @@ pub use agreement::Agreement;
 pub use inputs::Input;
 pub use node::Node;
 pub use outputs::{Entered, Output, OutputList, Outputs, Stop};
+#[doc(hidden)]
+pub use parts::NodeParts;
 
 #[cfg(test)]
 mod tests;

@@ -71,13 +71,13 @@ impl<P: Policy + Copy> Node<P> {
         ensures none { IfNone result ((policy : P) (net : Net) (u : ℕ) (past : Chronicle) →
             Follows policy (P.rules policy) net u self.now past → node_above (P.rules policy) net u past ≡ None) }
     {
-        if self.snapshots.epoch().number() > MOST_EPOCHS {
+        if self.parts.snapshots.epoch().number() > MOST_EPOCHS {
             return Some(Stop::Limit(LimitKind::Epochs, MOST_EPOCHS));
         }
         if self.log.len() > MOST_ENTRIES {
             return Some(Stop::Limit(LimitKind::Entries, MOST_ENTRIES));
         }
-        if self.updates > MOST_UPDATES as usize {
+        if self.parts.updates > MOST_UPDATES as usize {
             return Some(Stop::Limit(LimitKind::Updates, MOST_UPDATES));
         }
         None

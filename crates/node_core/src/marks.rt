@@ -22,6 +22,7 @@ ghost use Rattle.node_core.specs.Standing.{StandsFor};
 
 use crate::node::Node;
 use crate::outputs::{Output, OutputList};
+use crate::parts::NodeParts;
 use consolidator::{Mail, Message};
 use epoch_report::report_of;
 use incomplete_closure::Report;
@@ -51,11 +52,11 @@ impl<P: Policy + Copy> Node<P> {
     // A marker goes out in each session that the node holds, ready or not, by neighbour, ascending.
     fn send_markers(&self, epoch: Epoch, outputs: &mut OutputList) -> Result<(), NoMemory>
         ensures { OnOk result ((policy : P) (net : Net) (u : ℕ) (h : List Entry) →
-            self.now.topology.value ≡ net → self.now.id ≡ u →
+            self.now.parts.value.topology.value ≡ net → self.now.parts.value.id ≡ u →
             LogStandsFor policy (P.rules policy) net u self.now.log.value h →
             map output_of outputs.new ≡ map output_of outputs.old ++ map Send (markers net u epoch h)) }
     {
-        for nbr in self.topology.neighbours(self.id) {
+        for nbr in self.parts.topology.neighbours(self.parts.id) {
             let Some(session) = self.log.held(*nbr) else {
                 continue;
             };
@@ -73,42 +74,45 @@ impl<P: Policy + Copy> Node<P> {
     pub(crate) fn raise(self, epoch: Epoch, outputs: &mut OutputList) -> Result<Node<P>, NoMemory>
         ensures others { IfOk result (λ node. KeepsAllBut self node) }
         ensures snapshots { IfOk result (λ node. (policy : P) (net : Net) (u : ℕ) (h : List Entry) (acts : Acts) →
-            self.topology.value ≡ net → LogStandsFor policy (P.rules policy) net u self.log.value h →
-            SnapshotsStandFor net u self.snapshots.value acts → epoch_of acts < epoch →
-            SnapshotsStandFor net u node.snapshots.value (Takes epoch h ∷ acts)) }
+            self.parts.value.topology.value ≡ net → LogStandsFor policy (P.rules policy) net u self.log.value h →
+            SnapshotsStandFor net u self.parts.value.snapshots acts → epoch_of acts < epoch →
+            SnapshotsStandFor net u node.parts.value.snapshots (Takes epoch h ∷ acts)) }
         ensures reports { IfOk result (λ node. (policy : P) (net : Net) (u : ℕ) (h : List Entry) →
             LogStandsFor policy (P.rules policy) net u self.log.value h →
-            node.agreement.value.reports ≡ self.agreement.value.reports ++ report_of (P.rules policy) net u epoch h ∷ []) }
+            node.parts.value.agreement.reports ≡ self.parts.value.agreement.reports ++ report_of (P.rules policy) net u epoch h ∷ []) }
         ensures outputs { OnOk result ((policy : P) (net : Net) (u : ℕ) (carried : Carried) (first past : Chronicle) →
-            self.topology.value ≡ net → self.id ≡ u →
+            self.parts.value.topology.value ≡ net → self.parts.value.id ≡ u →
             LogStandsFor policy (P.rules policy) net u self.log.value (log_of u past) →
             Hands first outputs.old past → Hands first outputs.new (raise (P.rules policy) net carried u epoch past)) }
     {
         outputs.push(Output::Cut { epoch })?;
         self.send_markers(epoch, outputs)?;
-        let report = Rc::new(self.alloc, report_of(self.alloc, &self.log, epoch)?)?;
-        mail_report(self.topology.consolidators(), &report, outputs)?;
-        let Node {
+        let report = Rc::new(
+            self.parts.alloc,
+            report_of(self.parts.alloc, &self.log, epoch)?,
+        )?;
+        mail_report(self.parts.topology.consolidators(), &report, outputs)?;
+        let Node { log, parts } = self;
+        let NodeParts {
             alloc,
             topology,
             id,
-            log,
             updates,
             snapshots,
             mut agreement,
-        } = self;
-        let taken = Box::into_inner(snapshots).take(epoch, &log, &topology)?;
-        let snapshots = Box::new(alloc, taken)?;
+        } = Box::into_inner(parts);
+        let snapshots = snapshots.take(epoch, &log, &topology)?;
         agreement.reports.keep(report)?;
-        Ok(Node {
+        let parts = NodeParts {
             alloc,
             topology,
             id,
-            log,
             updates,
             snapshots,
             agreement,
-        })
+        };
+        let parts = parts.boxed()?;
+        Ok(Node { log, parts })
     }
 
     /// A mark of a neighbour is met, in the session that is held with it: the epoch rises to it where
@@ -121,7 +125,7 @@ impl<P: Policy + Copy> Node<P> {
         mark: Epoch,
         outputs: &mut OutputList,
     ) -> Result<Node<P>, NoMemory>
-        ensures agreement { IfOk result (λ node. AgreesAs self.agreement.value node.agreement.value) }
+        ensures agreement { IfOk result (λ node. AgreesAs self.parts.value.agreement node.parts.value.agreement) }
         ensures node { IfOk result (λ node. (policy : P) (net : Net) (u : ℕ) (carried : Carried) (past : Chronicle) (item : Gone) →
             StandsFor policy (P.rules policy) net u self past → has (neighbours net u) nbr ≡ true →
             held_with u nbr past ≡ Some session → mark_of item ≡ Some mark →
@@ -131,10 +135,10 @@ impl<P: Policy + Copy> Node<P> {
             Hands first outputs.new (meet_mark (P.rules policy) net carried u mark (Took nbr u session item ∷ past))) }
     {
         let mut node = self;
-        if node.snapshots.epoch() < mark {
+        if node.parts.snapshots.epoch() < mark {
             node = node.raise(mark, outputs)?;
         }
-        node.snapshots.on_marker(nbr, session, mark);
+        node.parts.snapshots.on_marker(nbr, session, mark);
         Ok(node)
     }
 }

@@ -23,6 +23,7 @@ use crate::agreement::Agreement;
 use crate::answers::Answer;
 use crate::inputs::Input;
 use crate::outputs::{OutputList, Outputs, Stop};
+use crate::parts::NodeParts;
 use crate::reports::Reports;
 use consolidator::Consolidator;
 use incomplete_closure::{Report, Value};
@@ -36,18 +37,12 @@ use trigger_log::NodeLog;
 
 /// One node of a network: its log, its snapshots, its part in the agreement on the value of each epoch, and its
 /// tables. It knows its neighbours by the network, and nothing of its links but what it is told with a packet: whether
-/// an item that it sends arrives is not its affair. It keeps nothing of packets. What it keeps stands behind boxes, so
-/// that a node that moves carries a few words.
+/// an item that it sends arrives is not its affair. It keeps nothing of packets. What it keeps stands behind two boxes,
+/// so that a node that moves carries two words.
 #[derive(Drop)]
 pub struct Node<P: Policy + Copy> {
-    pub(crate) alloc: Global,
-    pub(crate) topology: Rc<Topology>,
-    pub(crate) id: NodeId,
     pub(crate) log: Box<NodeLog<P>>,
-    // How many items the entries of the log list.
-    pub(crate) updates: usize,
-    pub(crate) snapshots: Box<Snapshots>,
-    pub(crate) agreement: Box<Agreement>,
+    pub(crate) parts: Box<NodeParts>,
 }
 
 impl<P: Policy + Copy> Node<P> {
@@ -62,22 +57,21 @@ impl<P: Policy + Copy> Node<P> {
     {
         let log = NodeLog::new(alloc, &topology, id, policy)?;
         let log = Box::new(alloc, log)?;
-        let snapshots = Box::new(alloc, Snapshots::new(alloc))?;
-        let kept = Agreement {
+        let agreement = Agreement {
             reports: Reports::new(alloc),
             consolidator: Consolidator::new(alloc, &topology, id)?,
             tables: TwoTables::new(),
         };
-        let agreement = Box::new(alloc, kept)?;
-        Ok(Node {
+        let parts = NodeParts {
             alloc,
             topology,
             id,
-            log,
             updates: 0,
-            snapshots,
+            snapshots: Snapshots::new(alloc),
             agreement,
-        })
+        };
+        let parts = parts.boxed()?;
+        Ok(Node { log, parts })
     }
 
     /// What the node does with an input. Where it does nothing it answers the reason, and is as it
@@ -96,7 +90,7 @@ impl<P: Policy + Copy> Node<P> {
             StandsFor policy (P.rules policy) net u self past → MayCome net u (input_of input) →
             StopsAt (node_limit (P.rules policy) net u (give (P.rules policy) net carried u past (input_of input))) stop) }
     {
-        let mut outputs = OutputList::new(self.alloc);
+        let mut outputs = OutputList::new(self.parts.alloc);
         let (node, answer) = self.answer(input, &mut outputs)?;
         let due = match answer {
             Answer::Did(due) => due,
@@ -115,7 +109,7 @@ impl<P: Policy + Copy> Node<P> {
         ensures { (policy : P) (net : Net) (u : ℕ) (past : Chronicle) →
             StandsFor policy (P.rules policy) net u self.now past → result ≡ u }
     {
-        self.id
+        self.parts.id
     }
 
     /// The log of the node.
@@ -132,7 +126,7 @@ impl<P: Policy + Copy> Node<P> {
         ensures { (policy : P) (net : Net) (u : ℕ) (past : Chronicle) →
             StandsFor policy (P.rules policy) net u self.now past → HasSnapshots net u past result.now }
     {
-        &self.snapshots
+        &self.parts.snapshots
     }
 
     /// What the node reported of its cut of an epoch. None exactly where it has no such cut. Takes no memory.
@@ -142,7 +136,7 @@ impl<P: Policy + Copy> Node<P> {
             option_map (λ report. report_seen report.now.value) result
             ≡ option_map (report_of (P.rules policy) net u epoch) (cut u epoch past) }
     {
-        self.agreement.reports.of(epoch)
+        self.parts.agreement.reports.of(epoch)
     }
 
     /// A crash of the node: the reports that it holds as a consolidator and its tallies are lost, all else stays. Takes
@@ -152,7 +146,7 @@ impl<P: Policy + Copy> Node<P> {
             StandsFor policy (P.rules policy) net u self.old past →
             StandsFor policy (P.rules policy) net u self.new (Crash u ∷ past) }
     {
-        self.agreement.forget();
+        self.parts.agreement.forget();
     }
 
     /// The decision of the epoch, where the node knows it. Takes no memory.
@@ -161,7 +155,7 @@ impl<P: Policy + Copy> Node<P> {
             StandsFor policy (P.rules policy) net u self.now past →
             option_copied result ≡ decision u epoch past }
     {
-        self.agreement.consolidator.decision(epoch)
+        self.parts.agreement.consolidator.decision(epoch)
     }
 
     /// The tables that the node published and keeps.
@@ -170,6 +164,6 @@ impl<P: Policy + Copy> Node<P> {
             StandsFor policy (P.rules policy) net u self.now past →
             TablesStandFor result.now (views (P.rules policy) net u past) }
     {
-        &self.agreement.tables
+        &self.parts.agreement.tables
     }
 }

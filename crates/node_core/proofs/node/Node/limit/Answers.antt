@@ -1,5 +1,6 @@
-use Rattle.std.proofs.Common.{◌∙◌}
+use Rattle.std.proofs.Common.{◌∙◌, ap}
 use Rattle.chronicle.specs.Logs.{log_of}
+use Rattle.node_core.specs.declared.parts.NodeParts.{NodeParts}
 use Rattle.node_core.proofs.Counting.{epochs_above, entries_above, updates_above, none_above}
 use Rattle.node_core.proofs.node.Node.limit.Goals as goal
 
@@ -15,16 +16,16 @@ returns-then-len-gt-MOST_ENTRIES-clause-some g c policy net u past follows =
     entries_above (g.P.Policy.rules policy) net u past c.number.result (c.number.ensures ∙ ((rw c.deref.ensures at c.epoch.ensures) net u keeps.acts keeps.snapshots ∙ keeps.alike.same_epoch))
     follows.small c.len.result ((rw c.deref-2.ensures at c.len.ensures) policy net u (log_of u past) keeps.log) c.if-number-gt-MOST_EPOCHS.false c.if-len-gt-MOST_ENTRIES.true
 
-pub returns-then-self-clause-some : goal.returns-then-self-clause-some
-returns-then-self-clause-some g c policy net u past follows =
+pub returns-then-deref-clause-some : goal.returns-then-deref-clause-some
+returns-then-deref-clause-some g c policy net u past follows =
     let keeps = follows.keeps in
     updates_above (g.P.Policy.rules policy) net u past c.number.result (c.number.ensures ∙ ((rw c.deref.ensures at c.epoch.ensures) net u keeps.acts keeps.snapshots ∙ keeps.alike.same_epoch))
     follows.small c.len.result ((rw c.deref-2.ensures at c.len.ensures) policy net u (log_of u past) keeps.log) c.if-number-gt-MOST_EPOCHS.false
-    c.args.self.now.updates keeps.listed c.if-len-gt-MOST_ENTRIES.false c.if-self.true
+    c.deref-3.result.now.updates (ap (λ (k : NodeParts). k.updates) c.deref-3.ensures ∙ keeps.listed) c.if-len-gt-MOST_ENTRIES.false c.if-deref.true
 
 pub returns-clause-none : goal.returns-clause-none
 returns-clause-none g c policy net u past follows =
     let keeps = follows.keeps in
     none_above (g.P.Policy.rules policy) net u past c.number.result (c.number.ensures ∙ ((rw c.deref.ensures at c.epoch.ensures) net u keeps.acts keeps.snapshots ∙ keeps.alike.same_epoch))
     follows.small c.len.result ((rw c.deref-2.ensures at c.len.ensures) policy net u (log_of u past) keeps.log) c.if-number-gt-MOST_EPOCHS.false
-    c.args.self.now.updates keeps.listed c.if-len-gt-MOST_ENTRIES.false c.if-self.false
+    c.deref-3.result.now.updates (ap (λ (k : NodeParts). k.updates) c.deref-3.ensures ∙ keeps.listed) c.if-len-gt-MOST_ENTRIES.false c.if-deref.false

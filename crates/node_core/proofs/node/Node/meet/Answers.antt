@@ -1,10 +1,12 @@
-use Rattle.std.proofs.Common.{◌∷◌, refl, ◌∙◌}
+use Rattle.std.proofs.Common.{◌∷◌, refl, ap, ◌∙◌}
 use Rattle.chronicle.specs.Facts.{Took}
 use Rattle.chronicle.specs.Logs.{log_of}
 use Rattle.chronicle.specs.Epochs.{epoch}
+use Rattle.node_core.specs.declared.parts.NodeParts.{NodeParts}
 use Rattle.node_core.specs.Outputs.{Hands}
 use Rattle.node_core.proofs.Raising.{met_above, met_below, meets_above, meets_below, is_above, is_below, hands_took}
 use Rattle.node_core.proofs.node.Node.meet.Goals.{then-lt+in_ok-node, else-lt}
+use Rattle.node_core.proofs.Unboxed.{but_snapshots}
 use Rattle.node_core.proofs.node.Node.meet.Goals as goal
 
 pub returns-clause-node : goal.returns-clause-node
@@ -15,13 +17,13 @@ returns-clause-node g c policy net u carried past item was near holds is =
     elim c.if-lt.branch [
       | then-lt+in_ok-node w ↦
           met_above policy rules net u carried past c.args.nbr c.args.session e item c.args.self c.if-lt.node _ was.own was.keeps is
-          (rw c.deref_mut.ensures.value at c.on_marker.ensures net u) (record { topology = refl; id = refl; log = refl; updates = refl; agreement = record { part = refl; tables = refl } }) refl
+          (rw c.deref_mut.ensures.value at c.on_marker.ensures net u) (but_snapshots c.if-lt.node _ c.deref_mut.ensures.value refl refl) (ap (λ (k : NodeParts). k.agreement.reports) c.deref_mut.ensures.value)
           w.in_ok-node.node w.node-is (is_above c.epoch.result e (epoch u past) c.lt.result c.lt.ensures w.if-lt.true test) w.in_ok-node.ensures.others
           (λ acts stands above. w.in_ok-node.ensures.snapshots policy net u (log_of u past) acts was.keeps.same_net was.keeps.log stands above)
           (w.in_ok-node.ensures.reports policy net u (log_of u past) was.keeps.log)
       | else-lt w ↦
           met_below policy rules net u carried past c.args.nbr c.args.session e item c.args.self c.if-lt.node _ was.own was.keeps is
-          (rw c.deref_mut.ensures.value at c.on_marker.ensures net u) (record { topology = refl; id = refl; log = refl; updates = refl; agreement = record { part = refl; tables = refl } }) refl
+          (rw c.deref_mut.ensures.value at c.on_marker.ensures net u) (but_snapshots c.if-lt.node _ c.deref_mut.ensures.value refl refl) (ap (λ (k : NodeParts). k.agreement.reports) c.deref_mut.ensures.value)
           w.node-is (is_below c.epoch.result e (epoch u past) c.lt.result c.lt.ensures w.if-lt.false test)
     ]
 

@@ -1,7 +1,7 @@
 use Rattle.std.proofs.Common.{sym, ◌∙◌, ap, subst, option_map}
 use Rattle.std.specs.Rc.{rc_value}
 use Rattle.stable_table.specs.TwoTables.{StandsFor as TablesStandFor}
-use Rattle.node_core.specs.declared.agreement.Agreement.{Agreement}
+use Rattle.node_core.specs.declared.parts.NodeParts.{NodeParts}
 use Rattle.node_core.specs.Views.{views}
 use Rattle.node_core.proofs.Sighting.{path_at, no_path, path_is}
 use Rattle.node_core.proofs.node.Node.newest_path.Goals as goal
@@ -9,13 +9,13 @@ use Rattle.node_core.proofs.node.Node.newest_path.Goals as goal
 pub returns-in_err-newest : goal.returns-in_err-newest
 returns-in_err-newest g c policy net u past was =
     let rules = g.P.Policy.rules policy in
-    let stands = subst (λ (k : Agreement). TablesStandFor k.tables (views rules net u past)) (sym c.deref.ensures) was.agrees.tables in
+    let stands = subst (λ (k : NodeParts). TablesStandFor k.agreement.tables (views rules net u past)) (sym c.deref.ensures) was.agrees.tables in
     ap (option_map (λ nodes. nodes.now)) c.from_residual.ensures
     ∙ no_path rules net u past (sym (ap (option_map (λ table. rc_value table.now)) c.in_err-newest.was) ∙ c.newest.ensures (views rules net u past) stands) c.args.prefix
 
 pub returns : goal.returns
 returns g c policy net u past was =
     let rules = g.P.Policy.rules policy in
-    let stands = subst (λ (k : Agreement). TablesStandFor k.tables (views rules net u past)) (sym c.deref.ensures) was.agrees.tables in
+    let stands = subst (λ (k : NodeParts). TablesStandFor k.agreement.tables (views rules net u past)) (sym c.deref.ensures) was.agrees.tables in
     c.path.ensures ∙ (ap (path_at c.args.prefix) c.deref-2.ensures
     ∙ path_is rules net u past (rc_value c.in_ok-newest.field-0.now) (sym (ap (option_map (λ table. rc_value table.now)) c.in_ok-newest.was) ∙ c.newest.ensures (views rules net u past) stands) c.args.prefix)

@@ -12,8 +12,8 @@ returns-clause-node g c = λ policy net u carried past was may.
     let rules = g.P.Policy.rules policy in
     record {
       keeps = c.in_ok-node.ensures.node policy net u carried past was may;
-      agrees = agrees_as rules net u c.args.self.agreement.value c.in_ok-node.node.agreement.value (acted rules net carried u past c.args.act) c.in_ok-node.ensures.agreement
-          (acted_agrees rules net u c.args.self.agreement.value carried past c.args.act may was.agrees);
+      agrees = agrees_as rules net u c.args.self.parts.value.agreement c.in_ok-node.node.parts.value.agreement (acted rules net carried u past c.args.act) c.in_ok-node.ensures.agreement
+          (acted_agrees rules net u c.args.self.parts.value.agreement carried past c.args.act may was.agrees);
       small = acted_small rules net u carried past c.args.act may (values_small rules net u past was.within);
     }
 

@@ -5,19 +5,21 @@ use Rattle.incomplete_closure.specs.Seen.{report_seen}
 use Rattle.chronicle.specs.Logs.{log_of}
 use Rattle.chronicle.specs.Steps.{markers, reporting}
 use Rattle.node_core.specs.declared.outputs.Output.TheVariants as given
+use Rattle.node_core.specs.declared.parts.NodeParts.{NodeParts}
 use Rattle.node_core.specs.Answering.{posts}
 use Rattle.node_core.specs.Outputs.{Cut, Send, output_of}
 use Rattle.node_core.proofs.Handing.{one_more, three_lists}
 use Rattle.node_core.proofs.Raising.{taken_at, risen_hands, mailed_reports}
+use Rattle.node_core.proofs.Unboxed.{net_of}
 use Rattle.node_core.proofs.node.Node.raise.Goals as goal
 
 pub returns-clause-snapshots : goal.returns-clause-snapshots
 returns-clause-snapshots g c policy net u h acts same log snapshots above =
     let e = c.args.epoch in
-    subst (λ k. SnapshotsStandFor net u k (Takes e h ∷ acts)) (sym c.in_ok-snapshots.ensures.ok)
-    (taken_at policy (g.P.Policy.rules policy) c.deref-4.result.now net u c.args.self.log.value h c.into_inner.result c.in_ok-taken.taken acts e (c.deref-4.ensures ∙ same)
-    (λ stands log above. (rw c.deref-3.ensures at c.in_ok-taken.ensures) policy u h acts stands log above)
-    (subst (λ k. SnapshotsStandFor net u k acts) (sym c.into_inner.ensures) snapshots) log above)
+    subst (λ (k : NodeParts). SnapshotsStandFor net u k.snapshots (Takes e h ∷ acts)) (sym c.in_ok-parts.ensures)
+    (taken_at policy (g.P.Policy.rules policy) c.deref-7.result.now net u c.args.self.log.value h c.into_inner-topology.result.snapshots c.in_ok-snapshots.snapshots acts e (net_of c.deref-7.ensures c.into_inner-topology.ensures same)
+    (λ stands log above. (rw c.deref-6.ensures at c.in_ok-snapshots.ensures) policy u h acts stands log above)
+    (subst (λ (k : NodeParts). SnapshotsStandFor net u k.snapshots acts) (sym c.into_inner-topology.ensures) snapshots) log above)
 
 pub returns-clause-outputs : goal.returns-clause-outputs
 returns-clause-outputs g c policy net u carried first past same_net same_id log hands =
@@ -28,11 +30,11 @@ returns-clause-outputs g c policy net u carried first past same_net same_id log 
     let mid = c.push.new.self in
     let marked = c.send_markers.new.outputs in
     let new = c.mail_report.new.outputs in
-    let reported = ap report_seen c.in_ok-report.ensures.ok ∙ (rw c.deref.ensures at c.in_ok-report_of.ensures) policy net u h log in
+    let reported = ap report_seen c.in_ok-report.ensures.ok ∙ (rw c.deref-3.ensures at c.in_ok-report_of.ensures) policy net u h log in
     risen_hands rules net u carried first past e old new
     (three_lists old mid marked new (Cut e) (map Send (markers net u e h)) (posts (reporting rules net u e h))
     (one_more old mid (given.Cut e) c.in_ok-push.ensures)
     (c.in_ok-send_markers.ensures policy net u h same_net same_id log)
     (c.in_ok-mail_report.ensures
-    ∙ ap (λ l. map output_of marked ++ l) (mailed_reports rules c.deref-2.result.now net u e h c.consolidators.result.now (report_seen c.in_ok-report.report.value) c.consolidators.ensures (c.deref-2.ensures ∙ same_net) reported)))
+    ∙ ap (λ l. map output_of marked ++ l) (mailed_reports rules c.deref-5.result.now net u e h c.consolidators.result.now (report_seen c.in_ok-report.report.value) c.consolidators.ensures (net_of c.deref-5.ensures c.deref-4.ensures same_net) reported)))
     hands

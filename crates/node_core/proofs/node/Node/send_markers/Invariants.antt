@@ -8,5 +8,5 @@ use Rattle.node_core.proofs.Raising.{marker_to}
 use Rattle.node_core.proofs.node.Node.send_markers.Given as goal
 
 abbrev pub invariant-loop-nbr : goal.invariant-loop-nbr
-invariant-loop-nbr g l = (policy : _) (net : Net) (u : ℕ) (h : List Entry) → l.self.topology.value ≡ net → l.self.id ≡ u → LogStandsFor policy (g.P.Policy.rules policy) net u l.self.log.value h
+invariant-loop-nbr g l = (policy : _) (net : Net) (u : ℕ) (h : List Entry) → l.self.parts.value.topology.value ≡ net → l.self.parts.value.id ≡ u → LogStandsFor policy (g.P.Policy.rules policy) net u l.self.log.value h
     → map output_of l.outputs ≡ map output_of l.fn.outputs ++ map Send (flat_map (marker_to h l.fn.epoch) (take l.nbr-index l.nbr-items))

@@ -5,8 +5,9 @@ use Rattle.consolidator.specs.Standing.{StandsFor as PartStandsFor}
 use Rattle.marker_snapshot.specs.Cuts.{cut_of}
 use Rattle.chronicle.specs.Control.{control}
 use Rattle.chronicle.specs.Logs.{log_of}
-use Rattle.node_core.specs.declared.agreement.Agreement.{Agreement}
+use Rattle.node_core.specs.declared.parts.NodeParts.{NodeParts}
 use Rattle.node_core.proofs.Concluding.{no_cut, no_decision, table_is}
+use Rattle.node_core.proofs.Unboxed.{net_of}
 use Rattle.node_core.proofs.node.Node.table_of.Goals as goal
 
 pub returns-in_default : goal.returns-in_default
@@ -17,14 +18,14 @@ pub returns-in_default-decision : goal.returns-in_default-decision
 returns-in_default-decision g c = λ policy net u now follows.
     no_decision u c.args.epoch now
     (sym (ap option_copied c.in_default-decision.is)
-    ∙ c.decision.ensures net (control now) u (subst (λ (k : Agreement). PartStandsFor net k.consolidator (control now) u) (sym c.deref-2.ensures) follows.agrees.part))
+    ∙ c.decision.ensures net (control now) u (subst (λ (k : NodeParts). PartStandsFor net k.agreement.consolidator (control now) u) (sym c.deref-2.ensures) follows.agrees.part))
 
 pub returns : goal.returns
 returns g c = λ policy net u now follows.
-    table_is policy c.policy-policy.result g.P.Policy.rules c.deref-4.result.now net u c.args.epoch c.in-Some.entries c.args.self.now.log.value now c.in-Some-decision.value.now c.cut_of.result
+    table_is policy c.policy-policy.result g.P.Policy.rules c.deref-6.result.now net u c.args.epoch c.in-Some.entries c.args.self.now.log.value now c.in-Some-decision.value.now c.cut_of.result
     (cut_of c.args.epoch follows.keeps.acts) c.in_ok-table.table
-    (c.policy-policy.ensures policy net u (reads (log_of u now)) ((rw c.deref-3.ensures at c.live.ensures) policy net u (log_of u now) follows.keeps.log)) (c.deref-4.ensures ∙ follows.keeps.same_net)
+    (c.policy-policy.ensures policy net u (reads (log_of u now)) ((rw c.deref-3.ensures at c.live.ensures) policy net u (log_of u now) follows.keeps.log)) (net_of c.deref-6.ensures c.deref-5.ensures follows.keeps.same_net)
     follows.keeps.log c.in-Some.is ((rw c.deref.ensures at c.cut_of.ensures) net u follows.keeps.acts follows.keeps.snapshots) (follows.keeps.alike.same_cut c.args.epoch)
-    (sym (c.decision.ensures net (control now) u (subst (λ (k : Agreement). PartStandsFor net k.consolidator (control now) u) (sym c.deref-2.ensures) follows.agrees.part))
+    (sym (c.decision.ensures net (control now) u (subst (λ (k : NodeParts). PartStandsFor net k.agreement.consolidator (control now) u) (sym c.deref-2.ensures) follows.agrees.part))
     ∙ ap option_copied c.in-Some-decision.is)
-    (λ newer entries stands count. (rw c.deref-5.ensures at c.in_ok-table.ensures) u newer entries stands count)
+    (λ newer entries stands count. (rw c.deref-7.ensures at c.in_ok-table.ensures) u newer entries stands count)

@@ -1,4 +1,4 @@
-use Rattle.std.proofs.Common.{◌≡◌, [], ◌∷◌, Some, refl, sym, subst}
+use Rattle.std.proofs.Common.{◌≡◌, [], ◌∷◌, Some, refl, sym, ap, subst}
 use Rattle.std.proofs.lemmas.Result.{IfOk-weaker, on_ok_weaker}
 use Rattle.path_vector.specs.History.{held}
 use Rattle.trigger_log.specs.Entries.{reads}
@@ -6,10 +6,12 @@ use Rattle.trigger_log.specs.Going.{News, Marker, Hello}
 use Rattle.chronicle.specs.Facts.{Took}
 use Rattle.chronicle.specs.Logs.{log_of}
 use Rattle.chronicle.specs.Steps.{meet_mark}
+use Rattle.node_core.specs.declared.parts.NodeParts.{NodeParts}
 use Rattle.node_core.specs.Keeping.{Keeps}
 use Rattle.node_core.specs.Outputs.{Hands}
 use Rattle.node_core.proofs.Raising.{hands_took, log_meet}
 use Rattle.node_core.proofs.Received.{marker_taken, hello_taken, news_taken, may_enter, heard_keeps}
+use Rattle.node_core.proofs.Unboxed.{but_snapshots}
 use Rattle.node_core.proofs.node.Node.take.Goals as goal
 
 pub returns-in-Update-clause-node : goal.returns-in-Update-clause-node
@@ -24,7 +26,7 @@ returns-in-Update-clause-node g c = IfOk-weaker c.enter.result _ _
     let path = c.in-Update.path in
     news_taken rules net u carried past v s (Keeps policy rules net u node) c.args.item p n t path c.in-Update.is
     (h policy net u carried (Took v u s (News n (record { prefix = p; triggers = t ∷ []; path = path })) ∷ past)
-    (heard_keeps policy rules net u past v s c.args.item p n t path c.in-Update.is may c.args.self _ was.own was.keeps (record { topology = refl; id = refl; log = refl; updates = refl; agreement = record { part = refl; tables = refl } }) refl
+    (heard_keeps policy rules net u past v s c.args.item p n t path c.in-Update.is may c.args.self _ was.own was.keeps (but_snapshots c.args.self _ c.deref_mut.ensures.value refl refl) (ap (λ (k : NodeParts). k.agreement.reports) c.deref_mut.ensures.value)
     (rw c.deref_mut.ensures.value at c.on_update.ensures net u))
     (may_enter policy rules net u past v s c.args.item p n t path c.in-Update.is may)))
     c.enter.ensures.node
@@ -41,7 +43,7 @@ returns-in-Update-clause-outputs g c = on_ok_weaker c.enter.result
     let path = c.in-Update.path in
     news_taken rules net u carried past v s (Hands first c.enter.new.outputs) c.args.item p n t path c.in-Update.is
     (h policy net u carried (Took v u s (News n (record { prefix = p; triggers = t ∷ []; path = path })) ∷ past) first
-    (heard_keeps policy rules net u past v s c.args.item p n t path c.in-Update.is may c.args.self _ was.own was.keeps (record { topology = refl; id = refl; log = refl; updates = refl; agreement = record { part = refl; tables = refl } }) refl
+    (heard_keeps policy rules net u past v s c.args.item p n t path c.in-Update.is may c.args.self _ was.own was.keeps (but_snapshots c.args.self _ c.deref_mut.ensures.value refl refl) (ap (λ (k : NodeParts). k.agreement.reports) c.deref_mut.ensures.value)
     (rw c.deref_mut.ensures.value at c.on_update.ensures net u))
     (may_enter policy rules net u past v s c.args.item p n t path c.in-Update.is may)
     (hands_took first past c.args.outputs.now v u s (News n (record { prefix = p; triggers = t ∷ []; path = path })) hands)))

@@ -1,0 +1,30 @@
+//! What a node keeps beside its log.
+ghost use Rattle.std.specs.Prelude.{◌≡◌, IfOk};
+
+use crate::agreement::Agreement;
+use marker_snapshot::Snapshots;
+use std::alloc::Global;
+use std::rc::Rc;
+use topology::{NoMemory, NodeId, Topology};
+
+/// All that a node keeps beside its log.
+#[derive(Drop)]
+pub struct NodeParts {
+    pub(crate) alloc: Global,
+    pub(crate) topology: Rc<Topology>,
+    pub(crate) id: NodeId,
+    // How many items the entries of the log list.
+    pub(crate) updates: usize,
+    pub(crate) snapshots: Snapshots,
+    pub(crate) agreement: Agreement,
+}
+
+impl NodeParts {
+    /// The same, behind a box.
+    pub(crate) fn boxed(self) -> Result<Box<NodeParts>, NoMemory>
+        ensures { IfOk result (λ parts. parts.value ≡ self) }
+    {
+        let alloc = self.alloc;
+        Ok(Box::new(alloc, self)?)
+    }
+}
