@@ -33,6 +33,10 @@ use std::alloc::Global;
 use std::slice;
 use topology::{NoMemory, NodeId, PrefixId, Scope, SentItems, Session, Topology, Trigger};
 
+// The room that a log is made with: as many entries as a node may make, so that a log that grows is not copied. Memory
+// that is not touched costs nothing.
+const ROOM: usize = 2048;
+
 /// What a node entered, the oldest entry first, and what it needs to make the next one: its routes,
 /// its sessions, the number of its entries and the counter of its next trigger.
 #[derive(Drop)]
@@ -78,7 +82,7 @@ impl<P: Policy + Copy> NodeLog<P> {
             node,
             routes: RouteState::new(alloc, topology, node, policy)?,
             sessions: Sessions::new(alloc, topology.neighbours(node))?,
-            entries: Vec::new(alloc),
+            entries: Vec::with_capacity(alloc, ROOM)?,
             len: 0,
             next_count: 1,
         })
@@ -449,7 +453,9 @@ impl<P: Policy + Copy> NodeLog<P> {
     {
         self.len = next_number(self.len)?;
         self.next_count = counted(self.next_count, &entry.cause)?;
-        self.entries.push(entry)?;
+        // Room first, and then nothing can fail: a push that may fail would copy the entry, to give it back.
+        self.entries.reserve(1)?;
+        self.entries.push_reserved(entry);
         Ok(())
     }
 

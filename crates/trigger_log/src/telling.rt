@@ -138,12 +138,15 @@ fn say(
 {
     let seq = next_number(count)?;
     let path = copy(path)?;
-    said.sent.push(Sent {
+    // Room first, as where an entry is kept.
+    said.sent.reserve(1)?;
+    said.sent.push_reserved(Sent {
         to: listener.nbr,
         session: listener.session,
         seq,
-    })?;
-    said.outgoing.push(Outgoing {
+    });
+    said.outgoing.reserve(1)?;
+    said.outgoing.push_reserved(Outgoing {
         to: listener.nbr,
         session: listener.session,
         item: Item::Update {
@@ -152,7 +155,7 @@ fn say(
             trigger: *trigger,
             path,
         },
-    })?;
+    });
     Ok(seq)
 }
 

@@ -18,6 +18,6 @@ returns g c =
       near = c.in_ok-new-2.ensures.near ∙ c.neighbours.ensures.neighbours;
       count = refl;
       next = refl;
-      shown = subst (AllZip (Shows rules net u) []) (sym c.new-3.ensures.items) tt;
+      shown = subst (AllZip (Shows rules net u) []) (sym c.in_ok-with_capacity.ensures.items) tt;
       marks = subst (AreRows rules net u []) (sym (c.in_ok-new-2.ensures.rows ∙ ap (map first) c.neighbours.ensures.neighbours)) (rows_first rules net u);
     }
