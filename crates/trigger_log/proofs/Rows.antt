@@ -1,6 +1,6 @@
 -- Rows of marks that are kept as one list.
 use Rattle.std.proofs.Common.{◌≡◌, true, ℕ, zero, suc, ◌+◌, ◌-◌, ◌^◌, ◌<◌, ◌≤◌, List, [], ◌∷◌, ◌++◌, length, length-append, append_assoc, get_or, set, slice_get, map, take, drop, refl, sym, ap, ◌∙◌, subst, arith, Some, None}
-use Rattle.std.proofs.lemmas.List.{take_more}
+use Rattle.std.proofs.lemmas.List.{take_more, same_from_push}
 use Rattle.std.proofs.lemmas.Option.{same_Some, slice_get_read, slice_get_within}
 use Rattle.std.proofs.Math.Seq.{take-append_seam, drop-append_seam}
 use Rattle.std.specs.List.{AllByRecursion, insert}
@@ -229,6 +229,14 @@ module _ (rows : List Marks) (marks : Marks) (places : List ℕ) (has : HasRows 
 
     pub put_is : (older : Marks) (last mark : SessionMark) → slice_get rows place ≡ Some (older ++ last ∷ []) → cut 0 places (set marks at mark) ≡ set rows place (older ++ mark ∷ [])
     put_is older last mark is = cut_is (set rows place (older ++ mark ∷ [])) (set marks at mark) places (puts older last mark is)
+
+    -- the last mark of a row is changed
+    pub changed_is : (change : SessionMark → SessionMark) (older : Marks) (last mark : SessionMark) → slice_get rows place ≡ Some (older ++ last ∷ []) → mark ≡ get_or marks at mark
+        → cut 0 places (set marks at (change mark)) ≡ set rows place (older ++ change last ∷ [])
+    changed_is change older last mark is mark_read =
+        let end = newest_ends (older ++ last ∷ []) mark is mark_read in
+        let same : last ≡ mark = (same_from_push older end.0 last mark end.1).1 in
+        put_is older last (change mark) is ∙ ap (λ m. set rows place (older ++ change m ∷ [])) (sym same)
 
     pub put_has : (mark : SessionMark) → place < length rows → HasRows (cut 0 places (set marks at mark)) (set marks at mark) places
     put_has mark inside =

@@ -1,21 +1,24 @@
 -- What an entry changes in the marks of sessions.
-use Rattle.std.proofs.Common.{ℕ, suc, ◌<◌, true, false, cond, ◌==◌, ◌&&◌, Option, Some, None, List, [], ◌∷◌, ◌++◌, ◌≡◌, refl, sym, ◌∙◌, ap, subst, arith, length, length-append, set, slice_get}
+use Rattle.std.proofs.Common.{ℕ, suc, ◌+◌, ◌<◌, true, false, cond, ◌==◌, ◌&&◌, Option, Some, None, List, [], ◌∷◌, ◌++◌, ◌≡◌, refl, sym, ◌∙◌, ap, subst, arith, length, length-append, set, slice_get}
 use Rattle.std.specs.List.{AllZip}
 use Rattle.std.proofs.lemmas.Bool.Decides.{nat_tests}
 use Rattle.std.proofs.lemmas.List.{append-nil}
 use Rattle.std.proofs.lemmas.Option.{same_Some}
+use Rattle.std.proofs.lemmas.Slice.Zip.{AllZip-long}
 use Rattle.topology.specs.declared.names.Trigger.{Trigger}
 use Rattle.topology.specs.declared.names.Scope.{Scope}
 use Rattle.topology.specs.declared.names.Scope.TheVariants.{One, All}
+use Rattle.topology.specs.Lists.{has}
 use Rattle.topology.specs.Net.{Net, IsValid, neighbours}
 use Rattle.topology.proofs.Neighbours.{differ-neighbours}
+use Rattle.topology.proofs.Places.{has_placed}
 use Rattle.path_vector.specs.declared.causes.Cause.{Cause}
 use Rattle.path_vector.specs.declared.causes.Cause.TheVariants.{Originate, Withdraw, Recv, Down, Up, Ready, Prefer}
 use Rattle.path_vector.specs.Rules.{Rules}
 use Rattle.path_vector.specs.History.{last, opened, opened_by}
 use Rattle.path_vector.specs.Kept.{names}
 use Rattle.trigger_log.specs.declared.sessions.SessionMark.{SessionMark}
-use Rattle.trigger_log.specs.Entries.{Entry, reads, entry, inbox, received_by, closes}
+use Rattle.trigger_log.specs.Entries.{Entry, reads, entry, inbox, received_by, closes, is_local}
 use Rattle.trigger_log.specs.Making.{making}
 use Rattle.trigger_log.specs.Sending.{sent_count}
 use Rattle.trigger_log.specs.Fits.{CauseFits, Fits}
@@ -27,6 +30,7 @@ use Rattle.trigger_log.proofs.Closings.{closing_above, closing_other, count_abov
 use Rattle.trigger_log.proofs.Fresh.{ever_above, fresh_inbox}
 use Rattle.trigger_log.proofs.Silence.{opened_above}
 use Rattle.trigger_log.proofs.Newest.{ends_ever}
+use Rattle.trigger_log.proofs.Rows.{last_of}
 use Rattle.trigger_log.proofs.Zips.{zip_push, zip_end, zip_each, zip_map, zip_at, zip_set}
 
 -- ---- sessions that an entry leaves
@@ -123,22 +127,23 @@ module _ (trigger : Trigger) (scope : Scope) (h : List Entry) (w n : ℕ) (mark 
   abbrev after : Cause → List Entry
   after cause = entry (trigger ∷ []) scope cause ∷ h
 
-  recv_says : (v t seq x : ℕ) (path : Option (List ℕ)) → Fits (after (Recv v t seq path)) → v ≡ w → x ≡ suc mark.received → Says h w newest n mark
-      → Says (after (Recv v t seq path)) w newest n (record mark { received = x })
-  recv_says v t seq x path f e more was = record {
+  abbrev heard : SessionMark
+  heard = record mark { received = suc mark.received }
+
+  recv_says : (v t seq : ℕ) (path : Option (List ℕ)) → Fits (after (Recv v t seq path)) → v ≡ w → Says h w newest n mark → Says (after (Recv v t seq path)) w newest n heard
+  recv_says v t seq path f e was = record {
     nbr = was.nbr;
     session = was.session;
     is_opened = was.is_opened;
     sent = was.sent;
-    received = more ∙ (ap suc was.received ∙ sym (received_one (trigger ∷ []) scope h v t seq w path f.0 e));
+    received = ap suc was.received ∙ sym (received_one (trigger ∷ []) scope h v t seq w path f.0 e);
     down = was.down;
   }
 
-  pub turned_recv : (v t seq x : ℕ) (path : Option (List ℕ)) (cause : Cause) → cause ≡ Recv v t seq path → Fits (after cause) → names cause ≡ Some w → x ≡ suc mark.received → Says h w newest n mark
-      → Says (after cause) w newest n (record mark { received = x })
-  turned_recv v t seq x path cause is f by more was =
-      subst (λ c. Fits (after c) → names c ≡ Some w → Says (after c) w newest n (record mark { received = x })) (sym is)
-      (λ f by. recv_says v t seq x path f (named_is v w by) more was) f by
+  pub turned_recv : (v t seq : ℕ) (path : Option (List ℕ)) (cause : Cause) → cause ≡ Recv v t seq path → Fits (after cause) → names cause ≡ Some w → Says h w newest n mark → Says (after cause) w newest n heard
+  turned_recv v t seq path cause is f by was =
+      subst (λ c. Fits (after c) → names c ≡ Some w → Says (after c) w newest n heard) (sym is)
+      (λ f by. recv_says v t seq path f (named_is v w by) was) f by
 
   down_says : (v t : ℕ) → Fits (after (Down v t)) → v ≡ w → Says h w newest n mark → Says (after (Down v t)) w newest n (record mark { down = Some trigger })
   down_says v t f e was =
@@ -183,6 +188,20 @@ module _ (trigger : Trigger) (scope : Scope) (h : List Entry) (w n : ℕ) (mark 
   turned_ready v t cause is f by was =
       subst (λ c. Fits (after c) → names c ≡ Some w → Says (after c) w newest n (record mark { opened = true })) (sym is)
       (λ f by. ready_says v t f (named_is v w by) was) f by
+
+-- an entry that came of no update
+pub made_here : (cause : Cause) → ((v t seq : ℕ) (path : Option (List ℕ)) → cause ≡ Recv v t seq path → ⊥) → is_local cause ≡ true
+made_here Originate other = refl
+made_here Withdraw other = refl
+made_here (Recv v t seq path) other = absurd (other v t seq path refl)
+made_here (Down v t) other = refl
+made_here (Up v t) other = refl
+made_here (Ready v t) other = refl
+made_here (Prefer v x) other = refl
+
+-- a neighbour that the entry names has a place
+pub no_stranger : (net : Net) (u : ℕ) (cause : Cause) (v i : ℕ) → ((w : ℕ) → names cause ≡ Some w → has (neighbours net u) w ≡ false) → names cause ≡ Some v → slice_get (neighbours net u) i ≡ Some v → ⊥
+no_stranger net u cause v i far by at = cc (far v by, has_placed (neighbours net u) i v at)
 
 -- ---- rows
 
@@ -302,6 +321,17 @@ module _ (rules : Rules) (net : Net) (u : ℕ) (h : List Entry) (rows : List (Li
   not_up (Prefer v x) w other = refl
   not_up (Up v t) w other = absurd (other v t refl)
 
+  -- the last mark of the row of v is another
+  marked_end : (k : Entry) (v i : ℕ) (older : List SessionMark) (mark turned : SessionMark) (new : List (List SessionMark)) → Fits (k ∷ h) → ((v s : ℕ) → k.read.cause ≡ Up v s → ⊥) → names k.read.cause ≡ Some v
+      → slice_get (neighbours net u) i ≡ Some v → slice_get rows i ≡ Some (older ++ mark ∷ [])
+      → ((n : ℕ) → Says h v (last (reads h) v) n mark → Says (k ∷ h) v (last (reads h) v) n turned) → new ≡ set rows i (older ++ turned ∷ []) → AreAllMarked (making rules net u h k) new
+  marked_end k v i older mark turned new fits other by at here turn is =
+      let found = row_of v i at in
+      let same : found.0 ≡ older ++ mark ∷ [] = same_Some found.0 (older ++ mark ∷ []) (sym found.1 ∙ here) in
+      subst (AllZip (AreMarked (making rules net u h k)) (neighbours net u)) (sym is)
+      (set_row k fits v i (older ++ turned ∷ []) by at
+      (turned_row rules net u h k fits v older mark turned (not_up k.read.cause v other) (subst (AreMarks rules net u h v) same found.2) (turn (sent_count rules net u h v (last (reads h) v)))))
+
   pub marked_turned : (k : Entry) (v i : ℕ) (mark turned : SessionMark) (new : List (List SessionMark)) → Fits (k ∷ h) → ((v s : ℕ) → k.read.cause ≡ Up v s → ⊥) → names k.read.cause ≡ Some v
       → slice_get (neighbours net u) i ≡ Some v → ((row : List SessionMark) → slice_get rows i ≡ Some row → EndsWith row mark)
       → ((n : ℕ) → Says h v (last (reads h) v) n mark → Says (k ∷ h) v (last (reads h) v) n turned)
@@ -310,6 +340,24 @@ module _ (rules : Rules) (net : Net) (u : ℕ) (h : List Entry) (rows : List (Li
   marked_turned k v i mark turned new fits other by at ends turn put =
       let found = row_of v i at in
       let end = ends found.0 found.1 in
-      subst (AllZip (AreMarked (making rules net u h k)) (neighbours net u)) (sym (put end.0 mark (found.1 ∙ ap (λ r. Some r) end.1)))
-      (set_row k fits v i (end.0 ++ turned ∷ []) by at
-      (turned_row rules net u h k fits v end.0 mark turned (not_up k.read.cause v other) (subst (AreMarks rules net u h v) end.1 found.2) (turn (sent_count rules net u h v (last (reads h) v)))))
+      let here = found.1 ∙ ap (λ r. Some r) end.1 in
+      marked_end k v i end.0 mark turned new fits other by at here turn (put end.0 mark here)
+
+  -- a row is not empty
+  filled_row : (w : ℕ) (row : List SessionMark) → Fits h → AreMarks rules net u h w row → 0 < length row
+  filled_row w row fits was =
+      let ends = ends_ever h w fits in
+      let long = AllZip-long (λ s mark. Says h w s (sent_count rules net u h w s) mark) (ever h w) row was in
+      let some : length (ever h w) ≡ length ends.older + 1 = ap length ends.is ∙ length-append ends.older (last (reads h) w ∷ []) in
+      omega arith
+
+  pub marked_recv : (trigger : Trigger) (scope : Scope) (cause : Cause) (v t seq i w : ℕ) (path : Option (List ℕ)) (new : List (List SessionMark)) → Fits (entry (trigger ∷ []) scope cause ∷ h) → cause ≡ Recv v t seq path → names cause ≡ Some w
+      → slice_get (neighbours net u) i ≡ Some w
+      → ((older : List SessionMark) (last : SessionMark) → slice_get rows i ≡ Some (older ++ last ∷ []) → new ≡ set rows i (older ++ record last { received = suc last.received } ∷ []))
+      → AreAllMarked (making rules net u h (entry (trigger ∷ []) scope cause)) new
+  marked_recv trigger scope cause v t seq i w path new fits is by at heard =
+      let found = row_of w i at in
+      let end = last_of found.0 (filled_row w found.0 fits.1 found.2) in
+      let here = found.1 ∙ ap (λ r. Some r) end.1.1 in
+      marked_end (entry (trigger ∷ []) scope cause) w i end.1.0 end.0 (record end.0 { received = suc end.0.received }) new fits (λ x s e. absurd (cc (is, e))) by at here
+      (λ n was. turned_recv trigger scope h w n end.0 v t seq path cause is fits by was) (heard end.1.0 end.0 here)

@@ -1,18 +1,17 @@
 //! What an entry changes in the sessions of its node.
-ghost use Rattle.std.specs.Prelude.{ℕ, ◌≡◌, ◌∷◌, [], false, Some, List, IfOk, OnOk};
+ghost use Rattle.std.specs.Prelude.{ℕ, ◌≡◌, ◌∷◌, [], false, true, Some, List, IfOk, OnOk};
 ghost use Rattle.topology.specs.declared.names.Scope.{Scope};
 ghost use Rattle.topology.specs.Lists.{has};
 ghost use Rattle.topology.specs.Net.{Net, IsValid, neighbours};
 ghost use Rattle.path_vector.specs.Rules.{Rules};
 ghost use Rattle.path_vector.specs.History.{last};
 ghost use Rattle.path_vector.specs.Kept.{IsOfNeighbour, names};
-ghost use Rattle.trigger_log.specs.Entries.{Entry, entry, reads};
+ghost use Rattle.trigger_log.specs.Entries.{Entry, entry, is_local, reads};
 ghost use Rattle.trigger_log.specs.Making.{making};
 ghost use Rattle.trigger_log.specs.Fits.{Fits};
 ghost use Rattle.trigger_log.specs.Sessions.{Says, AreRows};
 ghost use Rattle.trigger_log.specs.Marked.{AreAllMarked};
 
-use crate::counting::next_number;
 use crate::sessions::{SessionMark, Sessions};
 use path_vector::Cause;
 use topology::{NoMemory, NodeId, Trigger};
@@ -32,28 +31,24 @@ fn named(cause: &Cause) -> Option<NodeId>
     }
 }
 
-// The newest mark of the neighbour that the entry names, after it.
+// The newest mark of the neighbour that the entry names, after it. The entry is no update.
 #[inline(always)]
-fn turned(mark: &SessionMark, trigger: &Trigger, cause: &Cause) -> Result<SessionMark, NoMemory>
-    ensures { IfOk result (λ turned. (h : List Entry) (scope : Scope) (w n : ℕ) →
-        Fits (entry (trigger.now ∷ []) scope cause.now ∷ h) → names cause.now ≡ Some w →
+fn turned(mark: &SessionMark, trigger: &Trigger, cause: &Cause) -> SessionMark
+    ensures { (h : List Entry) (scope : Scope) (w n : ℕ) →
+        Fits (entry (trigger.now ∷ []) scope cause.now ∷ h) → names cause.now ≡ Some w → is_local cause.now ≡ true →
         Says h w (last (reads h) w) n mark.now →
-        Says (entry (trigger.now ∷ []) scope cause.now ∷ h) w (last (reads h) w) n turned) }
+        Says (entry (trigger.now ∷ []) scope cause.now ∷ h) w (last (reads h) w) n result }
 {
     match cause {
-        Cause::Recv { .. } => Ok(SessionMark {
-            received: next_number(mark.received)?,
-            ..*mark
-        }),
-        Cause::Down { .. } => Ok(SessionMark {
+        Cause::Down { .. } => SessionMark {
             down: Some(*trigger),
             ..*mark
-        }),
-        Cause::Ready { .. } => Ok(SessionMark {
+        },
+        Cause::Ready { .. } => SessionMark {
             opened: true,
             ..*mark
-        }),
-        _ => Ok(*mark),
+        },
+        _ => *mark,
     }
 }
 
@@ -75,11 +70,13 @@ pub fn mark(sessions: &mut Sessions, trigger: &Trigger, cause: &Cause) -> Result
     let Some(place) = sessions.place_of(nbr) else {
         return Ok(());
     };
-    if let Cause::Up { session, .. } = cause {
-        sessions.open(place, nbr, *session)?;
-        return Ok(());
+    match cause {
+        Cause::Up { session, .. } => Ok(sessions.open(place, nbr, *session)?),
+        Cause::Recv { .. } => Ok(sessions.hear(place)?),
+        _ => {
+            let mark = turned(sessions.newest(place), trigger, cause);
+            sessions.put(place, mark);
+            Ok(())
+        }
     }
-    let mark = turned(sessions.newest(place), trigger, cause)?;
-    sessions.put(place, mark);
-    Ok(())
 }

@@ -1,11 +1,12 @@
 //! The sessions that a node ever held.
-ghost use Rattle.std.specs.Prelude.{ℕ, IsTrue, ◌≡◌, ◌<◌, ◌+◌, ◌^◌, List, [], ◌∷◌, ◌++◌, Some, None, false, true, length, map, slice_get, slice_set, is_none, ◌&&◌, if◌then◌else◌, IfOk, IfSome, IfNone, OnOk, OnErr};
+ghost use Rattle.std.specs.Prelude.{ℕ, IsTrue, ◌≡◌, ◌<◌, ◌+◌, ◌^◌, suc, List, [], ◌∷◌, ◌++◌, Some, None, false, true, length, map, slice_get, slice_set, is_none, ◌&&◌, if◌then◌else◌, IfOk, IfSome, IfNone, OnOk, OnErr};
 ghost use Rattle.std.specs.List.{AllByRecursion};
 ghost use Rattle.trigger_log.specs.declared.sessions.SessionMark.{SessionMark};
 ghost use Rattle.topology.specs.Lists.{Among, has};
 ghost use Rattle.topology.specs.Net.{Net, IsValid, neighbours};
 ghost use Rattle.trigger_log.specs.Rows.{EndsWith, joined, shifted};
 
+use crate::counting::next_number;
 use path_vector::LikelyPlaces;
 use std::alloc::Global;
 use std::marker::Model;
@@ -175,6 +176,33 @@ impl Sessions {
     {
         let last = self.newest[place];
         self.marks[last] = mark;
+    }
+
+    /// So many items were sent in the last session of the row.
+    pub fn count(&mut self, place: usize, sent: u32)
+        requires { place < length self.old.rows }
+        ensures count { (older : List SessionMark) (last : SessionMark) → slice_get self.old.rows place ≡ Some (older ++ last ∷ []) →
+            self.new.rows ≡ slice_set self.old.rows place (older ++ record last { sent = sent } ∷ []) }
+        ensures near { self.new.near ≡ self.old.near }
+        ensures width { length self.new.rows ≡ length self.old.rows }
+    {
+        let last = self.newest[place];
+        self.marks[last].sent = sent;
+    }
+
+    /// One update more was received in the last session of the row.
+    pub fn hear(&mut self, place: usize) -> Result<(), NoMemory>
+        requires { place < length self.old.rows }
+        ensures ok { OnOk result ((older : List SessionMark) (last : SessionMark) → slice_get self.old.rows place ≡ Some (older ++ last ∷ []) →
+            self.new.rows ≡ slice_set self.old.rows place (older ++ record last { received = suc last.received } ∷ [])) }
+        ensures near { self.new.near ≡ self.old.near }
+        ensures width { length self.new.rows ≡ length self.old.rows }
+        ensures err { OnErr result (self.new ≡ self.old) }
+    {
+        let last = self.newest[place];
+        let mark = &mut self.marks[last];
+        mark.received = next_number(mark.received)?;
+        Ok(())
     }
 
     /// Adds a session to the end of the row, in which nothing was said.

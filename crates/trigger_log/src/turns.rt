@@ -107,13 +107,8 @@ fn tell_at<P: Policy + Copy>(
     ensures width { length sessions.new.rows ≡ length sessions.old.rows }
     ensures near { sessions.new.near ≡ sessions.old.near }
 {
-    let mark = *sessions.newest(place);
-    let count = speak(routes, turn, &mark, said)?;
-    let mark = SessionMark {
-        sent: count,
-        ..mark
-    };
-    sessions.put(place, mark);
+    let count = speak(routes, turn, sessions.newest(place), said)?;
+    sessions.count(place, count);
     Ok(())
 }
 

@@ -1,0 +1,45 @@
+use Rattle.std.proofs.Common.{◌≡◌, ◌<◌, length, arith}
+use Rattle.trigger_log.proofs.Rows.{rows_of, same_length, mark_within, changed_is, put_has, put_width}
+use Rattle.trigger_log.proofs.sessions.Sessions.count.Goals as goal
+
+pub index-last-requires : goal.index-last-requires
+index-last-requires c =
+    let f = c.self.inside in
+    let rows = c.args.self.now.rows in
+    let has = rows_of c.args.self.now f.near.items f.marks.items f.newest.items c.self.invariant c.self.view_is in
+    let same : length f.newest.items ≡ length rows = same_length rows f.marks.items f.newest.items has in
+    let asked : c.args.place < length rows = c.requires in
+    omega (arith, f.newest.ok.0)
+
+pub index_mut-requires : goal.index_mut-requires
+index_mut-requires c =
+    let f = c.self.inside in
+    let rows = c.args.self.now.rows in
+    let has = rows_of c.args.self.now f.near.items f.marks.items f.newest.items c.self.invariant c.self.view_is in
+    let at : c.index-last.result.now < length f.marks.items = mark_within rows f.marks.items f.newest.items has c.args.place c.index-last.result.now c.index-last.ensures c.requires in
+    omega (arith, f.marks.ok.0)
+
+pub invariant_of-self : goal.invariant_of-self
+invariant_of-self c =
+    let f = c.self.inside in
+    let rows = c.args.self.now.rows in
+    let has = rows_of c.args.self.now f.near.items f.marks.items f.newest.items c.self.invariant c.self.view_is in
+    record {
+      each = c.self.invariant.each;
+      has = put_has rows f.marks.items f.newest.items has c.args.place c.index-last.result.now c.index-last.ensures (record c.index_mut.result.now { sent = c.args.sent }) c.requires;
+    }
+
+pub returns-clause-count : goal.returns-clause-count
+returns-clause-count c =
+    let f = c.self.inside in
+    let rows = c.args.self.now.rows in
+    let has = rows_of c.args.self.now f.near.items f.marks.items f.newest.items c.self.invariant c.self.view_is in
+    λ older last is. changed_is rows f.marks.items f.newest.items has c.args.place c.index-last.result.now c.index-last.ensures
+    (λ m. record m { sent = c.args.sent }) older last c.index_mut.result.now is c.index_mut.ensures.value
+
+pub returns-clause-width : goal.returns-clause-width
+returns-clause-width c =
+    let f = c.self.inside in
+    let rows = c.args.self.now.rows in
+    let has = rows_of c.args.self.now f.near.items f.marks.items f.newest.items c.self.invariant c.self.view_is in
+    put_width rows f.marks.items f.newest.items has c.args.place c.index-last.result.now c.index-last.ensures (record c.index_mut.result.now { sent = c.args.sent })
