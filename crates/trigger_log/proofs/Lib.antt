@@ -11,6 +11,7 @@ mod Reopened
 pub mod Rows
 pub mod Shifted
 pub mod Offering
+pub mod Flags
 pub mod Updating
 pub mod Newest
 pub mod Zips

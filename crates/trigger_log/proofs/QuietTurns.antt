@@ -1,8 +1,9 @@
 -- An entry that changes no best route and turns no session says nothing.
-use Rattle.std.proofs.Common.{ℕ, ◌+◌, Bool, true, false, not, Option, Some, None, List, [], ◌∷◌, ◌++◌, ◌≡◌, ◌≢◌, ◌↔◌, refl, sym, ◌∙◌, ap, subst, arith, length, map, filter, flat_map, take, ⊎_elim}
-use Rattle.std.specs.Prelude.{if◌then◌else◌, is_some}
+use Rattle.std.proofs.Common.{ℕ, ◌+◌, ◌<◌, Bool, true, false, not, Option, Some, None, List, [], ◌∷◌, ◌++◌, ◌≡◌, ◌≢◌, ◌↔◌, refl, sym, ◌∙◌, ap, subst, arith, length, map, filter, flat_map, take, slice_index_or, ⊎_elim}
+use Rattle.std.specs.Prelude.{if◌then◌else◌, is_some, option_map}
 use Rattle.std.proofs.lemmas.Bool.{cases_eq}
-use Rattle.std.proofs.lemmas.Option.{same_Some}
+use Rattle.std.proofs.lemmas.List.{length-map}
+use Rattle.std.proofs.lemmas.Option.{same_Some, slice_get-map}
 use Rattle.topology.specs.Lists.{same_path}
 use Rattle.topology.specs.Net.{Net, neighbours, relation}
 use Rattle.path_vector.specs.declared.causes.Cause.{Cause}
@@ -24,14 +25,16 @@ use Rattle.trigger_log.specs.Making.{making}
 use Rattle.trigger_log.specs.Sending.{close_sent, news, sent_count, sent_to, update_of}
 use Rattle.trigger_log.specs.Going.{going_by, going_in, going_of, spread, told}
 use Rattle.trigger_log.specs.Sessions.{AreMarks, Says, ever}
-use Rattle.trigger_log.specs.Offered.{AreChosen, IsPlaced, differs, prefixes_of, updates_over}
+use Rattle.trigger_log.specs.Offered.{AreChosen, AreSame, IsPlaced, differs, prefixes_of, updates_over}
 use Rattle.trigger_log.specs.Fits.{Fits}
 use Rattle.trigger_log.specs.Telling.{Speech}
 use Rattle.trigger_log.specs.Marked.{AreMarked, Enters, ToldTo, ends_with, readies}
 use Rattle.trigger_log.specs.Quiet.{IsQuiet, Stays, turns_session}
 use Rattle.trigger_log.proofs.Closings.{count_held, count_other}
 use Rattle.trigger_log.proofs.Speaking.{close_none, going_none, knew, not_closed, over_asked, unready_news, updates_none}
-use Rattle.trigger_log.proofs.Rounds.{is_mark}
+use Rattle.trigger_log.proofs.Flags.{flag_at, same_at}
+use Rattle.trigger_log.proofs.Rounds.{is_mark, some_at}
+use Rattle.trigger_log.proofs.Updating.{all_at, over_same}
 use Rattle.trigger_log.proofs.Zips.{zip_map}
 
 -- ---- equal best routes
@@ -100,12 +103,19 @@ module _ (rules : Rules) (net : Net) (u : ℕ) (h : List Entry) (k : Entry) (w :
       → updates_over (making rules net u h k) true w (prefixes_of offers) ≡ []
   none_over offers before after = ap (map (update_of (making rules net u h k) w)) (none_differs offers before after)
 
--- a route that stood before the entry is offered as it was to whom knows what was offered
-pub stood : (rules : Rules) (net : Net) (u : ℕ) (h : List Entry) (k : Entry) (knows : Bool) (w : ℕ) (b o : Offer) → knows ≡ true → b ≡ o
-    → Copies net u b.chosen (best rules net u (reads h) b.prefix) → Copies net u o.chosen (best rules net u (k.read ∷ reads h) o.prefix) → differs (making rules net u h k) knows w o.prefix ≡ false
-stood rules net u h k knows w b o known equal before after =
-    ap (λ t. differs (making rules net u h k) t w o.prefix) known
-    ∙ same_offered rules net u h k w o (subst (λ (x : Offer). Copies net u x.chosen (best rules net u (reads h) x.prefix)) equal before) after
+-- a route whose flag is true is no news to whom knows what was offered
+pub stood : (rules : Rules) (net : Net) (u : ℕ) (h : List Entry) (k : Entry) (knows : Bool) (w : ℕ) (before after : List Offer) (flags : List Bool) (i : ℕ) → knows ≡ true → slice_index_or flags i false ≡ true
+    → AreSame before after flags → i < length after → AreChosen rules net u (reads h) before → AreChosen rules net u (k.read ∷ reads h) after
+    → updates_over (making rules net u h k) knows w (take (i + 1) (prefixes_of after)) ≡ updates_over (making rules net u h k) knows w (take i (prefixes_of after))
+stood rules net u h k knows w before after flags i known set all inside was now =
+    let here = some_at after i inside in
+    let o = here.0 in
+    let there = same_at before after flags i o all (flag_at before after flags i all inside set) here.1 in
+    let same : differs (making rules net u h k) knows w o.prefix ≡ false = ap (λ t. differs (making rules net u h k) t w o.prefix) known
+    ∙ same_offered rules net u h k w o (all_at (λ (o : Offer). Copies net u o.chosen (best rules net u (reads h) o.prefix)) before i o was there)
+    (all_at (λ (o : Offer). Copies net u o.chosen (best rules net u (k.read ∷ reads h) o.prefix)) after i o now here.1) in
+    over_same rules net u h k knows w (prefixes_of after) i o.prefix (slice_get-map (λ (o : Offer). o.prefix) after i ∙ ap (option_map (λ (o : Offer). o.prefix)) here.1)
+    (omega (arith, length-map after (λ (o : Offer). o.prefix))) same
 
 flat_none : {A : Type 0} (f : ℕ → List A) (ns : List ℕ) → ((n : ℕ) → f n ≡ []) → flat_map f ns ≡ []
 flat_none f [] none = refl

@@ -104,7 +104,7 @@ pub prefix_at : (offers : List Offer) (i : ℕ) (o : Offer) → i < length offer
 prefix_at offers i o inside is =
     slice_get-map (λ (o : Offer). o.prefix) offers i ∙ ap (option_map (λ (o : Offer). o.prefix)) (slice_get_read offers (length offers) i o refl inside is)
 
-all_at : {A : Type 0} (P : A → Type 0) (xs : List A) (i : ℕ) (x : A) → AllByRecursion P xs → slice_get xs i ≡ Some x → P x
+pub all_at : {A : Type 0} (P : A → Type 0) (xs : List A) (i : ℕ) (x : A) → AllByRecursion P xs → slice_get xs i ≡ Some x → P x
 all_at P [] i x all at = absurd (cc at)
 all_at P (y ∷ xs) zero x all at = subst P (same_Some y x at) all.0
 all_at P (y ∷ xs) (suc i) x all at = all_at P xs i x all.1 at

@@ -1,5 +1,5 @@
 -- The best routes of the prefixes of a scope, as they are kept while an entry is made.
-use Rattle.std.specs.Prelude.{ℕ, ◌<◌, Bool, not, Option, None, List, [], ◌∷◌, length, map, filter, if◌then◌else◌}
+use Rattle.std.specs.Prelude.{ℕ, ◌<◌, ◌≡◌, ◌↔◌, Bool, IsTrue, not, Option, None, List, [], ◌∷◌, length, map, filter, if◌then◌else◌}
 use Rattle.std.specs.List.{AllByRecursion}
 use Rattle.topology.specs.declared.names.Scope.{Scope}
 use Rattle.topology.specs.declared.names.Scope.TheVariants.{One, All}
@@ -45,6 +45,12 @@ prefixes_of offers = map (λ (o : Offer). o.prefix) offers
 abbrev pub AreChosen : Rules → Net → ℕ → History → List Offer → Type 0
 AreChosen rules net u h offers =
     AllByRecursion (λ (o : Offer). Copies net u o.chosen (best rules net u h o.prefix)) offers
+
+-- each flag says whether the route at its place is the same before and after
+abbrev pub AreSame : List Offer → List Offer → List Bool → Type 0
+AreSame [] [] [] = Unit {0}
+AreSame (b ∷ before) (a ∷ after) (flag ∷ flags) = (IsTrue flag ↔ (b ≡ a)) × AreSame before after flags
+AreSame before after flags = ⊥
 
 -- the path that w knows of before the entry: nothing, where it knows nothing
 abbrev pub known_path : Making → Bool → ℕ → ℕ → Option (List ℕ)

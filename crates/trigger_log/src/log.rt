@@ -13,7 +13,7 @@ ghost use Rattle.trigger_log.specs.Going.{going_of, going_by};
 ghost use Rattle.trigger_log.specs.Fits.{CauseFits};
 ghost use Rattle.trigger_log.specs.Due.{SendsWhatIsDue};
 ghost use Rattle.trigger_log.specs.Sessions.{ever, Says, AreAllMarks};
-ghost use Rattle.trigger_log.specs.Offered.{IsPlaced, prefixes_of};
+ghost use Rattle.trigger_log.specs.Offered.{AreSame, IsPlaced, prefixes_of};
 ghost use Rattle.trigger_log.specs.Quiet.{Stays};
 ghost use Rattle.trigger_log.specs.Standing.{Entered, all_entered, Shows, StandsFor};
 ghost use Rattle.trigger_log.specs.Making.{making};
@@ -24,7 +24,7 @@ use crate::entries::Entry;
 use crate::marking::mark;
 use crate::offers::{Offer, offer_of, offers_for};
 use crate::outgoing::Outgoing;
-use crate::quiet::stays;
+use crate::quiet::{same_offer, same_offers, stays};
 use crate::sessions::{SessionMark, Sessions};
 use crate::telling::{Said, Turn};
 use crate::turns::tell_all;
@@ -378,9 +378,11 @@ impl<P: Policy + Copy> NodeLog<P> {
         let before = offer_of(&self.routes, prefix)?;
         self.routes.apply(Scope::One(prefix), &cause)?;
         let after = offer_of(&self.routes, prefix)?;
+        let same = same_offer(&before, &after);
         let before = slice::from_ref(&before);
         let after = slice::from_ref(&after);
-        Ok(self.finish(trigger, Scope::One(prefix), cause, before, after)?)
+        let same = slice::from_ref(&same);
+        Ok(self.finish(trigger, Scope::One(prefix), cause, before, after, same)?)
     }
 
     // An entry of all prefixes, of which each neighbour is told what changes for it.
@@ -402,7 +404,8 @@ impl<P: Policy + Copy> NodeLog<P> {
         let before = offers_for(self.alloc, &self.routes, topology, &cause)?;
         self.routes.apply(Scope::All, &cause)?;
         let after = offers_for(self.alloc, &self.routes, topology, &cause)?;
-        Ok(self.finish(trigger, Scope::All, cause, &before, &after)?)
+        let same = same_offers(self.alloc, &before, &after)?;
+        Ok(self.finish(trigger, Scope::All, cause, &before, &after, &same)?)
     }
 
     // The rest of an entry that the routes took already: its sessions are marked, each neighbour is told, and it is kept.
@@ -414,8 +417,10 @@ impl<P: Policy + Copy> NodeLog<P> {
         cause: Cause,
         before: &[Offer],
         after: &[Offer],
+        same: &[bool],
     ) -> Result<Vec<Outgoing>, NoMemory>
         requires same_prefixes { prefixes_of before.now ≡ prefixes_of after.now }
+        requires same { AreSame before.now after.now same.now }
         ensures { IfOk result (λ outgoing. (policy : P) (net : Net) (u : ℕ) (h : List Logged) (routes : RouteState P) →
             IsMidway policy (making (P.rules policy) net u h (entry (trigger ∷ []) scope cause)) routes self.old →
             AreOffers (making (P.rules policy) net u h (entry (trigger ∷ []) scope cause)) before.now after.now →
@@ -427,6 +432,7 @@ impl<P: Policy + Copy> NodeLog<P> {
             cause: &cause,
             before,
             after,
+            same,
         };
         let said = tell_all(self.alloc, &self.routes, &mut self.sessions, &turn)?;
         let Said { sent, outgoing } = said;

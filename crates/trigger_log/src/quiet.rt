@@ -1,16 +1,17 @@
 //! Which entries say nothing to any neighbour.
-ghost use Rattle.std.specs.Prelude.{ℕ, ◌≡◌, ◌∷◌, ◌↔◌, [], List, IsTrue};
+ghost use Rattle.std.specs.Prelude.{ℕ, ◌≡◌, ◌∷◌, ◌↔◌, [], List, IsTrue, IfOk};
 ghost use Rattle.topology.specs.declared.names.Trigger.{Trigger};
 ghost use Rattle.topology.specs.Net.{Net};
 ghost use Rattle.path_vector.specs.Standing.{StandsFor};
 ghost use Rattle.trigger_log.specs.Entries.{Entry, entry, reads};
-ghost use Rattle.trigger_log.specs.Offered.{IsPlaced};
+ghost use Rattle.trigger_log.specs.Offered.{AreSame, IsPlaced, prefixes_of};
 ghost use Rattle.trigger_log.specs.Quiet.{IsQuiet, Stays, turns_session};
 
 use crate::offers::Offer;
 use crate::telling::{Turn, same};
 use path_vector::{Cause, Policy, RouteState};
-use topology::Scope;
+use std::alloc::Global;
+use topology::{NoMemory, Scope};
 
 // Whether the entry ends a session, or makes one ready.
 fn turns_session(cause: &Cause) -> bool
@@ -33,27 +34,25 @@ pub fn same_offer(a: &Offer, b: &Offer) -> bool
     same(a.chosen.path.as_ref(), b.chosen.path.as_ref())
 }
 
-// Whether all best routes are the same.
-fn same_offers(before: &[Offer], after: &[Offer]) -> bool
-    ensures { IsTrue result ↔ (before.now ≡ after.now) }
+/// Of each best route, whether it is the same before and after.
+pub fn same_offers(alloc: Global, before: &[Offer], after: &[Offer]) -> Result<Vec<bool>, NoMemory>
+    requires same_prefixes { prefixes_of before.now ≡ prefixes_of after.now }
+    ensures { IfOk result (λ same. AreSame before.now after.now same.items) }
 {
-    if before.len() != after.len() {
-        return false;
-    }
+    let mut same = Vec::with_capacity(alloc, after.len())?;
     for i in 0..after.len() {
-        if !same_offer(&before[i], &after[i]) {
-            return false;
-        }
+        same.push(same_offer(&before[i], &after[i]))?;
     }
-    true
+    Ok(same)
 }
 
 /// Whether an entry leaves all best routes and the readiness of all sessions as they were: there is
 /// nothing to tell then.
 pub fn is_quiet(turn: &Turn<'_>) -> bool
+    requires same { AreSame turn.now.before.now turn.now.after.now turn.now.same.now }
     ensures { IsTrue result ↔ IsQuiet turn.now }
 {
-    !turns_session(turn.cause) && same_offers(turn.before, turn.after)
+    !turns_session(turn.cause) && !turn.same.contains(&false)
 }
 
 /// Whether an entry is an update that leaves the best route of its prefix as it is: there is nothing

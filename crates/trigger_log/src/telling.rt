@@ -11,13 +11,12 @@ ghost use Rattle.path_vector.specs.Offers.{offer};
 ghost use Rattle.trigger_log.specs.Going.{going_of};
 ghost use Rattle.trigger_log.specs.Entries.{Entry, reads};
 ghost use Rattle.trigger_log.specs.Making.{making};
-ghost use Rattle.trigger_log.specs.Offered.{AreChosen, prefixes_of, updates_over};
+ghost use Rattle.trigger_log.specs.Offered.{AreChosen, AreSame, prefixes_of, updates_over};
 ghost use Rattle.trigger_log.specs.Telling.{TellsUpdates, silence, speech_of, update_going};
 
 use crate::counting::next_number;
 use crate::offers::Offer;
 use crate::outgoing::Outgoing;
-use crate::quiet::same_offer;
 use path_vector::{Cause, Policy, RouteState};
 use std::alloc::Global;
 use topology::{Item, NoMemory, NodeId, Path, PrefixId, Sent, Session, Trigger};
@@ -94,13 +93,15 @@ pub struct Listener {
     pub knows: bool,
 }
 
-/// The trigger and the cause of an entry, and the best routes of its prefixes before and after it.
+/// The trigger and the cause of an entry, the best routes of its prefixes before and after it, and of each prefix whether
+/// its best route is the same after the entry as before.
 #[derive(Drop)]
 pub struct Turn<'a> {
     pub trigger: &'a Trigger,
     pub cause: &'a Cause,
     pub before: &'a [Offer],
     pub after: &'a [Offer],
+    pub same: &'a [bool],
 }
 
 // The path that the neighbour knows of: none where it knows nothing.
@@ -159,17 +160,6 @@ fn say(
     Ok(seq)
 }
 
-// Whether the listener knows the best route after an entry, since it was the best one before. The
-// only one of an entry is not compared again: it is mostly another, or the entry is quiet.
-fn stands_known(listener: &Listener, only: bool, before: &Offer, after: &Offer) -> bool
-    ensures { IsTrue result → (listener.now.knows ≡ true) × (before.now ≡ after.now) }
-{
-    if only || !listener.knows {
-        return false;
-    }
-    same_offer(before, after)
-}
-
 /// Lists an update of each prefix of which the neighbour is offered another path than it knows,
 /// and answers how many items were sent in its session then.
 pub fn tell<P: Policy + Copy>(
@@ -179,6 +169,7 @@ pub fn tell<P: Policy + Copy>(
     said: &mut Said,
 ) -> Result<u32, NoMemory>
     requires same_prefixes { prefixes_of turn.now.before.now ≡ prefixes_of turn.now.after.now }
+    requires same { AreSame turn.now.before.now turn.now.after.now turn.now.same.now }
     ensures { IfOk result (λ count. (policy : P) (net : Net) (u : ℕ) (h : List Entry) (k : Entry) →
         StandsFor policy net u routes.now (k.read ∷ reads h) → k.triggers ≡ turn.now.trigger.now ∷ [] →
         AreChosen (P.rules policy) net u (reads h) turn.now.before.now →
@@ -189,11 +180,11 @@ pub fn tell<P: Policy + Copy>(
 {
     let mut count = listener.sent;
     for i in 0..turn.after.len() {
-        let offer = &turn.after[i];
-        let before = &turn.before[i];
-        if stands_known(listener, turn.after.len() == 1, before, offer) {
+        if listener.knows && turn.same[i] {
             continue;
         }
+        let offer = &turn.after[i];
+        let before = &turn.before[i];
         let offered = routes.offered_path(&offer.chosen, listener.nbr);
         if same(offered, known(routes, before, listener)) {
             continue;

@@ -8,7 +8,7 @@ ghost use Rattle.path_vector.specs.History.{last};
 ghost use Rattle.trigger_log.specs.Entries.{Entry, reads};
 ghost use Rattle.trigger_log.specs.Making.{making};
 ghost use Rattle.trigger_log.specs.Sending.{sent_count};
-ghost use Rattle.trigger_log.specs.Offered.{prefixes_of};
+ghost use Rattle.trigger_log.specs.Offered.{AreSame, prefixes_of};
 ghost use Rattle.trigger_log.specs.Sessions.{Says};
 ghost use Rattle.trigger_log.specs.Telling.{Speech, silence, speech_of};
 ghost use Rattle.trigger_log.specs.Marked.{Enters, Spoken, ToldTo, ends_with, readies};
@@ -69,6 +69,7 @@ fn speak<P: Policy + Copy>(
     said: &mut Said,
 ) -> Result<u32, NoMemory>
     requires same_prefixes { prefixes_of turn.now.before.now ≡ prefixes_of turn.now.after.now }
+    requires same { AreSame turn.now.before.now turn.now.after.now turn.now.same.now }
     ensures { IfOk result (λ count. (policy : P) (net : Net) (u : ℕ) (h : List Entry) (k : Entry) (w : ℕ) →
         Enters policy (making (P.rules policy) net u h k) routes.now turn.now → has (neighbours net u) w ≡ true →
         Says (k ∷ h) w (last (reads (k ∷ h)) w) (sent_count (P.rules policy) net u h w (last (reads (k ∷ h)) w)) mark.now →
@@ -98,6 +99,7 @@ fn tell_at<P: Policy + Copy>(
     said: &mut Said,
 ) -> Result<(), NoMemory>
     requires same_prefixes { prefixes_of turn.now.before.now ≡ prefixes_of turn.now.after.now }
+    requires same { AreSame turn.now.before.now turn.now.after.now turn.now.same.now }
     requires within { place < length sessions.old.rows }
     ensures told { OnOk result ((policy : P) (net : Net) (u : ℕ) (h : List Entry) (k : Entry) (w : ℕ) (first : Speech) →
         Enters policy (making (P.rules policy) net u h k) routes.now turn.now →
@@ -120,6 +122,7 @@ fn tell_each<P: Policy + Copy>(
     said: &mut Said,
 ) -> Result<(), NoMemory>
     requires same_prefixes { prefixes_of turn.now.before.now ≡ prefixes_of turn.now.after.now }
+    requires same { AreSame turn.now.before.now turn.now.after.now turn.now.same.now }
     ensures told { OnOk result ((policy : P) (net : Net) (u : ℕ) (h : List Entry) (k : Entry) (first : Speech) →
         Enters policy (making (P.rules policy) net u h k) routes.now turn.now →
         ToldTo (making (P.rules policy) net u h k) 0 sessions.old.rows first (speech_of said.old) →
@@ -141,6 +144,7 @@ pub fn tell_all<P: Policy + Copy>(
     turn: &Turn<'_>,
 ) -> Result<Said, NoMemory>
     requires same_prefixes { prefixes_of turn.now.before.now ≡ prefixes_of turn.now.after.now }
+    requires same { AreSame turn.now.before.now turn.now.after.now turn.now.same.now }
     ensures told { IfOk result (λ said. (policy : P) (net : Net) (u : ℕ) (h : List Entry) (k : Entry) →
         Enters policy (making (P.rules policy) net u h k) routes.now turn.now →
         ToldTo (making (P.rules policy) net u h k) 0 sessions.old.rows silence silence →

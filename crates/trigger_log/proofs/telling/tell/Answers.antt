@@ -11,26 +11,23 @@ use Rattle.trigger_log.specs.Sending.{update_of}
 use Rattle.trigger_log.specs.Offered.{prefixes_of, updates_over}
 use Rattle.trigger_log.specs.Telling.{TellsUpdates, speech_of, update_going}
 use Rattle.trigger_log.proofs.Updating.{tells_more, over_same, over_other, differs_is, prefix_at, chosen_at, chosen_in, same_length, same_prefix_at, same_update}
+use Rattle.trigger_log.proofs.Flags.{flags_length}
 use Rattle.trigger_log.proofs.QuietTurns.{stood}
 use Rattle.trigger_log.proofs.telling.tell.Goals as goal
 
-pub loop-i-preserved-then-stands_known : goal.loop-i-preserved-then-stands_known
-loop-i-preserved-then-stands_known g c = λ policy net u h k stands lists before after near.
-    let rules = g.P.Policy.rules policy in
+pub bounds-turn-i : goal.bounds-turn-i
+bounds-turn-i g c =
+    let turn = c.args.turn.now in
+    let long = flags_length turn.before.now turn.after.now turn.same.now c.requires.same in
+    let inside : c.loop-i.i < length turn.after.now = c.loop-i-test.true in
+    omega arith
+
+pub loop-i-preserved-then-turn-i : goal.loop-i-preserved-then-turn-i
+loop-i-preserved-then-turn-i g c = λ policy net u h k stands lists before after near.
     let turn = c.args.turn.now in
     let l = c.args.listener.now in
-    let i = c.loop-i.i in
-    let inside : i < length turn.after.now = c.loop-i-test.true in
-    let long = same_length turn.before.now turn.after.now c.requires.same_prefixes in
-    let o = c.index-turn-i.result in
-    let b = slice_index_or turn.before.now i c.index-turn-i-in-loop-i.result in
-    let is_b : b ≡ slice_index_or turn.before.now i b = ap (slice_index_or turn.before.now i) c.index-turn-i-in-loop-i.is in
-    let equal = c.stands_known.ensures c.if-stands_known.true in
-    let same = stood rules net u h k l.knows l.nbr b o equal.0 (equal.1 ∙ sym c.index-turn-i.is)
-    (chosen_at rules net u (reads h) turn.before.now i b before (omega arith) is_b)
-    (chosen_at rules net u (k.read ∷ reads h) turn.after.now i o after inside c.index-turn-i.is) in
     subst (λ list. TellsUpdates l list (speech_of c.args.said.now) (speech_of c.loop-i.said) c.loop-i.count)
-    (sym (over_same rules net u h k l.knows l.nbr (prefixes_of turn.after.now) i o.prefix (prefix_at turn.after.now i o inside c.index-turn-i.is) (omega (arith, length-map turn.after.now (λ (o : Offer). o.prefix))) same))
+    (sym (stood (g.P.Policy.rules policy) net u h k l.knows l.nbr turn.before.now turn.after.now turn.same.now c.loop-i.i c.if-listener.true c.if-turn-i.true c.requires.same c.loop-i-test.true before after))
     (c.loop-i.invariant policy net u h k stands lists before after near)
 
 pub loop-i-preserved-then-same : goal.loop-i-preserved-then-same

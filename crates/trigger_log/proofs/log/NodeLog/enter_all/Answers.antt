@@ -21,7 +21,7 @@ returns-clause-log g c = λ policy u h was near fits.
       chosen_after = c.in_ok-after.ensures.chosen policy u (k.read ∷ reads h) stands;
     } in
     (c.in_ok-finish.ensures policy net u h c.args.self.now.routes (midway policy rules net u h trigger All cause c.args.self.now c.apply.new.self was near tt fits stands)
-    (as_offered (making rules net u h k) c.deref.ensures.value c.deref-2.ensures.value offers)).stands
+    (as_offered (making rules net u h k) c.deref-3.ensures.value c.deref-4.ensures.value offers)).stands
 
 pub returns-clause-outgoing : goal.returns-clause-outgoing
 returns-clause-outgoing g c = λ policy u h was near fits.
@@ -37,4 +37,4 @@ returns-clause-outgoing g c = λ policy u h was near fits.
       chosen_after = c.in_ok-after.ensures.chosen policy u (k.read ∷ reads h) stands;
     } in
     (c.in_ok-finish.ensures policy net u h c.args.self.now.routes (midway policy rules net u h trigger All cause c.args.self.now c.apply.new.self was near tt fits stands)
-    (as_offered (making rules net u h k) c.deref.ensures.value c.deref-2.ensures.value offers)).goes
+    (as_offered (making rules net u h k) c.deref-3.ensures.value c.deref-4.ensures.value offers)).goes
