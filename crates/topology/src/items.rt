@@ -1,7 +1,9 @@
 //! What goes over a link.
-ghost use Rattle.std.specs.Prelude.{◌≡◌};
+ghost use Rattle.std.specs.Prelude.{◌≡◌, [], IfOk};
 
-use crate::{Epoch, NodeId, Path, PrefixId, Session, Trigger};
+use crate::few_sent::{FewSent, ROOM};
+use crate::{Epoch, NoMemory, NodeId, Path, PrefixId, Session, Trigger};
+use std::alloc::Global;
 use std::marker::Model;
 
 /// One message of a session, in its order.
@@ -33,16 +35,24 @@ pub struct Sent {
 /// stands at its neighbour's place.
 #[derive(Debug, Drop)]
 pub struct SentItems {
-    list: Vec<Sent>,
+    kept: Kept,
+}
+
+// The items of an entry. Most entries send few of them, which take no memory.
+#[derive(Debug, Drop)]
+enum Kept {
+    Few(FewSent),
+    Many(Vec<Sent>),
 }
 
 impl Model for SentItems {
     ghost use Rattle.std.specs.Prelude.{List};
     ghost use Rattle.topology.specs.declared.items.Sent.{Sent};
+    ghost use Rattle.topology.specs.SentLists.{listed_sent};
 
     ghost Value = { List Sent };
 
-    ghost view = { λ s. s.list.items };
+    ghost view = { λ s. listed_sent s.kept };
 }
 
 impl SentItems {
@@ -50,12 +60,38 @@ impl SentItems {
     pub fn new(list: Vec<Sent>) -> SentItems
         ensures { result ≡ list.items }
     {
-        SentItems { list }
+        SentItems {
+            kept: Kept::Many(list),
+        }
+    }
+
+    /// The list of these items. A few stand in place, and take no memory.
+    pub fn of(alloc: Global, items: &[Sent]) -> Result<SentItems, NoMemory>
+        ensures { IfOk result (λ sent. sent ≡ items.now) }
+    {
+        let kept = if items.len() <= ROOM {
+            Kept::Few(FewSent::of(items))
+        } else {
+            Kept::Many(Vec::from_slice(alloc, items)?)
+        };
+        Ok(SentItems { kept })
+    }
+
+    /// No items. Takes no memory.
+    pub fn none() -> SentItems
+        ensures { result ≡ [] }
+    {
+        SentItems {
+            kept: Kept::Few(FewSent::of(&[])),
+        }
     }
 
     pub fn as_slice(&self) -> &[Sent]
         ensures { result.now ≡ self.now }
     {
-        &self.list
+        match &self.kept {
+            Kept::Few(items) => items.as_slice(),
+            Kept::Many(items) => items,
+        }
     }
 }
