@@ -1,5 +1,5 @@
 -- Flags of which best routes are the same.
-use Rattle.std.proofs.Common.{ℕ, zero, suc, ◌<◌, Bool, true, false, not, List, [], ◌∷◌, ◌++◌, ◌≡◌, ◌↔◌, refl, sym, ◌∙◌, ap, ap₂, subst, length, take, Some, slice_get, slice_index_or, arith}
+use Rattle.std.proofs.Common.{ℕ, zero, suc, ◌<◌, Bool, true, false, not, List, [], ◌∷◌, ◌++◌, ◌≡◌, ◌↔◌, refl, sym, ◌∙◌, ap, ap₂, subst, length, replicate, take, Some, slice_get, slice_index_or, arith}
 use Rattle.std.specs.List.{list_any}
 use Rattle.std.proofs.lemmas.Option.{get_or_from_slice_get, same_Some}
 use Rattle.trigger_log.specs.declared.offers.Offer.{Offer}
@@ -65,3 +65,10 @@ flag_at before after flags i all inside set =
     let long = flags_length before after flags all in
     let here = some_at flags i (omega arith) in
     here.1 ∙ ap (λ f. Some f) (sym (get_or_from_slice_get flags i here.0 false here.1) ∙ set)
+
+-- routes that are those before
+pub all_flags : (offers : Offers) (n : ℕ) → n ≡ length offers → AreSame offers offers (replicate n true)
+all_flags [] zero long = tt
+all_flags [] (suc n) long = absurd (omega arith)
+all_flags (o ∷ offers) zero long = absurd (omega arith)
+all_flags (o ∷ offers) (suc n) long = (((λ e. refl), (λ e. refl)), all_flags offers n (omega arith))

@@ -4,6 +4,7 @@ use Rattle.std.specs.Prelude.{if◌then◌else◌, is_some, option_map}
 use Rattle.std.proofs.lemmas.Bool.{cases_eq}
 use Rattle.std.proofs.lemmas.List.{length-map}
 use Rattle.std.proofs.lemmas.Option.{same_Some, slice_get-map}
+use Rattle.topology.specs.declared.names.Scope.TheVariants.{All}
 use Rattle.topology.specs.Lists.{same_path}
 use Rattle.topology.specs.Net.{Net, neighbours, relation}
 use Rattle.path_vector.specs.declared.causes.Cause.{Cause}
@@ -12,8 +13,8 @@ use Rattle.path_vector.specs.declared.state.Chosen.{Chosen}
 use Rattle.path_vector.specs.declared.state.RouteState.{RouteState}
 use Rattle.path_vector.specs.declared.policy.Learned.{Learned}
 use Rattle.path_vector.specs.Rules.{Rules}
-use Rattle.path_vector.specs.History.{held, ready}
-use Rattle.path_vector.specs.Selection.{Route, Nowhere, best, path_of}
+use Rattle.path_vector.specs.History.{History, change, held, ready}
+use Rattle.path_vector.specs.Selection.{Route, Nowhere, best, beyond, path_of}
 use Rattle.path_vector.specs.Offers.{exported, learned, may_tell, offer, offered_route}
 use Rattle.path_vector.specs.Answers.{Copies}
 use Rattle.path_vector.proofs.Changes.{same_path_is, same_path_self}
@@ -116,6 +117,17 @@ stood rules net u h k knows w before after flags i known set all inside was now 
     (all_at (λ (o : Offer). Copies net u o.chosen (best rules net u (k.read ∷ reads h) o.prefix)) after i o now here.1) in
     over_same rules net u h k knows w (prefixes_of after) i o.prefix (slice_get-map (λ (o : Offer). o.prefix) after i ∙ ap (option_map (λ (o : Offer). o.prefix)) here.1)
     (omega (arith, length-map after (λ (o : Offer). o.prefix))) same
+
+-- that a session is ready changes no best route
+pub best_ready : (rules : Rules) (net : Net) (u : ℕ) (h : History) (v s p : ℕ) → best rules net u (change All (Ready v s) ∷ h) p ≡ best rules net u h p
+unfolding best beyond
+best_ready rules net u h v s p = refl
+
+-- so the best routes after it are those before it
+pub chosen_ready : (rules : Rules) (net : Net) (u : ℕ) (h : History) (v s : ℕ) (offers : List Offer) → AreChosen rules net u (change All (Ready v s) ∷ h) offers → AreChosen rules net u h offers
+chosen_ready rules net u h v s [] all = tt
+chosen_ready rules net u h v s (o ∷ offers) all =
+    (subst (Copies net u o.chosen) (best_ready rules net u h v s o.prefix) all.0, chosen_ready rules net u h v s offers all.1)
 
 flat_none : {A : Type 0} (f : ℕ → List A) (ns : List ℕ) → ((n : ℕ) → f n ≡ []) → flat_map f ns ≡ []
 flat_none f [] none = refl

@@ -5,6 +5,7 @@ ghost use Rattle.topology.specs.Lists.{has};
 ghost use Rattle.topology.specs.Net.{Net, neighbours};
 ghost use Rattle.path_vector.specs.History.{held, last, ready};
 ghost use Rattle.topology.specs.declared.names.Scope.TheVariants.{One, All};
+ghost use Rattle.path_vector.specs.declared.causes.Cause.TheVariants.{Ready};
 ghost use Rattle.path_vector.specs.Kept.{IsOfNeighbour};
 ghost use Rattle.path_vector.specs.Standing.{StandsFor as RoutesStandFor};
 ghost use Rattle.trigger_log.specs.Entries.{Entry as Logged, entry, reads, inbox, is_local, is_session, next_trigger};
@@ -22,7 +23,7 @@ ghost use Rattle.trigger_log.specs.Midway.{AreOffers, IsMade, IsMidway};
 use crate::counting::next_number;
 use crate::entries::Entry;
 use crate::marking::mark;
-use crate::offers::{Offer, offer_of, offers_for};
+use crate::offers::{Offer, offer_of, offers_for, offers_of};
 use crate::outgoing::Outgoing;
 use crate::quiet::{same_offer, same_offers, stays};
 use crate::sessions::{SessionMark, Sessions};
@@ -401,11 +402,38 @@ impl<P: Policy + Copy> NodeLog<P> {
             CauseFits h All cause →
             map going_of outgoing.items ≡ going_by (P.rules policy) topology.now u h (entry (trigger ∷ []) All cause)) }
     {
+        if let Cause::Ready { nbr, session } = cause {
+            return Ok(self.enter_ready(topology, trigger, nbr, session)?);
+        }
         let before = offers_for(self.alloc, &self.routes, topology, &cause)?;
         self.routes.apply(Scope::All, &cause)?;
         let after = offers_for(self.alloc, &self.routes, topology, &cause)?;
         let same = same_offers(self.alloc, &before, &after)?;
         Ok(self.finish(trigger, Scope::All, cause, &before, &after, &same)?)
+    }
+
+    // A session is ready. That changes no best route: those after the entry are those before it, too.
+    fn enter_ready(
+        &mut self,
+        topology: &Topology,
+        trigger: Trigger,
+        nbr: NodeId,
+        session: Session,
+    ) -> Result<Vec<Outgoing>, NoMemory>
+        ensures log { OnOk result ((policy : P) (u : ℕ) (h : List Logged) →
+            StandsFor policy (P.rules policy) topology.now u self.old h → IsOfNeighbour topology.now u (Ready nbr session) →
+            CauseFits h All (Ready nbr session) →
+            StandsFor policy (P.rules policy) topology.now u self.new (entry (trigger ∷ []) All (Ready nbr session) ∷ h)) }
+        ensures outgoing { IfOk result (λ outgoing. (policy : P) (u : ℕ) (h : List Logged) →
+            StandsFor policy (P.rules policy) topology.now u self.old h → IsOfNeighbour topology.now u (Ready nbr session) →
+            CauseFits h All (Ready nbr session) →
+            map going_of outgoing.items ≡ going_by (P.rules policy) topology.now u h (entry (trigger ∷ []) All (Ready nbr session))) }
+    {
+        let cause = Cause::Ready { nbr, session };
+        self.routes.apply(Scope::All, &cause)?;
+        let offers = offers_of(self.alloc, &self.routes, topology)?;
+        let same = vec![in self.alloc; true; offers.len()]?;
+        Ok(self.finish(trigger, Scope::All, cause, &offers, &offers, &same)?)
     }
 
     // The rest of an entry that the routes took already: its sessions are marked, each neighbour is told, and it is kept.

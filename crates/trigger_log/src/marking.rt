@@ -1,5 +1,5 @@
 //! What an entry changes in the sessions of its node.
-ghost use Rattle.std.specs.Prelude.{ℕ, ◌≡◌, ◌∷◌, [], false, true, Some, List, IfOk, OnOk};
+ghost use Rattle.std.specs.Prelude.{ℕ, ◌≡◌, ◌∷◌, [], false, true, Some, List, OnOk};
 ghost use Rattle.topology.specs.declared.names.Scope.{Scope};
 ghost use Rattle.topology.specs.Lists.{has};
 ghost use Rattle.topology.specs.Net.{Net, IsValid, neighbours};

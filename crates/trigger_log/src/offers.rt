@@ -34,8 +34,8 @@ pub fn offer_of<P: Policy + Copy>(
     Ok(Offer { prefix, chosen })
 }
 
-// The best routes of all prefixes, in file order.
-fn offers_of<P: Policy + Copy>(
+/// The best routes of all prefixes, in file order.
+pub fn offers_of<P: Policy + Copy>(
     alloc: Global,
     routes: &RouteState<P>,
     topology: &Topology,

@@ -1,5 +1,5 @@
 //! What an entry makes a node tell one neighbour.
-ghost use Rattle.std.specs.Prelude.{ℕ, suc, ◌≡◌, ◌∷◌, [], ◌++◌, true, None, map, option_map, if◌then◌else◌, List, IsTrue, IfOk};
+ghost use Rattle.std.specs.Prelude.{ℕ, suc, ◌≡◌, ◌∷◌, [], ◌++◌, true, None, map, option_map, if◌then◌else◌, List, IfOk};
 ghost use Rattle.std.specs.Option.{option_copied};
 ghost use Rattle.topology.specs.Lists.{has, same_nodes, same_path};
 ghost use Rattle.topology.specs.Net.{Net, neighbours};
