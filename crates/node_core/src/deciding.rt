@@ -98,6 +98,7 @@ impl<P: Policy + Copy> Node<P> {
 
     /// Why an item of the neighbour in the session is not taken: the session is not held, or it is an update and not the
     /// next one. No log is so long that there is no next number.
+    #[inline(always)]
     pub(crate) fn declines(&self, from: NodeId, session: Session, item: &Item) -> Option<Reason>
         ensures some { IfSome result (λ reason. (policy : P) (net : Net) (u : ℕ) (carried : Carried) (past : Chronicle) →
             StandsFor policy (P.rules policy) net u self.now past → MayCome net u (Arrive from session (item_of item.now)) →
