@@ -27,12 +27,12 @@ use crate::offers::{Offer, offer_of, offers_for, offers_of};
 use crate::outgoing::Outgoing;
 use crate::quiet::{same_offer, same_offers, stays};
 use crate::sessions::{SessionMark, Sessions};
-use crate::telling::{Said, Turn};
+use crate::telling::Turn;
 use crate::turns::tell_all;
 use path_vector::{Cause, Policy, RouteState};
 use std::alloc::Global;
-use std::slice;
-use topology::{NoMemory, NodeId, PrefixId, Scope, SentItems, Session, Topology, Trigger};
+use std::{mem, slice};
+use topology::{NoMemory, NodeId, PrefixId, Scope, Sent, SentItems, Session, Topology, Trigger};
 
 // The room that a log is made with: as many entries as a node may make, so that a log that grows is not copied. Memory
 // that is not touched costs nothing.
@@ -49,6 +49,8 @@ pub struct NodeLog<P: Policy + Copy> {
     entries: Vec<Entry>,
     len: u32,
     next_count: u32,
+    // A list for what an entry sends, used again for each: what is in it means nothing.
+    scratch: Vec<Sent>,
 }
 
 // An equal scope.
@@ -86,6 +88,7 @@ impl<P: Policy + Copy> NodeLog<P> {
             entries: Vec::with_capacity(alloc, ROOM)?,
             len: 0,
             next_count: 1,
+            scratch: Vec::new(alloc),
         })
     }
 
@@ -325,7 +328,7 @@ impl<P: Policy + Copy> NodeLog<P> {
     {
         self.routes.apply(copied(&scope), &cause)?;
         mark(&mut self.sessions, &trigger, &cause)?;
-        let sent = SentItems::new(Vec::new(self.alloc));
+        let sent = SentItems::none();
         self.keep(Entry {
             trigger,
             scope,
@@ -462,16 +465,17 @@ impl<P: Policy + Copy> NodeLog<P> {
             after,
             same,
         };
-        let said = tell_all(self.alloc, &self.routes, &mut self.sessions, &turn)?;
-        let Said { sent, outgoing } = said;
-        let sent = SentItems::new(sent);
+        let list = mem::replace(&mut self.scratch, Vec::new(self.alloc));
+        let said = tell_all(self.alloc, &self.routes, &mut self.sessions, &turn, list)?;
+        let sent = SentItems::of(self.alloc, &said.sent)?;
+        self.scratch = said.sent;
         self.keep(Entry {
             trigger,
             scope,
             cause,
             sent,
         })?;
-        Ok(outgoing)
+        Ok(said.outgoing)
     }
 
     // Keeps the entry, and counts it.

@@ -62,24 +62,26 @@ pub struct Said {
 }
 
 impl Said {
-    /// Nothing. Takes no memory.
-    pub fn nothing(alloc: Global) -> Said
+    /// Nothing, in the memory of this list. Takes no other.
+    pub fn nothing(alloc: Global, list: Vec<Sent>) -> Said
         ensures { speech_of result ≡ silence }
     {
+        let mut sent = list;
+        sent.clear();
         Said {
-            sent: Vec::new(alloc),
+            sent,
             outgoing: Vec::new(alloc),
         }
     }
 
-    /// Nothing yet, with room for this many items.
-    pub fn with_room(alloc: Global, items: usize) -> Result<Said, NoMemory>
+    /// Nothing yet, in the memory of this list, with room for this many items to go out.
+    pub fn with_room(alloc: Global, items: usize, list: Vec<Sent>) -> Result<Said, NoMemory>
         ensures { IfOk result (λ said. speech_of said ≡ silence) }
     {
-        Ok(Said {
-            sent: Vec::with_capacity(alloc, items)?,
-            outgoing: Vec::with_capacity(alloc, items)?,
-        })
+        let mut sent = list;
+        sent.clear();
+        let outgoing = Vec::with_capacity(alloc, items)?;
+        Ok(Said { sent, outgoing })
     }
 }
 

@@ -135,13 +135,14 @@ fn tell_each<P: Policy + Copy>(
     Ok(())
 }
 
-/// What the entry says to each neighbour, ascending: it is counted in their sessions. Nothing is looked at, and no
-/// memory taken, where the entry has nothing to say.
+/// What the entry says to each neighbour, ascending: it is counted in their sessions. Its items are listed in the memory
+/// of the list, whatever was in that. Nothing is looked at, and no memory taken, where the entry has nothing to say.
 pub fn tell_all<P: Policy + Copy>(
     alloc: Global,
     routes: &RouteState<P>,
     sessions: &mut Sessions,
     turn: &Turn<'_>,
+    list: Vec<Sent>,
 ) -> Result<Said, NoMemory>
     requires same_prefixes { prefixes_of turn.now.before.now ≡ prefixes_of turn.now.after.now }
     requires same { AreSame turn.now.before.now turn.now.after.now turn.now.same.now }
@@ -152,9 +153,9 @@ pub fn tell_all<P: Policy + Copy>(
     ensures near { sessions.new.near ≡ sessions.old.near }
 {
     if is_quiet(turn) {
-        return Ok(Said::nothing(alloc));
+        return Ok(Said::nothing(alloc, list));
     }
-    let mut said = Said::with_room(alloc, sessions.len())?;
+    let mut said = Said::with_room(alloc, sessions.len(), list)?;
     tell_each(routes, sessions, turn, &mut said)?;
     Ok(said)
 }

@@ -25,7 +25,7 @@ returns g c = λ policy net u h was near placed fits stays.
     let n = length (neighbours net u) in
     let told = told_still rules net u h k fitting placed stays n c.mark.new.sessions.rows silence silence (told_none rules net u h k fitting c.mark.new.sessions.rows silence marked) in
     entered policy rules net u h trigger scope cause c.args.self.now c.keep.new.self
-    n silence c.new-sent.result
+    n silence c.none-sent.result
     was fits (subst (λ r. RoutesStandFor policy net u r (k.read ∷ reads h)) (sym c.in_ok-keep.ensures.routes) stands) c.in_ok-keep.ensures.node
-    (ap (λ (s : MarkRows). s.near) c.in_ok-keep.ensures.sessions ∙ c.mark.ensures.near) c.in_ok-keep.ensures.count c.in_ok-keep.ensures.next c.in_ok-keep.ensures.entries (c.new-sent.ensures ∙ c.new.ensures.items) (omega arith)
+    (ap (λ (s : MarkRows). s.near) c.in_ok-keep.ensures.sessions ∙ c.mark.ensures.near) c.in_ok-keep.ensures.count c.in_ok-keep.ensures.next c.in_ok-keep.ensures.entries c.none-sent.ensures (omega arith)
     (subst (λ (s : MarkRows). ToldTo (making rules net u h k) n s.rows silence silence) (sym c.in_ok-keep.ensures.sessions) told)

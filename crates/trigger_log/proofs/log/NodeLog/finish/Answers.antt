@@ -31,9 +31,9 @@ returns g c = λ policy net u h routes mid offers.
     let whole : length (neighbours net u) ≤ n = let same : n ≡ length (neighbours net u) = none_yet.width in omega arith in
     record {
       stands = entered policy rules net u h trigger scope cause (record log { routes = routes }) c.keep.new.self
-          n said c.new-sent.result
+          n said c.in_ok-sent.sent
           mid.was mid.fits (subst (λ r. RoutesStandFor policy net u r (k.read ∷ reads h)) (sym c.in_ok-keep.ensures.routes) mid.routes) c.in_ok-keep.ensures.node
-          (ap (λ (s : MarkRows). s.near) c.in_ok-keep.ensures.sessions ∙ (c.tell_all.ensures.near ∙ c.mark.ensures.near)) c.in_ok-keep.ensures.count c.in_ok-keep.ensures.next c.in_ok-keep.ensures.entries c.new-sent.ensures whole
+          (ap (λ (s : MarkRows). s.near) c.in_ok-keep.ensures.sessions ∙ (c.tell_all.ensures.near ∙ c.mark.ensures.near)) c.in_ok-keep.ensures.count c.in_ok-keep.ensures.next c.in_ok-keep.ensures.entries (c.in_ok-sent.ensures ∙ c.deref.ensures.value) whole
           (subst (λ (s : MarkRows). ToldTo (making rules net u h k) n s.rows silence said) (sym c.in_ok-keep.ensures.sessions) told);
       goes = went_out policy rules net u h trigger scope cause n c.tell_all.new.sessions.rows said whole told;
     }
