@@ -1,6 +1,5 @@
 -- What a fact changes of the links.
-use Rattle.std.proofs.Common.{ℕ, Bool, true, false, cond, ◌==◌, ◌&&◌, Option, Some, None, IfSome, IfNone, List, [], ◌∷◌, ◌++◌, ◌≡◌, refl, sym, ◌∙◌, ap, map, arith, is_some}
-use Rattle.std.specs.Borrow.{Bor}
+use Rattle.std.proofs.Common.{ℕ, Bool, true, false, cond, ◌==◌, ◌&&◌, List, [], ◌∷◌, ◌++◌, ◌≡◌, refl, sym, ◌∙◌, ap, map, arith}
 use Rattle.std.specs.Prelude.{if◌then◌else◌}
 use Rattle.std.proofs.lemmas.Bool.Decides.{nat_tests}
 use Rattle.std.proofs.lemmas.List.{map-append}
@@ -19,7 +18,6 @@ use Rattle.chronicle.specs.Links.{link}
 use Rattle.chronicle.specs.Channels.{tail}
 use Rattle.chronicle.specs.Channels.{channel as channel_of}
 use Rattle.world_core.specs.Matching.{AreLinks}
-use Rattle.world_core.proofs.Opened.{has_item}
 
 -- what is pushed comes to the end of both
 grown : (t q r : Bool) (xs : List Message) (ys : List Item) (x : Message) → (t ≡ true → q ≡ r) → map item_of xs ≡ ys
@@ -113,9 +111,3 @@ front_read net past links was a b x rest is = sym (was.items a b) ∙ ap (map it
 -- so of a way on which nothing is
 pub empty_read : (net : Net) (past : Chronicle) (links : Links) (was : AreLinks net past links) (a b : ℕ) → channel_after a b was.acts ≡ [] → channel_of a b past ≡ []
 empty_read net past links was a b is = sym (was.items a b) ∙ ap (map item_of) is
-
--- and of what a look at the front shows
-pub shown_front : (net : Net) (past : Chronicle) (links : Links) (was : AreLinks net past links) (a b : ℕ) (items : List Message) (o : Option (Bor Message)) → items ≡ channel_after a b was.acts
-    → IfSome o (λ item. items ≡ item.now ∷ behind_front items) → IfNone o (items ≡ []) → is_some o ≡ has_item (channel_of a b past)
-shown_front net past links was a b items (Some x) is some none = sym (ap has_item (front_read net past links was a b x.now (behind_front items) (sym is ∙ some)))
-shown_front net past links was a b items None is some none = sym (ap has_item (empty_read net past links was a b (sym is ∙ none)))

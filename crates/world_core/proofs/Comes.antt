@@ -211,17 +211,3 @@ run-push rules net events event = fold-append (after rules net) [] events (event
 pub run-none : (rules : Rules) (net : Net) → run rules net [] ≡ []
 unfolding run
 run-none rules net = refl
-
--- something may arrive over the way, where its receiver runs
-abbrev pub may : Chronicle → ℕ → ℕ → Bool
-may past v u = may_arrive (link v u past) (channel v u past) (held_with u v past)
-
--- a way over which something may arrive
-arrives_so : (past : Chronicle) (v u s : ℕ) (x : Item) (rest : List Item) → link v u past ≡ Up s → channel v u past ≡ x ∷ rest → held_with u v past ≡ Some s → may past v u ≡ true
-arrives_so past v u s x rest is front holds =
-    ap₂ (λ l items. may_arrive l items (held_with u v past)) is front ∙ (ap (λ o. is_session o s) holds ∙ same_number s)
-
--- there is a session for it exactly where something may arrive
-pub waits_where : (past : Chronicle) (v u : ℕ) (r : Result ℕ Reason) (P : Reason → Type 0) → IfOk r (λ s. MayArrive past v u s) → IfErr r (λ why. P why × (may past v u ≡ false)) → is_ok r ≡ may past v u
-waits_where past v u (Ok s) P may rests = sym (arrives_so past v u s may.front.0 may.front.1 may.up may.front.2 may.held)
-waits_where past v u (Err why) P may rests = sym rests.1

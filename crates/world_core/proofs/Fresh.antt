@@ -13,7 +13,7 @@ use Rattle.chronicle.specs.declared.ways.Way.{Way}
 use Rattle.node_core.specs.declared.node.Node.{Node}
 use Rattle.node_core.specs.Standing.{StandsFor}
 use Rattle.world_core.specs.Matching.{AreLinks, IsCounted}
-use Rattle.world_core.specs.Waiting.{AreWaiting}
+use Rattle.world_core.specs.OpenWays.{AreOpen}
 use Rattle.topology.specs.Net.{linked}
 use Rattle.world_core.proofs.Places.{same_some}
 
@@ -56,11 +56,10 @@ pub fresh_counted : (net : Net) → IsCounted net [] 0
 unfolding triggers_of
 fresh_counted net = record { total = sym (no_sum net.nodes); few = omega arith; few_mails = omega arith; few_packets = omega arith }
 
--- no way waits
-no_wait : (b : Bool) → false ≡ (b && false)
-no_wait true = refl
-no_wait false = refl
-
--- nothing waits
-pub fresh_waiting : (net : Net) (has : Way → Bool) → ((way : Way) → has way ≡ false) → AreWaiting net [] has
-fresh_waiting net has none = λ way. none way ∙ no_wait (linked net way.from way.to)
+-- each way over a link is open
+pub fresh_open : (net : Net) (has : Way → Bool) → ((way : Way) → has way ≡ linked net way.from way.to) → AreOpen net [] has
+fresh_open net has all way = all way ∙ and_true (linked net way.from way.to)
+  where
+    and_true : (b : Bool) → b ≡ (b && true)
+    and_true true = refl
+    and_true false = refl

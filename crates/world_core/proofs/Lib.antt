@@ -7,7 +7,6 @@ pub mod Mailing
 pub mod Delivered
 pub mod Near
 pub mod Carried
-mod Bits
 mod Numbered
 pub mod Telling
 pub mod Nodes

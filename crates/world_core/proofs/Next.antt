@@ -1,16 +1,36 @@
--- The next delivery is the first way that waits.
-use Rattle.std.proofs.Common.{ℕ, Bool, true, ◌&&◌, List, [], ◌∷◌, ◌≡◌, refl, sym, ◌∙◌, ap, arith, find, filter, map, flat_map}
+-- The next delivery is over the first open way on which something is.
+use Rattle.std.proofs.Common.{ℕ, ◌<◌, ◌≤◌, Bool, true, false, ◌&&◌, Option, Some, None, IsSome, IfNone, List, [], ◌∷◌, ◌≡◌, refl, sym, ◌∙◌, ap, ap₂, subst, ⊎_elim, true≢false, length, filter, find, map, flat_map, option_map, slice_get}
 use Rattle.std.specs.List.{AllByRecursion}
-use Rattle.std.proofs.lemmas.Bool.Decides.{nat_tests}
+use Rattle.std.proofs.lemmas.Bool.{cases_lt}
+use Rattle.topology.specs.declared.items.Item.{Item as Message}
 use Rattle.topology.specs.Lists.{ascending}
-use Rattle.topology.specs.Net.{Net, linked, neighbours}
+use Rattle.topology.specs.Net.{Net, IsValid, linked, neighbours}
+use Rattle.trigger_log.specs.Going.{item_of}
+use Rattle.link_model.specs.declared.ends.Ends.{Ends}
+use Rattle.link_model.specs.declared.links.Links.{Links}
+use Rattle.link_model.specs.declared.way_set.WaySet.{WaySet}
+use Rattle.link_model.specs.Acts.{Acts}
+use Rattle.link_model.specs.Keeping.{IsPlaced}
+use Rattle.link_model.specs.Readings.{channel_after}
+use Rattle.link_model.specs.Standing.{StandsFor as LinksStandFor}
+use Rattle.link_model.specs.Tables.{ends, ways_of}
+use Rattle.link_model.specs.Ways.{has_items}
+use Rattle.link_model.specs.WaySets.{IsLowest, has_both, has_number}
+use Rattle.link_model.proofs.Numbers.{one_number}
 use Rattle.chronicle.specs.declared.ways.Way.{Way}
+use Rattle.chronicle.specs.Channels.{channel}
 use Rattle.chronicle.specs.Facts.{Chronicle}
 use Rattle.chronicle.specs.Deliveries.{arrives, ways, next_delivery}
+use Rattle.world_core.specs.Holding.{IsNext, IsOver}
+use Rattle.world_core.specs.Matching.{AreLinks}
+use Rattle.world_core.specs.OpenWays.{AreOpen, is_open}
 use Rattle.world_core.specs.Refreshing.{AreLinked, way}
-use Rattle.world_core.specs.Waiting.{AreWaiting}
+use Rattle.world_core.specs.WaySets.{has_way}
 use Rattle.world_core.proofs.Telling.{filter_passes}
 use Rattle.world_core.proofs.Changing.{linked_append}
+use Rattle.world_core.proofs.Numbered.{at_number, found_first, found_none, linked_at, way_by, ways_numbered}
+use Rattle.world_core.proofs.Opened.{arrives_where, both_true, has_item}
+use Rattle.world_core.proofs.Places.{same_some, some_at}
 
 -- the ways from one node
 linked_from : (net : Net) (v : ℕ) (us : List ℕ) → AllByRecursion (λ u. linked net v u ≡ true) us → AreLinked net (map (λ u. way v u) us)
@@ -29,23 +49,78 @@ ways_near : (net : Net) → AreLinked net (ways net)
 unfolding ways neighbours
 ways_near net = linked_all net (ascending net.nodes)
 
--- the first of the set is the first that waits
-found_same : (net : Net) (past : Chronicle) (has : Way → Bool) (list : List Way) → AreWaiting net past has → AreLinked net list
-    → find has list ≡ find (λ (w : Way). arrives past w.from w.to) list
-found_same net past has [] was near = refl
-found_same net past has (w ∷ list) was near =
-    let same : has w ≡ arrives past w.from w.to = was w ∙ ap (λ b. b && arrives past w.from w.to) near.0 in
-    rw (same, found_same net past has list was near.1) refl
+-- so do those that have a number
+pub numbered_near : (net : Net) → AreLinked net (map way_by (ways_of net))
+numbered_near net = subst (AreLinked net) (ways_numbered net) (ways_near net)
 
--- so of all ways
-pub first_waits : (net : Net) (past : Chronicle) (has : Way → Bool) → AreWaiting net past has → find has (ways net) ≡ next_delivery net past
-unfolding next_delivery
-first_waits net past has was = found_same net past has (ways net) was (ways_near net)
+-- both read the same of a list
+same_items : (items : List Message) → has_items items ≡ has_item (map item_of items)
+same_items [] = refl
+same_items (x ∷ items) = refl
 
--- the first of the two
-left_true : (a b : Bool) → (a && b) ≡ true → a ≡ true
-left_true a b e = grind (arith, nat_tests)
+-- what the links say of a set of ways: it has the number of each on which something is
+abbrev pub AreBusy : Links → Acts → WaySet → Type 0
+AreBusy links acts busy = (from to number : ℕ) → IsPlaced links from to number → has_number busy number ≡ has_items (channel_after from to acts)
 
--- a way of the set goes over a link
-pub waits_near : (net : Net) (past : Chronicle) (has : Way → Bool) → AreWaiting net past has → (w : Way) → has w ≡ true → linked net w.from w.to ≡ true
-waits_near net past has was w e = left_true (linked net w.from w.to) (arrives past w.from w.to) (sym (was w) ∙ e)
+-- what has a number is placed there
+pub placed_at : (net : Net) (links : Links) (acts : Acts) → LinksStandFor net links acts → (number : ℕ) (e : Ends) → slice_get (ways_of net) number ≡ Some e → IsPlaced links e.from e.to number
+placed_at net links acts stands number e at = record {
+  here = ap (λ l. slice_get l number) stands.numbered ∙ at;
+  only = λ other there. one_number net e.from e.to other number stands.valid (sym (ap (λ l. slice_get l other) stands.numbered) ∙ there) at;
+}
+
+-- the ends of the way of the next delivery
+pub over_ends : (net : Net) (past : Chronicle) (number : ℕ) (o : Option Ends) (e : Ends) → IsNext net past number → o ≡ slice_get (ways_of net) number → o ≡ Some e → IsOver net past e
+over_ends net past number o e next is some = subst (IsOver net past) (same_some next.ends e (sym next.here ∙ (sym is ∙ some))) next.over
+
+-- they are there
+pub has_ends : (net : Net) (past : Chronicle) (number : ℕ) (o : Option Ends) → IsNext net past number → o ≡ slice_get (ways_of net) number → IsSome o
+has_ends net past number o next is = subst IsSome (sym (is ∙ next.here)) refl
+
+module _ (net : Net) (past : Chronicle) (links : Links) (ways busy : WaySet) (valid : IsValid net) (was : AreLinks net past links) (opened : AreOpen net past (has_way net ways)) (full : AreBusy links was.acts busy) where
+  -- a number is in both sets where a delivery over its way would not be idle
+  pub waits_at : (i : ℕ) (e : Ends) → slice_get (ways_of net) i ≡ Some e → arrives past e.from e.to ≡ has_both ways busy i
+  waits_at i e at =
+      let near = linked_at net (ways_of net) i e (numbered_near net) at in
+      let set : has_number ways i ≡ is_open past e.from e.to =
+      sym (at_number net valid (has_number ways) i e at) ∙ (opened (way_by e) ∙ ap (λ b. b && is_open past e.from e.to) near) in
+      let some : has_number busy i ≡ has_item (channel e.from e.to past) =
+      full e.from e.to i (placed_at net links was.acts was.stands i e at) ∙ (same_items (channel_after e.from e.to was.acts) ∙ ap has_item (was.items e.from e.to)) in
+      arrives_where past e.from e.to ∙ sym (ap₂ (λ a b. a && b) set some)
+
+  -- no delivery is next where no number is in both
+  pub next_none : ((i : ℕ) → has_both ways busy i ≡ false) → next_delivery net past ≡ None
+  unfolding next_delivery
+  next_none none = found_none net (λ (w : Way). arrives past w.from w.to) (has_both ways busy) waits_at none
+
+  -- the next one is that of the lowest number
+  pub next_first : (k : ℕ) (r : Option Ends) → r ≡ slice_get (ways_of net) k → IsLowest (has_both ways busy) k → next_delivery net past ≡ option_map way_by r
+  unfolding next_delivery
+  next_first k r is low = found_first net (λ (w : Way). arrives past w.from w.to) (has_both ways busy) waits_at k r is low.has low.least
+
+  -- a delivery would not be idle over a way whose number is in both
+  pub waits_over : (from to number : ℕ) → IsPlaced links from to number → has_number ways number ≡ true → has_number busy number ≡ true → arrives past from to ≡ true
+  waits_over from to number placed set some =
+      waits_at number (ends from to) (ap (λ l. slice_get l number) (sym was.stands.numbered) ∙ placed.here) ∙ ap₂ (λ a b. a && b) set some
+
+  -- so the next one is that of the lowest number in both
+  pub next_at : ((number : ℕ) → length links.table ≤ number → has_number busy number ≡ false) → (number : ℕ) → IsLowest (has_both ways busy) number → IsNext net past number
+  next_at within number low = ⊎_elim
+      (λ (below : number < length links.table).
+      let one = some_at (ways_of net) number (subst (λ (l : List Ends). number < length l) was.stands.numbered below) in
+      record {
+        ends = one.0;
+        here = one.1;
+        over = record {
+          near = linked_at net (ways_of net) number one.0 (numbered_near net) one.1;
+          waits = waits_at number one.0 one.1 ∙ low.has;
+          first = next_first number (Some one.0) (sym one.1) low;
+        };
+      })
+      (λ (beyond : length links.table ≤ number). absurd (true≢false (sym (both_true (has_number ways number) (has_number busy number) low.has).1 ∙ within number beyond)))
+      (cases_lt number (length links.table))
+
+-- what follows where there is nothing
+pub none_then : {X P Q : Type 0} (o : Option X) → IfNone o P → (P → Q) → IfNone o Q
+none_then None none so = so none
+none_then (Some x) none so = none

@@ -1,15 +1,16 @@
 -- Sets of ways by their numbers.
-use Rattle.std.proofs.Common.{ℕ, zero, suc, ◌<◌, ◌≡◌, Bool, true, false, cond, ◌==◌, Option, Some, None, List, [], ◌∷◌, ◌++◌, refl, sym, ◌∙◌, ap, arith, true≢false, slice_get, find, map, flat_map, option_map, if◌then◌else◌}
+use Rattle.std.proofs.Common.{ℕ, zero, suc, ◌<◌, ◌≡◌, Bool, true, false, cond, ◌==◌, Option, Some, None, List, [], ◌∷◌, ◌++◌, refl, sym, ◌∙◌, ap, subst, arith, true≢false, length, nat_lt, slice_get, find, map, flat_map, option_map, if◌then◌else◌}
 use Rattle.std.proofs.lemmas.Bool.Decides.{nat_tests}
 use Rattle.std.proofs.lemmas.List.{map-append}
+use Rattle.std.proofs.lemmas.Option.{slice_get_within}
 use Rattle.topology.specs.Lists.{ascending}
-use Rattle.topology.specs.Net.{Net, IsValid, neighbours}
+use Rattle.topology.specs.Net.{Net, IsValid, linked, neighbours}
 use Rattle.link_model.specs.declared.ends.Ends.{Ends}
 use Rattle.link_model.specs.Tables.{ends, ways_from, ways_of}
-use Rattle.link_model.proofs.Numbers.{one_number}
+use Rattle.link_model.proofs.Numbers.{link_placed, one_number}
 use Rattle.chronicle.specs.declared.ways.Way.{Way}
 use Rattle.chronicle.specs.Deliveries.{ways}
-use Rattle.world_core.specs.Refreshing.{way}
+use Rattle.world_core.specs.Refreshing.{AreLinked, way}
 use Rattle.world_core.specs.WaySets.{same_way, goes, has_in}
 use Rattle.world_core.proofs.Places.{same_some}
 
@@ -44,14 +45,6 @@ agree_in p q (e ∷ es) w same =
       | true ↦ λ h. same 0 (ap Some (ends_are e w h))
       | false ↦ λ h. agree_in (λ n. p (suc n)) (λ n. q (suc n)) es w (λ i at. same (suc i) at)
     ]) refl
-
-none_in : (table : List Ends) (w : Way) → has_in (λ _. false) table w ≡ false
-none_in [] w = refl
-none_in (e ∷ es) w = elim (goes e w) as (λ t. cond t false (has_in (λ _. false) es w) ≡ false) [ true ↦ refl | false ↦ none_in es w ]
-
--- an empty set has no way
-pub no_number : (p : ℕ → Bool) (table : List Ends) → ((i : ℕ) → p i ≡ false) → (w : Way) → has_in p table w ≡ false
-no_number p table none w = agree_in p (λ _. false) table w (λ i at. none i) ∙ none_in table w
 
 -- the set has a way where it has its number
 pub has_at : (p : ℕ → Bool) (table : List Ends) (k : ℕ) (w : Way) → slice_get table k ≡ Some (ends w.from w.to) → ((i : ℕ) → slice_get table i ≡ Some (ends w.from w.to) → i ≡ k) → has_in p table w ≡ p k
@@ -126,18 +119,47 @@ below_end (y ∷ ys) zero i x e f = absurd (cc e)
 below_end (y ∷ ys) (suc k) zero x e f = omega arith
 below_end (y ∷ ys) (suc k) (suc i) x e f = let l = below_end ys k i x e f in omega (arith, l)
 
-module _ (net : Net) (valid : IsValid net) (p : ℕ → Bool) where
-  at_number : (i : ℕ) (e : Ends) → slice_get (ways_of net) i ≡ Some e → has_in p (ways_of net) (way_by e) ≡ p i
-  at_number i e at = has_at p (ways_of net) i (way_by e) at (λ j there. one_number net e.from e.to j i valid there at)
+-- a set has the way at a number where it has the number
+pub at_number : (net : Net) → IsValid net → (p : ℕ → Bool) (i : ℕ) (e : Ends) → slice_get (ways_of net) i ≡ Some e → has_in p (ways_of net) (way_by e) ≡ p i
+at_number net valid p i e at = has_at p (ways_of net) i (way_by e) at (λ j there. one_number net e.from e.to j i valid there at)
 
-  -- no way of an empty set is found
-  pub found_none : ((i : ℕ) → p i ≡ false) → find (has_in p (ways_of net)) (ways net) ≡ None
-  found_none none = rw (ways_numbered net) (find_none way_by (has_in p (ways_of net)) (ways_of net) (λ i e at. at_number i e at ∙ none i))
+-- where a test of ways is one of their numbers
+module _ (net : Net) (test : Way → Bool) (p : ℕ → Bool) (same : (i : ℕ) (e : Ends) → slice_get (ways_of net) i ≡ Some e → test (way_by e) ≡ p i) where
+  -- no way passes where no number does
+  pub found_none : ((i : ℕ) → p i ≡ false) → find test (ways net) ≡ None
+  found_none none = rw (ways_numbered net) (find_none way_by test (ways_of net) (λ i e at. same i e at ∙ none i))
 
   -- the way with the lowest number is the first
-  pub found_first : (k : ℕ) (r : Option Ends) → r ≡ slice_get (ways_of net) k → p k ≡ true → ((i : ℕ) → i < k → p i ≡ false) → find (has_in p (ways_of net)) (ways net) ≡ option_map way_by r
+  pub found_first : (k : ℕ) (r : Option Ends) → r ≡ slice_get (ways_of net) k → p k ≡ true → ((i : ℕ) → i < k → p i ≡ false) → find test (ways net) ≡ option_map way_by r
   found_first k (Some e) is passes low =
-      rw (ways_numbered net)
-      (find_first way_by (has_in p (ways_of net)) (ways_of net) k e (sym is) (at_number k e (sym is) ∙ passes) (λ i y l at. at_number i y at ∙ low i l))
+      rw (ways_numbered net) (find_first way_by test (ways_of net) k e (sym is) (same k e (sym is) ∙ passes) (λ i y l at. same i y at ∙ low i l))
   found_first k None is passes low =
-      rw (ways_numbered net) (find_none way_by (has_in p (ways_of net)) (ways_of net) (λ i e at. at_number i e at ∙ low i (below_end (ways_of net) k i e (sym is) at)))
+      rw (ways_numbered net) (find_none way_by test (ways_of net) (λ i e at. same i e at ∙ low i (below_end (ways_of net) k i e (sym is) at)))
+
+-- ---- ways over links
+
+-- what stands in a list of ways over links goes over a link
+pub linked_at : (net : Net) (table : List Ends) (i : ℕ) (e : Ends) → AreLinked net (map way_by table) → slice_get table i ≡ Some e → linked net e.from e.to ≡ true
+linked_at net [] i e near at = absurd (cc at)
+linked_at net (x ∷ xs) zero e near at = subst (λ (y : Ends). linked net y.from y.to ≡ true) (same_some x e at) near.0
+linked_at net (x ∷ xs) (suc i) e near at = linked_at net xs i e near.1 at
+
+-- no set has a way that goes over no link
+pub none_apart : (net : Net) (p : ℕ → Bool) (table : List Ends) (w : Way) → AreLinked net (map way_by table) → linked net w.from w.to ≡ false → has_in p table w ≡ false
+none_apart net p [] w near apart = refl
+none_apart net p (e ∷ es) w near apart =
+    (elim (goes e w) as (λ t. goes e w ≡ t → cond t (p 0) (has_in (λ n. p (suc n)) es w) ≡ false) [
+      | true ↦ λ h. absurd (true≢false (sym (subst (λ (y : Ends). linked net y.from y.to ≡ true) (ends_are e w h) near.0) ∙ apart))
+      | false ↦ λ h. none_apart net (λ n. p (suc n)) es w near.1 apart
+    ]) refl
+
+-- the set of all numbers has each way over a link
+pub all_linked : (net : Net) (p : ℕ → Bool) → IsValid net → AreLinked net (map way_by (ways_of net)) → ((i : ℕ) → p i ≡ nat_lt i (length (ways_of net)))
+    → (w : Way) → has_in p (ways_of net) w ≡ linked net w.from w.to
+all_linked net p valid near all w =
+    (elim (linked net w.from w.to) as (λ t. linked net w.from w.to ≡ t → has_in p (ways_of net) w ≡ t) [
+      | true ↦ λ joined. link_placed net w.from w.to _ valid joined (λ k at.
+          let low : k < length (ways_of net) = slice_get_within (ways_of net) k (ends w.from w.to) at in
+          at_number net valid p k (ends w.from w.to) at ∙ (all k ∙ grind (arith, nat_tests, low)))
+      | false ↦ λ apart. none_apart net p (ways_of net) w near apart
+    ]) refl

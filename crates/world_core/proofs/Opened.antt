@@ -1,5 +1,5 @@
 -- Ways that are open: what comes over them is not idle.
-use Rattle.std.proofs.Common.{ℕ, Bool, true, false, not, ◌&&◌, Option, List, [], ◌∷◌, ◌≡◌, refl, sym, ◌∙◌, ap, ap₂, arith, true≢false}
+use Rattle.std.proofs.Common.{ℕ, Bool, true, false, not, ◌&&◌, Option, Some, None, List, [], ◌∷◌, ◌≡◌, refl, sym, ◌∙◌, ap, ap₂, arith, true≢false}
 use Rattle.std.proofs.lemmas.Bool.Decides.{nat_tests}
 use Rattle.topology.specs.declared.links.LinkState.{LinkState}
 use Rattle.topology.specs.declared.links.LinkState.TheVariants.{Up, Down}
@@ -9,16 +9,23 @@ use Rattle.chronicle.specs.Crashes.{crashed}
 use Rattle.chronicle.specs.Deliveries.{arrives, may_arrive}
 use Rattle.chronicle.specs.Facts.{Chronicle, Sent, happen}
 use Rattle.chronicle.specs.Links.{link}
-use Rattle.chronicle.specs.Run.{held_with}
+use Rattle.chronicle.specs.Run.{held_with, is_carried}
 use Rattle.chronicle.specs.Steps.{Carried, sends}
 use Rattle.cut_laws.proofs.Marked.{session_is}
 use Rattle.world_core.specs.Happening.{MayArrive}
-use Rattle.world_core.specs.Waiting.{is_joined, is_open}
+use Rattle.world_core.specs.OpenWays.{is_joined, is_open}
 
 -- something is on its way
 abbrev pub has_item : List Item → Bool
 has_item [] = false
 has_item (x ∷ rest) = true
+
+-- a link that carries the session that is held is up in it
+pub carried_joined : (l : LinkState) (session : Option ℕ) → is_carried l session ≡ is_joined l session
+carried_joined (Down s) None = refl
+carried_joined (Down s) (Some t) = refl
+carried_joined (Up s) None = refl
+carried_joined (Up s) (Some t) = grind (arith, nat_tests)
 
 -- both of two tests
 pub both_true : (a b : Bool) → (a && b) ≡ true → (a ≡ true) × (b ≡ true)
@@ -39,14 +46,6 @@ pub arrives_where : (past : Chronicle) (v u : ℕ) → arrives past v u ≡ (is_
 arrives_where past v u =
     and_more (not (crashed u past)) (is_joined (link v u past) (held_with u v past)) (may_arrive (link v u past) (channel v u past) (held_with u v past)) (has_item (channel v u past))
     (joined_item (link v u past) (channel v u past) (held_with u v past))
-
--- so a way is open over which a delivery would not be idle
-pub arrives_open : (past : Chronicle) (v u : ℕ) → arrives past v u ≡ true → is_open past v u ≡ true
-arrives_open past v u e = (both_true (is_open past v u) (has_item (channel v u past)) (sym (arrives_where past v u) ∙ e)).0
-
--- and of an open way it is enough to ask whether something is on it
-pub arrives_over : (past : Chronicle) (v u : ℕ) → is_open past v u ≡ true → arrives past v u ≡ has_item (channel v u past)
-arrives_over past v u opened = arrives_where past v u ∙ ap (λ t. t && has_item (channel v u past)) opened
 
 -- nothing arrives over a link that is down
 pub down_rests : (past : Chronicle) (v u s : ℕ) → arrives past v u ≡ true → link v u past ≡ Down s → ⊥

@@ -1,13 +1,20 @@
 -- What is handed on in the midst of an event.
-use Rattle.std.proofs.Common.{ℕ, Bool, true, false, List, [], ◌∷◌, ◌++◌, ◌≡◌, refl, sym, ◌∙◌, ap, append_assoc}
+use Rattle.std.proofs.Common.{ℕ, Bool, true, false, List, [], ◌∷◌, ◌++◌, ◌≡◌, refl, sym, ◌∙◌, ap, subst, append_assoc}
 use Rattle.std.specs.Prelude.{if◌then◌else◌}
+use Rattle.topology.specs.Net.{Net}
 use Rattle.trigger_log.specs.Going.{Going}
-use Rattle.chronicle.specs.Facts.{Fact, Chronicle, Sent}
+use Rattle.chronicle.specs.Facts.{Fact, Chronicle, Sent, happen}
+use Rattle.node_core.specs.Outputs.{Output, output_by}
 use Rattle.world_core.specs.declared.outcomes.Effect.{Effect}
 use Rattle.world_core.specs.declared.outcomes.Effect.TheVariants.{Queued, Lost}
 use Rattle.world_core.specs.Effects.{effects, effect_by}
 use Rattle.world_core.specs.declared.network.Network.{Network}
-use Rattle.world_core.specs.Happening.{KeepsNodes, Since}
+use Rattle.world_core.specs.Happening.{AreSending, KeepsNodes, Since}
+use Rattle.world_core.specs.Matching.{Counts}
+use Rattle.world_core.specs.Telling.{AreTold, IsTold, shown}
+use Rattle.world_core.specs.Walks.{still, still_after}
+use Rattle.world_core.proofs.Handing.{handed_next, handed_none, happen_last}
+use Rattle.world_core.proofs.Returning.{still_last}
 
 -- one effect more is told
 pub since_next : (first past : Chronicle) (f : Fact) (was now : List Effect) (one : Effect) → Since first was past → now ≡ was ++ one ∷ [] → effect_by f past ≡ one ∷ [] → Since first now (f ∷ past)
@@ -31,3 +38,17 @@ keeps_on a b c first second = record {
   crashed = second.crashed ∙ first.crashed;
   triggers = second.triggers ∙ first.triggers;
 }
+
+-- the one output that stands first was handed on
+pub handed_first : {P : Type 0} (net : Net) (u : ℕ) (away : ℕ → Bool) (first past : Chronicle) (counts : Counts) (old new : Network P) (told_old told_new : List Effect) (facts : List Fact) (out : Output)
+    → AreTold net u past facts → out ∷ [] ≡ shown past facts → AreSending away first past counts old told_old
+    → ((away : ℕ → Bool) (past : Chronicle) (f : Fact) → IsTold net u past f → output_by f past ≡ out ∷ [] → AreSending away first past counts old told_old → AreSending (still f away) first (f ∷ past) counts new told_new)
+    → AreSending (still_after facts away) first (happen past facts) counts new told_new
+handed_first net u away first past counts old new told_old told_new facts out told shows was hands =
+    let before = λ (fs : List Fact). AreSending (still_after fs away) first (happen past fs) counts old told_old in
+    handed_next net past u before (λ fs. AreSending (still_after fs away) first (happen past fs) counts new told_new) facts [] (out ∷ []) out told shows refl
+    (λ fs some same. handed_none net past u before before fs some same was)
+    (λ fs f one same earlier.
+    subst (λ (mid : Chronicle). AreSending (still_after (fs ++ f ∷ []) away) first mid counts new told_new) (sym (happen_last past fs f))
+    (subst (λ (a : ℕ → Bool). AreSending a first (f ∷ happen past fs) counts new told_new) (sym (still_last fs f away))
+    (hands (still_after fs away) (happen past fs) f one same earlier)))

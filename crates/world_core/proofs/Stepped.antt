@@ -1,5 +1,5 @@
 -- A world after one more event.
-use Rattle.std.proofs.Common.{ℕ, Bool, List, [], ◌∷◌, ◌++◌, ◌≡◌, sym, ◌∙◌, ap, subst}
+use Rattle.std.proofs.Common.{ℕ, Bool, None, List, [], ◌∷◌, ◌++◌, ◌≡◌, ◌<◌, sym, ◌∙◌, ap, subst, length}
 use Rattle.std.specs.Prelude.{◌⊎◌}
 use Rattle.topology.specs.Net.{Net}
 use Rattle.path_vector.specs.Rules.{Rules}
@@ -10,13 +10,18 @@ use Rattle.chronicle.specs.Facts.{Chronicle}
 use Rattle.chronicle.specs.Publications.{publications}
 use Rattle.chronicle.specs.Run.{after, run, step}
 use Rattle.agreement_laws.specs.Published.{Completes, PublishesLast}
+use Rattle.link_model.specs.declared.way_set.WaySet.{WaySet}
 use Rattle.world_core.specs.declared.network.Network.{Network}
 use Rattle.world_core.specs.declared.outcomes.Outcome.{Outcome}
+use Rattle.world_core.specs.declared.bounds.TheConstants.{MOST_EVENTS}
 use Rattle.world_core.specs.Happening.{Comes, IsAsWas}
+use Rattle.world_core.specs.Limits.{above_by, limit_of}
 use Rattle.world_core.specs.Matching.{Counts, Stands}
-use Rattle.world_core.specs.Waiting.{AreWaiting}
+use Rattle.world_core.specs.OpenWays.{AreOpen}
+use Rattle.world_core.specs.WaySets.{has_way}
 use Rattle.world_core.proofs.Comes.{run-push}
 use Rattle.world_core.proofs.Mailing.{same_counts}
+use Rattle.world_core.proofs.Stopping.{limit_later, stands_within}
 
 -- where all is as the run has it, it is so by counts that agree
 pub counts_so : {P : Type 0} (rules : Rules) (past : Chronicle) (counts others : Counts) (network : Network P) → ((k : ℕ) → others k ≡ counts k) → Stands rules past counts network → Stands rules past others network
@@ -50,11 +55,11 @@ module _ {P : Type 0} (rules : P → Rules) (old new : Network P) (events : List
       subst (λ net. Comes (rules new.policy) (before new.policy net) counts (step (rules new.policy) net (before new.policy net) event) new what) same_net
       (subst (λ policy. Comes (rules policy) (before policy old.topology.value) counts (step (rules policy) old.topology.value (before policy old.topology.value) event) new what) (sym same.policy) comes)
 
-  -- so of the ways that waited
-  pub waiting_new : (has : Way → Bool) → AreWaiting old.topology.value (before old.policy old.topology.value) has → AreWaiting new.topology.value (before new.policy new.topology.value) has
-  waiting_new has was =
-      subst (λ net. AreWaiting net (before new.policy net) has) same_net
-      (subst (λ policy. AreWaiting old.topology.value (before policy old.topology.value) has) (sym same.policy) was)
+  -- so of the ways that were open
+  pub opened_new : (has : Way → Bool) → AreOpen old.topology.value (before old.policy old.topology.value) has → AreOpen new.topology.value (before new.policy new.topology.value) has
+  opened_new has was =
+      subst (λ net. AreOpen net (before new.policy net) has) same_net
+      (subst (λ policy. AreOpen old.topology.value (before policy old.topology.value) has) (sym same.policy) was)
 
   -- the new network stands for the longer run
   pub stands_new : (list : List Event) (counts : Counts) (what : Outcome) → list ≡ events ++ event ∷ [] → ((k : ℕ) → deliveries (rules old.policy) old.topology.value (events ++ event ∷ []) k ≡ counts k)
@@ -69,11 +74,32 @@ module _ {P : Type 0} (rules : P → Rules) (old new : Network P) (events : List
       counts_so (rules new.policy) (run (rules new.policy) new.topology.value list) counts (deliveries (rules new.policy) new.topology.value list) new same
       (subst (λ past. Stands (rules new.policy) past counts new) (sym (ap (run (rules new.policy) new.topology.value) is ∙ run-push (rules new.policy) new.topology.value events event)) (comes_new counts what comes).stands)
 
-  -- and so do the ways that wait
-  pub waits_new : (list : List Event) (has : Way → Bool) → list ≡ events ++ event ∷ [] → AreWaiting new.topology.value (after (rules new.policy) new.topology.value (before new.policy new.topology.value) event) has
-      → AreWaiting new.topology.value (run (rules new.policy) new.topology.value list) has
-  waits_new list has is waits =
-      subst (λ past. AreWaiting new.topology.value past has) (sym (ap (run (rules new.policy) new.topology.value) is ∙ run-push (rules new.policy) new.topology.value events event)) waits
+  -- and so do the ways that are open
+  pub opens_new : (list : List Event) (has : Way → Bool) → list ≡ events ++ event ∷ [] → AreOpen new.topology.value (after (rules new.policy) new.topology.value (before new.policy new.topology.value) event) has
+      → AreOpen new.topology.value (run (rules new.policy) new.topology.value list) has
+  opens_new list has is opens =
+      subst (λ past. AreOpen new.topology.value past has) (sym (ap (run (rules new.policy) new.topology.value) is ∙ run-push (rules new.policy) new.topology.value events event)) opens
+
+  -- where none is opened or closed, it is the same set
+  pub opens_still : (list : List Event) (ways : WaySet) → list ≡ events ++ event ∷ []
+      → AreOpen old.topology.value (after (rules old.policy) old.topology.value (before old.policy old.topology.value) event) (has_way old.topology.value ways)
+      → AreOpen new.topology.value (run (rules new.policy) new.topology.value list) (has_way new.topology.value ways)
+  opens_still list ways is was =
+      let now = ap (run (rules old.policy) old.topology.value) is ∙ run-push (rules old.policy) old.topology.value events event in
+      subst (λ net. AreOpen net (run (rules new.policy) net list) (has_way net ways)) same_net
+      (subst (λ policy. AreOpen old.topology.value (run (rules policy) old.topology.value list) (has_way old.topology.value ways)) (sym same_policy)
+      (subst (λ past. AreOpen old.topology.value past (has_way old.topology.value ways)) (sym now) was))
+
+  -- and no count is above its number
+  pub within_new : (counts : Counts) (what : Outcome) → length events < MOST_EVENTS
+      → Comes (rules old.policy) (before old.policy old.topology.value) counts (step (rules old.policy) old.topology.value (before old.policy old.topology.value) event) new what
+      → limit_of (rules old.policy) old.topology.value events event ≡ None
+  within_new counts what short comes =
+      let one = rules old.policy in
+      let net = old.topology.value in
+      let past = before old.policy net in
+      limit_later one net events event short
+      ∙ subst (λ n. above_by one n (step one net past event) ≡ None) (sym same_net) (stands_within one past counts (step one net past event) new comes.stands)
 
 -- what a step publishes, said of the run that it leaves
 module _ (rules : Rules) (net : Net) (events : List Event) (event : Event) where

@@ -217,3 +217,7 @@ module _ (rules : Rules) (net : Net) (events : List Event) (event : Event) where
 
   pub stops_later : (why : Stop) → length events < MOST_EVENTS → StopsAt (above_by rules net (step rules net (run rules net events) event)) why → StopsAt (limit_of rules net events event) why
   stops_later why l stops = subst (λ limit. StopsAt limit why) (sym (limit_later l)) stops
+
+  -- a stop at the limit of events
+  pub stops_full : (why : Stop) → (why ≡ stop.Limit Events MOST_EVENTS) × (MOST_EVENTS ≤ length events) → StopsAt (limit_of rules net events event) why
+  stops_full why full = subst (StopsAt (limit_of rules net events event)) (sym full.0) (limit_events full.1)

@@ -1,23 +1,45 @@
 -- When the state of a world is that of a run.
-use Rattle.std.specs.Prelude.{◌≡◌, ◌∷◌, ◌++◌, []}
+use Rattle.std.specs.Prelude.{ℕ, ◌≡◌, true, Option, Some, None, ◌∷◌, ◌++◌, [], slice_get}
+use Rattle.topology.specs.Net.{Net, linked}
 use Rattle.path_vector.specs.Rules.{Rules}
+use Rattle.link_model.specs.declared.ends.Ends.{Ends}
+use Rattle.link_model.specs.Tables.{ways_of}
 use Rattle.chronicle.specs.declared.events.Event.{Event}
-use Rattle.chronicle.specs.Deliveries.{deliveries}
+use Rattle.chronicle.specs.declared.events.Event.TheVariants.{Deliver}
+use Rattle.chronicle.specs.Deliveries.{arrives, deliveries, next_delivery}
+use Rattle.chronicle.specs.Facts.{Chronicle}
 use Rattle.chronicle.specs.Run.{run}
 use Rattle.world_core.specs.declared.world_state.WorldState.{WorldState}
 use Rattle.world_core.specs.Matching.{Stands}
-use Rattle.world_core.specs.Waiting.{AreWaiting}
+use Rattle.world_core.specs.OpenWays.{AreOpen}
 use Rattle.world_core.specs.WaySets.{has_way}
 
--- the network is as the events leave it, and the ways wait over which a delivery would not be idle then
+-- the network is as the events leave it, and the ways are those that are open then
 pub record Holds {P : Type 0} (rules : P → Rules) (state : WorldState P) : Type 0 where
   pub stands : Stands (rules state.network.policy) (run (rules state.network.policy) state.network.topology.value state.events.items)
       (deliveries (rules state.network.policy) state.network.topology.value state.events.items) state.network
-  pub waiting : AreWaiting state.network.topology.value (run (rules state.network.policy) state.network.topology.value state.events.items)
-      (has_way state.network.topology.value state.waiting)
+  pub open_ways : AreOpen state.network.topology.value (run (rules state.network.policy) state.network.topology.value state.events.items)
+      (has_way state.network.topology.value state.open_ways)
 
 -- the same network, and one event more
 pub record Follows {P : Type 0} (event : Event) (old new : WorldState P) : Type 0 where
   pub policy : new.network.policy ≡ old.network.policy
   pub net : new.network.topology.value ≡ old.network.topology.value
   pub events : new.events.items ≡ old.events.items ++ event ∷ []
+
+-- the same state, or one delivery more, over the way from the one to the other
+abbrev pub FollowsOver : {P : Type 0} → Option (ℕ × ℕ) → WorldState P → WorldState P → Type 0
+FollowsOver None old new = new ≡ old
+FollowsOver (Some ends) old new = Follows (Deliver ends.0 ends.1) old new
+
+-- the next delivery is over the way with these ends
+pub record IsOver (net : Net) (past : Chronicle) (ends : Ends) : Type 0 where
+  pub near : linked net ends.from ends.to ≡ true
+  pub waits : arrives past ends.from ends.to ≡ true
+  pub first : next_delivery net past ≡ Some (record { from = ends.from; to = ends.to })
+
+-- it is over the one with this number
+pub record IsNext (net : Net) (past : Chronicle) (number : ℕ) : Type 0 where
+  pub ends : Ends
+  pub here : slice_get (ways_of net) number ≡ Some ends
+  pub over : IsOver net past ends

@@ -6,7 +6,7 @@ pub mod Effects
 pub mod Limits
 pub mod Places
 pub mod Turning
-pub mod Waiting
+pub mod OpenWays
 pub mod WaySets
 pub mod Matching
 pub mod Counting

@@ -1,14 +1,12 @@
 -- Which ways an event may have changed, and what a set keeps of the others.
-use Rattle.std.specs.Prelude.{ℕ, ◌≡◌, Bool, true, false, List, [], ◌∷◌, ◌++◌, map}
+use Rattle.std.specs.Prelude.{ℕ, ◌≡◌, Bool, true, false, ◌&&◌, List, [], ◌∷◌, ◌++◌, map}
 use Rattle.std.specs.List.{list_any, AllByRecursion}
 use Rattle.topology.specs.Net.{Net, linked, neighbours}
 use Rattle.chronicle.specs.declared.events.Event.{Event}
 use Rattle.chronicle.specs.declared.events.Event.TheVariants.{Originate, Withdraw, Prefer, Deliver, Fail, Restore, Notice, OpenSession, Snap, Propose, Control, Crash, Restart, Inject, Hop}
 use Rattle.chronicle.specs.declared.ways.Way.{Way}
 use Rattle.chronicle.specs.Facts.{Chronicle}
-use Rattle.world_core.specs.declared.outcomes.Effect.{Effect}
-use Rattle.world_core.specs.declared.outcomes.Effect.TheVariants.{Logged, Queued, Lost, Mailed, Cut, Published, Visited, Ended}
-use Rattle.world_core.specs.Waiting.{is_open, waits}
+use Rattle.world_core.specs.OpenWays.{is_open}
 use Rattle.world_core.specs.WaySets.{same_way}
 
 abbrev pub way : ℕ → ℕ → Way
@@ -77,30 +75,12 @@ node_ways net (Hop packet) = []
 abbrev pub turned_ways : Net → Event → List Way
 turned_ways net event = node_ways net event ++ link_ways event
 
--- the way from which the event may take an item
-abbrev pub taken_ways : Event → List Way
-taken_ways (Deliver from to) = way from to ∷ []
-taken_ways other = []
-
--- the ways over which something was queued
-abbrev pub queued_ways : List Effect → List Way
-queued_ways [] = []
-queued_ways (Logged node index ∷ list) = queued_ways list
-queued_ways (Queued from to ∷ list) = way from to ∷ queued_ways list
-queued_ways (Lost from to ∷ list) = queued_ways list
-queued_ways (Mailed number ∷ list) = queued_ways list
-queued_ways (Cut node epoch ∷ list) = queued_ways list
-queued_ways (Published node epoch ∷ list) = queued_ways list
-queued_ways (Visited packet visit ∷ list) = queued_ways list
-queued_ways (Ended packet ending ∷ list) = queued_ways list
-
 -- each way goes over a link
 abbrev pub AreLinked : Net → List Way → Type 0
 AreLinked net ways = AllByRecursion (λ (w : Way). linked net w.from w.to ≡ true) ways
 
--- the set has each way that waits but for these, and no other: those that may have been opened or closed, of which nothing
--- is known, and those on which more or less may be than was; what it has of these is open
-pub record AreWaitingBut (net : Net) (past : Chronicle) (turned busy : List Way) (has : Way → Bool) : Type 0 where
-  pub near : AreLinked net (turned ++ busy)
-  pub right : (one : Way) → list_any (same_way one) (turned ++ busy) ≡ false → has one ≡ waits net past one
-  pub open_still : (one : Way) → list_any (same_way one) turned ≡ false → has one ≡ true → is_open past one.from one.to ≡ true
+-- the set has each way that is open, and no other, but for these that the event may have opened or closed: of them nothing
+-- is known
+pub record AreOpenBut (net : Net) (past : Chronicle) (turned : List Way) (has : Way → Bool) : Type 0 where
+  pub near : AreLinked net turned
+  pub right : (one : Way) → list_any (same_way one) turned ≡ false → has one ≡ (linked net one.from one.to && is_open past one.from one.to)

@@ -1,10 +1,16 @@
 //! What holds of every run of a world. A call of a law brings what it says into the caller's proof.
-ghost use Rattle.std.specs.Prelude.{List};
+ghost use Rattle.std.specs.Prelude.{◌≡◌, ◌<◌, None, List, length};
 ghost use Rattle.topology.specs.Net.{Net, IsValid};
 ghost use Rattle.path_vector.specs.Rules.{Rules};
 ghost use Rattle.chronicle.specs.declared.events.Event.{Event};
-ghost use Rattle.chronicle.specs.Run.{run};
-ghost use Rattle.world_core.specs.Sound.{IsSound};
+ghost use Rattle.chronicle.specs.Run.{chronicle_of, run, step};
+ghost use Rattle.world_core.specs.declared.bounds.TheConstants.{MOST_EVENTS};
+ghost use Rattle.world_core.specs.declared.outcomes.Outcome.{Outcome};
+ghost use Rattle.world_core.specs.Effects.{Tells};
+ghost use Rattle.world_core.specs.Happening.{IsRegular, ValuesAreSmall};
+ghost use Rattle.world_core.specs.Limits.{limit_of};
+ghost use Rattle.world_core.specs.Sound.{IsNoStray, IsSound};
+ghost use Rattle.world_core.specs.Stepping.{IsStep};
 
 use agreement_laws::laws as of_agreement;
 use cut_laws::laws;
@@ -28,4 +34,28 @@ pub fn every_run_is_sound()
     of_rest::the_tables_of_a_value_continue();
     of_agreement::a_run_is_agreed();
     of_walks::a_run_is_walked();
+}
+
+/// What one more event may rest on, while there are fewer than there may be: what stands in front of a way is what its
+/// receiver may enter, and no value is too large. And what holds of it, whatever it is: a reason that only a node alone
+/// meets is not its outcome, and within the limits it is as each step is.
+pub fn a_step_is_lawful()
+    ensures regular { (rules : Rules) (net : Net) (events : List Event) → IsValid net → length events < MOST_EVENTS →
+        IsRegular net (run rules net events) }
+    ensures values { (rules : Rules) (net : Net) (events : List Event) (event : Event) → IsValid net →
+        let past = run rules net events in ValuesAreSmall net (chronicle_of past (step rules net past event)) }
+    ensures reasons { (rules : Rules) (net : Net) (events : List Event) (event : Event) (what : Outcome) → IsValid net →
+        length events < MOST_EVENTS →
+        let past = run rules net events in Tells past (step rules net past event) what → IsNoStray what }
+    ensures step { (rules : Rules) (net : Net) (events : List Event) (event : Event) → IsValid net →
+        limit_of rules net events event ≡ None → IsStep rules net events event }
+{
+    every_run_is_sound();
+    laws::the_front_item_is_the_next();
+    laws::what_arrives_may_be_heard();
+    laws::sessions_are_few();
+    laws::no_world_is_out_of_turn();
+    of_agreement::rounds_are_few();
+    of_agreement::values_have_few_triggers();
+    of_agreement::a_table_is_published_in_time();
 }

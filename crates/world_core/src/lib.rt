@@ -15,7 +15,6 @@ mod starting;
 mod steps;
 mod taking;
 mod turning;
-mod waiting;
 pub mod walks;
 pub mod world;
 mod world_state;

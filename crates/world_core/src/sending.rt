@@ -18,7 +18,7 @@ ghost use Rattle.world_core.specs.Walks.{AreWalksBut, IsPassing, still, still_af
 ghost use Rattle.world_core.specs.declared.outcomes.Effect.TheVariants.{Queued, Lost, Mailed as Shown, Published, Visited, Ended};
 
 use crate::network::Network;
-use crate::outcomes::Effect;
+use crate::outcomes::{Effect, Outcome};
 use crate::publications::Publication;
 use crate::walks::{Walks, visit_of};
 use consolidator::Mail;
@@ -58,7 +58,9 @@ fn send(
 {
     let to = out.to;
     let queued = links.push(from, to, out.session, out.item)?;
-    effects.push(shown(from, to, queued))?;
+    // A push that may fail gives its value back where it does, and so it is copied each time.
+    effects.reserve(1)?;
+    effects.push_reserved(shown(from, to, queued));
     Ok(())
 }
 
@@ -149,7 +151,10 @@ impl<P: Policy + Copy> Network<P> {
             AreSending (still f away) first (f ∷ past) counts self.new effects.new.items) }
     {
         match output {
-            Output::Logged { index } => effects.push(Effect::Logged { node, index })?,
+            Output::Logged { index } => {
+                effects.reserve(1)?;
+                effects.push_reserved(Effect::Logged { node, index });
+            }
             Output::Cut { epoch } => effects.push(Effect::Cut { node, epoch })?,
             Output::Send(out) => send(node, out, &mut self.links, effects)?,
             Output::Mail(mail) => post(node, mail, &mut self.mails, effects)?,
@@ -176,6 +181,9 @@ impl<P: Policy + Copy> Network<P> {
     {
         let Entered { index, sent } = entered;
         self.hand(node, Output::Logged { index }, effects)?;
+        if sent.is_empty() {
+            return Ok(());
+        }
         for out in sent {
             self.hand(node, Output::Send(out), effects)?;
         }
@@ -231,6 +239,15 @@ impl<P: Policy + Copy> Network<P> {
         let mut list = mem::replace(&mut self.spare, Vec::new(self.alloc));
         list.clear();
         list
+    }
+
+    /// The memory of an outcome of which nobody is told is used again.
+    pub fn reuse(&mut self, outcome: Outcome)
+        ensures { self.new ≡ record self.old { spare = self.new.spare } }
+    {
+        if let Outcome::Did(effects) = outcome {
+            self.spare = effects.into_list();
+        }
     }
 
     /// Hands on the outputs of a node, in their order, and tells what they did.

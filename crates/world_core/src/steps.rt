@@ -24,8 +24,8 @@ use node_core::Input;
 use path_vector::Policy;
 use topology::{LinkState, NodeId, Reason, Session};
 
-// Whether a link in this state carries the session that is held, where one is.
-fn is_carried(link: &LinkState, held: Option<Session>) -> bool
+/// Whether a link in this state carries the session that is held, where one is.
+pub fn is_carried(link: &LinkState, held: Option<Session>) -> bool
     ensures { result ≡ is_carried link.now held }
 {
     match link {
@@ -45,7 +45,7 @@ fn is_session(held: Option<Session>, session: Session) -> bool
 }
 
 impl<P: Policy + Copy> Network<P> {
-    /// Does the event, and answers what came of it. The ways that wait are not looked at again. After
+    /// Does the event, and answers what came of it. The ways that are open are not looked at again. After
     /// an `Err` the network is of no use.
     pub fn happen(&mut self, event: &Event) -> Result<Outcome, Stop>
         requires fits { IsTrue (fits self.old.topology.value event.now) }
@@ -187,8 +187,8 @@ impl<P: Policy + Copy> Network<P> {
         }
     }
 
-    // The session that a node holds with a neighbour.
-    fn held(&self, node: NodeId, nbr: NodeId) -> Option<Session>
+    /// The session that a node holds with a neighbour.
+    pub fn held(&self, node: NodeId, nbr: NodeId) -> Option<Session>
         ensures { (past : Chronicle) (counts : Counts) → Stands (P.rules self.now.policy) past counts self.now →
             linked self.now.topology.value node nbr ≡ true → result ≡ held_with node nbr past }
     {

@@ -1,5 +1,5 @@
-//! Deliveries over ways that wait.
-ghost use Rattle.std.specs.Prelude.{◌≡◌, true, length, IsTrue, OnOk, IfOk, IfErr};
+//! Deliveries over ways that are open.
+ghost use Rattle.std.specs.Prelude.{◌≡◌, true, length, IsTrue, OnOk, IfOk, IfErr, IfSome};
 ghost use Rattle.topology.specs.Net.{linked};
 ghost use Rattle.link_model.specs.Keeping.{IsPlaced};
 ghost use Rattle.chronicle.specs.Deliveries.{arrives};
@@ -10,21 +10,22 @@ ghost use Rattle.world_core.specs.Fits.{fits};
 ghost use Rattle.world_core.specs.Happening.{Comes, IsAsWas, IsRegular, Stops};
 ghost use Rattle.world_core.specs.Matching.{Counts, Stands};
 ghost use Rattle.world_core.specs.Places.{HasPlaces};
-ghost use Rattle.world_core.specs.Waiting.{AreWaiting};
+ghost use Rattle.world_core.specs.OpenWays.{AreOpen};
 ghost use Rattle.world_core.specs.WaySets.{has_way};
 ghost use Rattle.world_core.specs.Walks.{HasWalks};
 
 use crate::network::Network;
 use crate::outcomes::{Outcome, Stop};
-use crate::waiting::Waiting;
 use chronicle::Event;
+use link_model::WaySet;
 use node_core::Input;
 use path_vector::Policy;
 use topology::{LinkState, NodeId, Reason};
 
 impl<P: Policy + Copy> Network<P> {
     // The oldest item on the way with this number arrives, where a delivery over the way would not be idle.
-    fn take(&mut self, from: NodeId, to: NodeId, way: usize) -> Result<Outcome, Stop>
+    #[inline(always)]
+    pub(crate) fn take(&mut self, from: NodeId, to: NodeId, way: usize) -> Result<Outcome, Stop>
         requires near { linked self.old.topology.value from to ≡ true }
         requires places { HasPlaces self.old.topology.value (length self.old.nodes.items) }
         requires placed { IsPlaced self.old.links from to way }
@@ -53,8 +54,25 @@ impl<P: Policy + Copy> Network<P> {
         )
     }
 
-    // A delivery: over a way that waits it asks nothing but its channel.
-    fn pass_over(&mut self, from: NodeId, to: NodeId, waiting: &Waiting) -> Result<Outcome, Stop>
+    // The number of the way, where it is open and something is on it.
+    #[inline(always)]
+    fn waiting_way(&self, from: NodeId, to: NodeId, open_ways: &WaySet) -> Option<usize>
+        ensures placed { IfSome result (IsPlaced self.now.links from to) }
+        ensures waits { IfSome result (λ way. (past : Chronicle) (counts : Counts) → Stands (P.rules self.now.policy) past counts self.now →
+            AreOpen self.now.topology.value past (has_way self.now.topology.value open_ways.now) → arrives past from to ≡ true) }
+    {
+        let way = self.links.way_of(from, to)?;
+        if !open_ways.has(way) {
+            return None;
+        }
+        if !self.links.busy().has(way) {
+            return None;
+        }
+        Some(way)
+    }
+
+    // A delivery: over an open way on which something is it asks nothing but its channel.
+    fn pass_over(&mut self, from: NodeId, to: NodeId, open_ways: &WaySet) -> Result<Outcome, Stop>
         requires near { linked self.old.topology.value from to ≡ true }
         requires places { HasPlaces self.old.topology.value (length self.old.nodes.items) }
         requires flags { HasPlaces self.old.topology.value (length self.old.crashed.items) }
@@ -63,26 +81,23 @@ impl<P: Policy + Copy> Network<P> {
         ensures others { OnOk result (IsAsWas self.old self.new) }
         ensures comes { IfOk result (λ outcome. (past : Chronicle) (counts : Counts) →
             Stands (P.rules self.old.policy) past counts self.old → IsRegular self.old.topology.value past → AreFew counts →
-            AreWaiting self.old.topology.value past (has_way self.old.topology.value waiting.now) →
+            AreOpen self.old.topology.value past (has_way self.old.topology.value open_ways.now) →
             Comes (P.rules self.old.policy) past counts (step (P.rules self.old.policy) self.old.topology.value past (Event.Deliver from to)) self.new outcome) }
         ensures stopped { IfErr result (λ stop. (past : Chronicle) (counts : Counts) →
             Stands (P.rules self.old.policy) past counts self.old → IsRegular self.old.topology.value past → AreFew counts →
-            AreWaiting self.old.topology.value past (has_way self.old.topology.value waiting.now) →
+            AreOpen self.old.topology.value past (has_way self.old.topology.value open_ways.now) →
             Stops (P.rules self.old.policy) self.old.topology.value past
             (step (P.rules self.old.policy) self.old.topology.value past (Event.Deliver from to)) stop) }
     {
-        let Some(way) = self.links.way_of(from, to) else {
+        let Some(way) = self.waiting_way(from, to, open_ways) else {
             return self.happen(&Event::Deliver { from, to });
         };
-        if !waiting.has(way) {
-            return self.happen(&Event::Deliver { from, to });
-        }
         self.take(from, to, way)
     }
 
-    /// Does the event, and answers what came of it, where these ways wait. They are not looked at again. After an `Err`
-    /// the network is of no use.
-    pub fn advance(&mut self, event: &Event, waiting: &Waiting) -> Result<Outcome, Stop>
+    /// Does the event, and answers what came of it, where these ways are open. They are not looked at again. After an
+    /// `Err` the network is of no use.
+    pub fn advance(&mut self, event: &Event, open_ways: &WaySet) -> Result<Outcome, Stop>
         requires fits { IsTrue (fits self.old.topology.value event.now) }
         requires places { HasPlaces self.old.topology.value (length self.old.nodes.items) }
         requires flags { HasPlaces self.old.topology.value (length self.old.crashed.items) }
@@ -91,17 +106,17 @@ impl<P: Policy + Copy> Network<P> {
         ensures others { OnOk result (IsAsWas self.old self.new) }
         ensures comes { IfOk result (λ outcome. (past : Chronicle) (counts : Counts) →
             Stands (P.rules self.old.policy) past counts self.old → IsRegular self.old.topology.value past → AreFew counts →
-            AreWaiting self.old.topology.value past (has_way self.old.topology.value waiting.now) →
+            AreOpen self.old.topology.value past (has_way self.old.topology.value open_ways.now) →
             Comes (P.rules self.old.policy) past (counts_after past event.now counts)
             (step (P.rules self.old.policy) self.old.topology.value past event.now) self.new outcome) }
         ensures stopped { IfErr result (λ stop. (past : Chronicle) (counts : Counts) →
             Stands (P.rules self.old.policy) past counts self.old → IsRegular self.old.topology.value past → AreFew counts →
-            AreWaiting self.old.topology.value past (has_way self.old.topology.value waiting.now) →
+            AreOpen self.old.topology.value past (has_way self.old.topology.value open_ways.now) →
             Stops (P.rules self.old.policy) self.old.topology.value past
             (step (P.rules self.old.policy) self.old.topology.value past event.now) stop) }
     {
         if let Event::Deliver { from, to } = event {
-            return self.pass_over(*from, *to, waiting);
+            return self.pass_over(*from, *to, open_ways);
         }
         self.happen(event)
     }

@@ -23,9 +23,10 @@ pub fn turn<P: Policy + Copy>(
 {
     let node = nodes.swap_remove(rank);
     let (node, outputs) = node.handle(input)?;
-    let Ok(()) = nodes.push(node) else {
+    let Ok(()) = nodes.reserve(1) else {
         return Err(Stop::NoMemory);
     };
+    nodes.push_reserved(node);
     let last = nodes.len() - 1;
     nodes.swap(rank, last);
     Ok(outputs)

@@ -20,13 +20,13 @@ ghost use Rattle.world_core.specs.Matching.{AreLinks};
 ghost use Rattle.world_core.specs.Publications.{all_published};
 ghost use Rattle.world_core.specs.Sound.{IsNoStray, IsSound};
 ghost use Rattle.world_core.specs.Stepping.{IsStep};
+ghost use Rattle.world_core.specs.View.{delivered};
 ghost use Rattle.world_core.specs.Walks.{walk_of};
 
 use crate::bounds::HIGHEST_MESSAGE;
 use crate::network::Network;
 use crate::outcomes::{Outcome, Stop};
 use crate::publications::Publication;
-use crate::waiting::Waiting;
 use crate::world_state::WorldState;
 use chronicle::Event;
 use consolidator::Mail;
@@ -86,9 +86,10 @@ impl<P: Policy + Copy> World<P> {
         ensures { IfOk result (λ world. world ≡ record { policy = policy; net = topology.value; events = [] }) }
     {
         let network = Network::new(alloc, topology, policy)?;
+        let open_ways = network.links.all(alloc)?;
         let state = WorldState {
             network,
-            waiting: Waiting::new(alloc)?,
+            open_ways,
             events: Vec::new(alloc),
         };
         Ok(World {
@@ -171,7 +172,7 @@ impl<P: Policy + Copy> World<P> {
         ensures { result ≡ option_map (λ (way : Way). (way.from, way.to))
             (next_delivery self.now.net (run (P.rules self.now.policy) self.now.net self.now.events)) }
     {
-        let number = self.state.waiting.first()?;
+        let number = self.state.next()?;
         let ends = self.state.network.links.ends(number)?;
         Some((ends.from, ends.to))
     }
@@ -252,19 +253,20 @@ impl<P: Policy + Copy> World<P> {
         Ok((World { state }, outcome))
     }
 
-    /// The same, where nobody asks what came of the event: that is not told, and its memory is used again.
-    pub fn step_unseen(self, event: Event) -> Result<World<P>, Stop>
-        requires { IsTrue (fits self.net event) }
-        ensures world { IfOk result (λ world. world ≡ record self { events = self.events ++ event ∷ [] }) }
-        ensures step { OnOk result (IsStep (P.rules self.policy) self.net self.events event) }
-        ensures stopped { IfErr result (StopsAt (limit_of (P.rules self.policy) self.net self.events event)) }
+    /// The world after its next delivery, and over which way that was; the same world and none where there is none.
+    /// Nobody is told what came of it, and the memory of that is used again.
+    pub fn deliver_next(self) -> Result<(World<P>, Option<(NodeId, NodeId)>), Stop>
+        ensures way { IfOk result (λ r. r.1 ≡ option_map (λ (way : Way). (way.from, way.to))
+            (next_delivery self.net (run (P.rules self.policy) self.net self.events))) }
+        ensures world { IfOk result (λ r. r.0 ≡ delivered self r.1) }
+        ensures step { IfOk result (λ r. IfSome r.1 (λ ends.
+            IsStep (P.rules self.policy) self.net self.events (Event.Deliver ends.0 ends.1))) }
+        ensures stopped { IfErr result (λ stop. (way : Way)
+            × (next_delivery self.net (run (P.rules self.policy) self.net self.events) ≡ Some way)
+            × StopsAt (limit_of (P.rules self.policy) self.net self.events (Event.Deliver way.from way.to)) stop) }
     {
         let World { mut state } = self;
-        let outcome = state.happen(event)?;
-        let Outcome::Did(effects) = outcome else {
-            return Ok(World { state });
-        };
-        state.network.spare = effects.into_list();
-        Ok(World { state })
+        let way = state.deliver_next()?;
+        Ok((World { state }, way))
     }
 }

@@ -1,9 +1,12 @@
 //! What a world keeps, which changes in place.
-ghost use Rattle.std.specs.Prelude.{IsTrue, IfOk, IfErr, OnOk};
+ghost use Rattle.std.specs.Prelude.{◌≡◌, ◌<◌, ◌≤◌, [], ◌∷◌, ◌++◌, Some, None, length, option_map, IsTrue, IfOk, IfErr, IfSome, IfNone, OnOk};
+ghost use Rattle.chronicle.specs.declared.ways.Way.{Way};
+ghost use Rattle.chronicle.specs.Deliveries.{next_delivery};
 ghost use Rattle.chronicle.specs.Run.{run, step};
+ghost use Rattle.world_core.specs.declared.bounds.TheConstants.{MOST_EVENTS};
 ghost use Rattle.world_core.specs.Effects.{Tells};
 ghost use Rattle.world_core.specs.Fits.{fits};
-ghost use Rattle.world_core.specs.Holding.{Follows, Holds};
+ghost use Rattle.world_core.specs.Holding.{Follows, FollowsOver, Holds, IsNext};
 ghost use Rattle.world_core.specs.Limits.{limit_of, StopsAt};
 ghost use Rattle.world_core.specs.Sound.{IsNoStray};
 ghost use Rattle.world_core.specs.Stepping.{IsStep};
@@ -12,22 +15,44 @@ use crate::bounds::MOST_EVENTS;
 use crate::laws;
 use crate::network::Network;
 use crate::outcomes::{Outcome, Stop};
-use crate::waiting::Waiting;
 use chronicle::Event;
+use link_model::WaySet;
 use path_vector::Policy;
-use topology::LimitKind;
+use topology::{LimitKind, NoMemory, NodeId};
 
-/// A network, which ways wait in it, and what happened in it.
+/// A network, which ways are open in it, and what happened in it.
 #[derive(Drop)]
 pub struct WorldState<P: Policy + Copy> {
     pub network: Network<P>,
-    /// The ways over which a delivery would not be idle.
-    pub waiting: Waiting,
+    /// The ways that are open: where something is on one, its delivery would not be idle.
+    pub open_ways: WaySet,
     /// The events so far, the oldest first.
     pub events: Vec<Event>,
 }
 
+// Keeps one more event. A push that may fail gives its value back where it does, and so it is copied each time: room
+// is asked for first.
+fn keep(events: &mut Vec<Event>, event: Event) -> Result<(), NoMemory>
+    ensures { OnOk result (events.new.items ≡ events.old.items ++ event ∷ []) }
+{
+    events.reserve(1)?;
+    events.push_reserved(event);
+    Ok(())
+}
+
 impl<P: Policy + Copy> WorldState<P> {
+    // Stops where there are as many events as there may be.
+    #[inline(always)]
+    fn check_events(&self) -> Result<(), Stop>
+        ensures ok { OnOk result (length self.now.events.items < MOST_EVENTS) }
+        ensures stopped { IfErr result (λ stop. (stop ≡ Stop.Limit LimitKind.Events MOST_EVENTS) × (MOST_EVENTS ≤ length self.now.events.items)) }
+    {
+        if self.events.len() >= MOST_EVENTS as usize {
+            return Err(Stop::Limit(LimitKind::Events, MOST_EVENTS));
+        }
+        Ok(())
+    }
+
     /// One more event, and what came of it. After an `Err` the state is of no use.
     #[inline(always)]
     pub fn happen(&mut self, event: Event) -> Result<Outcome, Stop>
@@ -43,22 +68,54 @@ impl<P: Policy + Copy> WorldState<P> {
         ensures stopped { IfErr result (StopsAt
             (limit_of (P.rules self.old.network.policy) self.old.network.topology.value self.old.events.items event)) }
     {
-        if self.events.len() >= MOST_EVENTS as usize {
-            return Err(Stop::Limit(LimitKind::Events, MOST_EVENTS));
-        }
-        laws::every_run_is_sound();
-        cut_laws::laws::the_front_item_is_the_next();
-        cut_laws::laws::what_arrives_may_be_heard();
-        cut_laws::laws::sessions_are_few();
-        cut_laws::laws::no_world_is_out_of_turn();
-        agreement_laws::laws::rounds_are_few();
-        agreement_laws::laws::values_have_few_triggers();
-        agreement_laws::laws::a_table_is_published_in_time();
-        let outcome = self.network.advance(&event, &self.waiting)?;
-        self.network.refresh(&event, &outcome, &mut self.waiting);
-        let Ok(()) = self.events.push(event) else {
-            return Err(Stop::NoMemory);
-        };
+        self.check_events()?;
+        laws::a_step_is_lawful();
+        let outcome = self.network.advance(&event, &self.open_ways)?;
+        self.network.refresh(&event, &mut self.open_ways);
+        keep(&mut self.events, event)?;
         Ok(outcome)
+    }
+
+    /// The number of the way of the next delivery: the first open one on which something is. Takes no memory, and looks
+    /// at no channel.
+    #[inline(always)]
+    pub fn next(&self) -> Option<usize>
+        requires { Holds P.rules self.now }
+        ensures some { IfSome result (IsNext self.now.network.topology.value
+            (run (P.rules self.now.network.policy) self.now.network.topology.value self.now.events.items)) }
+        ensures none { IfNone result (next_delivery self.now.network.topology.value
+            (run (P.rules self.now.network.policy) self.now.network.topology.value self.now.events.items) ≡ None) }
+    {
+        self.open_ways.first_common(self.network.links.busy())
+    }
+
+    /// The next delivery is made, and nobody is told what came of it; its way, and none where there is no delivery.
+    /// After an `Err` the state is of no use.
+    #[inline(always)]
+    pub fn deliver_next(&mut self) -> Result<Option<(NodeId, NodeId)>, Stop>
+        requires { Holds P.rules self.old }
+        ensures holds { OnOk result (Holds P.rules self.new) }
+        ensures way { IfOk result (λ way. way ≡ option_map (λ (way : Way). (way.from, way.to)) (next_delivery self.old.network.topology.value
+            (run (P.rules self.old.network.policy) self.old.network.topology.value self.old.events.items))) }
+        ensures follows { IfOk result (λ way. FollowsOver way self.old self.new) }
+        ensures step { IfOk result (λ way. IfSome way (λ ends.
+            IsStep (P.rules self.old.network.policy) self.old.network.topology.value self.old.events.items (Event.Deliver ends.0 ends.1))) }
+        ensures stopped { IfErr result (λ stop. (way : Way)
+            × (next_delivery self.old.network.topology.value
+            (run (P.rules self.old.network.policy) self.old.network.topology.value self.old.events.items) ≡ Some way)
+            × StopsAt (limit_of (P.rules self.old.network.policy) self.old.network.topology.value self.old.events.items
+            (Event.Deliver way.from way.to)) stop) }
+    {
+        let Some(number) = self.next() else {
+            return Ok(None);
+        };
+        let ends = self.network.links.ends(number).unwrap();
+        self.check_events()?;
+        laws::a_step_is_lawful();
+        let (from, to) = (ends.from, ends.to);
+        let outcome = self.network.take(from, to, number)?;
+        self.network.reuse(outcome);
+        keep(&mut self.events, Event::Deliver { from, to })?;
+        Ok(Some((from, to)))
     }
 }

@@ -79,8 +79,8 @@ returns-in_ok-end-in-Ended-clause-sending g c away first past counts f told show
       since = since_next first past (End id how) c.args.effects.now.items c.end.new.effects.items _ was.since done.1 refl;
     })
 
-pub returns-in_ok-push-in-Logged-clause-sending : goal.returns-in_ok-push-in-Logged-clause-sending
-returns-in_ok-push-in-Logged-clause-sending g c away first past counts f told shows was =
+pub returns-in_ok-reserve-in-Logged-clause-sending : goal.returns-in_ok-reserve-in-Logged-clause-sending
+returns-in_ok-reserve-in-Logged-clause-sending g c away first past counts f told shows was =
     let net = c.args.self.now.topology.value in
     let u = c.args.node in
     let made = logged_is net u past f c.in-Logged.index told (shows ∙ ap (λ o. output_of o ∷ []) c.in-Logged.is) in
@@ -90,7 +90,7 @@ returns-in_ok-push-in-Logged-clause-sending g c away first past counts f told sh
       are_mails = same_mails net past (Log u made.0 ∷ past) counts c.args.self.now.mails refl (λ v. refl) was.are_mails;
       are_published = was.are_published;
       are_walks = walks_stay net past (Log u made.0 ∷ past) c.args.self.now.walks (same_more (Log u made.0) past past (λ t. t) (same_now past)) was.are_walks;
-      since = since_next first past (Log u made.0) c.args.effects.now.items _ (Logged u c.in-Logged.index) was.since c.in_ok-push-in-Logged.ensures.items (ap (λ n. Logged u n ∷ []) made.2);
+      since = since_next first past (Log u made.0) c.args.effects.now.items _ (Logged u c.in-Logged.index) was.since (c.push_reserved.ensures.items ∙ ap (λ l. l ++ Logged u c.in-Logged.index ∷ []) c.in_ok-reserve-in-Logged.ensures.items) (ap (λ n. Logged u n ∷ []) made.2);
     })
 
 pub returns-in_ok-push-in-Cut-clause-sending : goal.returns-in_ok-push-in-Cut-clause-sending

@@ -10,30 +10,28 @@ use Rattle.node_core.proofs.Together.{entry_shown}
 use Rattle.world_core.specs.Happening.{AreSending}
 use Rattle.world_core.specs.Telling.{IsTold}
 use Rattle.world_core.specs.Walks.{still_after}
-use Rattle.world_core.proofs.Places.{map-same}
-use Rattle.world_core.proofs.Handing.{handed_none, handed_next, happen_last}
+use Rattle.world_core.proofs.Places.{map-same, nothing_in}
+use Rattle.world_core.proofs.Handing.{handed_next, happen_last}
 use Rattle.world_core.proofs.Returning.{still_last}
-use Rattle.world_core.proofs.Shown.{keeps_on}
+use Rattle.world_core.proofs.Shown.{handed_first, keeps_on}
 use Rattle.world_core.proofs.network.Network.hand_entry.Goals as goal
 
+pub returns-then-is_empty-clause-sending : goal.returns-then-is_empty-clause-sending
+returns-then-is_empty-clause-sending g c away first past counts facts told shows was =
+    let entered = c.args.entered in
+    let count : entered.sent.len ≡ length entered.sent.items = entered.sent.ok.0 in
+    let none = nothing_in entered.sent.items entered.sent.len count (sym c.is_empty.ensures ∙ c.if-is_empty.true) in
+    handed_first c.args.self.now.topology.value c.args.node away first past counts c.args.self.now c.hand.new.self c.args.effects.now.items c.hand.new.effects.items facts (Logged entered.index) told
+    (ap (λ l. Logged entered.index ∷ map Send (map going_of l)) none ∙ (sym (entry_shown [] (first_of (Some entered)) entered refl) ∙ shows)) was
+    (λ away past f. c.in_ok-hand.ensures.sending away first past counts f)
+
 pub loop-out-init : goal.loop-out-init
-loop-out-init g c =
-    let net = c.args.self.now.topology.value in
-    let old = c.args.self.now in
-    let new = c.hand.new.self in
-    let told_new = c.hand.new.effects.items in
-    record {
-      kept = c.in_ok-hand.ensures.kept;
-      sent = λ away first past counts facts told shows was.
-          let before = λ (fs : List Fact). AreSending (still_after fs away) first (happen past fs) counts old c.args.effects.now.items in
-          handed_next net past c.args.node before (λ fs. AreSending (still_after fs away) first (happen past fs) counts new told_new)
-          facts [] (Logged c.args.entered.index ∷ []) (Logged c.args.entered.index) told shows refl
-          (λ fs some same. handed_none net past c.args.node before before fs some same was)
-          (λ fs f one same earlier.
-          subst (λ (mid : Chronicle). AreSending (still_after (fs ++ f ∷ []) away) first mid counts new told_new) (sym (happen_last past fs f))
-          (subst (λ (a : ℕ → Bool). AreSending a first (f ∷ happen past fs) counts new told_new) (sym (still_last fs f away))
-          (c.in_ok-hand.ensures.sending (still_after fs away) first (happen past fs) counts f one same earlier)));
-    }
+loop-out-init g c = record {
+  kept = c.in_ok-hand.ensures.kept;
+  sent = λ away first past counts facts told shows was.
+      handed_first c.args.self.now.topology.value c.args.node away first past counts c.args.self.now c.hand.new.self c.args.effects.now.items c.hand.new.effects.items facts (Logged c.args.entered.index) told shows was
+      (λ away past f. c.in_ok-hand.ensures.sending away first past counts f);
+}
 
 pub loop-out-preserved : goal.loop-out-preserved
 loop-out-preserved g c =

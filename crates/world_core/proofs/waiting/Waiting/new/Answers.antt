@@ -1,6 +1,0 @@
-use Rattle.std.proofs.Common.{rules}
-use Rattle.world_core.proofs.Bits.{clear_zeros}
-use Rattle.world_core.proofs.waiting.Waiting.new.Goals as goal
-
-pub returns : goal.returns
-returns c number = clear_zeros c.in_ok-vec.field-0.items 64 number (c.in_ok-vec.ensures.items_if_clones_equal (search rules))
