@@ -44,7 +44,7 @@ use Rattle.topology.specs.declared.status.Reason.{Reason}
 use Rattle.topology.specs.declared.status.Reason.TheVariants.{AlreadyOrigin, NotOrigin, StillUp, WrongSession, OldSession, Crashed, NotCrashed}
 use Rattle.world_core.specs.Fits.{fits}
 use Rattle.world_core.specs.OpenWays.{AreOpen, is_joined, is_open}
-use Rattle.world_core.specs.Refreshing.{AreLinked, AreOpenBut, link_ways, node_ways, turned_ways, way, ways_to}
+use Rattle.world_core.specs.Refreshing.{AreLinked, AreOpenBut, turned_ways, way, ways_to}
 use Rattle.world_core.specs.WaySets.{same_way}
 use Rattle.world_core.proofs.Due.{after_table}
 use Rattle.world_core.proofs.Telling.{filter_passes}

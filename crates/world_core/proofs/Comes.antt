@@ -1,5 +1,5 @@
 -- What an event comes to, by what it reads.
-use Rattle.std.proofs.Common.{ℕ, suc, Bool, true, false, not, Option, Some, None, List, [], ◌∷◌, ◌++◌, ◌≡◌, refl, sym, ◌∙◌, ap, ap₂, subst, is_ok, is_some, length, Result, Ok, Err, IfOk, IfErr}
+use Rattle.std.proofs.Common.{ℕ, suc, true, false, not, Option, Some, None, List, [], ◌∷◌, ◌++◌, ◌≡◌, refl, sym, ◌∙◌, ap, ap₂, subst, is_some, length}
 use Rattle.std.specs.Prelude.{if◌then◌else◌}
 use Rattle.std.proofs.lemmas.List.Sums.{fold-append}
 use Rattle.topology.specs.declared.status.Reason.{Reason}
@@ -30,7 +30,7 @@ use Rattle.cut_laws.specs.Joined.{FrontFits}
 use Rattle.cut_laws.proofs.Delivering.{in_turn}
 use Rattle.node_core.specs.Coming.{IsPlaced}
 use Rattle.chronicle.proofs.Blocks.{same_number}
-use Rattle.world_core.specs.Happening.{Comes, MayArrive}
+use Rattle.world_core.specs.Happening.{Comes}
 use Rattle.world_core.specs.declared.network.Network.{Network}
 use Rattle.world_core.specs.declared.outcomes.Outcome.{Outcome}
 use Rattle.world_core.specs.declared.outcomes.Outcome.TheVariants as outcome

@@ -1,5 +1,5 @@
 -- The next delivery is over the first open way on which something is.
-use Rattle.std.proofs.Common.{ℕ, ◌<◌, ◌≤◌, Bool, true, false, ◌&&◌, Option, Some, None, IsSome, IfNone, List, [], ◌∷◌, ◌≡◌, refl, sym, ◌∙◌, ap, ap₂, subst, ⊎_elim, true≢false, length, filter, find, map, flat_map, option_map, slice_get}
+use Rattle.std.proofs.Common.{ℕ, ◌<◌, ◌≤◌, true, false, ◌&&◌, Option, Some, None, IsSome, IfNone, List, [], ◌∷◌, ◌≡◌, refl, sym, ◌∙◌, ap, ap₂, subst, ⊎_elim, true≢false, length, filter, map, flat_map, option_map, slice_get}
 use Rattle.std.specs.List.{AllByRecursion}
 use Rattle.std.proofs.lemmas.Bool.{cases_lt}
 use Rattle.topology.specs.declared.items.Item.{Item as Message}

@@ -32,6 +32,7 @@ pub struct WorldState<P: Policy + Copy> {
 
 // Keeps one more event. A push that may fail gives its value back where it does, and so it is copied each time: room
 // is asked for first.
+#[inline(always)]
 fn keep(events: &mut Vec<Event>, event: Event) -> Result<(), NoMemory>
     ensures { OnOk result (events.new.items ≡ events.old.items ++ event ∷ []) }
 {

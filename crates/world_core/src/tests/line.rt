@@ -1,5 +1,5 @@
 //! Three nodes in a line.
-use super::runs::{does, event, idles, line_of, logged, lost, queued};
+use super::runs::{delivers, does, event, idles, line_of, logged, lost, queued};
 use crate::World;
 use path_vector::GaoRexford;
 use std::process::Abort;
@@ -68,5 +68,14 @@ fn what_is_lost(rt: HostRuntime) -> Result<(), Fail> {
     let world = does(&rt, world, event("deliver", 1, 2), &told, (2, 1))?;
     let world = does(&rt, world, event("fail", 1, 2), &[], (0, 0))?;
     idles(&rt, world, event("deliver", 2, 1), Reason::LinkDown, (0, 0))?;
+    Ok(())
+}
+
+// Where nothing waits no event is added; else the next delivery is.
+#[test]
+fn the_next_delivery(rt: HostRuntime) -> Result<(), Fail> {
+    let world = delivers(&rt, line_of(rt.alloc(), 3, GaoRexford)?, (0, 0), 0)?;
+    let world = tell(&rt, begin(&rt, world)?)?;
+    delivers(&rt, world, (2, 1), 7)?;
     Ok(())
 }

@@ -68,9 +68,9 @@ pub fn cut(node: u16, epoch: u32) -> Effect {
     Effect::Cut { node, epoch }
 }
 
-// The number of the ends of the next delivery: 0 where there is none.
-fn next_of<P: Policy + Copy>(world: &World<P>) -> (u16, u16) {
-    match world.next_delivery() {
+// The numbers of the ends of a way: 0 where there is none.
+fn numbers(way: Option<(NodeId, NodeId)>) -> (u16, u16) {
+    match way {
         None => (0, 0),
         Some((from, to)) => (from.number(), to.number()),
     }
@@ -98,7 +98,7 @@ fn after<P: Policy + Copy>(
         }
         Outcome::Idle(why) => assert_eq!(rt; Some(why), reason),
     }
-    assert_eq!(rt; next_of(&world), next);
+    assert_eq!(rt; numbers(world.next_delivery()), next);
     Ok(world)
 }
 
@@ -122,4 +122,17 @@ pub fn idles<P: Policy + Copy>(
     next: (u16, u16),
 ) -> Result<World<P>, Fail> {
     after(rt, world, event, &[], Some(reason), next)
+}
+
+/// The world after its next delivery, which goes this way, with so many events.
+pub fn delivers<P: Policy + Copy>(
+    rt: &impl Abort,
+    world: World<P>,
+    way: (u16, u16),
+    events: usize,
+) -> Result<World<P>, Fail> {
+    let (world, went) = world.deliver_next()?;
+    assert_eq!(rt; numbers(went), way);
+    assert_eq!(rt; world.events().len(), events);
+    Ok(world)
 }

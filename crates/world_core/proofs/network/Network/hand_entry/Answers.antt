@@ -1,9 +1,9 @@
-use Rattle.std.proofs.Common.{ℕ, Bool, Some, List, [], ◌∷◌, ◌++◌, ◌≡◌, refl, sym, ◌∙◌, ap, subst, map, length}
+use Rattle.std.proofs.Common.{ℕ, Bool, Some, [], ◌∷◌, ◌++◌, ◌≡◌, refl, sym, ◌∙◌, ap, subst, map, length}
 use Rattle.std.proofs.lemmas.List.{map-append}
 use Rattle.std.proofs.lemmas.Iterator.Adapters.{YieldsList-from_vec}
 use Rattle.std.proofs.lemmas.Iterator.Consumers.{YieldsList-end}
 use Rattle.trigger_log.specs.Going.{going_of}
-use Rattle.chronicle.specs.Facts.{Chronicle, Fact, happen}
+use Rattle.chronicle.specs.Facts.{Chronicle, happen}
 use Rattle.node_core.specs.Entries.{first_of}
 use Rattle.node_core.specs.Outputs.{Logged, Send}
 use Rattle.node_core.proofs.Together.{entry_shown}

@@ -1,9 +1,8 @@
-use Rattle.std.proofs.Common.{◌≡◌, ◌&&◌, ◌∙◌, not, sym, ap, ap₂}
+use Rattle.std.proofs.Common.{◌&&◌, ◌∙◌, not, sym, ap, ap₂}
 use Rattle.topology.proofs.Neighbours.{linked_nodes, linked_sym}
 use Rattle.chronicle.specs.Links.{link}
 use Rattle.chronicle.specs.Run.{held_with, is_carried}
 use Rattle.world_core.specs.OpenWays.{is_joined}
-use Rattle.world_core.proofs.Carried.{link_read}
 use Rattle.world_core.proofs.Opened.{carried_joined}
 use Rattle.world_core.proofs.network.Network.opens.Goals as goal
 

@@ -1,7 +1,6 @@
-use Rattle.std.proofs.Common.{◌≡◌, None, Some, ◌∙◌, ap, sym, subst}
+use Rattle.std.proofs.Common.{None, Some, ◌∙◌, ap, sym, subst}
 use Rattle.std.specs.Prelude.{option_map}
 use Rattle.std.proofs.lemmas.Result.{err_from_is_err_and}
-use Rattle.topology.specs.Net.{linked}
 use Rattle.chronicle.specs.declared.events.Event.TheVariants.{Deliver}
 use Rattle.chronicle.specs.declared.ways.Way.{Way}
 use Rattle.chronicle.specs.Deliveries.{deliveries}
@@ -15,7 +14,6 @@ use Rattle.world_core.proofs.Crashing.{step_runs}
 use Rattle.world_core.proofs.Delivered.{one_more}
 use Rattle.world_core.proofs.Held.{holds_reused}
 use Rattle.world_core.proofs.Next.{has_ends, over_ends, placed_at}
-use Rattle.world_core.proofs.Nodes.{places_of}
 use Rattle.world_core.proofs.Opened.{runs_still}
 use Rattle.world_core.proofs.Stepped.{opens_still, stands_new, within_new}
 use Rattle.world_core.proofs.Stopping.{handed_on, stops_full, stops_later}

@@ -1,7 +1,7 @@
-use Rattle.std.proofs.Common.{◌≡◌, None, ◌∙◌, IsTrue, ap, subst, sym}
+use Rattle.std.proofs.Common.{IsTrue, ap, subst, sym}
 use Rattle.std.proofs.lemmas.Result.{err_from_is_err_and}
 use Rattle.chronicle.specs.Deliveries.{deliveries}
-use Rattle.chronicle.specs.Run.{after, run, step}
+use Rattle.chronicle.specs.Run.{after, run}
 use Rattle.world_core.specs.Counting.{counts_after}
 use Rattle.world_core.specs.Fits.{fits}
 use Rattle.world_core.specs.OpenWays.{AreOpen}
