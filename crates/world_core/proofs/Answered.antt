@@ -35,6 +35,7 @@ use Rattle.control_mail.specs.Seen.{Office}
 use Rattle.world_core.specs.declared.network.Network.{Network}
 use Rattle.world_core.specs.declared.outcomes.Effect.{Effect}
 use Rattle.world_core.specs.declared.outcomes.Outcome.TheVariants as outcome
+use Rattle.world_core.specs.Accounts.{AccountView}
 use Rattle.world_core.specs.Effects.{effects, Tells}
 use Rattle.world_core.specs.Happening.{AreSending, GoesWhere, KeepsNodes, Since, away_with, handed}
 use Rattle.world_core.specs.Publications.{PublicationView, all_published}
@@ -124,10 +125,10 @@ packets_begun u (input.Inject id p) past = same_now past
 packets_begun u (input.Hop packet up) past = same_now past
 
 -- so nothing was handed on yet
-pub sending_begun : {P : Type 0} (past : Chronicle) (counts : Counts) (u : ℕ) (i : Input) (network : Network P) → AreLinks network.topology.value (handed u i past) network.links
+pub sending_begun : {P : Type 0} (past : Chronicle) (counts : Counts) (u : ℕ) (i : Input) (network : Network P) (asked : Bool) → AreLinks network.topology.value (handed u i past) network.links
     → AreMails network.topology.value past counts network.mails → network.publications.items ≡ all_published past → AreWalksBut (away_with i) network.topology.value past network.walks
-    → AreSending (away_with i) (begun u i past) (begun u i past) counts network []
-sending_begun past counts u i network links mails published walks =
+    → AreSending (away_with i) (begun u i past) (begun u i past) counts network (record { asked = asked; list = [] })
+sending_begun past counts u i network asked links mails published walks =
     let net = network.topology.value in
     let quiet = quiet_begun u i past in
     record {
@@ -135,13 +136,13 @@ sending_begun past counts u i network links mails published walks =
       are_mails = same_mails net past (begun u i past) counts network.mails quiet.0 quiet.1 mails;
       are_published = published ∙ sym quiet.2;
       are_walks = walks_stay net past (begun u i past) network.walks (packets_begun u i past) walks;
-      since = append-nil (effects (begun u i past));
+      since = λ is. append-nil (effects (begun u i past));
     }
 
 -- where all packets are back, none is away
-sent_back : {P : Type 0} (away : ℕ → Bool) (first now : Chronicle) (counts : Counts) (network : Network P) (list : List Effect) → ((k : ℕ) → away k ≡ false) → AreSending away first now counts network list
-    → AreSending (λ k. false) first now counts network list
-sent_back away first now counts network list back was = record {
+sent_back : {P : Type 0} (away : ℕ → Bool) (first now : Chronicle) (counts : Counts) (network : Network P) (account : AccountView) → ((k : ℕ) → away k ≡ false) → AreSending away first now counts network account
+    → AreSending (λ k. false) first now counts network account
+sent_back away first now counts network account back was = record {
   are_links = was.are_links;
   are_mails = was.are_mails;
   are_published = was.are_published;
@@ -150,13 +151,13 @@ sent_back away first now counts network list back was = record {
 }
 
 -- all that the node handed out was handed on
-pub given_sent : {P : Type 0} (net : Net) (past : Chronicle) (counts : Counts) (u : ℕ) (i : Input) (s : Step) (list : OutputList) (items : List Output) (old new : Network P) (told : List Effect) → list ≡ items
-    → AddsBy net u (begun u i past) s → ComesBack i (begun u i past) s → Answers past s (Did list) → AreSending (away_with i) (begun u i past) (begun u i past) counts old []
-    → ((away : ℕ → Bool) (first mid : Chronicle) (facts : List Fact) → AreTold net u mid facts → Hands mid items (happen mid facts) → AreSending away first mid counts old []
+pub given_sent : {P : Type 0} (net : Net) (past : Chronicle) (counts : Counts) (u : ℕ) (i : Input) (s : Step) (list : OutputList) (items : List Output) (old new : Network P) (none told : AccountView) → list ≡ items
+    → AddsBy net u (begun u i past) s → ComesBack i (begun u i past) s → Answers past s (Did list) → AreSending (away_with i) (begun u i past) (begun u i past) counts old none
+    → ((away : ℕ → Bool) (first mid : Chronicle) (facts : List Fact) → AreTold net u mid facts → Hands mid items (happen mid facts) → AreSending away first mid counts old none
     → AreSending (still_after facts away) first (happen mid facts) counts new told)
     → AreSending (λ k. false) (begun u i past) (chronicle_of past s) counts new told
-given_sent net past counts u i (Idle why) list items old new told is adds back answers sending hand = absurd answers
-given_sent net past counts u i (Goes now) list items old new told is adds back answers sending hand =
+given_sent net past counts u i (Idle why) list items old new none told is adds back answers sending hand = absurd answers
+given_sent net past counts u i (Goes now) list items old new none told is adds back answers sending hand =
     let first = begun u i past in
     let hands : Hands first items (happen first adds.facts) =
     ap (λ o. o ++ map output_of items) (outputs_begun u i past) ∙ (subst (λ l. Hands past l now) is answers ∙ ap outputs adds.same) in
@@ -164,7 +165,7 @@ given_sent net past counts u i (Goes now) list items old new told is adds back a
     (sent_back (still_after adds.facts (away_with i)) first (happen first adds.facts) counts new told (back adds.facts adds.same) (hand (away_with i) first first adds.facts adds.told hands sending))
 
 -- where all was handed on, the network is as the run has it
-pub sent_stands : {P : Type 0} (rules : Rules) (past : Chronicle) (s : Step) (counts : Counts) (old new : Network P) (told : List Effect) (first : Chronicle) → KeepsNodes old new
+pub sent_stands : {P : Type 0} (rules : Rules) (past : Chronicle) (s : Step) (counts : Counts) (old new : Network P) (told : AccountView) (first : Chronicle) → KeepsNodes old new
     → AreNodes old.policy rules old.topology.value (chronicle_of past s) old.nodes.items → AreCrashed old.topology.value (chronicle_of past s) old.crashed.items
     → old.triggers ≡ triggers_of old.topology.value (chronicle_of past s) → old.triggers ≤ MOST_TRIGGERS → length (mailed (chronicle_of past s)) ≤ MOST_CONTROL
     → packets (chronicle_of past s) ≤ MOST_PACKETS → AreSending (λ k. false) first (chronicle_of past s) counts new told → Stands rules (chronicle_of past s) counts new

@@ -23,7 +23,7 @@ use Rattle.chronicle.specs.Inputs.{arrival}
 use Rattle.chronicle.specs.Inputs as input
 use Rattle.chronicle.specs.Links.{link}
 use Rattle.chronicle.specs.Logs.{log_of}
-use Rattle.chronicle.specs.Run.{held_with, carried_by, given, delivered, is_carried, opened_by_link, fails, restores, does, after, run}
+use Rattle.chronicle.specs.Run.{held_with, carried_by, chronicle_of, given, delivered, is_carried, opened_by_link, fails, restores, does, after, run}
 use Rattle.chronicle.specs.Steps.{Step, Idle, Goes, take_item}
 use Rattle.cut_laws.specs.Delivered.{Did}
 use Rattle.cut_laws.specs.Joined.{FrontFits}
@@ -43,6 +43,10 @@ use Rattle.world_core.specs.Matching.{AreLinks, Counts, IsCounted, Stands}
 -- the same step
 pub comes_so : {P : Type 0} (rules : Rules) (past : Chronicle) (counts : Counts) (s t : Step) (network : Network P) (outcome : Outcome) → s ≡ t → Comes rules past counts t network outcome → Comes rules past counts s network outcome
 comes_so rules past counts s t network outcome same comes = subst (λ s. Comes rules past counts s network outcome) (sym same) comes
+
+-- so of what a network stands for alone
+pub stands_so : {P : Type 0} (rules : Rules) (past : Chronicle) (counts : Counts) (s t : Step) (network : Network P) → s ≡ t → Stands rules (chronicle_of past t) counts network → Stands rules (chronicle_of past s) counts network
+stands_so rules past counts s t network same stands = subst (λ s. Stands rules (chronicle_of past s) counts network) (sym same) stands
 
 -- an idle one leaves all as it was
 pub idle : {P : Type 0} (rules : Rules) (past : Chronicle) (counts : Counts) (s : Step) (network : Network P) (why : Reason) → s ≡ Idle why → Stands rules past counts network → Comes rules past counts s network (outcome.Idle why)

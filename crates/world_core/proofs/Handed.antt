@@ -15,7 +15,7 @@ use Rattle.chronicle.specs.Facts.{Chronicle, Took}
 use Rattle.chronicle.specs.Giving.{answer, give}
 use Rattle.chronicle.specs.Inputs.{Input, Originate, Withdraw, Prefer, Arrive, Notice, OpenSession, Snap, Propose, Control, Inject, Hop}
 use Rattle.chronicle.specs.Links.{link}
-use Rattle.chronicle.specs.Run.{does, given, handed, held_with, hopped, injected, is_carried, up_links}
+use Rattle.chronicle.specs.Run.{chronicle_of, does, given, handed, held_with, hopped, injected, is_carried, up_links}
 use Rattle.chronicle.specs.Walks.{Standing, standing}
 use Rattle.chronicle.specs.Steps.{Idle}
 use Rattle.chronicle.specs.Control.{mail_with}
@@ -34,7 +34,7 @@ use Rattle.world_core.specs.Publications.{all_published}
 use Rattle.world_core.specs.Walks.{AreWalks, AreWalksBut, JourneyView, Takes, is_of}
 use Rattle.world_core.proofs.Mailing.{letter_inside}
 use Rattle.world_core.proofs.Walking.{stands_by, stands_nowhere}
-use Rattle.world_core.proofs.Comes.{arrival_goes, comes_so, deliver_front, front_placed, notice_over, open_step}
+use Rattle.world_core.proofs.Comes.{arrival_goes, comes_so, stands_so, deliver_front, front_placed, notice_over, open_step}
 
 -- u may be handed the input, and what it then does is what the event does
 pub record Hands {P : Type 0} (rules : Rules) (past : Chronicle) (counts : Counts) (event : Event) (u : ℕ) (i : Input) (network : Network P) : Type 0 where
@@ -46,6 +46,12 @@ pub comes_by : {P : Type 0} (rules : Rules) (past : Chronicle) (counts : Counts)
     → (MayHand rules past counts u i network → Comes rules past counts (given rules network.topology.value past u i) new outcome) → Comes rules past counts (does rules network.topology.value past event) new outcome
 comes_by rules past counts event u i network new outcome hands comes =
     comes_so rules past counts (does rules network.topology.value past event) (given rules network.topology.value past u i) new outcome hands.same (comes hands.may)
+
+-- so of what the network stands for alone
+pub left_by : {P : Type 0} (rules : Rules) (past : Chronicle) (counts : Counts) (event : Event) (u : ℕ) (i : Input) (network new : Network P) → Hands rules past counts event u i network
+    → (MayHand rules past counts u i network → Stands rules (chronicle_of past (given rules network.topology.value past u i)) counts new) → Stands rules (chronicle_of past (does rules network.topology.value past event)) counts new
+left_by rules past counts event u i network new hands stands =
+    stands_so rules past counts (does rules network.topology.value past event) (given rules network.topology.value past u i) new hands.same (stands hands.may)
 
 -- so of a stop
 pub stops_by : {P : Type 0} (rules : Rules) (past : Chronicle) (counts : Counts) (event : Event) (u : ℕ) (i : Input) (network : Network P) (why : Stop) → Hands rules past counts event u i network

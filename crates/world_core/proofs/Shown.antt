@@ -1,5 +1,5 @@
 -- What is handed on in the midst of an event.
-use Rattle.std.proofs.Common.{ℕ, Bool, true, false, List, [], ◌∷◌, ◌++◌, ◌≡◌, refl, sym, ◌∙◌, ap, subst, append_assoc}
+use Rattle.std.proofs.Common.{ℕ, Bool, true, false, List, [], ◌∷◌, ◌++◌, ◌≡◌, refl, sym, ◌∙◌, ap, ap₂, subst, append_assoc}
 use Rattle.std.specs.Prelude.{if◌then◌else◌}
 use Rattle.topology.specs.Net.{Net}
 use Rattle.trigger_log.specs.Going.{Going}
@@ -7,6 +7,7 @@ use Rattle.chronicle.specs.Facts.{Fact, Chronicle, Sent, happen}
 use Rattle.node_core.specs.Outputs.{Output, output_by}
 use Rattle.world_core.specs.declared.outcomes.Effect.{Effect}
 use Rattle.world_core.specs.declared.outcomes.Effect.TheVariants.{Queued, Lost}
+use Rattle.world_core.specs.Accounts.{AccountView}
 use Rattle.world_core.specs.Effects.{effects, effect_by}
 use Rattle.world_core.specs.declared.network.Network.{Network}
 use Rattle.world_core.specs.Happening.{AreSending, KeepsNodes, Since}
@@ -17,17 +18,35 @@ use Rattle.world_core.proofs.Handing.{handed_next, handed_none, happen_last}
 use Rattle.world_core.proofs.Returning.{still_last}
 
 -- one effect more is told
-pub since_next : (first past : Chronicle) (f : Fact) (was now : List Effect) (one : Effect) → Since first was past → now ≡ was ++ one ∷ [] → effect_by f past ≡ one ∷ [] → Since first now (f ∷ past)
+since_next : (first past : Chronicle) (f : Fact) (was now : List Effect) (one : Effect) → Since first was past → now ≡ was ++ one ∷ [] → effect_by f past ≡ one ∷ [] → Since first now (f ∷ past)
 since_next first past f was now one since is shown =
     ap (λ l. effects first ++ l) is
     ∙ (sym (append_assoc (effects first) was (one ∷ []))
     ∙ (ap (λ l. l ++ one ∷ []) since ∙ ap (λ l. effects past ++ l) (sym shown)))
 
 -- an item shows its way, and whether it was queued or lost
-pub sent_next : (first past : Chronicle) (u : ℕ) (g : Going) (was now : List Effect) (q : Bool) → Since first was past
+sent_next : (first past : Chronicle) (u : ℕ) (g : Going) (was now : List Effect) (q : Bool) → Since first was past
     → now ≡ was ++ (if q then Queued u g.to else Lost u g.to) ∷ [] → Since first now (Sent u g.to g.session g.item q ∷ past)
 sent_next first past u g was now true since is = since_next first past (Sent u g.to g.session g.item true) was now (Queued u g.to) since is refl
 sent_next first past u g was now false since is = since_next first past (Sent u g.to g.session g.item false) was now (Lost u g.to) since is refl
+
+-- one effect more is told, where it is asked for
+pub told_next : (first past : Chronicle) (f : Fact) (was now : AccountView) (one : Effect) → (was.asked ≡ true → Since first was.list past) → now.asked ≡ was.asked
+    → (was.asked ≡ true → now.list ≡ was.list ++ one ∷ []) → effect_by f past ≡ one ∷ [] → now.asked ≡ true → Since first now.list (f ∷ past)
+told_next first past f was now one since same is shown asked =
+    let before = sym same ∙ asked in
+    since_next first past f was.list now.list one (since before) (is before) shown
+
+-- so of an item
+pub told_sent : (first past : Chronicle) (u : ℕ) (g : Going) (was now : AccountView) (q : Bool) → (was.asked ≡ true → Since first was.list past) → now.asked ≡ was.asked
+    → (was.asked ≡ true → now.list ≡ was.list ++ (if q then Queued u g.to else Lost u g.to) ∷ []) → now.asked ≡ true → Since first now.list (Sent u g.to g.session g.item q ∷ past)
+told_sent first past u g was now q since same is asked =
+    let before = sym same ∙ asked in
+    sent_next first past u g was.list now.list q (since before) (is before)
+
+-- what stands in the account is all of it
+pub told_whole : (account : AccountView) (asked : Bool) (list : List Effect) → account.asked ≡ asked → list ≡ account.list → account ≡ record { asked = asked; list = list }
+told_whole account asked list is all = ap₂ {A = Bool} {B = List Effect} {C = AccountView} (λ a l. record { asked = a; list = l }) is (sym all)
 
 -- what leaves nodes as they were, twice
 pub keeps_on : {P : Type 0} (a b c : Network P) → KeepsNodes a b → KeepsNodes b c → KeepsNodes a c
@@ -40,7 +59,7 @@ keeps_on a b c first second = record {
 }
 
 -- the one output that stands first was handed on
-pub handed_first : {P : Type 0} (net : Net) (u : ℕ) (away : ℕ → Bool) (first past : Chronicle) (counts : Counts) (old new : Network P) (told_old told_new : List Effect) (facts : List Fact) (out : Output)
+pub handed_first : {P : Type 0} (net : Net) (u : ℕ) (away : ℕ → Bool) (first past : Chronicle) (counts : Counts) (old new : Network P) (told_old told_new : AccountView) (facts : List Fact) (out : Output)
     → AreTold net u past facts → out ∷ [] ≡ shown past facts → AreSending away first past counts old told_old
     → ((away : ℕ → Bool) (past : Chronicle) (f : Fact) → IsTold net u past f → output_by f past ≡ out ∷ [] → AreSending away first past counts old told_old → AreSending (still f away) first (f ∷ past) counts new told_new)
     → AreSending (still_after facts away) first (happen past facts) counts new told_new

@@ -8,13 +8,12 @@ use Rattle.chronicle.specs.declared.ways.Way.{Way}
 use Rattle.chronicle.specs.Deliveries.{deliveries}
 use Rattle.chronicle.specs.Facts.{Chronicle}
 use Rattle.chronicle.specs.Publications.{publications}
-use Rattle.chronicle.specs.Run.{after, run, step}
+use Rattle.chronicle.specs.Run.{after, chronicle_of, run, step}
 use Rattle.agreement_laws.specs.Published.{Completes, PublishesLast}
 use Rattle.link_model.specs.declared.way_set.WaySet.{WaySet}
 use Rattle.world_core.specs.declared.network.Network.{Network}
-use Rattle.world_core.specs.declared.outcomes.Outcome.{Outcome}
 use Rattle.world_core.specs.declared.bounds.TheConstants.{MOST_EVENTS}
-use Rattle.world_core.specs.Happening.{Comes, IsAsWas}
+use Rattle.world_core.specs.Happening.{IsAsWas}
 use Rattle.world_core.specs.Limits.{above_by, limit_of}
 use Rattle.world_core.specs.Matching.{Counts, Stands}
 use Rattle.world_core.specs.OpenWays.{AreOpen}
@@ -48,12 +47,12 @@ module _ {P : Type 0} (rules : P → Rules) (old new : Network P) (events : List
   same_policy : new.policy ≡ old.policy
   same_policy = same.policy
 
-  -- what came of the event, read of the new network
-  pub comes_new : (counts : Counts) (what : Outcome) → Comes (rules old.policy) (before old.policy old.topology.value) counts (step (rules old.policy) old.topology.value (before old.policy old.topology.value) event) new what
-      → Comes (rules new.policy) (before new.policy new.topology.value) counts (step (rules new.policy) new.topology.value (before new.policy new.topology.value) event) new what
-  comes_new counts what comes =
-      subst (λ net. Comes (rules new.policy) (before new.policy net) counts (step (rules new.policy) net (before new.policy net) event) new what) same_net
-      (subst (λ policy. Comes (rules policy) (before policy old.topology.value) counts (step (rules policy) old.topology.value (before policy old.topology.value) event) new what) (sym same.policy) comes)
+  -- what the network stands for after the event, read of the new one
+  pub left_new : (counts : Counts) → Stands (rules old.policy) (chronicle_of (before old.policy old.topology.value) (step (rules old.policy) old.topology.value (before old.policy old.topology.value) event)) counts new
+      → Stands (rules new.policy) (chronicle_of (before new.policy new.topology.value) (step (rules new.policy) new.topology.value (before new.policy new.topology.value) event)) counts new
+  left_new counts stands =
+      subst (λ net. Stands (rules new.policy) (chronicle_of (before new.policy net) (step (rules new.policy) net (before new.policy net) event)) counts new) same_net
+      (subst (λ policy. Stands (rules policy) (chronicle_of (before policy old.topology.value) (step (rules policy) old.topology.value (before policy old.topology.value) event)) counts new) (sym same.policy) stands)
 
   -- so of the ways that were open
   pub opened_new : (has : Way → Bool) → AreOpen old.topology.value (before old.policy old.topology.value) has → AreOpen new.topology.value (before new.policy new.topology.value) has
@@ -62,17 +61,17 @@ module _ {P : Type 0} (rules : P → Rules) (old new : Network P) (events : List
       (subst (λ policy. AreOpen old.topology.value (before policy old.topology.value) has) (sym same.policy) was)
 
   -- the new network stands for the longer run
-  pub stands_new : (list : List Event) (counts : Counts) (what : Outcome) → list ≡ events ++ event ∷ [] → ((k : ℕ) → deliveries (rules old.policy) old.topology.value (events ++ event ∷ []) k ≡ counts k)
-      → Comes (rules old.policy) (before old.policy old.topology.value) counts (step (rules old.policy) old.topology.value (before old.policy old.topology.value) event) new what
+  pub stands_new : (list : List Event) (counts : Counts) → list ≡ events ++ event ∷ [] → ((k : ℕ) → deliveries (rules old.policy) old.topology.value (events ++ event ∷ []) k ≡ counts k)
+      → Stands (rules old.policy) (chronicle_of (before old.policy old.topology.value) (step (rules old.policy) old.topology.value (before old.policy old.topology.value) event)) counts new
       → Stands (rules new.policy) (run (rules new.policy) new.topology.value list) (deliveries (rules new.policy) new.topology.value list) new
   unfolding after
-  stands_new list counts what is counted comes =
+  stands_new list counts is counted stands =
       let same : (k : ℕ) → deliveries (rules new.policy) new.topology.value list k ≡ counts k = λ k.
       ap (λ l. deliveries (rules new.policy) new.topology.value l k) is
       ∙ (ap (λ policy. deliveries (rules policy) new.topology.value (events ++ event ∷ []) k) same_policy
       ∙ (ap (λ net. deliveries (rules old.policy) net (events ++ event ∷ []) k) (sym same_net) ∙ counted k)) in
       counts_so (rules new.policy) (run (rules new.policy) new.topology.value list) counts (deliveries (rules new.policy) new.topology.value list) new same
-      (subst (λ past. Stands (rules new.policy) past counts new) (sym (ap (run (rules new.policy) new.topology.value) is ∙ run-push (rules new.policy) new.topology.value events event)) (comes_new counts what comes).stands)
+      (subst (λ past. Stands (rules new.policy) past counts new) (sym (ap (run (rules new.policy) new.topology.value) is ∙ run-push (rules new.policy) new.topology.value events event)) (left_new counts stands))
 
   -- and so do the ways that are open
   pub opens_new : (list : List Event) (has : Way → Bool) → list ≡ events ++ event ∷ [] → AreOpen new.topology.value (after (rules new.policy) new.topology.value (before new.policy new.topology.value) event) has
@@ -91,15 +90,15 @@ module _ {P : Type 0} (rules : P → Rules) (old new : Network P) (events : List
       (subst (λ past. AreOpen old.topology.value past (has_way old.topology.value ways)) (sym now) was))
 
   -- and no count is above its number
-  pub within_new : (counts : Counts) (what : Outcome) → length events < MOST_EVENTS
-      → Comes (rules old.policy) (before old.policy old.topology.value) counts (step (rules old.policy) old.topology.value (before old.policy old.topology.value) event) new what
+  pub within_new : (counts : Counts) → length events < MOST_EVENTS
+      → Stands (rules old.policy) (chronicle_of (before old.policy old.topology.value) (step (rules old.policy) old.topology.value (before old.policy old.topology.value) event)) counts new
       → limit_of (rules old.policy) old.topology.value events event ≡ None
-  within_new counts what short comes =
+  within_new counts short stands =
       let one = rules old.policy in
       let net = old.topology.value in
       let past = before old.policy net in
       limit_later one net events event short
-      ∙ subst (λ n. above_by one n (step one net past event) ≡ None) (sym same_net) (stands_within one past counts (step one net past event) new comes.stands)
+      ∙ subst (λ n. above_by one n (step one net past event) ≡ None) (sym same_net) (stands_within one past counts (step one net past event) new stands)
 
 -- what a step publishes, said of the run that it leaves
 module _ (rules : Rules) (net : Net) (events : List Event) (event : Event) where

@@ -27,6 +27,7 @@ use Rattle.world_core.specs.declared.outcomes.Effect.{Effect}
 use Rattle.world_core.specs.declared.network.Network.{Network}
 use Rattle.world_core.specs.declared.outcomes.Outcome.{Outcome}
 use Rattle.world_core.specs.declared.outcomes.Stop.{Stop}
+use Rattle.world_core.specs.Accounts.{AccountView}
 use Rattle.world_core.specs.Effects.{effects, Tells}
 use Rattle.world_core.specs.Limits.{triggers_of, above_by, StopsAt}
 use Rattle.world_core.specs.Matching.{AreCrashed, AreLinks, AreMails, AreNodes, Counts, IsCounted, Stands}
@@ -62,13 +63,13 @@ abbrev pub Since : Chronicle → List Effect → Chronicle → Type 0
 Since first list now = effects first ++ list ≡ effects now
 
 -- in the midst of an event: links, control messages, publications and packets are as the run has them now, but for the
--- packets that are away, and the list tells what it did since
-pub record AreSending {P : Type 0} (away : ℕ → Bool) (first now : Chronicle) (counts : Counts) (network : Network P) (list : List Effect) : Type 0 where
+-- packets that are away, and the account tells what it did since, where it is asked for
+pub record AreSending {P : Type 0} (away : ℕ → Bool) (first now : Chronicle) (counts : Counts) (network : Network P) (account : AccountView) : Type 0 where
   pub are_links : AreLinks network.topology.value now network.links
   pub are_mails : AreMails network.topology.value now counts network.mails
   pub are_published : network.publications.items ≡ all_published now
   pub are_walks : AreWalksBut away network.topology.value now network.walks
-  pub since : Since first list now
+  pub since : account.asked ≡ true → Since first account.list now
 
 -- what is known when a node is handed an input: the item of an arrival is taken from its way already
 abbrev pub handed : ℕ → Input → Chronicle → Chronicle

@@ -3,6 +3,7 @@ pub mod Publications
 pub mod Walks
 pub mod Fits
 pub mod Effects
+pub mod Accounts
 pub mod Limits
 pub mod Places
 pub mod Turning

@@ -3,10 +3,10 @@ ghost use Rattle.std.specs.Prelude.{◌≡◌, ◌<◌, ◌≤◌, true, length,
 ghost use Rattle.topology.specs.Lists.{has};
 ghost use Rattle.chronicle.specs.Control.{mailed};
 ghost use Rattle.chronicle.specs.Facts.{Chronicle};
-ghost use Rattle.chronicle.specs.Run.{given};
+ghost use Rattle.chronicle.specs.Run.{chronicle_of, given};
 ghost use Rattle.node_core.specs.Inputs.{input_of};
 ghost use Rattle.world_core.specs.Happening.{Comes, IsAsWas, MayHand, Stops};
-ghost use Rattle.world_core.specs.Matching.{AreMails, Counts};
+ghost use Rattle.world_core.specs.Matching.{AreMails, Counts, Stands};
 ghost use Rattle.world_core.specs.Places.{HasPlaces};
 ghost use Rattle.chronicle.specs.Walks.{packets};
 ghost use Rattle.world_core.specs.Walks.{AreWalks};
@@ -47,14 +47,18 @@ impl<P: Policy + Copy> Network<P> {
         Ok(())
     }
 
-    /// The node handles the input: what it hands out goes over the links, or is lost there. After an
-    /// `Err` the network is of no use.
+    /// The node handles the input: what it hands out goes over the links, or is lost there. What it did is told where
+    /// it is asked for. After an `Err` the network is of no use.
     #[inline(always)]
-    pub fn give(&mut self, node: NodeId, input: Input) -> Result<Outcome, Stop>
+    pub fn give(&mut self, node: NodeId, input: Input, asked: bool) -> Result<Outcome, Stop>
         requires node { has self.old.topology.value.nodes node ≡ true }
         requires places { HasPlaces self.old.topology.value (length self.old.nodes.items) }
         ensures others { OnOk result (IsAsWas self.old self.new) }
-        ensures comes { IfOk result (λ outcome. (past : Chronicle) (counts : Counts) →
+        ensures stands { OnOk result ((past : Chronicle) (counts : Counts) →
+            MayHand (P.rules self.old.policy) past counts node (input_of input) self.old →
+            Stands (P.rules self.old.policy)
+            (chronicle_of past (given (P.rules self.old.policy) self.old.topology.value past node (input_of input))) counts self.new) }
+        ensures comes { IfOk result (λ outcome. asked ≡ true → (past : Chronicle) (counts : Counts) →
             MayHand (P.rules self.old.policy) past counts node (input_of input) self.old →
             Comes (P.rules self.old.policy) past counts (given (P.rules self.old.policy) self.old.topology.value past node (input_of input)) self.new outcome) }
         ensures stopped { IfErr result (λ stop. (past : Chronicle) (counts : Counts) →
@@ -76,7 +80,7 @@ impl<P: Policy + Copy> Network<P> {
         };
         let after = self.nodes[rank].log().next_trigger().count;
         self.triggers = counted(self.triggers, before, after)?;
-        let effects = self.hand_all(node, list)?;
+        let effects = self.hand_all(node, list, asked)?;
         self.check_control()?;
         self.check_packets()?;
         Ok(Outcome::Did(Effects::new(effects)))

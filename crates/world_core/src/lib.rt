@@ -1,6 +1,7 @@
 //! All nodes and links of a network, its control messages, and what each event does to them.
 #![tactic(auto)]
 
+mod account;
 pub mod bounds;
 mod giving;
 pub mod laws;

@@ -1,5 +1,4 @@
 //! The nodes, the links, the control network and the packets of a world.
-use crate::outcomes::Effect;
 use crate::publications::Publication;
 use crate::walks::Walks;
 use control_mail::Mails;
@@ -29,6 +28,4 @@ pub struct Network<P: Policy + Copy> {
     pub walks: Walks,
     /// The triggers that all nodes gave.
     pub triggers: u32,
-    /// A list that was of effects: what is in it means nothing, its memory is used again.
-    pub spare: Vec<Effect>,
 }

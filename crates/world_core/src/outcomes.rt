@@ -50,13 +50,6 @@ impl Effects {
         Effects { list }
     }
 
-    /// The effects as a list. Takes no memory.
-    pub(crate) fn into_list(self) -> Vec<Effect>
-        ensures { result.items ≡ self }
-    {
-        self.list
-    }
-
     pub fn as_slice(&self) -> &[Effect]
         ensures { result.now ≡ self.now }
     {

@@ -80,7 +80,7 @@ impl<P: Policy + Copy> Network<P> {
         if self.walks.of(packet).is_some() {
             return Ok(Outcome::Idle(Reason::PacketKnown));
         }
-        self.give(node, Input::Inject { id: packet, prefix })
+        self.give(node, Input::Inject { id: packet, prefix }, true)
     }
 
     /// The packet goes on from the node where it stands, unless its walk has ended. The node gets the packet itself:
@@ -103,6 +103,6 @@ impl<P: Policy + Copy> Network<P> {
         };
         let (node, packet) = taken;
         let up = self.up_links(node)?;
-        self.give(node, Input::Hop { packet, up })
+        self.give(node, Input::Hop { packet, up }, true)
     }
 }

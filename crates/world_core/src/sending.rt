@@ -1,4 +1,4 @@
-//! What a node hands out goes to the links, to the control network and to the list of effects.
+//! What a node hands out goes to the links, to the control network and to the account of the event.
 ghost use Rattle.std.specs.Prelude.{◌≡◌, ◌∷◌, ◌++◌, [], ℕ, suc, Bool, true, is_some, List, Some, map, length, IfOk, OnOk, if◌then◌else◌};
 ghost use Rattle.topology.specs.LinkStates.{carries};
 ghost use Rattle.topology.specs.Lists.{has};
@@ -17,8 +17,9 @@ ghost use Rattle.world_core.specs.Telling.{AreTold, IsTold, shown};
 ghost use Rattle.world_core.specs.Walks.{AreWalksBut, IsPassing, still, still_after};
 ghost use Rattle.world_core.specs.declared.outcomes.Effect.TheVariants.{Queued, Lost, Mailed as Shown, Published, Visited, Ended};
 
+use crate::account::Account;
 use crate::network::Network;
-use crate::outcomes::{Effect, Outcome};
+use crate::outcomes::Effect;
 use crate::publications::Publication;
 use crate::walks::{Walks, visit_of};
 use consolidator::Mail;
@@ -28,7 +29,6 @@ use link_model::Links;
 use node_core::{Entered, Output, OutputList};
 use path_vector::Policy;
 use stable_table::Table;
-use std::mem;
 use std::rc::Rc;
 use topology::{NoMemory, NodeId};
 use trigger_log::Outgoing;
@@ -49,36 +49,31 @@ fn send(
     from: NodeId,
     out: Outgoing,
     links: &mut Links,
-    effects: &mut Vec<Effect>,
+    account: &mut Account,
 ) -> Result<(), NoMemory>
-    ensures { OnOk result ((net : Net) (past : Chronicle) → linked net from out.to ≡ true → AreLinks net past links.old →
+    ensures asked { OnOk result (account.new.asked ≡ account.old.asked) }
+    ensures done { OnOk result ((net : Net) (past : Chronicle) → linked net from out.to ≡ true → AreLinks net past links.old →
         let queued = carries (link from out.to past) out.session in
         AreLinks net (Sent from out.to out.session (item_of out.item) queued ∷ past) links.new
-        × (effects.new.items ≡ effects.old.items ++ (if queued then Queued from out.to else Lost from out.to) ∷ [])) }
+        × (account.old.asked ≡ true → account.new.list ≡ account.old.list ++ (if queued then Queued from out.to else Lost from out.to) ∷ [])) }
 {
     let to = out.to;
     let queued = links.push(from, to, out.session, out.item)?;
-    // A push that may fail gives its value back where it does, and so it is copied each time.
-    effects.reserve(1)?;
-    effects.push_reserved(shown(from, to, queued));
+    account.tell(shown(from, to, queued))?;
     Ok(())
 }
 
 // Posts a control message: it gets the next number.
-fn post(
-    from: NodeId,
-    mail: Mail,
-    mails: &mut Mails,
-    effects: &mut Vec<Effect>,
-) -> Result<(), NoMemory>
-    ensures { OnOk result ((net : Net) (past : Chronicle) (counts : Counts) → AreMails net past counts mails.old →
+fn post(from: NodeId, mail: Mail, mails: &mut Mails, account: &mut Account) -> Result<(), NoMemory>
+    ensures asked { OnOk result (account.new.asked ≡ account.old.asked) }
+    ensures done { OnOk result ((net : Net) (past : Chronicle) (counts : Counts) → AreMails net past counts mails.old →
         has net.nodes from ≡ true → has net.nodes mail.to ≡ true →
         AreMails net (Mailed from mail.to (message_seen mail.message) ∷ past) counts mails.new
-        × (effects.new.items ≡ effects.old.items ++ Shown (suc (length (mailed past))) ∷ [])) }
+        × (account.old.asked ≡ true → account.new.list ≡ account.old.list ++ Shown (suc (length (mailed past))) ∷ [])) }
 {
     mails.post(from, mail)?;
     let number = mails.count();
-    effects.push(Effect::Mailed { number })?;
+    account.tell(Effect::Mailed { number })?;
     Ok(())
 }
 
@@ -87,15 +82,16 @@ fn publish(
     node: NodeId,
     table: Rc<Table>,
     publications: &mut Vec<Publication>,
-    effects: &mut Vec<Effect>,
+    account: &mut Account,
 ) -> Result<(), NoMemory>
+    ensures asked { OnOk result (account.new.asked ≡ account.old.asked) }
     ensures kept { OnOk result (publications.new.items ≡ publications.old.items
         ++ record { node = node; epoch = table.value.epoch; value = table.value.value; paths = table.value.paths } ∷ []) }
-    ensures shown { OnOk result (effects.new.items ≡ effects.old.items ++ Published node table.value.epoch ∷ []) }
+    ensures shown { OnOk result (account.old.asked ≡ true → account.new.list ≡ account.old.list ++ Published node table.value.epoch ∷ []) }
 {
     let epoch = table.epoch();
     publications.push(Publication::new(node, table))?;
-    effects.push(Effect::Published { node, epoch })?;
+    account.tell(Effect::Published { node, epoch })?;
     Ok(())
 }
 
@@ -104,16 +100,17 @@ fn forward(
     next: NodeId,
     packet: Box<Packet>,
     walks: &mut Walks,
-    effects: &mut Vec<Effect>,
+    account: &mut Account,
 ) -> Result<(), NoMemory>
-    ensures { OnOk result ((away : ℕ → Bool) (net : Net) (past : Chronicle) → AreWalksBut away net past walks.old → IsPassing net next packet.value →
+    ensures asked { OnOk result (account.new.asked ≡ account.old.asked) }
+    ensures done { OnOk result ((away : ℕ → Bool) (net : Net) (past : Chronicle) → AreWalksBut away net past walks.old → IsPassing net next packet.value →
         AreWalksBut (still (Came next packet.value) away) net (Came next packet.value ∷ past) walks.new
-        × (effects.new.items ≡ effects.old.items ++ Visited packet.value.id (visit_of next packet.value) ∷ [])) }
+        × (account.old.asked ≡ true → account.new.list ≡ account.old.list ++ Visited packet.value.id (visit_of next packet.value) ∷ [])) }
 {
     let number = packet.id;
     let visit = visit_of(next, &packet);
     walks.visit(next, packet)?;
-    effects.push(Effect::Visited {
+    account.tell(Effect::Visited {
         packet: number,
         visit,
     })?;
@@ -121,13 +118,14 @@ fn forward(
 }
 
 // The walk of a packet ended.
-fn end(number: u32, end: End, walks: &mut Walks, effects: &mut Vec<Effect>) -> Result<(), NoMemory>
-    ensures { OnOk result ((away : ℕ → Bool) (net : Net) (past : Chronicle) → AreWalksBut away net past walks.old → is_some (standing number past) ≡ true →
+fn end(number: u32, end: End, walks: &mut Walks, account: &mut Account) -> Result<(), NoMemory>
+    ensures asked { OnOk result (account.new.asked ≡ account.old.asked) }
+    ensures done { OnOk result ((away : ℕ → Bool) (net : Net) (past : Chronicle) → AreWalksBut away net past walks.old → is_some (standing number past) ≡ true →
         AreWalksBut (still (Ends number end) away) net (Ends number end ∷ past) walks.new
-        × (effects.new.items ≡ effects.old.items ++ Ended number end ∷ [])) }
+        × (account.old.asked ≡ true → account.new.list ≡ account.old.list ++ Ended number end ∷ [])) }
 {
     walks.end(number, end);
-    effects.push(Effect::Ended {
+    account.tell(Effect::Ended {
         packet: number,
         end,
     })?;
@@ -138,29 +136,22 @@ impl<P: Policy + Copy> Network<P> {
     // Hands on one output of a node: an item is sent, a control message posted, a table kept, and a packet passed on;
     // an entry, a cut and the end of a walk are told.
     #[inline(always)]
-    fn hand(
-        &mut self,
-        node: NodeId,
-        output: Output,
-        effects: &mut Vec<Effect>,
-    ) -> Result<(), NoMemory>
+    fn hand(&mut self, node: NodeId, output: Output, account: &mut Account) -> Result<(), NoMemory>
         ensures kept { OnOk result (KeepsNodes self.old self.new) }
+        ensures asked { OnOk result (account.new.asked ≡ account.old.asked) }
         ensures sending { OnOk result ((away : ℕ → Bool) (first past : Chronicle) (counts : Counts) (f : Fact) →
             IsTold self.old.topology.value node past f → output_by f past ≡ output_of output ∷ [] →
-            AreSending away first past counts self.old effects.old.items →
-            AreSending (still f away) first (f ∷ past) counts self.new effects.new.items) }
+            AreSending away first past counts self.old account.old →
+            AreSending (still f away) first (f ∷ past) counts self.new account.new) }
     {
         match output {
-            Output::Logged { index } => {
-                effects.reserve(1)?;
-                effects.push_reserved(Effect::Logged { node, index });
-            }
-            Output::Cut { epoch } => effects.push(Effect::Cut { node, epoch })?,
-            Output::Send(out) => send(node, out, &mut self.links, effects)?,
-            Output::Mail(mail) => post(node, mail, &mut self.mails, effects)?,
-            Output::Published(table) => publish(node, table, &mut self.publications, effects)?,
-            Output::Forward { next, packet } => forward(next, packet, &mut self.walks, effects)?,
-            Output::Ended { id, end: how } => end(id, how, &mut self.walks, effects)?,
+            Output::Logged { index } => account.tell(Effect::Logged { node, index })?,
+            Output::Cut { epoch } => account.tell(Effect::Cut { node, epoch })?,
+            Output::Send(out) => send(node, out, &mut self.links, account)?,
+            Output::Mail(mail) => post(node, mail, &mut self.mails, account)?,
+            Output::Published(table) => publish(node, table, &mut self.publications, account)?,
+            Output::Forward { next, packet } => forward(next, packet, &mut self.walks, account)?,
+            Output::Ended { id, end: how } => end(id, how, &mut self.walks, account)?,
         }
         Ok(())
     }
@@ -171,21 +162,22 @@ impl<P: Policy + Copy> Network<P> {
         &mut self,
         node: NodeId,
         entered: Entered,
-        effects: &mut Vec<Effect>,
+        account: &mut Account,
     ) -> Result<(), NoMemory>
         ensures kept { OnOk result (KeepsNodes self.old self.new) }
+        ensures asked { OnOk result (account.new.asked ≡ account.old.asked) }
         ensures sending { OnOk result ((away : ℕ → Bool) (first past : Chronicle) (counts : Counts) (facts : List Fact) →
             AreTold self.old.topology.value node past facts → map output_of (first_of (Some entered)) ≡ shown past facts →
-            AreSending away first past counts self.old effects.old.items →
-            AreSending (still_after facts away) first (happen past facts) counts self.new effects.new.items) }
+            AreSending away first past counts self.old account.old →
+            AreSending (still_after facts away) first (happen past facts) counts self.new account.new) }
     {
         let Entered { index, sent } = entered;
-        self.hand(node, Output::Logged { index }, effects)?;
+        self.hand(node, Output::Logged { index }, account)?;
         if sent.is_empty() {
             return Ok(());
         }
         for out in sent {
-            self.hand(node, Output::Send(out), effects)?;
+            self.hand(node, Output::Send(out), account)?;
         }
         Ok(())
     }
@@ -196,72 +188,65 @@ impl<P: Policy + Copy> Network<P> {
         &mut self,
         node: NodeId,
         entered: Option<Entered>,
-        effects: &mut Vec<Effect>,
+        account: &mut Account,
     ) -> Result<(), NoMemory>
         ensures kept { OnOk result (KeepsNodes self.old self.new) }
+        ensures asked { OnOk result (account.new.asked ≡ account.old.asked) }
         ensures sending { OnOk result ((away : ℕ → Bool) (first past : Chronicle) (counts : Counts) (facts : List Fact) →
             AreTold self.old.topology.value node past facts → map output_of (first_of entered) ≡ shown past facts →
-            AreSending away first past counts self.old effects.old.items →
-            AreSending (still_after facts away) first (happen past facts) counts self.new effects.new.items) }
+            AreSending away first past counts self.old account.old →
+            AreSending (still_after facts away) first (happen past facts) counts self.new account.new) }
     {
         match entered {
-            Some(entered) => self.hand_entry(node, entered, effects),
+            Some(entered) => self.hand_entry(node, entered, account),
             None => Ok(()),
         }
     }
 
-    // Hands on more outputs, in their order, behind those that were handed on before.
+    // Hands on more outputs, in their order, behind those that were handed on before. Most inputs hand out an entry and
+    // items alone: what else there is stays out of their way.
+    #[inline(never)]
     fn hand_more(
         &mut self,
         node: NodeId,
         outputs: Vec<Output>,
-        effects: &mut Vec<Effect>,
+        account: &mut Account,
     ) -> Result<(), NoMemory>
         ensures kept { OnOk result (KeepsNodes self.old self.new) }
+        ensures asked { OnOk result (account.new.asked ≡ account.old.asked) }
         ensures sending { OnOk result ((away : ℕ → Bool) (first past : Chronicle) (counts : Counts) (before : List OutputSeen) →
             ((fs : List Fact) → AreTold self.old.topology.value node past fs → before ≡ shown past fs →
-            AreSending (still_after fs away) first (happen past fs) counts self.old effects.old.items) →
+            AreSending (still_after fs away) first (happen past fs) counts self.old account.old) →
             (facts : List Fact) → AreTold self.old.topology.value node past facts → before ++ map output_of outputs.items ≡ shown past facts →
-            AreSending (still_after facts away) first (happen past facts) counts self.new effects.new.items) }
+            AreSending (still_after facts away) first (happen past facts) counts self.new account.new) }
     {
         for output in outputs {
-            self.hand(node, output, effects)?;
+            self.hand(node, output, account)?;
         }
         Ok(())
     }
 
-    // An empty list for effects, in the memory of the spare one.
+    /// Hands on the outputs of a node, in their order, and tells what they did where it is asked.
     #[inline(always)]
-    fn take_spare(&mut self) -> Vec<Effect>
-        ensures empty { result.items ≡ [] }
-        ensures kept { self.new ≡ record self.old { spare = self.new.spare } }
-    {
-        let mut list = mem::replace(&mut self.spare, Vec::new(self.alloc));
-        list.clear();
-        list
-    }
-
-    /// The memory of an outcome of which nobody is told is used again.
-    pub fn reuse(&mut self, outcome: Outcome)
-        ensures { self.new ≡ record self.old { spare = self.new.spare } }
-    {
-        if let Outcome::Did(effects) = outcome {
-            self.spare = effects.into_list();
-        }
-    }
-
-    /// Hands on the outputs of a node, in their order, and tells what they did.
-    pub fn hand_all(&mut self, node: NodeId, outputs: OutputList) -> Result<Vec<Effect>, NoMemory>
+    pub fn hand_all(
+        &mut self,
+        node: NodeId,
+        outputs: OutputList,
+        asked: bool,
+    ) -> Result<Vec<Effect>, NoMemory>
         ensures kept { OnOk result (KeepsNodes self.old self.new) }
         ensures sending { IfOk result (λ effects. (away : ℕ → Bool) (first past : Chronicle) (counts : Counts) (facts : List Fact) →
             AreTold self.old.topology.value node past facts → Hands past outputs (happen past facts) →
-            AreSending away first past counts self.old [] →
-            AreSending (still_after facts away) first (happen past facts) counts self.new effects.items) }
+            AreSending away first past counts self.old (record { asked = asked; list = [] }) →
+            AreSending (still_after facts away) first (happen past facts) counts self.new (record { asked = asked; list = effects.items })) }
     {
         let (entered, more) = outputs.into_parts();
-        let mut effects = self.take_spare();
-        self.hand_first(node, entered, &mut effects)?;
-        self.hand_more(node, more, &mut effects)?;
-        Ok(effects)
+        let mut account = Account::new(self.alloc, asked);
+        self.hand_first(node, entered, &mut account)?;
+        if more.is_empty() {
+            return Ok(account.into_list());
+        }
+        self.hand_more(node, more, &mut account)?;
+        Ok(account.into_list())
     }
 }

@@ -57,7 +57,6 @@ impl<P: Policy + Copy> Network<P> {
             publications: Vec::new(alloc),
             walks: Walks::new(alloc),
             triggers: 0,
-            spare: Vec::new(alloc),
         })
     }
 }

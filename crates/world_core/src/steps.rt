@@ -165,16 +165,16 @@ impl<P: Policy + Copy> Network<P> {
             (does (P.rules self.old.policy) self.old.topology.value past event.now) stop) }
     {
         match event {
-            Event::Originate { node, prefix } => self.give(*node, Input::Originate(*prefix)),
-            Event::Withdraw { node, prefix } => self.give(*node, Input::Withdraw(*prefix)),
+            Event::Originate { node, prefix } => self.give(*node, Input::Originate(*prefix), true),
+            Event::Withdraw { node, prefix } => self.give(*node, Input::Withdraw(*prefix), true),
             Event::Prefer { node, nbr, value } => self.prefer(*node, *nbr, *value),
             Event::Deliver { from, to } => self.deliver(*from, *to),
             Event::Fail { a, b } => Ok(self.fail(*a, *b)),
             Event::Restore { a, b } => Ok(self.restore(*a, *b)),
             Event::Notice { node, nbr } => self.notice(*node, *nbr),
             Event::OpenSession { node, nbr } => self.open_session(*node, *nbr),
-            Event::Snap { node } => self.give(*node, Input::Snap),
-            Event::Propose { node, epoch } => self.give(*node, Input::Propose(*epoch)),
+            Event::Snap { node } => self.give(*node, Input::Snap, true),
+            Event::Propose { node, epoch } => self.give(*node, Input::Propose(*epoch), true),
             Event::Control { number } => self.control(*number),
             Event::Crash { node } => Ok(self.crash(*node)),
             Event::Restart { node } => Ok(self.restart(*node)),
@@ -247,6 +247,7 @@ impl<P: Policy + Copy> Network<P> {
                 session,
                 item,
             },
+            true,
         )
     }
 
@@ -263,7 +264,7 @@ impl<P: Policy + Copy> Network<P> {
             Stops (P.rules self.old.policy) self.old.topology.value past
             (does (P.rules self.old.policy) self.old.topology.value past (Event.Prefer node nbr value)) stop) }
     {
-        self.give(node, Input::Prefer { nbr, value })
+        self.give(node, Input::Prefer { nbr, value }, true)
     }
 
     // The node notices that the link does not carry the session that it holds, and closes it.
@@ -282,7 +283,7 @@ impl<P: Policy + Copy> Network<P> {
         if is_carried(&self.links.state(node, nbr), self.held(node, nbr)) {
             return Ok(Outcome::Idle(Reason::StillUp));
         }
-        self.give(node, Input::Notice(nbr))
+        self.give(node, Input::Notice(nbr), true)
     }
 
     // A copy of the control message comes to its addressee.
@@ -303,7 +304,7 @@ impl<P: Policy + Copy> Network<P> {
         };
         let (from, to) = (kept.from, kept.mail.to);
         let message = kept.mail.message.copy()?;
-        self.give(to, Input::Control { from, message })
+        self.give(to, Input::Control { from, message }, true)
     }
 
     // The node opens the session that the link carries, and greets its neighbour in it.
@@ -325,7 +326,7 @@ impl<P: Policy + Copy> Network<P> {
         let LinkState::Up(session) = self.links.state(node, nbr) else {
             return Ok(Outcome::Idle(Reason::LinkDown));
         };
-        self.give(node, Input::OpenSession { nbr, session })
+        self.give(node, Input::OpenSession { nbr, session }, true)
     }
 
     // The link fails: what is on its way over it is lost.

@@ -4,7 +4,7 @@ ghost use Rattle.topology.specs.Net.{linked};
 ghost use Rattle.link_model.specs.Keeping.{IsPlaced};
 ghost use Rattle.chronicle.specs.Deliveries.{arrives};
 ghost use Rattle.chronicle.specs.Facts.{Chronicle};
-ghost use Rattle.chronicle.specs.Run.{does, step};
+ghost use Rattle.chronicle.specs.Run.{chronicle_of, does, step};
 ghost use Rattle.world_core.specs.Counting.{AreFew, MayDeliver, counts_after};
 ghost use Rattle.world_core.specs.Fits.{fits};
 ghost use Rattle.world_core.specs.Happening.{Comes, IsAsWas, IsRegular, Stops};
@@ -23,14 +23,25 @@ use path_vector::Policy;
 use topology::{LinkState, NodeId, Reason};
 
 impl<P: Policy + Copy> Network<P> {
-    // The oldest item on the way with this number arrives, where a delivery over the way would not be idle.
+    // The oldest item on the way with this number arrives, where a delivery over the way would not be idle. What it did
+    // is told where it is asked for.
     #[inline(always)]
-    pub(crate) fn take(&mut self, from: NodeId, to: NodeId, way: usize) -> Result<Outcome, Stop>
+    pub(crate) fn take(
+        &mut self,
+        from: NodeId,
+        to: NodeId,
+        way: usize,
+        asked: bool,
+    ) -> Result<Outcome, Stop>
         requires near { linked self.old.topology.value from to ≡ true }
         requires places { HasPlaces self.old.topology.value (length self.old.nodes.items) }
         requires placed { IsPlaced self.old.links from to way }
         ensures others { OnOk result (IsAsWas self.old self.new) }
-        ensures comes { IfOk result (λ outcome. (past : Chronicle) (counts : Counts) →
+        ensures stands { OnOk result ((past : Chronicle) (counts : Counts) →
+            Stands (P.rules self.old.policy) past counts self.old → IsRegular self.old.topology.value past → arrives past from to ≡ true →
+            Stands (P.rules self.old.policy)
+            (chronicle_of past (does (P.rules self.old.policy) self.old.topology.value past (Event.Deliver from to))) counts self.new) }
+        ensures comes { IfOk result (λ outcome. asked ≡ true → (past : Chronicle) (counts : Counts) →
             Stands (P.rules self.old.policy) past counts self.old → IsRegular self.old.topology.value past → arrives past from to ≡ true →
             Comes (P.rules self.old.policy) past counts (does (P.rules self.old.policy) self.old.topology.value past (Event.Deliver from to)) self.new outcome) }
         ensures stopped { IfErr result (λ stop. (past : Chronicle) (counts : Counts) →
@@ -51,6 +62,7 @@ impl<P: Policy + Copy> Network<P> {
                 session,
                 item,
             },
+            asked,
         )
     }
 
@@ -92,7 +104,7 @@ impl<P: Policy + Copy> Network<P> {
         let Some(way) = self.waiting_way(from, to, open_ways) else {
             return self.happen(&Event::Deliver { from, to });
         };
-        self.take(from, to, way)
+        self.take(from, to, way, true)
     }
 
     /// Does the event, and answers what came of it, where these ways are open. They are not looked at again. After an

@@ -254,7 +254,7 @@ impl<P: Policy + Copy> World<P> {
     }
 
     /// The world after its next delivery, and over which way that was; the same world and none where there is none.
-    /// Nobody is told what came of it, and the memory of that is used again.
+    /// Nobody is told what came of it, and so no list of it is made.
     pub fn deliver_next(self) -> Result<(World<P>, Option<(NodeId, NodeId)>), Stop>
         ensures way { IfOk result (λ r. r.1 ≡ option_map (λ (way : Way). (way.from, way.to))
             (next_delivery self.net (run (P.rules self.policy) self.net self.events))) }

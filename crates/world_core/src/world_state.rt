@@ -114,8 +114,7 @@ impl<P: Policy + Copy> WorldState<P> {
         self.check_events()?;
         laws::a_step_is_lawful();
         let (from, to) = (ends.from, ends.to);
-        let outcome = self.network.take(from, to, number)?;
-        self.network.reuse(outcome);
+        self.network.take(from, to, number, false)?;
         keep(&mut self.events, Event::Deliver { from, to })?;
         Ok(Some((from, to)))
     }

@@ -4,9 +4,9 @@ use Rattle.chronicle.specs.Walks.{visit_of}
 use Rattle.world_core.specs.declared.outcomes.Effect.TheVariants.{Visited}
 use Rattle.world_core.proofs.sending.forward.Goals as goal
 
-pub returns : goal.returns
-returns c away net past was passing = (
+pub returns-clause-done : goal.returns-clause-done
+returns-clause-done c away net past was passing = (
   c.in_ok-visit.ensures.ok away net past was passing,
-  c.in_ok-push.ensures.items
-      ∙ ap₂ (λ (p : Packet) v. c.args.effects.now.items ++ Visited p.id v ∷ []) c.deref.ensures (c.visit_of-visit.ensures ∙ ap (visit_of c.args.next) c.deref-2.ensures),
+  λ asked. c.in_ok-tell.ensures.told asked
+      ∙ ap₂ (λ (p : Packet) v. c.args.account.now.list ++ Visited p.id v ∷ []) c.deref.ensures (c.visit_of-visit.ensures ∙ ap (visit_of c.args.next) c.deref-2.ensures),
 )

@@ -5,13 +5,13 @@ use Rattle.world_core.specs.declared.outcomes.Effect.TheVariants.{Mailed}
 use Rattle.world_core.proofs.Mailing.{posted, posted_number}
 use Rattle.world_core.proofs.sending.post.Goals as goal
 
-pub returns : goal.returns
-returns c net past counts was from_in to_in =
+pub returns-clause-done : goal.returns-clause-done
+returns-clause-done c net past counts was from_in to_in =
     let from = c.args.from in
     let to = c.args.mail.to in
     let m = message_seen c.args.mail.message in
     let stands = c.in_ok-post.ensures.ok net was.acts was.stands in
     let number = c.count-number.ensures net (Posts from to m ∷ was.acts) stands ∙ posted_number net past counts c.args.mails.now was from to m in (
       posted net past counts c.args.mails.now c.post.new.self was from to m from_in to_in stands,
-      c.in_ok-push.ensures.items ∙ ap (λ n. c.args.effects.now.items ++ Mailed n ∷ []) number,
+      λ asked. c.in_ok-tell.ensures.told asked ∙ ap (λ n. c.args.account.now.list ++ Mailed n ∷ []) number,
     )

@@ -1,4 +1,4 @@
-use Rattle.std.proofs.Common.{◌&&◌, nat_lt, length}
+use Rattle.std.proofs.Common.{◌&&◌, nat_lt, length, refl}
 use Rattle.std.specs.Prelude.{nat_le}
 use Rattle.std.proofs.lemmas.Result.{IfOk-weaker, IfErr-weaker}
 use Rattle.topology.specs.Lists.{has}
@@ -25,7 +25,7 @@ prefer-requires-clause-near g c =
 
 pub returns-in-Originate-clause-comes : goal.returns-in-Originate-clause-comes
 returns-in-Originate-clause-comes g c = IfOk-weaker c.give.result _ _
-    (λ r h past counts was regular. rw c.in-Originate.is (comes_by (g.P.Policy.rules c.args.self.now.policy) past counts (Originate c.in-Originate.node c.in-Originate.prefix) c.in-Originate.node (input.Originate c.in-Originate.prefix) c.args.self.now c.give.new.self r (originates (g.P.Policy.rules c.args.self.now.policy) past counts c.args.self.now was c.in-Originate.node c.in-Originate.prefix (rw c.in-Originate.is at c.requires.fits)) (h past counts)))
+    (λ r h past counts was regular. rw c.in-Originate.is (comes_by (g.P.Policy.rules c.args.self.now.policy) past counts (Originate c.in-Originate.node c.in-Originate.prefix) c.in-Originate.node (input.Originate c.in-Originate.prefix) c.args.self.now c.give.new.self r (originates (g.P.Policy.rules c.args.self.now.policy) past counts c.args.self.now was c.in-Originate.node c.in-Originate.prefix (rw c.in-Originate.is at c.requires.fits)) (h refl past counts)))
     c.give.ensures.comes
 
 pub returns-in-Originate-clause-stopped : goal.returns-in-Originate-clause-stopped
@@ -35,7 +35,7 @@ returns-in-Originate-clause-stopped g c = IfErr-weaker c.give.result _ _
 
 pub returns-in-Withdraw-clause-comes : goal.returns-in-Withdraw-clause-comes
 returns-in-Withdraw-clause-comes g c = IfOk-weaker c.give-in-Withdraw.result _ _
-    (λ r h past counts was regular. rw c.in-Withdraw.is (comes_by (g.P.Policy.rules c.args.self.now.policy) past counts (Withdraw c.in-Withdraw.node c.in-Withdraw.prefix) c.in-Withdraw.node (input.Withdraw c.in-Withdraw.prefix) c.args.self.now c.give-in-Withdraw.new.self r (withdraws (g.P.Policy.rules c.args.self.now.policy) past counts c.args.self.now was c.in-Withdraw.node c.in-Withdraw.prefix (rw c.in-Withdraw.is at c.requires.fits)) (h past counts)))
+    (λ r h past counts was regular. rw c.in-Withdraw.is (comes_by (g.P.Policy.rules c.args.self.now.policy) past counts (Withdraw c.in-Withdraw.node c.in-Withdraw.prefix) c.in-Withdraw.node (input.Withdraw c.in-Withdraw.prefix) c.args.self.now c.give-in-Withdraw.new.self r (withdraws (g.P.Policy.rules c.args.self.now.policy) past counts c.args.self.now was c.in-Withdraw.node c.in-Withdraw.prefix (rw c.in-Withdraw.is at c.requires.fits)) (h refl past counts)))
     c.give-in-Withdraw.ensures.comes
 
 pub returns-in-Withdraw-clause-stopped : goal.returns-in-Withdraw-clause-stopped
@@ -45,7 +45,7 @@ returns-in-Withdraw-clause-stopped g c = IfErr-weaker c.give-in-Withdraw.result 
 
 pub returns-in-Snap-clause-comes : goal.returns-in-Snap-clause-comes
 returns-in-Snap-clause-comes g c = IfOk-weaker c.give-in-Snap.result _ _
-    (λ r h past counts was regular. rw c.in-Snap.is (comes_by (g.P.Policy.rules c.args.self.now.policy) past counts (Snap c.in-Snap.node) c.in-Snap.node input.Snap c.args.self.now c.give-in-Snap.new.self r (snaps (g.P.Policy.rules c.args.self.now.policy) past counts c.args.self.now was c.in-Snap.node) (h past counts)))
+    (λ r h past counts was regular. rw c.in-Snap.is (comes_by (g.P.Policy.rules c.args.self.now.policy) past counts (Snap c.in-Snap.node) c.in-Snap.node input.Snap c.args.self.now c.give-in-Snap.new.self r (snaps (g.P.Policy.rules c.args.self.now.policy) past counts c.args.self.now was c.in-Snap.node) (h refl past counts)))
     c.give-in-Snap.ensures.comes
 
 pub returns-in-Snap-clause-stopped : goal.returns-in-Snap-clause-stopped
@@ -113,7 +113,7 @@ returns-in-Restart-clause-comes g c past counts was regular = rw c.in-Restart.is
 
 pub returns-in-Propose-clause-comes : goal.returns-in-Propose-clause-comes
 returns-in-Propose-clause-comes g c = IfOk-weaker c.give-in-Propose.result _ _
-    (λ r h past counts was regular. rw c.in-Propose.is (comes_by (g.P.Policy.rules c.args.self.now.policy) past counts (Propose c.in-Propose.node c.in-Propose.epoch) c.in-Propose.node (input.Propose c.in-Propose.epoch) c.args.self.now c.give-in-Propose.new.self r (proposes (g.P.Policy.rules c.args.self.now.policy) past counts c.args.self.now was c.in-Propose.node c.in-Propose.epoch) (h past counts)))
+    (λ r h past counts was regular. rw c.in-Propose.is (comes_by (g.P.Policy.rules c.args.self.now.policy) past counts (Propose c.in-Propose.node c.in-Propose.epoch) c.in-Propose.node (input.Propose c.in-Propose.epoch) c.args.self.now c.give-in-Propose.new.self r (proposes (g.P.Policy.rules c.args.self.now.policy) past counts c.args.self.now was c.in-Propose.node c.in-Propose.epoch) (h refl past counts)))
     c.give-in-Propose.ensures.comes
 
 pub returns-in-Propose-clause-stopped : goal.returns-in-Propose-clause-stopped

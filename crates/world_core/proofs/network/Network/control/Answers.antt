@@ -1,4 +1,4 @@
-use Rattle.std.proofs.Common.{sym, ◌∙◌}
+use Rattle.std.proofs.Common.{sym, ◌∙◌, refl}
 use Rattle.std.proofs.lemmas.Result.{IfOk-weaker, IfErr-weaker}
 use Rattle.topology.specs.declared.status.Reason.TheVariants.{NoSuchMessage}
 use Rattle.consolidator.specs.Seen.{message_seen}
@@ -36,7 +36,7 @@ returns-clause-comes g c = IfOk-weaker c.give.result _ _
     let mails = was.are_mails in
     let there = sym (letter_is net past counts c.args.self.now.mails mails c.args.number) ∙ (c.in-Some.ensures.some net mails.acts mails.stands).0 in
     let hands = hears_copy rules past counts c.args.self.now was c.args.number (letter_seen kept) (message_seen c.in_ok-message.message) there c.in_ok-message.ensures in
-    comes_by rules past counts (Control c.args.number) kept.mail.to (input.Control kept.from (message_seen c.in_ok-message.message)) c.args.self.now c.give.new.self r hands (h past counts))
+    comes_by rules past counts (Control c.args.number) kept.mail.to (input.Control kept.from (message_seen c.in_ok-message.message)) c.args.self.now c.give.new.self r hands (h refl past counts))
     c.give.ensures.comes
 
 pub returns-clause-stopped : goal.returns-clause-stopped

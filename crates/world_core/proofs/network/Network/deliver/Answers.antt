@@ -1,5 +1,5 @@
 use Rattle.std.proofs.lemmas.Result.{IfOk-weaker, IfErr-weaker}
-use Rattle.std.proofs.Common.{sym, ◌∙◌, map}
+use Rattle.std.proofs.Common.{sym, ◌∙◌, map, refl}
 use Rattle.topology.proofs.Neighbours.{linked_nodes}
 use Rattle.trigger_log.specs.Going.{item_of}
 use Rattle.chronicle.specs.Inputs as input
@@ -35,7 +35,7 @@ returns-clause-comes g c = IfOk-weaker c.give.result _ _
     let front = front_read net past c.args.self.now.links links c.args.from c.args.to c.in-Some.item popped.0 popped.1 in
     let took = taken net past c.args.self.now.links c.pop_front.new.self links c.args.from c.args.to s (item_of c.in-Some.item) popped.2 in
     comes_by rules past counts (Deliver c.args.from c.args.to) c.args.to (input.Arrive c.args.from s (item_of c.in-Some.item)) _ c.give.new.self r
-    (delivers rules past counts _ c.args.from c.args.to s (item_of c.in-Some.item) (map item_of popped.0) was.are_nodes was.are_crashed was.are_mails was.are_published was.are_walks was.counted regular c.requires.near (c.in-Ok.ensures.session past counts was c.requires.near) front took) (h past counts))
+    (delivers rules past counts _ c.args.from c.args.to s (item_of c.in-Some.item) (map item_of popped.0) was.are_nodes was.are_crashed was.are_mails was.are_published was.are_walks was.counted regular c.requires.near (c.in-Ok.ensures.session past counts was c.requires.near) front took) (h refl past counts))
     c.give.ensures.comes
 
 pub returns-clause-stopped : goal.returns-clause-stopped

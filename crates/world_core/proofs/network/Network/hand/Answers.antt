@@ -9,7 +9,7 @@ use Rattle.node_core.specs.Outputs.{output_of}
 use Rattle.world_core.specs.declared.outcomes.Effect.TheVariants.{Logged}
 use Rattle.world_core.proofs.Handing.{sent_is, mailed_is, forwarded_is, ended_is, logged_is, cut_is, published_is}
 use Rattle.world_core.proofs.Mailing.{same_mails}
-use Rattle.world_core.proofs.Shown.{sent_next, since_next}
+use Rattle.world_core.proofs.Shown.{told_next, told_sent}
 use Rattle.world_core.proofs.Walking.{walks_stay}
 use Rattle.world_core.proofs.network.Network.hand.Goals as goal
 
@@ -19,7 +19,7 @@ returns-in_ok-send-in-Send-clause-sending g c away first past counts f told show
     let u = c.args.node in
     let out = going_of c.in-Send.out in
     let sent = sent_is net u past f out told (shows ∙ ap (λ o. output_of o ∷ []) c.in-Send.is) in
-    let done = c.in_ok-send-in-Send.ensures net past sent.1 was.are_links in
+    let done = c.in_ok-send-in-Send.ensures.done net past sent.1 was.are_links in
     let fact = Sent u out.to out.session out.item (carries (link u out.to past) out.session) in
     rw sent.0
     (record {
@@ -27,7 +27,7 @@ returns-in_ok-send-in-Send-clause-sending g c away first past counts f told show
       are_mails = same_mails net past (fact ∷ past) counts c.args.self.now.mails refl (λ v. refl) was.are_mails;
       are_published = was.are_published;
       are_walks = walks_stay net past (fact ∷ past) c.args.self.now.walks (same_more fact past past (λ t. t) (same_now past)) was.are_walks;
-      since = sent_next first past u out c.args.effects.now.items c.send.new.effects.items (carries (link u out.to past) out.session) was.since done.1;
+      since = told_sent first past u out c.args.account.now c.send.new.account (carries (link u out.to past) out.session) was.since c.in_ok-send-in-Send.ensures.asked done.1;
     })
 
 pub returns-in_ok-post-in-Mail-clause-sending : goal.returns-in_ok-post-in-Mail-clause-sending
@@ -37,14 +37,14 @@ returns-in_ok-post-in-Mail-clause-sending g c away first past counts f told show
     let to = c.in-Mail.mail.to in
     let m = message_seen c.in-Mail.mail.message in
     let mailed = mailed_is net u past f to m told (shows ∙ ap (λ o. output_of o ∷ []) c.in-Mail.is) in
-    let done = c.in_ok-post-in-Mail.ensures net past counts was.are_mails mailed.1 mailed.2 in
+    let done = c.in_ok-post-in-Mail.ensures.done net past counts was.are_mails mailed.1 mailed.2 in
     rw mailed.0
     (record {
       are_links = record { acts = was.are_links.acts; stands = was.are_links.stands; states = was.are_links.states; items = was.are_links.items };
       are_mails = done.0;
       are_published = was.are_published;
       are_walks = walks_stay net past (Mail u to m ∷ past) c.args.self.now.walks (same_more (Mail u to m) past past (λ t. t) (same_now past)) was.are_walks;
-      since = since_next first past (Mail u to m) c.args.effects.now.items c.post.new.effects.items _ was.since done.1 refl;
+      since = told_next first past (Mail u to m) c.args.account.now c.post.new.account _ was.since c.in_ok-post-in-Mail.ensures.asked done.1 refl;
     })
 
 pub returns-in_ok-forward-in-Forward-clause-sending : goal.returns-in_ok-forward-in-Forward-clause-sending
@@ -53,14 +53,14 @@ returns-in_ok-forward-in-Forward-clause-sending g c away first past counts f tol
     let w = c.in-Forward.next in
     let packet = c.in-Forward.packet.value in
     let came = forwarded_is net c.args.node past f w packet told (shows ∙ ap (λ o. output_of o ∷ []) c.in-Forward.is) in
-    let done = c.in_ok-forward-in-Forward.ensures away net past was.are_walks came.1 in
+    let done = c.in_ok-forward-in-Forward.ensures.done away net past was.are_walks came.1 in
     rw came.0
     (record {
       are_links = record { acts = was.are_links.acts; stands = was.are_links.stands; states = was.are_links.states; items = was.are_links.items };
       are_mails = same_mails net past (Visit w packet ∷ past) counts c.args.self.now.mails refl (λ v. refl) was.are_mails;
       are_published = was.are_published;
       are_walks = done.0;
-      since = since_next first past (Visit w packet) c.args.effects.now.items c.forward.new.effects.items _ was.since done.1 refl;
+      since = told_next first past (Visit w packet) c.args.account.now c.forward.new.account _ was.since c.in_ok-forward-in-Forward.ensures.asked done.1 refl;
     })
 
 pub returns-in_ok-end-in-Ended-clause-sending : goal.returns-in_ok-end-in-Ended-clause-sending
@@ -69,18 +69,18 @@ returns-in_ok-end-in-Ended-clause-sending g c away first past counts f told show
     let id = c.in-Ended.id in
     let how = c.in-Ended.how in
     let over = ended_is net c.args.node past f id how told (shows ∙ ap (λ o. output_of o ∷ []) c.in-Ended.is) in
-    let done = c.in_ok-end-in-Ended.ensures away net past was.are_walks over.1 in
+    let done = c.in_ok-end-in-Ended.ensures.done away net past was.are_walks over.1 in
     rw over.0
     (record {
       are_links = record { acts = was.are_links.acts; stands = was.are_links.stands; states = was.are_links.states; items = was.are_links.items };
       are_mails = same_mails net past (End id how ∷ past) counts c.args.self.now.mails refl (λ v. refl) was.are_mails;
       are_published = was.are_published;
       are_walks = done.0;
-      since = since_next first past (End id how) c.args.effects.now.items c.end.new.effects.items _ was.since done.1 refl;
+      since = told_next first past (End id how) c.args.account.now c.end.new.account _ was.since c.in_ok-end-in-Ended.ensures.asked done.1 refl;
     })
 
-pub returns-in_ok-reserve-in-Logged-clause-sending : goal.returns-in_ok-reserve-in-Logged-clause-sending
-returns-in_ok-reserve-in-Logged-clause-sending g c away first past counts f told shows was =
+pub returns-in_ok-tell-in-Logged-clause-sending : goal.returns-in_ok-tell-in-Logged-clause-sending
+returns-in_ok-tell-in-Logged-clause-sending g c away first past counts f told shows was =
     let net = c.args.self.now.topology.value in
     let u = c.args.node in
     let made = logged_is net u past f c.in-Logged.index told (shows ∙ ap (λ o. output_of o ∷ []) c.in-Logged.is) in
@@ -90,11 +90,11 @@ returns-in_ok-reserve-in-Logged-clause-sending g c away first past counts f told
       are_mails = same_mails net past (Log u made.0 ∷ past) counts c.args.self.now.mails refl (λ v. refl) was.are_mails;
       are_published = was.are_published;
       are_walks = walks_stay net past (Log u made.0 ∷ past) c.args.self.now.walks (same_more (Log u made.0) past past (λ t. t) (same_now past)) was.are_walks;
-      since = since_next first past (Log u made.0) c.args.effects.now.items _ (Logged u c.in-Logged.index) was.since (c.push_reserved.ensures.items ∙ ap (λ l. l ++ Logged u c.in-Logged.index ∷ []) c.in_ok-reserve-in-Logged.ensures.items) (ap (λ n. Logged u n ∷ []) made.2);
+      since = told_next first past (Log u made.0) c.args.account.now c.tell.new.self (Logged u c.in-Logged.index) was.since c.in_ok-tell-in-Logged.ensures.asked c.in_ok-tell-in-Logged.ensures.told (ap (λ n. Logged u n ∷ []) made.2);
     })
 
-pub returns-in_ok-push-in-Cut-clause-sending : goal.returns-in_ok-push-in-Cut-clause-sending
-returns-in_ok-push-in-Cut-clause-sending g c away first past counts f told shows was =
+pub returns-in_ok-tell-in-Cut-clause-sending : goal.returns-in_ok-tell-in-Cut-clause-sending
+returns-in_ok-tell-in-Cut-clause-sending g c away first past counts f told shows was =
     let net = c.args.self.now.topology.value in
     let u = c.args.node in
     let e = c.in-Cut.epoch in
@@ -104,7 +104,7 @@ returns-in_ok-push-in-Cut-clause-sending g c away first past counts f told shows
       are_mails = same_mails net past (Raise u e ∷ past) counts c.args.self.now.mails refl (λ v. refl) was.are_mails;
       are_published = was.are_published;
       are_walks = walks_stay net past (Raise u e ∷ past) c.args.self.now.walks (same_more (Raise u e) past past (λ t. t) (same_now past)) was.are_walks;
-      since = since_next first past (Raise u e) c.args.effects.now.items _ _ was.since c.in_ok-push-in-Cut.ensures.items refl;
+      since = told_next first past (Raise u e) c.args.account.now c.tell-in-Cut.new.self _ was.since c.in_ok-tell-in-Cut.ensures.asked c.in_ok-tell-in-Cut.ensures.told refl;
     })
 
 pub returns-in_ok-publish-in-Published-clause-sending : goal.returns-in_ok-publish-in-Published-clause-sending
@@ -118,5 +118,5 @@ returns-in_ok-publish-in-Published-clause-sending g c away first past counts f t
       are_mails = same_mails net past (Publish u t.epoch t.value t.paths ∷ past) counts c.args.self.now.mails refl (λ v. refl) was.are_mails;
       are_published = c.in_ok-publish-in-Published.ensures.kept ∙ ap (λ l. l ++ record { node = u; epoch = t.epoch; value = t.value; paths = t.paths } ∷ []) was.are_published;
       are_walks = walks_stay net past (Publish u t.epoch t.value t.paths ∷ past) c.args.self.now.walks (same_more (Publish u t.epoch t.value t.paths) past past (λ t. t) (same_now past)) was.are_walks;
-      since = since_next first past (Publish u t.epoch t.value t.paths) c.args.effects.now.items _ _ was.since c.in_ok-publish-in-Published.ensures.shown refl;
+      since = told_next first past (Publish u t.epoch t.value t.paths) c.args.account.now c.publish.new.account _ was.since c.in_ok-publish-in-Published.ensures.asked c.in_ok-publish-in-Published.ensures.shown refl;
     })

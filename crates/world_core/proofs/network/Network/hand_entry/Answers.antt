@@ -21,15 +21,16 @@ returns-then-is_empty-clause-sending g c away first past counts facts told shows
     let entered = c.args.entered in
     let count : entered.sent.len ≡ length entered.sent.items = entered.sent.ok.0 in
     let none = nothing_in entered.sent.items entered.sent.len count (sym c.is_empty.ensures ∙ c.if-is_empty.true) in
-    handed_first c.args.self.now.topology.value c.args.node away first past counts c.args.self.now c.hand.new.self c.args.effects.now.items c.hand.new.effects.items facts (Logged entered.index) told
+    handed_first c.args.self.now.topology.value c.args.node away first past counts c.args.self.now c.hand.new.self c.args.account.now c.hand.new.account facts (Logged entered.index) told
     (ap (λ l. Logged entered.index ∷ map Send (map going_of l)) none ∙ (sym (entry_shown [] (first_of (Some entered)) entered refl) ∙ shows)) was
     (λ away past f. c.in_ok-hand.ensures.sending away first past counts f)
 
 pub loop-out-init : goal.loop-out-init
 loop-out-init g c = record {
   kept = c.in_ok-hand.ensures.kept;
+  asked = c.in_ok-hand.ensures.asked;
   sent = λ away first past counts facts told shows was.
-      handed_first c.args.self.now.topology.value c.args.node away first past counts c.args.self.now c.hand.new.self c.args.effects.now.items c.hand.new.effects.items facts (Logged c.args.entered.index) told shows was
+      handed_first c.args.self.now.topology.value c.args.node away first past counts c.args.self.now c.hand.new.self c.args.account.now c.hand.new.account facts (Logged c.args.entered.index) told shows was
       (λ away past f. c.in_ok-hand.ensures.sending away first past counts f);
 }
 
@@ -41,11 +42,12 @@ loop-out-preserved g c =
     let out = c.in-Some.out in
     let first_one = Logged c.args.entered.index in
     let new = c.hand-in-loop-out.new.self in
-    let told_new = c.hand-in-loop-out.new.effects.items in
+    let told_new = c.hand-in-loop-out.new.account in
     record {
       kept = keeps_on c.args.self.now c.loop-out.self new so_far c.in_ok-hand-2.ensures.kept;
+      asked = c.in_ok-hand-2.ensures.asked ∙ c.loop-out.invariant.asked;
       sent = λ away first past counts facts told shows was.
-          handed_next net past c.args.node (λ fs. AreSending (still_after fs away) first (happen past fs) counts c.loop-out.self c.loop-out.effects.items)
+          handed_next net past c.args.node (λ fs. AreSending (still_after fs away) first (happen past fs) counts c.loop-out.self c.loop-out.account)
           (λ fs. AreSending (still_after fs away) first (happen past fs) counts new told_new)
           facts (first_one ∷ map Send (map going_of done)) (first_one ∷ map Send (map going_of (done ++ out ∷ []))) (Send (going_of out)) told shows
           (ap (λ l. first_one ∷ l) (ap (map Send) (map-append going_of done (out ∷ [])) ∙ map-append Send (map going_of done) (going_of out ∷ [])))

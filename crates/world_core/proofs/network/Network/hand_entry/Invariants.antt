@@ -11,7 +11,8 @@ use Rattle.world_core.proofs.network.Network.hand_entry.Given as goal
 abbrev pub invariant-loop-out : goal.invariant-loop-out
 invariant-loop-out g l = record {
   kept : KeepsNodes l.fn.self l.self;
+  asked : l.account.asked ≡ l.fn.account.asked;
   sent : (away : ℕ → Bool) (first past : Chronicle) (counts : Counts) (facts : List Fact) → AreTold l.fn.self.topology.value l.node past facts
       → Logged l.index ∷ map Send (map going_of l.yielded) ≡ shown past facts
-      → AreSending away first past counts l.fn.self l.fn.effects.items → AreSending (still_after facts away) first (happen past facts) counts l.self l.effects.items;
+      → AreSending away first past counts l.fn.self l.fn.account → AreSending (still_after facts away) first (happen past facts) counts l.self l.account;
 }

@@ -13,6 +13,6 @@ returns-in-Some-clause-sending g c = rw c.in-Some.is c.hand_entry.ensures.sendin
 
 pub returns-in-None-clause-sending : goal.returns-in-None-clause-sending
 returns-in-None-clause-sending g c away first past counts facts told shows was =
-    let before = λ (fs : List Fact). AreSending (still_after fs away) first (happen past fs) counts c.args.self.now c.args.effects.now.items in
+    let before = λ (fs : List Fact). AreSending (still_after fs away) first (happen past fs) counts c.args.self.now c.args.account.now in
     handed_none c.args.self.now.topology.value past c.args.node before before
     facts told (subst (λ e. map output_of (first_of e) ≡ shown past facts) c.in-None.is shows) was

@@ -16,6 +16,7 @@ use Rattle.world_core.proofs.network.Network.hand_more.Goals as goal
 pub loop-output-init : goal.loop-output-init
 loop-output-init g c = record {
   kept = record { policy = refl; topology = refl; nodes = refl; crashed = refl; triggers = refl };
+  asked = refl;
   sent = λ away first past counts before was facts told shows. was facts told (sym (append-nil before) ∙ shows);
 }
 
@@ -25,16 +26,17 @@ loop-output-preserved g c =
     let net = c.args.self.now.topology.value in
     record {
       kept = keeps_on c.args.self.now c.loop-output.self c.hand.new.self so_far c.in_ok-hand.ensures.kept;
+      asked = c.in_ok-hand.ensures.asked ∙ c.loop-output.invariant.asked;
       sent = λ away first past counts before was facts told shows.
-          handed_next net past c.args.node (λ fs. AreSending (still_after fs away) first (happen past fs) counts c.loop-output.self c.loop-output.effects.items)
-          (λ fs. AreSending (still_after fs away) first (happen past fs) counts c.hand.new.self c.hand.new.effects.items)
+          handed_next net past c.args.node (λ fs. AreSending (still_after fs away) first (happen past fs) counts c.loop-output.self c.loop-output.account)
+          (λ fs. AreSending (still_after fs away) first (happen past fs) counts c.hand.new.self c.hand.new.account)
           facts (before ++ map output_of c.loop-output.yielded) (before ++ map output_of (c.loop-output.yielded ++ c.in-Some.output ∷ [])) (output_of c.in-Some.output) told shows
           (ap (λ l. before ++ l) (map-append output_of c.loop-output.yielded (c.in-Some.output ∷ []))
           ∙ sym (append_assoc before (map output_of c.loop-output.yielded) (output_of c.in-Some.output ∷ [])))
           (λ fs some same. c.loop-output.invariant.sent away first past counts before was fs some same)
           (λ fs f one same earlier.
-          subst (λ (mid : Chronicle). AreSending (still_after (fs ++ f ∷ []) away) first mid counts c.hand.new.self c.hand.new.effects.items) (sym (happen_last past fs f))
-          (subst (λ (a : ℕ → Bool). AreSending a first (f ∷ happen past fs) counts c.hand.new.self c.hand.new.effects.items) (sym (still_last fs f away))
+          subst (λ (mid : Chronicle). AreSending (still_after (fs ++ f ∷ []) away) first mid counts c.hand.new.self c.hand.new.account) (sym (happen_last past fs f))
+          (subst (λ (a : ℕ → Bool). AreSending a first (f ∷ happen past fs) counts c.hand.new.self c.hand.new.account) (sym (still_last fs f away))
           (c.in_ok-hand.ensures.sending (still_after fs away) first (happen past fs) counts f (subst (λ n. IsTold n c.args.node (happen past fs) f) (sym (ap (λ t. t.value) so_far.topology)) one) same earlier)));
     }
 

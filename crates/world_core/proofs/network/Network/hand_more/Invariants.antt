@@ -10,8 +10,9 @@ use Rattle.world_core.proofs.network.Network.hand_more.Given as goal
 abbrev pub invariant-loop-output : goal.invariant-loop-output
 invariant-loop-output g l = record {
   kept : KeepsNodes l.fn.self l.self;
+  asked : l.account.asked ≡ l.fn.account.asked;
   sent : (away : ℕ → Bool) (first past : Chronicle) (counts : Counts) (before : List Output)
-      → ((fs : List Fact) → AreTold l.fn.self.topology.value l.node past fs → before ≡ shown past fs → AreSending (still_after fs away) first (happen past fs) counts l.fn.self l.fn.effects.items)
+      → ((fs : List Fact) → AreTold l.fn.self.topology.value l.node past fs → before ≡ shown past fs → AreSending (still_after fs away) first (happen past fs) counts l.fn.self l.fn.account)
       → (facts : List Fact) → AreTold l.fn.self.topology.value l.node past facts → before ++ map output_of l.yielded ≡ shown past facts
-      → AreSending (still_after facts away) first (happen past facts) counts l.self l.effects.items;
+      → AreSending (still_after facts away) first (happen past facts) counts l.self l.account;
 }

@@ -1,3 +1,4 @@
+use Rattle.std.proofs.Common.{refl}
 use Rattle.std.proofs.lemmas.Result.{IfOk-weaker, IfErr-weaker}
 use Rattle.chronicle.specs.Inputs as input
 use Rattle.chronicle.specs.declared.events.Event.TheVariants.{Hop}
@@ -33,7 +34,7 @@ returns-clause-comes g c = IfOk-weaker c.give.result _ _
     let up = c.in_ok-up.up.items in
     let takes = c.in-Ok.ensures.taken net past was.are_walks in
     comes_by rules past counts (Hop c.args.packet) node (input.Hop packet up) _ c.give.new.self r
-    (goes_on rules past counts c.args.self.now was c.args.packet node packet c.take.new.self up takes (c.in_ok-up.ensures past was.are_links)) (h past counts))
+    (goes_on rules past counts c.args.self.now was c.args.packet node packet c.take.new.self up takes (c.in_ok-up.ensures past was.are_links)) (h refl past counts))
     c.give.ensures.comes
 
 pub returns-clause-stopped : goal.returns-clause-stopped

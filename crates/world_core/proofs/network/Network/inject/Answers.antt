@@ -1,4 +1,4 @@
-use Rattle.std.proofs.Common.{sym, ◌∙◌, ap, is_some}
+use Rattle.std.proofs.Common.{sym, ◌∙◌, ap, is_some, refl}
 use Rattle.std.proofs.lemmas.Result.{IfOk-weaker, IfErr-weaker}
 use Rattle.topology.specs.declared.status.Reason.TheVariants.{PacketKnown}
 use Rattle.chronicle.specs.Inputs as input
@@ -20,7 +20,7 @@ returns-clause-comes g c = IfOk-weaker c.give.result _ _
     let rules = g.P.Policy.rules c.args.self.now.policy in
     let known = some_copied c.of.result ∙ same_known c.args.self.now.topology.value past c.args.self.now.walks was.are_walks c.args.packet _ c.of.ensures in
     comes_by rules past counts (Inject c.args.packet c.args.node c.args.prefix) c.args.node (input.Inject c.args.packet c.args.prefix) c.args.self.now c.give.new.self r
-    (enters rules past counts c.args.self.now was c.args.packet c.args.node c.args.prefix c.requires.prefix (not_some _ (sym known ∙ (sym c.is_some.ensures ∙ c.if-is_some.false)))) (h past counts))
+    (enters rules past counts c.args.self.now was c.args.packet c.args.node c.args.prefix c.requires.prefix (not_some _ (sym known ∙ (sym c.is_some.ensures ∙ c.if-is_some.false)))) (h refl past counts))
     c.give.ensures.comes
 
 pub returns-clause-stopped : goal.returns-clause-stopped

@@ -1,5 +1,5 @@
 use Rattle.std.proofs.lemmas.Result.{IfOk-weaker, IfErr-weaker}
-use Rattle.std.proofs.Common.{sym, ◌∙◌, ap₂}
+use Rattle.std.proofs.Common.{sym, ◌∙◌, ap₂, refl}
 use Rattle.topology.specs.declared.status.Reason.TheVariants.{StillUp}
 use Rattle.topology.proofs.Neighbours.{linked_nodes}
 use Rattle.chronicle.specs.Inputs as input
@@ -30,7 +30,7 @@ returns-clause-comes g c = IfOk-weaker c.give.result _ _
     let is = link_read c.args.self.now.topology.value past c.args.self.now.links links c.args.node c.args.nbr c.state.result (c.state.ensures c.args.self.now.topology.value links.acts links.stands c.requires.near) in
     let carried = ap₂ is_carried is (sym (c.held.ensures past counts was c.requires.near)) in
     comes_by rules past counts (Notice c.args.node c.args.nbr) c.args.node (input.Notice c.args.nbr) c.args.self.now c.give.new.self r
-    (notices rules past counts c.args.self.now was c.args.node c.args.nbr c.requires.near (carried ∙ (sym c.is_carried.ensures ∙ c.if-is_carried.false))) (h past counts))
+    (notices rules past counts c.args.self.now was c.args.node c.args.nbr c.requires.near (carried ∙ (sym c.is_carried.ensures ∙ c.if-is_carried.false))) (h refl past counts))
     c.give.ensures.comes
 
 pub returns-clause-stopped : goal.returns-clause-stopped

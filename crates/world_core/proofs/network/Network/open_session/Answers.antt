@@ -38,7 +38,7 @@ returns-clause-comes g c = IfOk-weaker c.give.result _ _
     let none = none_of (held_with c.args.node c.args.nbr past) (ap is_some (sym (c.held.ensures past counts was c.requires.near)) ∙ (sym c.is_some.ensures ∙ c.if-is_some.false)) in
     let is = link_read c.args.self.now.topology.value past c.args.self.now.links links c.args.node c.args.nbr c.state.result (c.state.ensures c.args.self.now.topology.value links.acts links.stands c.requires.near) in
     comes_by rules past counts (OpenSession c.args.node c.args.nbr) c.args.node (input.OpenSession c.args.nbr c.in-Up.session) c.args.self.now c.give.new.self r
-    (opens rules past counts c.args.self.now was c.args.node c.args.nbr c.in-Up.session c.requires.near none (is ∙ c.in-Up.is)) (h past counts))
+    (opens rules past counts c.args.self.now was c.args.node c.args.nbr c.in-Up.session c.requires.near none (is ∙ c.in-Up.is)) (h refl past counts))
     c.give.ensures.comes
 
 pub returns-clause-stopped : goal.returns-clause-stopped

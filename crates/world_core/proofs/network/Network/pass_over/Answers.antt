@@ -1,4 +1,4 @@
-use Rattle.std.proofs.Common.{sym, subst}
+use Rattle.std.proofs.Common.{refl, sym, subst}
 use Rattle.std.proofs.lemmas.Result.{IfOk-weaker, IfErr-weaker}
 use Rattle.chronicle.specs.declared.events.Event.TheVariants.{Deliver}
 use Rattle.world_core.specs.Happening.{Stops}
@@ -20,7 +20,7 @@ returns-clause-comes g c = IfOk-weaker c.take.result _ _
     let net = c.args.self.now.topology.value in
     let waits = c.in-Some.ensures.waits past counts was opened in
     let runs = step_runs rules net past (Deliver c.args.from c.args.to) (runs_still past c.args.from c.args.to waits) in
-    comes_so rules past counts _ _ c.take.new.self r runs (h past counts was regular waits))
+    comes_so rules past counts _ _ c.take.new.self r runs (h refl past counts was regular waits))
     c.take.ensures.comes
 
 pub returns-clause-stopped : goal.returns-clause-stopped

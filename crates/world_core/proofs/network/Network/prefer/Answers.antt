@@ -1,3 +1,4 @@
+use Rattle.std.proofs.Common.{refl}
 use Rattle.std.proofs.lemmas.Result.{IfOk-weaker, IfErr-weaker}
 use Rattle.topology.proofs.Neighbours.{linked_nodes}
 use Rattle.chronicle.specs.Inputs as input
@@ -13,7 +14,7 @@ returns-clause-comes g c = IfOk-weaker c.give.result _ _
     (λ r h past counts was regular.
     let rules = g.P.Policy.rules c.args.self.now.policy in
     comes_by rules past counts (Prefer c.args.node c.args.nbr c.args.value) c.args.node (input.Prefer c.args.nbr c.args.value) c.args.self.now c.give.new.self r
-    (prefers rules past counts c.args.self.now was c.args.node c.args.nbr c.args.value c.requires.near) (h past counts))
+    (prefers rules past counts c.args.self.now was c.args.node c.args.nbr c.args.value c.requires.near) (h refl past counts))
     c.give.ensures.comes
 
 pub returns-clause-stopped : goal.returns-clause-stopped

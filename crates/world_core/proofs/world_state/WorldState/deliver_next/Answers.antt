@@ -9,10 +9,9 @@ use Rattle.world_core.specs.Happening.{Stops}
 use Rattle.world_core.specs.Refreshing.{way}
 use Rattle.world_core.specs.WaySets.{has_way}
 use Rattle.world_core.proofs.Changing.{delivery_opens}
-use Rattle.world_core.proofs.Comes.{comes_so}
+use Rattle.world_core.proofs.Comes.{stands_so}
 use Rattle.world_core.proofs.Crashing.{step_runs}
 use Rattle.world_core.proofs.Delivered.{one_more}
-use Rattle.world_core.proofs.Held.{holds_reused}
 use Rattle.world_core.proofs.Next.{has_ends, over_ends, placed_at}
 use Rattle.world_core.proofs.Opened.{runs_still}
 use Rattle.world_core.proofs.Stepped.{opens_still, stands_new, within_new}
@@ -61,8 +60,8 @@ take-requires-clause-placed g c =
     let links = c.requires.stands.are_links in
     placed_at net state.network.links links.acts links.stands c.in-Some.number c.unwrap-ends.result (sym (c.ends.ensures net links.acts links.stands) ∙ c.unwrap-ends.ensures)
 
-pub returns-in_err-outcome-clause-stopped : goal.returns-in_err-outcome-clause-stopped
-returns-in_err-outcome-clause-stopped g c =
+pub returns-in_err-take-clause-stopped : goal.returns-in_err-take-clause-stopped
+returns-in_err-take-clause-stopped g c =
     let state = c.args.self.now in
     let rules = g.P.Policy.rules state.network.policy in
     let net = state.network.topology.value in
@@ -77,10 +76,10 @@ returns-in_err-outcome-clause-stopped g c =
     let regular = c.a_step_is_lawful.ensures.regular rules net events valid short in
     let values = c.a_step_is_lawful.ensures.values rules net events event valid in
     let runs = step_runs rules net past event (runs_still past ends.from ends.to over.waits) in
-    let why = c.in_err-outcome.field-0.0 in
-    let stops = subst (λ s. Stops rules net past s why) (sym runs) (c.in_err-outcome.ensures.stopped past (deliveries rules net events) c.requires.stands regular over.waits) values in
-    let out = err_from_is_err_and c.from_residual-in_err-outcome.result c.from_residual-in_err-outcome.ensures.1 in
-    handed_on c.from_residual-in_err-outcome.result _ out.0 out.1 (way ends.from ends.to, over.first, rw out.2 (stops_later rules net events event why short stops))
+    let why = c.in_err-take.field-0.0 in
+    let stops = subst (λ s. Stops rules net past s why) (sym runs) (c.in_err-take.ensures.stopped past (deliveries rules net events) c.requires.stands regular over.waits) values in
+    let out = err_from_is_err_and c.from_residual-in_err-take.result c.from_residual-in_err-take.ensures.1 in
+    handed_on c.from_residual-in_err-take.result _ out.0 out.1 (way ends.from ends.to, over.first, rw out.2 (stops_later rules net events event why short stops))
 
 pub returns-clause-holds : goal.returns-clause-holds
 returns-clause-holds g c =
@@ -98,16 +97,14 @@ returns-clause-holds g c =
     let runs = step_runs rules net past event (runs_still past ends.from ends.to over.waits) in
     let counts = deliveries rules net events in
     let new = c.take.new.self in
-    let what = c.in_ok-outcome.outcome in
-    let same = c.in_ok-outcome.ensures.others in
-    let comes = comes_so rules past counts _ _ new what runs (c.in_ok-outcome.ensures.comes past counts c.requires.stands regular over.waits) in
+    let same = c.in_ok-take.ensures.others in
+    let stands = stands_so rules past counts _ _ new runs (c.in_ok-take.ensures.stands past counts c.requires.stands regular over.waits) in
     let is = c.in_ok-keep.ensures in
     let opens = delivery_opens rules net past ends.from ends.to (has_way net state.open_ways) valid over.near c.requires.open_ways in
-    holds_reused g.P.Policy.rules (record { network = new; open_ways = state.open_ways; events = c.keep.new.events }) c.reuse.new.self c.reuse.new.self.spare c.reuse.ensures
-    (record {
-      stands = stands_new g.P.Policy.rules state.network new events event same _ counts what is (one_more rules net events event) comes;
+    record {
+      stands = stands_new g.P.Policy.rules state.network new events event same _ counts is (one_more rules net events event) stands;
       open_ways = opens_still g.P.Policy.rules state.network new events event same _ state.open_ways is opens;
-    })
+    }
 
 pub returns-clause-way : goal.returns-clause-way
 returns-clause-way g c =
@@ -135,6 +132,5 @@ returns-clause-step g c =
     let regular = c.a_step_is_lawful.ensures.regular rules net events valid short in
     let runs = step_runs rules net past event (runs_still past ends.from ends.to over.waits) in
     let counts = deliveries rules net events in
-    let what = c.in_ok-outcome.outcome in
-    let comes = comes_so rules past counts _ _ c.take.new.self what runs (c.in_ok-outcome.ensures.comes past counts c.requires.stands regular over.waits) in
-    c.a_step_is_lawful.ensures.step rules net events event valid (within_new g.P.Policy.rules state.network c.take.new.self events event c.in_ok-outcome.ensures.others counts what short comes)
+    let stands = stands_so rules past counts _ _ c.take.new.self runs (c.in_ok-take.ensures.stands past counts c.requires.stands regular over.waits) in
+    c.a_step_is_lawful.ensures.step rules net events event valid (within_new g.P.Policy.rules state.network c.take.new.self events event c.in_ok-take.ensures.others counts short stands)

@@ -8,7 +8,7 @@ use Rattle.world_core.specs.OpenWays.{AreOpen}
 use Rattle.world_core.specs.WaySets.{has_way}
 use Rattle.world_core.proofs.Delivered.{few_deliveries, one_more}
 use Rattle.world_core.proofs.Nodes.{places_of}
-use Rattle.world_core.proofs.Stepped.{comes_new, opened_new, opens_new, stands_new, within_new}
+use Rattle.world_core.proofs.Stepped.{left_new, opened_new, opens_new, stands_new, within_new}
 use Rattle.world_core.proofs.Stopping.{handed_on, stops_full, stops_later}
 use Rattle.world_core.proofs.world_state.WorldState.happen.Goals as goal
 
@@ -80,11 +80,11 @@ returns-clause-holds g c =
     let new = c.advance.new.self in
     let same = c.in_ok-outcome.ensures.others in
     let is = c.in_ok-keep.ensures in
-    let opens = c.refresh.ensures (run (g.P.Policy.rules new.policy) new.topology.value events) now (comes_new g.P.Policy.rules network new events c.args.event same now c.in_ok-outcome.outcome comes).stands
+    let opens = c.refresh.ensures (run (g.P.Policy.rules new.policy) new.topology.value events) now (left_new g.P.Policy.rules network new events c.args.event same now comes.stands)
     (opened_new g.P.Policy.rules network new events c.args.event same (has_way new.topology.value c.args.self.now.open_ways)
     (subst (λ n. AreOpen net past (has_way n c.args.self.now.open_ways)) (sym (ap (λ t. t.value) same.topology)) c.requires.holds.open_ways)) in
     record {
-      stands = stands_new g.P.Policy.rules network new events c.args.event same _ now c.in_ok-outcome.outcome is (one_more rules net events c.args.event) comes;
+      stands = stands_new g.P.Policy.rules network new events c.args.event same _ now is (one_more rules net events c.args.event) comes.stands;
       open_ways = opens_new g.P.Policy.rules network new events c.args.event same _ (has_way new.topology.value c.refresh.new.open_ways) is opens;
     }
 
@@ -123,7 +123,7 @@ returns-clause-step g c =
     let counts = deliveries rules net events in
     let comes = c.in_ok-outcome.ensures.comes past counts c.requires.holds.stands regular (few_deliveries rules net events short) c.requires.holds.open_ways in
     c.a_step_is_lawful.ensures.step rules net events c.args.event valid
-    (within_new g.P.Policy.rules network c.advance.new.self events c.args.event c.in_ok-outcome.ensures.others (counts_after past c.args.event counts) c.in_ok-outcome.outcome short comes)
+    (within_new g.P.Policy.rules network c.advance.new.self events c.args.event c.in_ok-outcome.ensures.others (counts_after past c.args.event counts) short comes.stands)
 
 pub returns-clause-follows : goal.returns-clause-follows
 returns-clause-follows g c =
