@@ -1,13 +1,13 @@
 -- How a drafted network grows, and why nothing refuses what is added.
-use Rattle.std.proofs.Common.{◌≡◌, ◌≢◌, ℕ, zero, suc, ◌+◌, ◌-◌, ◌*◌, ◌^◌, ◌%◌, ◌<◌, ◌≤◌, Bool, true, false, not, ◌&&◌, ◌||◌, ◌==◌, nat_le, List, [], ◌∷◌, ◌++◌, map, length, Option, Some, None, Result, Ok, Err, is_ok, OnOk, IsOkUnless, true≢false, length-append, refl, sym, ap, subst, ◌∙◌, arith, if◌then◌else◌, add-one}
-use Rattle.std.specs.List.{list_any, range_with_len, flat_map, AllByRecursion}
+use Rattle.std.proofs.Common.{◌≡◌, ◌≢◌, ℕ, zero, suc, ◌+◌, ◌-◌, ◌*◌, ◌^◌, ◌%◌, ◌<◌, ◌≤◌, Bool, true, false, ◌&&◌, ◌==◌, nat_le, List, [], ◌∷◌, ◌++◌, map, length, Option, Some, None, Result, Ok, Err, is_ok, OnOk, IsOkUnless, true≢false, length-append, refl, sym, ap, subst, ◌∙◌, arith, if◌then◌else◌, add-one}
+use Rattle.std.specs.List.{list_any, range_with_len, flat_map}
 use Rattle.std.proofs.Math.Nat.{mul-mod_left}
 use Rattle.std.proofs.lemmas.Bool.Decides.{nat_tests}
-use Rattle.std.proofs.lemmas.List.{length_push, flat_map_more}
+use Rattle.std.proofs.lemmas.List.{flat_map_more}
 use Rattle.std.proofs.lemmas.List.Folds.{list_any-append}
 use Rattle.std.proofs.lemmas.List.FromFn.{length-range_with_len, length-map-range_with_len, map-range_with_len_more}
 use Rattle.topology.specs.Lists.{has}
-use Rattle.topology.specs.Net.{Net, joins, linked, has_prefix, same_prefix, IsPrefix}
+use Rattle.topology.specs.Net.{Net, joins, same_prefix, IsPrefix}
 use Rattle.topology.specs.Building.{with_node, with_link, with_prefix, node_refusal, link_refusal, prefix_refusal, AnswersBy}
 use Rattle.topology.specs.declared.building.BuildError.{BuildError}
 use Rattle.topology.specs.declared.building.BuildError.TheVariants.{NoMemory, TooMany}

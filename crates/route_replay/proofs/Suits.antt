@@ -1,5 +1,5 @@
 -- What happens in a load fits its network.
-use Rattle.std.proofs.Common.{◌≡◌, ℕ, zero, suc, ◌+◌, ◌-◌, ◌*◌, ◌<◌, ◌≤◌, Bool, true, false, ◌&&◌, ◌||◌, ◌==◌, nat_lt, nat_le, List, [], ◌∷◌, ◌++◌, map, length, refl, sym, ap, subst, ◌∙◌, arith, if◌then◌else◌}
+use Rattle.std.proofs.Common.{◌≡◌, ℕ, zero, suc, ◌+◌, ◌-◌, ◌<◌, ◌≤◌, true, false, ◌&&◌, ◌||◌, ◌==◌, nat_lt, nat_le, List, [], ◌∷◌, ◌++◌, map, length, refl, sym, ap, subst, ◌∙◌, arith, if◌then◌else◌}
 use Rattle.std.specs.List.{list_any, range_with_len, flat_map, AllByRecursion}
 use Rattle.std.proofs.Math.Nat.{mod-lt}
 use Rattle.std.proofs.lemmas.Bool.Decides.{nat_tests}
@@ -7,13 +7,13 @@ use Rattle.std.proofs.lemmas.List.Concat.{flat_map-cons}
 use Rattle.std.proofs.lemmas.List.Folds.{list_any-append}
 use Rattle.std.proofs.lemmas.List.FromFn.{length-map-range_with_len}
 use Rattle.topology.specs.Lists.{has}
-use Rattle.topology.specs.Net.{Net, joins, linked}
+use Rattle.topology.specs.Net.{joins, linked}
 use Rattle.topology.proofs.Tests.{and_both, or_first, or_second, same_refl}
 use Rattle.topology.proofs.Neighbours.{linked_sym}
 use Rattle.schedule_file.specs.declared.lines.Directive.{Directive}
 use Rattle.route_replay.specs.Draws.{drawn, given_below}
 use Rattle.route_replay.specs.LoadNetwork.{drafted, first_provider, second_provider, links_among, links_below, load_net, load_prefix, provider_links, sells, top_links}
-use Rattle.route_replay.specs.LoadSchedule.{announcement, announcements, announcer, cut_off_node, entrance, epoch_lines, failing_lines, further_epoch, further_epochs, load_directives, packet_lines, packets_lines}
+use Rattle.route_replay.specs.LoadSchedule.{announcement, announcements, announcer, cut_off_node, entrance, epoch_lines, further_epoch, further_epochs, load_directives, packet_lines, packets_lines}
 use Rattle.schedule_file.specs.declared.lines.Directive.TheVariants.{Drain}
 use Rattle.route_replay.specs.Loaded.{AllFit}
 use Rattle.route_replay.specs.Running.{Fitting}

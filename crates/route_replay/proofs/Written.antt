@@ -1,9 +1,9 @@
 -- What each end of a load gives of the promise.
-use Rattle.std.proofs.Common.{◌≡◌, ◌≢◌, ℕ, ◌<◌, inl, inr, Option, Some, None, List, [], ◌∷◌, ◌++◌, length, Result, Ok, Err, OnOk, refl, sym, ap, ◌∙◌, subst, arith}
+use Rattle.std.proofs.Common.{◌≡◌, ℕ, ◌<◌, inl, inr, Option, Some, None, List, [], length, Result, Ok, Err, refl, sym, ap, ◌∙◌, subst, arith}
 use Rattle.std.specs.Io.KnownBytes.{Appends}
 use Rattle.route_io.specs.Causes.{AppendsFront}
 use Rattle.route_io.specs.Views.{SinkView}
-use Rattle.route_io.proofs.Bytes.{appends_none, stays_quiet, risen_as}
+use Rattle.route_io.proofs.Bytes.{risen_as}
 use Rattle.topology.specs.Net.{Net}
 use Rattle.topology.specs.declared.status.Status.TheVariants.{Done, NoMemory, Limit, WriteFault}
 use Rattle.topology.specs.declared.status.LimitKind.{LimitKind}

@@ -117,11 +117,11 @@ pub(crate) fn drain<P: Policy + Copy>(world: World<P>, times: u32) -> Result<Wor
 {
     let mut world = world;
     for _ in 0..times {
-        let Some(way) = world.next_delivery() else {
+        let (next, way) = world.deliver_next()?;
+        world = next;
+        if way.is_none() {
             return Ok(world);
-        };
-        let (from, to) = way;
-        world = world.step_unseen(Event::Deliver { from, to })?;
+        }
     }
     Ok(world)
 }

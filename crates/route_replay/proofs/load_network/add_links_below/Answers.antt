@@ -1,4 +1,4 @@
-use Rattle.std.proofs.Common.{[], ◌∷◌, ◌++◌, ◌≡◌, ap, sym, refl, ◌∙◌, arith, append_assoc, length}
+use Rattle.std.proofs.Common.{[], ◌∷◌, ◌++◌, ap, sym, refl, ◌∙◌, arith, append_assoc}
 use Rattle.std.proofs.lemmas.List.{length_push}
 use Rattle.route_replay.proofs.Drafts.{came, onward, link_comes, link_added, first_link, second_link, one_below, two_below}
 use Rattle.route_replay.specs.LoadNetwork.{drafted, sells}

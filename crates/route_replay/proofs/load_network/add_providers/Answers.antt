@@ -1,4 +1,4 @@
-use Rattle.std.proofs.Common.{[], ◌∷◌, ◌++◌, ◌+◌, ◌-◌, ◌*◌, ◌≡◌, ap, sym, refl, ◌∙◌, arith, length}
+use Rattle.std.proofs.Common.{◌+◌, ◌-◌, ◌*◌, ◌≡◌, ap, sym, ◌∙◌, arith}
 use Rattle.route_replay.specs.Draws.{state_after}
 use Rattle.route_replay.specs.LoadNetwork.{drafted, first_providers, links_among}
 use Rattle.route_replay.proofs.Drafts.{own_links, first_is, second_is, state_step, links_step, net_step, below_step, few_step, providers_step, starts_below, starts_few, no_nodes_yet, no_draws_yet, no_providers_yet}

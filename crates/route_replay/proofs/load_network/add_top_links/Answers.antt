@@ -1,4 +1,4 @@
-use Rattle.std.proofs.Common.{[], ◌∷◌, ◌++◌, refl, arith}
+use Rattle.std.proofs.Common.{[], ◌∷◌, refl, arith}
 use Rattle.route_replay.proofs.Drafts.{came, onward, link_comes, link_added}
 use Rattle.route_replay.specs.LoadNetwork.{peers}
 use Rattle.route_replay.proofs.load_network.add_top_links.Goals as goal

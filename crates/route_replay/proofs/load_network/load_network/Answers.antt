@@ -1,6 +1,6 @@
-use Rattle.std.proofs.Common.{◌≡◌, ap, refl, ◌∙◌, sym}
-use Rattle.route_replay.proofs.Drafts.{links_of, own_links, named_net}
-use Rattle.route_replay.specs.LoadNetwork.{drafted, first_providers}
+use Rattle.std.proofs.Common.{ap, ◌∙◌}
+use Rattle.route_replay.proofs.Drafts.{own_links, named_net}
+use Rattle.route_replay.specs.LoadNetwork.{first_providers}
 use Rattle.route_replay.specs.Draws.{state_after}
 use Rattle.route_replay.proofs.load_network.load_network.Goals as goal
 

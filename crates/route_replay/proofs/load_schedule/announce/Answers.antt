@@ -1,7 +1,6 @@
-use Rattle.std.proofs.Common.{◌≡◌, ◌+◌, ◌++◌, ◌∷◌, [], ap, refl, ◌∙◌, sym, arith}
+use Rattle.std.proofs.Common.{◌≡◌, ◌+◌, ap, ◌∙◌, sym, arith}
 use Rattle.route_replay.specs.Draws.{state_after}
 use Rattle.route_replay.specs.LoadSchedule.{announcements}
-use Rattle.route_replay.proofs.Drafts.{state_step}
 use Rattle.route_replay.proofs.Planned.{no_announcements, announcement_step, state_on}
 use Rattle.route_replay.proofs.load_schedule.announce.Goals as goal
 

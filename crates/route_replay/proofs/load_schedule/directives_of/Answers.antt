@@ -1,4 +1,3 @@
-use Rattle.std.proofs.Common.{◌≡◌, refl, ◌∙◌}
 use Rattle.route_replay.proofs.Planned.{all_lines}
 use Rattle.route_replay.proofs.load_schedule.directives_of.Goals as goal
 

@@ -1,4 +1,4 @@
-use Rattle.std.proofs.Common.{◌≡◌, ◌+◌, ◌++◌, ◌∷◌, [], ap, refl, ◌∙◌, sym, arith}
+use Rattle.std.proofs.Common.{◌≡◌, ◌+◌, ◌++◌, ap, ◌∙◌, arith}
 use Rattle.route_replay.specs.Draws.{state_after}
 use Rattle.route_replay.specs.LoadSchedule.{further_epochs}
 use Rattle.route_replay.proofs.Planned.{no_epochs, epoch_step, state_on}

@@ -1,4 +1,4 @@
-use Rattle.std.proofs.Common.{◌≡◌, refl, ◌∙◌}
+use Rattle.std.proofs.Common.{◌∙◌}
 use Rattle.route_replay.proofs.Planned.{many_providers}
 use Rattle.route_replay.proofs.load_schedule.load_of.Goals as goal
 

@@ -1,5 +1,4 @@
-use Rattle.std.proofs.Common.{◌≡◌, ◌+◌, ◌++◌, ◌∷◌, [], ap, refl, ◌∙◌, sym, arith}
-use Rattle.route_replay.specs.Draws.{state_after}
+use Rattle.std.proofs.Common.{◌≡◌, ◌++◌, ap, ◌∙◌, arith}
 use Rattle.route_replay.specs.LoadSchedule.{packets_lines}
 use Rattle.route_replay.proofs.Planned.{no_packets, packet_step, state_on}
 use Rattle.route_replay.proofs.load_schedule.send_packets.Goals as goal

@@ -1,4 +1,4 @@
-use Rattle.std.proofs.Common.{Ok, Err, [], subst, ◌≡◌}
+use Rattle.std.proofs.Common.{Ok, Err, subst}
 use Rattle.topology.specs.Net.{IsValid}
 use Rattle.path_vector.specs.GaoRexford.{gao_rexford}
 use Rattle.route_replay.specs.declared.ends.RunEnd.TheVariants.{NoMemory, WriteFault, Limit}

@@ -1,6 +1,5 @@
-use Rattle.std.proofs.Common.{◌≡◌, drop, refl, sym, ap, ◌∙◌, subst}
+use Rattle.std.proofs.Common.{refl, sym, ap, ◌∙◌}
 use Rattle.std.proofs.lemmas.List.{drop_all}
-use Rattle.schedule_file.specs.declared.lines.Directive.{Directive}
 use Rattle.route_replay.specs.LoadSchedule.{unnumbered}
 use Rattle.route_replay.specs.Text.{events_of, stop}
 use Rattle.route_replay.proofs.Gathered.{handed_on}

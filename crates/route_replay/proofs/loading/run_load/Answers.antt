@@ -1,4 +1,3 @@
-use Rattle.std.proofs.Common.{subst, sym}
 use Rattle.route_replay.proofs.loading.run_load.Goals as goal
 
 pub run_and_count-requires : goal.run_and_count-requires

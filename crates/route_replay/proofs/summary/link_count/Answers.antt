@@ -1,4 +1,4 @@
-use Rattle.std.proofs.Common.{◌≡◌, ◌≤◌, length, arith}
+use Rattle.std.proofs.Common.{arith}
 use Rattle.topology.specs.declared.links.Link.{Link}
 use Rattle.route_replay.proofs.Counts.{place_behind, place_inside}
 use Rattle.route_replay.proofs.summary.link_count.Goals as goal

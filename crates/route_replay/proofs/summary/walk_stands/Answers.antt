@@ -1,4 +1,4 @@
-use Rattle.std.proofs.Common.{◌≡◌, ap, ◌∙◌}
+use Rattle.std.proofs.Common.{ap, ◌∙◌}
 use Rattle.route_replay.specs.LoadText.{walk_stands}
 use Rattle.route_replay.proofs.summary.walk_stands.Goals as goal
 
