@@ -11,7 +11,7 @@ use trigger_log::{Entry, SessionMark};
 fn copy_of(alloc: Global, sent: &[Sent]) -> Result<SentItems, NoMemory>
     ensures { IfOk result (λ copy. copy ≡ sent.now) }
 {
-    Ok(SentItems::new(Vec::from_slice(alloc, sent)?))
+    Ok(SentItems::of(alloc, sent)?)
 }
 
 fn row_of(alloc: Global, entry: &Entry) -> Result<Row, NoMemory>
