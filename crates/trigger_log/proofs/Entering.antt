@@ -1,6 +1,6 @@
 -- A log with one entry more.
 use Rattle.std.proofs.Common.{ℕ, suc, ◌≤◌, Bool, true, false, List, [], ◌∷◌, ◌++◌, ◌≡◌, refl, sym, ◌∙◌, ap, subst, length, flat_map, map, take}
-use Rattle.std.specs.Prelude.{if◌then◌else◌}
+use Rattle.std.specs.Prelude.{if◌then◌else◌, is_some}
 use Rattle.std.specs.List.{AllZip}
 use Rattle.std.proofs.lemmas.List.{take_all}
 use Rattle.topology.specs.declared.names.Trigger.{Trigger}
@@ -11,7 +11,7 @@ use Rattle.topology.specs.Net.{Net, neighbours}
 use Rattle.path_vector.specs.declared.causes.Cause.{Cause}
 use Rattle.path_vector.specs.declared.causes.Cause.TheVariants.{Originate, Withdraw, Recv, Down, Up, Ready, Prefer}
 use Rattle.path_vector.specs.Rules.{Rules}
-use Rattle.path_vector.specs.History.{Accepts, change, held}
+use Rattle.path_vector.specs.History.{Accepts, change, held, ready}
 use Rattle.path_vector.specs.Kept.{IsOfNeighbour}
 use Rattle.path_vector.specs.declared.state.RouteState.{RouteState}
 use Rattle.path_vector.specs.Selection.{best}
@@ -30,7 +30,7 @@ use Rattle.trigger_log.specs.Standing.{Shows, StandsFor, all_entered}
 use Rattle.trigger_log.specs.Telling.{Speech, silence}
 use Rattle.trigger_log.specs.Marked.{Enters, ToldTo}
 use Rattle.trigger_log.specs.Midway.{AreOffers, IsMidway}
-use Rattle.trigger_log.specs.Offered.{IsPlaced, asked}
+use Rattle.trigger_log.specs.Offered.{Covers, IsPlaced, asked, updates_over}
 use Rattle.trigger_log.proofs.Holding.{accepted}
 use Rattle.trigger_log.proofs.Zips.{zip_push}
 use Rattle.trigger_log.proofs.Rounds.{told_all}
@@ -121,6 +121,10 @@ asked_one net h p (Up v s) fits = absurd fits
 asked_one net h p (Ready v s) fits = absurd fits
 asked_one net h p (Prefer v x) fits = absurd fits
 
+-- all that is asked for covers the entry
+pub all_covered : (m : Making) (prefixes : List ℕ) → prefixes ≡ asked m.net m.entry.read.scope m.entry.read.cause → Covers m prefixes
+all_covered m prefixes is w s e = ap (updates_over m (is_some (ready (reads m.before) w)) w) is
+
 -- equal lists are offers too
 pub as_offered : (m : Making) {before after old new : List Offer} → old ≡ before → new ≡ after → AreOffers m before after → AreOffers m old new
 as_offered m {before} {after} {old} {new} is_before is_after offers =
@@ -131,7 +135,7 @@ pub one_offered : (rules : Rules) (net : Net) (u : ℕ) (h : List Entry) (trigge
     → Copies net u before.chosen (best rules net u (reads h) p) → Copies net u after.chosen (best rules net u (change (One p) cause ∷ reads h) p)
     → AreOffers (making rules net u h (entry (trigger ∷ []) (One p) cause)) (before ∷ []) (after ∷ [])
 one_offered rules net u h trigger p cause before after of_before of_after fits was is = record {
-  covers = ap (λ q. q ∷ []) of_after ∙ sym (asked_one net h p cause fits);
+  covers = all_covered (making rules net u h (entry (trigger ∷ []) (One p) cause)) (after.prefix ∷ []) (ap (λ q. q ∷ []) of_after ∙ sym (asked_one net h p cause fits));
   chosen_before = (subst (λ q. Copies net u before.chosen (best rules net u (reads h) q)) (sym of_before) was, tt);
   chosen_after = (subst (λ q. Copies net u after.chosen (best rules net u (change (One p) cause ∷ reads h) q)) (sym of_after) is, tt);
 }

@@ -22,6 +22,7 @@ pub mod Rounds
 pub mod Finding
 pub mod AllMarks
 pub mod QuietTurns
+pub mod Ended
 pub mod Entering
 pub mod Due
 pub mod Reading

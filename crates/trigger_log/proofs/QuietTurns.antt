@@ -204,7 +204,7 @@ module _ {P : Type 0} (policy : P) (rules : Rules) (net : Net) (u : ℕ) (h : Li
   same_news w s e =
       let before : AreChosen rules net u (reads h) turn.after.now = subst (AreChosen rules net u (reads h)) quiet.1 enters.before in
       sym (over_asked rules net u h k w s enters.fitting e enters.placed)
-      ∙ (ap (updates_over (making rules net u h k) (is_some (ready (reads h) w)) w) (sym enters.covers)
+      ∙ (sym (enters.covers w s e)
       ∙ (ap (λ b. updates_over (making rules net u h k) b w (prefixes_of turn.after.now)) (was_known h k w s enters.fitting turns_no_session e)
       ∙ none_over rules net u h k w turn.after.now before enters.after))
 

@@ -16,7 +16,7 @@ use Rattle.trigger_log.specs.Going.{going_of, going_in, told}
 use Rattle.trigger_log.specs.Fits.{Fits}
 use Rattle.trigger_log.specs.Telling.{Speech}
 use Rattle.trigger_log.specs.Sessions.{ever, Says, AreMarks}
-use Rattle.trigger_log.specs.Offered.{IsPlaced, AreChosen, prefixes_of, asked}
+use Rattle.trigger_log.specs.Offered.{IsPlaced, AreChosen, Covers, prefixes_of}
 
 -- the cause ends a session with w
 abbrev pub ends_with : Cause → ℕ → Bool
@@ -45,7 +45,7 @@ pub record Enters {P : Type 0} (policy : P) (m : Making) (routes : RouteState P)
   pub lists : m.entry.triggers ≡ turn.trigger.now ∷ []
   pub cause : m.entry.read.cause ≡ turn.cause.now
   pub placed : IsPlaced m.net m.entry.read.scope
-  pub covers : prefixes_of turn.after.now ≡ asked m.net m.entry.read.scope m.entry.read.cause
+  pub covers : Covers m (prefixes_of turn.after.now)
   pub before : AreChosen m.rules m.net m.node (reads m.before) turn.before.now
   pub after : AreChosen m.rules m.net m.node (m.entry.read ∷ reads m.before) turn.after.now
 

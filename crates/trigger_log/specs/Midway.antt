@@ -10,7 +10,7 @@ use Rattle.trigger_log.specs.Entries.{reads}
 use Rattle.trigger_log.specs.Fits.{CauseFits}
 use Rattle.trigger_log.specs.Going.{going_of, going_by}
 use Rattle.trigger_log.specs.Making.{Making}
-use Rattle.trigger_log.specs.Offered.{AreChosen, IsPlaced, asked, prefixes_of}
+use Rattle.trigger_log.specs.Offered.{AreChosen, Covers, IsPlaced, prefixes_of}
 use Rattle.trigger_log.specs.Standing.{StandsFor}
 
 -- with its routes from before the entry, the log is that of the entries before, which the entry may follow; its routes took it
@@ -23,7 +23,7 @@ pub record IsMidway {P : Type 0} (policy : P) (m : Making) (before : RouteState 
 
 -- the best routes of the prefixes that the entry may change, before and after it
 pub record AreOffers (m : Making) (before after : List Offer) : Type 0 where
-  pub covers : prefixes_of after ≡ asked m.net m.entry.read.scope m.entry.read.cause
+  pub covers : Covers m (prefixes_of after)
   pub chosen_before : AreChosen m.rules m.net m.node (reads m.before) before
   pub chosen_after : AreChosen m.rules m.net m.node (m.entry.read ∷ reads m.before) after
 

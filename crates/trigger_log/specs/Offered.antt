@@ -1,5 +1,5 @@
 -- The best routes of the prefixes of a scope, as they are kept while an entry is made.
-use Rattle.std.specs.Prelude.{ℕ, ◌<◌, ◌≡◌, ◌↔◌, Bool, IsTrue, not, Option, None, List, [], ◌∷◌, length, map, filter, if◌then◌else◌}
+use Rattle.std.specs.Prelude.{ℕ, ◌<◌, ◌≡◌, ◌↔◌, ◌==◌, Bool, false, IsTrue, not, Option, Some, None, List, [], ◌∷◌, is_some, length, map, filter, if◌then◌else◌}
 use Rattle.std.specs.List.{AllByRecursion}
 use Rattle.topology.specs.declared.names.Scope.{Scope}
 use Rattle.topology.specs.declared.names.Scope.TheVariants.{One, All}
@@ -8,8 +8,8 @@ use Rattle.topology.specs.Net.{Net, places}
 use Rattle.path_vector.specs.declared.causes.Cause.{Cause}
 use Rattle.path_vector.specs.declared.causes.Cause.TheVariants.{Originate, Withdraw, Recv, Down, Up, Ready, Prefer}
 use Rattle.path_vector.specs.Rules.{Rules}
-use Rattle.path_vector.specs.History.{History}
-use Rattle.path_vector.specs.Selection.{best}
+use Rattle.path_vector.specs.History.{History, ready}
+use Rattle.path_vector.specs.Selection.{Route, Nowhere, Home, Via, best}
 use Rattle.path_vector.specs.Offers.{offer}
 use Rattle.path_vector.specs.Answers.{Copies}
 use Rattle.trigger_log.specs.declared.offers.Offer.{Offer}
@@ -46,6 +46,20 @@ abbrev pub AreChosen : Rules → Net → ℕ → History → List Offer → Type
 AreChosen rules net u h offers =
     AllByRecursion (λ (o : Offer). Copies net u o.chosen (best rules net u h o.prefix)) offers
 
+-- the prefixes of these routes are in the network
+abbrev pub ArePlaced : Net → List Offer → Type 0
+ArePlaced net offers = AllByRecursion (λ (o : Offer). o.prefix < length net.prefixes) offers
+
+-- the route is by neighbour v
+abbrev pub is_via : ℕ → Route → Bool
+is_via v Nowhere = false
+is_via v Home = false
+is_via v (Via choice) = choice.nbr == v
+
+-- the best route of p goes by neighbour v
+abbrev pub goes_by : Rules → Net → ℕ → History → ℕ → ℕ → Bool
+goes_by rules net u h v p = is_via v (best rules net u h p)
+
 -- each flag says whether the route at its place is the same before and after
 abbrev pub AreSame : List Offer → List Offer → List Bool → Type 0
 AreSame [] [] [] = Unit {0}
@@ -64,3 +78,10 @@ differs m knows w p =
 -- the updates of the entry to w for these prefixes
 abbrev pub updates_over : Making → Bool → ℕ → List ℕ → List Update
 updates_over m knows w prefixes = map (update_of m w) (filter (differs m knows w) prefixes)
+
+-- whoever is ready after the entry is told as much of these prefixes as of all that it may change
+abbrev pub Covers : Making → List ℕ → Type 0
+Covers m prefixes =
+    (w s : ℕ) → ready (m.entry.read ∷ reads m.before) w ≡ Some s →
+    updates_over m (is_some (ready (reads m.before) w)) w prefixes
+    ≡ updates_over m (is_some (ready (reads m.before) w)) w (asked m.net m.entry.read.scope m.entry.read.cause)

@@ -5,7 +5,7 @@ ghost use Rattle.topology.specs.Lists.{has};
 ghost use Rattle.topology.specs.Net.{Net, neighbours};
 ghost use Rattle.path_vector.specs.History.{held, last, ready};
 ghost use Rattle.topology.specs.declared.names.Scope.TheVariants.{One, All};
-ghost use Rattle.path_vector.specs.declared.causes.Cause.TheVariants.{Ready};
+ghost use Rattle.path_vector.specs.declared.causes.Cause.TheVariants.{Down, Ready};
 ghost use Rattle.path_vector.specs.Kept.{IsOfNeighbour};
 ghost use Rattle.path_vector.specs.Standing.{StandsFor as RoutesStandFor};
 ghost use Rattle.trigger_log.specs.Entries.{Entry as Logged, entry, reads, inbox, is_local, is_session, next_trigger};
@@ -23,7 +23,7 @@ ghost use Rattle.trigger_log.specs.Midway.{AreOffers, IsMade, IsMidway};
 use crate::counting::next_number;
 use crate::entries::Entry;
 use crate::marking::mark;
-use crate::offers::{Offer, offer_of, offers_for, offers_of};
+use crate::offers::{Offer, offer_of, offers_again, offers_by, offers_for, offers_of};
 use crate::outgoing::Outgoing;
 use crate::quiet::{same_offer, same_offers, stays};
 use crate::sessions::{SessionMark, Sessions};
@@ -408,6 +408,9 @@ impl<P: Policy + Copy> NodeLog<P> {
         if let Cause::Ready { nbr, session } = cause {
             return Ok(self.enter_ready(topology, trigger, nbr, session)?);
         }
+        if let Cause::Down { nbr, session } = cause {
+            return Ok(self.enter_down(topology, trigger, nbr, session)?);
+        }
         let before = offers_for(self.alloc, &self.routes, topology, &cause)?;
         self.routes.apply(Scope::All, &cause)?;
         let after = offers_for(self.alloc, &self.routes, topology, &cause)?;
@@ -437,6 +440,31 @@ impl<P: Policy + Copy> NodeLog<P> {
         let offers = offers_of(self.alloc, &self.routes, topology)?;
         let same = vec![in self.alloc; true; offers.len()]?;
         Ok(self.finish(trigger, Scope::All, cause, &offers, &offers, &same)?)
+    }
+
+    // A session ends. That may change the best routes that went by its neighbour, and no other: only those are compared.
+    fn enter_down(
+        &mut self,
+        topology: &Topology,
+        trigger: Trigger,
+        nbr: NodeId,
+        session: Session,
+    ) -> Result<Vec<Outgoing>, NoMemory>
+        ensures log { OnOk result ((policy : P) (u : ℕ) (h : List Logged) →
+            StandsFor policy (P.rules policy) topology.now u self.old h → IsOfNeighbour topology.now u (Down nbr session) →
+            CauseFits h All (Down nbr session) →
+            StandsFor policy (P.rules policy) topology.now u self.new (entry (trigger ∷ []) All (Down nbr session) ∷ h)) }
+        ensures outgoing { IfOk result (λ outgoing. (policy : P) (u : ℕ) (h : List Logged) →
+            StandsFor policy (P.rules policy) topology.now u self.old h → IsOfNeighbour topology.now u (Down nbr session) →
+            CauseFits h All (Down nbr session) →
+            map going_of outgoing.items ≡ going_by (P.rules policy) topology.now u h (entry (trigger ∷ []) All (Down nbr session))) }
+    {
+        let cause = Cause::Down { nbr, session };
+        let before = offers_by(self.alloc, &self.routes, topology, nbr)?;
+        self.routes.apply(Scope::All, &cause)?;
+        let after = offers_again(self.alloc, &self.routes, &before)?;
+        let same = same_offers(self.alloc, &before, &after)?;
+        Ok(self.finish(trigger, Scope::All, cause, &before, &after, &same)?)
     }
 
     // The rest of an entry that the routes took already: its sessions are marked, each neighbour is told, and it is kept.

@@ -1,16 +1,16 @@
 //! The best routes before and after an entry, of which each neighbour is offered what export allows.
-ghost use Rattle.std.specs.Prelude.{ℕ, ◌≡◌, ◌<◌, length, IfOk};
+ghost use Rattle.std.specs.Prelude.{ℕ, ◌≡◌, ◌<◌, filter, length, IfOk};
 ghost use Rattle.topology.specs.declared.names.Scope.TheVariants.{All};
 ghost use Rattle.topology.specs.Net.{Net, places};
 ghost use Rattle.path_vector.specs.Selection.{best};
 ghost use Rattle.path_vector.specs.Answers.{Copies};
 ghost use Rattle.path_vector.specs.History.{History};
 ghost use Rattle.path_vector.specs.Standing.{StandsFor};
-ghost use Rattle.trigger_log.specs.Offered.{AreChosen, asked, prefixes_of};
+ghost use Rattle.trigger_log.specs.Offered.{AreChosen, ArePlaced, asked, goes_by, prefixes_of};
 
-use path_vector::{Cause, Chosen, Policy, RouteState};
+use path_vector::{Best, Cause, Chosen, Policy, RouteState};
 use std::alloc::Global;
-use topology::{NoMemory, PrefixId, Topology};
+use topology::{NoMemory, NodeId, PrefixId, Topology};
 
 /// The best route of a prefix, which is not yet an offer to anybody.
 #[derive(Drop)]
@@ -50,6 +50,64 @@ pub fn offers_of<P: Policy + Copy>(
         offers.push(offer_of(routes, PrefixId::new(place))?)?;
     }
     Ok(offers)
+}
+
+// Whether the best route of a prefix goes by this neighbour.
+#[inline(always)]
+fn is_by<P: Policy + Copy>(routes: &RouteState<P>, prefix: PrefixId, nbr: NodeId) -> bool
+    ensures { (policy : P) (net : Net) (u : ℕ) (h : History) →
+        StandsFor policy net u routes.now h → prefix < length net.prefixes →
+        result ≡ goes_by (P.rules policy) net u h nbr prefix }
+{
+    match routes.best(prefix) {
+        Best::None => false,
+        Best::Own => false,
+        Best::Via(via, _) => via == nbr,
+    }
+}
+
+/// The best routes that go by this neighbour, in file order of their prefixes.
+pub fn offers_by<P: Policy + Copy>(
+    alloc: Global,
+    routes: &RouteState<P>,
+    topology: &Topology,
+    nbr: NodeId,
+) -> Result<Vec<Offer>, NoMemory>
+    ensures placed { IfOk result (λ offers. ArePlaced topology.now offers.items) }
+    ensures covers { IfOk result (λ offers. (policy : P) (u : ℕ) (h : History) →
+        StandsFor policy topology.now u routes.now h →
+        prefixes_of offers.items ≡ filter (goes_by (P.rules policy) topology.now u h nbr) (places topology.now)) }
+    ensures chosen { IfOk result (λ offers. (policy : P) (u : ℕ) (h : History) →
+        StandsFor policy topology.now u routes.now h →
+        AreChosen (P.rules policy) topology.now u h offers.items) }
+{
+    let mut offers = Vec::new(alloc);
+    for place in 0..topology.prefix_count() {
+        let prefix = PrefixId::new(place);
+        if !is_by(routes, prefix, nbr) {
+            continue;
+        }
+        offers.push(offer_of(routes, prefix)?)?;
+    }
+    Ok(offers)
+}
+
+/// The best routes of the prefixes of these, as they are by now.
+pub fn offers_again<P: Policy + Copy>(
+    alloc: Global,
+    routes: &RouteState<P>,
+    offers: &[Offer],
+) -> Result<Vec<Offer>, NoMemory>
+    ensures covers { IfOk result (λ again. prefixes_of again.items ≡ prefixes_of offers.now) }
+    ensures chosen { IfOk result (λ again. (policy : P) (net : Net) (u : ℕ) (h : History) →
+        StandsFor policy net u routes.now h → ArePlaced net offers.now →
+        AreChosen (P.rules policy) net u h again.items) }
+{
+    let mut again = Vec::with_capacity(alloc, offers.len())?;
+    for i in 0..offers.len() {
+        again.push(offer_of(routes, offers[i].prefix)?)?;
+    }
+    Ok(again)
 }
 
 /// The best routes that an entry of all prefixes may change: none where it opens a session, which leaves all offers

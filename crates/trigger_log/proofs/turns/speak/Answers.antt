@@ -49,7 +49,7 @@ returns g c = λ policy net u h k w enters near says.
     let list : updates_over (making rules net u h k) listener.knows mark.nbr (prefixes_of turn.after.now) ≡ news rules net u h k w =
     ap (λ b. updates_over (making rules net u h k) b mark.nbr (prefixes_of turn.after.now)) knows
     ∙ (ap (λ n. updates_over (making rules net u h k) (is_some (ready (reads h) w)) n (prefixes_of turn.after.now)) says.nbr
-    ∙ (ap (updates_over (making rules net u h k) (is_some (ready (reads h) w)) w) enters.covers
+    ∙ (enters.covers w s now
     ∙ over_asked rules net u h k w s enters.fitting now enters.placed)) in
     spoken_told rules net u h k w enters.fitting s c.in_ok-tell.field-0 listener (speech_of c.args.said.now) (speech_of c.tell.new.said)
     says.nbr says.session says.sent open_still now

@@ -3,8 +3,9 @@ use Rattle.topology.specs.declared.names.Scope.TheVariants.{All}
 use Rattle.trigger_log.specs.Entries.{entry, reads}
 use Rattle.trigger_log.specs.Making.{making}
 use Rattle.trigger_log.specs.Midway.{AreOffers}
+use Rattle.trigger_log.specs.Offered.{prefixes_of}
 use Rattle.trigger_log.proofs.Holding.{accepted}
-use Rattle.trigger_log.proofs.Entering.{midway, as_offered}
+use Rattle.trigger_log.proofs.Entering.{midway, all_covered, as_offered}
 use Rattle.trigger_log.proofs.log.NodeLog.enter_all.Goals as goal
 
 pub returns-clause-log : goal.returns-clause-log
@@ -16,7 +17,7 @@ returns-clause-log g c = λ policy u h was near fits.
     let k = entry (trigger ∷ []) All cause in
     let stands = c.in_ok-apply.ensures.ok policy net u (reads h) was.routes (accepted h All cause was.fitting fits) in
     let offers : AreOffers (making rules net u h k) c.in_ok-before.before.items c.in_ok-after.after.items = record {
-      covers = c.in_ok-after.ensures.covers;
+      covers = all_covered (making rules net u h k) (prefixes_of c.in_ok-after.after.items) c.in_ok-after.ensures.covers;
       chosen_before = c.in_ok-before.ensures.chosen policy u (reads h) was.routes;
       chosen_after = c.in_ok-after.ensures.chosen policy u (k.read ∷ reads h) stands;
     } in
@@ -32,7 +33,7 @@ returns-clause-outgoing g c = λ policy u h was near fits.
     let k = entry (trigger ∷ []) All cause in
     let stands = c.in_ok-apply.ensures.ok policy net u (reads h) was.routes (accepted h All cause was.fitting fits) in
     let offers : AreOffers (making rules net u h k) c.in_ok-before.before.items c.in_ok-after.after.items = record {
-      covers = c.in_ok-after.ensures.covers;
+      covers = all_covered (making rules net u h k) (prefixes_of c.in_ok-after.after.items) c.in_ok-after.ensures.covers;
       chosen_before = c.in_ok-before.ensures.chosen policy u (reads h) was.routes;
       chosen_after = c.in_ok-after.ensures.chosen policy u (k.read ∷ reads h) stands;
     } in

@@ -4,8 +4,9 @@ use Rattle.path_vector.specs.declared.causes.Cause.TheVariants.{Ready}
 use Rattle.trigger_log.specs.Entries.{entry, reads}
 use Rattle.trigger_log.specs.Making.{making}
 use Rattle.trigger_log.specs.Midway.{AreOffers}
+use Rattle.trigger_log.specs.Offered.{prefixes_of}
 use Rattle.trigger_log.proofs.Holding.{accepted}
-use Rattle.trigger_log.proofs.Entering.{midway, as_offered}
+use Rattle.trigger_log.proofs.Entering.{midway, all_covered, as_offered}
 use Rattle.trigger_log.proofs.Flags.{all_flags}
 use Rattle.trigger_log.proofs.QuietTurns.{chosen_ready}
 use Rattle.trigger_log.proofs.log.NodeLog.enter_ready.Goals as goal
@@ -26,7 +27,7 @@ returns-clause-log g c = λ policy u h was near fits.
     let stands = c.in_ok-apply.ensures.ok policy net u (reads h) was.routes (accepted h All cause was.fitting fits) in
     let chosen = c.in_ok-offers.ensures.chosen policy u (k.read ∷ reads h) stands in
     let offers : AreOffers (making rules net u h k) c.in_ok-offers.offers.items c.in_ok-offers.offers.items = record {
-      covers = c.in_ok-offers.ensures.covers;
+      covers = all_covered (making rules net u h k) (prefixes_of c.in_ok-offers.offers.items) c.in_ok-offers.ensures.covers;
       chosen_before = chosen_ready rules net u (reads h) c.args.nbr c.args.session c.in_ok-offers.offers.items chosen;
       chosen_after = chosen;
     } in
@@ -43,7 +44,7 @@ returns-clause-outgoing g c = λ policy u h was near fits.
     let stands = c.in_ok-apply.ensures.ok policy net u (reads h) was.routes (accepted h All cause was.fitting fits) in
     let chosen = c.in_ok-offers.ensures.chosen policy u (k.read ∷ reads h) stands in
     let offers : AreOffers (making rules net u h k) c.in_ok-offers.offers.items c.in_ok-offers.offers.items = record {
-      covers = c.in_ok-offers.ensures.covers;
+      covers = all_covered (making rules net u h k) (prefixes_of c.in_ok-offers.offers.items) c.in_ok-offers.ensures.covers;
       chosen_before = chosen_ready rules net u (reads h) c.args.nbr c.args.session c.in_ok-offers.offers.items chosen;
       chosen_after = chosen;
     } in
