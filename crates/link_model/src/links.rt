@@ -63,6 +63,7 @@ impl Links {
 
     /// The number of the way from one node to another: ways are numbered by sender, then receiver. None
     /// where the two have no link. Takes no memory.
+    #[inline(always)]
     pub fn way_of(&self, from: NodeId, to: NodeId) -> Option<usize>
         ensures some { IfSome result (λ way. IsPlaced self.now from to way) }
         ensures none { IfNone result ((net : Net) (ways : Ways) → Keeps net self.now ways →

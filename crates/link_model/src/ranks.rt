@@ -28,6 +28,7 @@ impl Model for Ranks {
 }
 
 /// What stands at a place of a table: None beyond its end.
+#[inline(always)]
 pub fn entry(table: &[Option<usize>], place: usize) -> Option<usize>
     ensures { result ≡ answer table.now place }
 {
@@ -73,6 +74,7 @@ impl Ranks {
     }
 
     /// The place of a node. None where it is none of them. Takes no memory.
+    #[inline(always)]
     pub fn rank(&self, node: NodeId) -> Option<usize>
         ensures some { IfSome result (λ rank. slice_get self.now rank ≡ Some node) }
         ensures found { (rank : ℕ) → slice_get self.now rank ≡ Some node → result ≡ Some rank }

@@ -113,6 +113,7 @@ impl WayTable {
     }
 
     /// The number of a way. None where it is none of them. Takes no memory.
+    #[inline(always)]
     pub fn way_of(&self, from: NodeId, to: NodeId) -> Option<usize>
         ensures some { IfSome result (λ way. slice_get self.now way ≡ Some (ends from to)) }
         ensures found { (way : ℕ) → slice_get self.now way ≡ Some (ends from to) → result ≡ Some way }

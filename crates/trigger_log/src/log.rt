@@ -234,6 +234,7 @@ impl<P: Policy + Copy> NodeLog<P> {
     }
 
     /// How many updates were received from a neighbour in a session, where that is the one that is held with it.
+    #[inline(always)]
     pub fn received_in_held(&self, nbr: NodeId, session: Session) -> Option<u32>
         ensures { (policy : P) (net : Net) (u : ℕ) (h : List Logged) →
             StandsFor policy (P.rules policy) net u self.now h → has (neighbours net u) nbr ≡ true →
@@ -560,6 +561,7 @@ impl<P: Policy + Copy> NodeLog<P> {
     }
 
     // The newest session with a neighbour.
+    #[inline(always)]
     fn newest(&self, nbr: NodeId) -> Option<&SessionMark>
         ensures some { IfSome result (λ mark. (policy : P) (net : Net) (u : ℕ) (h : List Logged) →
             StandsFor policy (P.rules policy) net u self.now h →
