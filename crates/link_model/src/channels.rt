@@ -1,5 +1,6 @@
 //! One way of a link.
-ghost use Rattle.std.specs.Prelude.{◌≡◌, [], ◌∷◌, not, IfOk, OnErr, IfSome, IfNone};
+ghost use Rattle.std.specs.Prelude.{◌≡◌, ◌<◌, [], ◌∷◌, not, IfOk, OnOk, OnErr, IfSome, IfNone};
+ghost use Rattle.std.specs.VecDeque.{deque_capacity, deque_len};
 ghost use Rattle.topology.specs.LinkStates.{carries};
 ghost use Rattle.link_model.specs.Readings.{behind_front};
 ghost use Rattle.link_model.specs.Ways.{unused, emptied, after_push, has_items};
@@ -23,6 +24,19 @@ impl Model for Channel {
     ghost Value = { OneWay };
 
     ghost view = { λ c. record { state = c.state; items = c.items.items } };
+}
+
+// Room for one item more: mostly it is there.
+#[inline(always)]
+fn make_room(items: &mut VecDeque<Item>) -> Result<(), NoMemory>
+    ensures items { items.new.items ≡ items.old.items }
+    ensures room { OnOk result (deque_len items.new < deque_capacity items.new) }
+{
+    if items.len() < items.capacity() {
+        return Ok(());
+    }
+    items.reserve(1)?;
+    Ok(())
 }
 
 impl Channel {
@@ -54,7 +68,7 @@ impl Channel {
             return Ok(false);
         }
         // Room first: a push that may fail has to be ready to give the item back.
-        self.items.reserve(1)?;
+        make_room(&mut self.items)?;
         self.items.push_back_reserved(item);
         Ok(true)
     }
