@@ -11,11 +11,10 @@ use Rattle.path_vector.specs.Kept.{IsOfNeighbour}
 use Rattle.path_vector.specs.Rules.{Rules}
 use Rattle.path_vector.specs.History.{History, held, opened, ready}
 use Rattle.trigger_log.specs.declared.log.NodeLog.{NodeLog}
-use Rattle.trigger_log.specs.declared.outgoing.Outgoing.{Outgoing}
 use Rattle.trigger_log.specs.Entries.{Entry, entry, local, next_trigger, reads}
 use Rattle.trigger_log.specs.Making.{making}
 use Rattle.trigger_log.specs.Fits.{CauseFits}
-use Rattle.trigger_log.specs.Going.{Going, Item, Hello, going_by, going_in, going_of, going_to, numbered, spread, told}
+use Rattle.trigger_log.specs.Going.{Going, Item, Hello, going_by, going_in, going_to, numbered, spread, told}
 use Rattle.trigger_log.specs.Offered.{IsPlaced}
 use Rattle.trigger_log.specs.Sending.{news, next_number, sent_of}
 use Rattle.trigger_log.specs.Standing.{StandsFor as LogStandsFor}
@@ -36,24 +35,26 @@ use Rattle.node_core.specs.Reports.{AreReports}
 use Rattle.node_core.proofs.Alike.{same_alike}
 use Rattle.node_core.proofs.Handing.{hands_more, outputs_write}
 
--- ---- what goes out with an entry, in the network of the node
+-- ---- an entry and its outputs, in the network of the node
 
 module _ {P : Type 0} (policy : P) (rules : Rules) (topo net : Net) (u : ℕ) (h : List Entry) (k : Entry) (old new : NodeLog P) where
-  -- the log after the entry, and what goes out
-  pub record Appends (outgoing : List Outgoing) : Type 0 where
+  -- the log after the entry, and the outputs with those of the entry
+  pub record Appends (before after : List Given) : Type 0 where
     pub log : LogStandsFor policy rules net u new (k ∷ h)
-    pub outgoing_is : map going_of outgoing ≡ going_by rules net u h k
+    pub shown : map output_of after ≡ map output_of before ++ Logged (suc (length h)) ∷ map Send (going_by rules net u h k)
 
   -- an entry that fits is made
-  pub appended : (outgoing : List Outgoing) → topo ≡ net → LogStandsFor policy rules net u old h → MayEnter net u h k.read.scope k.read.cause
+  pub appended : (before after : List Given) → topo ≡ net → LogStandsFor policy rules net u old h → MayEnter net u h k.read.scope k.read.cause
       → (LogStandsFor policy rules topo u old h → IsOfNeighbour topo u k.read.cause → IsPlaced topo k.read.scope → CauseFits h k.read.scope k.read.cause → LogStandsFor policy rules topo u new (k ∷ h))
-      → (LogStandsFor policy rules topo u old h → IsOfNeighbour topo u k.read.cause → IsPlaced topo k.read.scope → CauseFits h k.read.scope k.read.cause → map going_of outgoing ≡ going_by rules topo u h k)
-      → Appends outgoing
-  appended outgoing same was may log out =
+      → (LogStandsFor policy rules topo u old h → IsOfNeighbour topo u k.read.cause → IsPlaced topo k.read.scope → CauseFits h k.read.scope k.read.cause
+      → map output_of after ≡ map output_of before ++ Logged (suc (length h)) ∷ map Send (going_by rules topo u h k))
+      → Appends before after
+  appended before after same was may log out =
       record {
         log = subst (λ n. LogStandsFor policy rules n u old h → IsOfNeighbour n u k.read.cause → IsPlaced n k.read.scope → CauseFits h k.read.scope k.read.cause → LogStandsFor policy rules n u new (k ∷ h))
             same log was may.near may.placed may.fits;
-        outgoing_is = subst (λ n. LogStandsFor policy rules n u old h → IsOfNeighbour n u k.read.cause → IsPlaced n k.read.scope → CauseFits h k.read.scope k.read.cause → map going_of outgoing ≡ going_by rules n u h k)
+        shown = subst (λ n. LogStandsFor policy rules n u old h → IsOfNeighbour n u k.read.cause → IsPlaced n k.read.scope → CauseFits h k.read.scope k.read.cause
+            → map output_of after ≡ map output_of before ++ Logged (suc (length h)) ∷ map Send (going_by rules n u h k))
             same out was may.near may.placed may.fits;
       }
 
@@ -108,13 +109,12 @@ entered policy rules net u carried past k old new was kept_is written log update
     }
 
 -- its place and what goes out are handed out
-pub entered_hands : (rules : Rules) (net : Net) (u : ℕ) (carried : Carried) (past first : Chronicle) (k : Entry) (old new : List Given) (index : ℕ) (gs : List Going)
-    → index ≡ suc (length (log_of u past)) → gs ≡ going_by rules net u (log_of u past) k → map output_of new ≡ map output_of old ++ Logged index ∷ map Send gs
+pub entered_hands : (rules : Rules) (net : Net) (u : ℕ) (carried : Carried) (past first : Chronicle) (k : Entry) (old new : List Given)
+    → map output_of new ≡ map output_of old ++ Logged (suc (length (log_of u past))) ∷ map Send (going_by rules net u (log_of u past) k)
     → Hands first old past → Hands first new (write rules net carried u k past)
-entered_hands rules net u carried past first k old new index gs place out list was =
+entered_hands rules net u carried past first k old new list was =
     hands_more first past (write rules net carried u k past) old new (Logged (suc (length (log_of u past))) ∷ map Send (going_by rules net u (log_of u past) k))
-    (list ∙ (ap (λ n. map output_of old ++ Logged n ∷ map Send gs) place ∙ ap (λ l. map output_of old ++ Logged (suc (length (log_of u past))) ∷ map Send l) out))
-    (outputs_write rules net u carried past k) was
+    list (outputs_write rules net u carried past k) was
 
 -- the trigger of an own entry is the next one
 pub with_next : (Q : Entry → Type 0) (u : ℕ) (h : List Entry) (t : Trigger) (scope : Scope) (cause : Cause) → t ≡ next_trigger u h → Q (entry (t ∷ []) scope cause) → Q (local u h scope cause)

@@ -12,6 +12,7 @@ pub mod Agreeing
 pub mod Keeping
 pub mod Deciding
 pub mod Entries
+pub mod Firsts
 pub mod Standing
 pub mod Answering
 pub mod Beside

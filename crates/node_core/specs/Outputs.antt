@@ -1,5 +1,6 @@
 -- What a node hands out: what the facts that it adds show.
-use Rattle.std.specs.Prelude.{ℕ, suc, ◌≡◌, Option, List, [], ◌∷◌, ◌++◌, map, length}
+use Rattle.std.specs.Prelude.{ℕ, suc, ◌≡◌, Option, None, Some, List, [], ◌∷◌, ◌++◌, map, length}
+use Rattle.topology.specs.declared.status.Reason.{Reason}
 use Rattle.std.specs.Rc.{rc_value}
 use Rattle.trigger_log.specs.Going.{Going, going_of}
 use Rattle.incomplete_closure.specs.declared.values.Value.{Value}
@@ -70,6 +71,11 @@ outputs (f ∷ past) = outputs past ++ output_by f past
 -- the list has what was handed out between the two
 abbrev pub Hands : Chronicle → List Given → Chronicle → Type 0
 Hands first list now = outputs first ++ map output_of list ≡ outputs now
+
+-- what an input came to: the reason for which nothing was done, where there is one, and else the outputs
+abbrev pub told_by : Option Reason → List Given → Outputs
+told_by None list = Did list
+told_by (Some reason) list = Declines reason
 
 -- the answer is that of the step: a reason, or the outputs that are new
 abbrev pub Answers : Chronicle → Step → Outputs → Type 0

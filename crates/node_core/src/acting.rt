@@ -22,7 +22,7 @@ ghost use Rattle.node_core.specs.Standing.{StandsFor};
 
 use crate::deciding::Act;
 use crate::node::Node;
-use crate::outputs::{Entered, Output, OutputList};
+use crate::outputs::{Output, OutputList};
 use path_vector::{Cause, Policy};
 use topology::{Item, NoMemory, NodeId, Scope, Session, Trigger};
 use trigger_log::{NodeLog, Outgoing};
@@ -75,10 +75,8 @@ impl<P: Policy + Copy> Node<P> {
             (write (P.rules policy) net carried u (entry (trigger ∷ []) scope cause) past)) }
     {
         let Node { log, mut parts } = self;
-        let (log, sent) = NodeLog::append_boxed(log, &parts.topology, trigger, scope, cause)?;
+        let log = outputs.enter(log, &parts.topology, trigger, scope, cause)?;
         parts.updates = more(parts.updates, &log)?;
-        let index = log.len();
-        outputs.enter(Entered { index, sent })?;
         Ok(Node { log, parts })
     }
 

@@ -23,7 +23,7 @@ mod reports;
 pub use agreement::Agreement;
 pub use inputs::Input;
 pub use node::Node;
-pub use outputs::{Entered, Output, OutputList, Outputs, Stop};
+pub use outputs::{First, Output, OutputList, Outputs, Stop};
 #[doc(hidden)]
 pub use parts::NodeParts;
 

@@ -15,7 +15,7 @@ ghost use Rattle.chronicle.specs.Steps.{Carried};
 ghost use Rattle.node_core.specs.Coming.{MayCome};
 ghost use Rattle.node_core.specs.Inputs.{input_of};
 ghost use Rattle.node_core.specs.NodeLimits.{node_limit, StopsAt};
-ghost use Rattle.node_core.specs.Outputs.{Answers};
+ghost use Rattle.node_core.specs.Outputs.{Answers, told_by};
 ghost use Rattle.node_core.specs.Standing.{HasSnapshots, StandsFor};
 ghost use Rattle.node_core.specs.Views.{views};
 
@@ -32,7 +32,7 @@ use path_vector::Policy;
 use stable_table::TwoTables;
 use std::alloc::Global;
 use std::rc::Rc;
-use topology::{Epoch, NoMemory, NodeId, Topology};
+use topology::{Epoch, NoMemory, NodeId, Reason, Topology};
 use trigger_log::NodeLog;
 
 /// One node of a network: its log, its snapshots, its part in the agreement on the value of each epoch, and its
@@ -78,7 +78,6 @@ impl<P: Policy + Copy> Node<P> {
     /// was. A table that the input completes is published last. It stops at a limit exactly where the input would take
     /// a count of its own above its number, or have it propose a value with more triggers than one may have, unless
     /// memory is wanted first. Which links carry what it sends changes nothing of what it answers.
-    #[inline(always)]
     pub fn handle(self, input: Input) -> Result<(Node<P>, Outputs), Stop>
         ensures node { IfOk result (λ r. (policy : P) (net : Net) (u : ℕ) (carried : Carried) (past : Chronicle) →
             StandsFor policy (P.rules policy) net u self past → MayCome net u (input_of input) →
@@ -91,17 +90,43 @@ impl<P: Policy + Copy> Node<P> {
             StopsAt (node_limit (P.rules policy) net u (give (P.rules policy) net carried u past (input_of input))) stop) }
     {
         let mut outputs = OutputList::new(self.parts.alloc);
-        let (node, answer) = self.answer(input, &mut outputs)?;
+        let (node, idle) = self.handle_into(input, &mut outputs)?;
+        match idle {
+            None => Ok((node, Outputs::Did(outputs))),
+            Some(reason) => Ok((node, Outputs::Idle(reason))),
+        }
+    }
+
+    /// The same, with the outputs in this list, in the place of whatever was in it: its memory is used again. Where the
+    /// node does nothing, the reason is answered. What is in the list after a stop means nothing.
+    #[inline(always)]
+    pub fn handle_into(
+        self,
+        input: Input,
+        outputs: &mut OutputList,
+    ) -> Result<(Node<P>, Option<Reason>), Stop>
+        ensures node { IfOk result (λ r. (policy : P) (net : Net) (u : ℕ) (carried : Carried) (past : Chronicle) →
+            StandsFor policy (P.rules policy) net u self past → MayCome net u (input_of input) →
+            StandsFor policy (P.rules policy) net u r.0 (chronicle_of past (give (P.rules policy) net carried u past (input_of input)))) }
+        ensures outputs { IfOk result (λ r. (policy : P) (net : Net) (u : ℕ) (carried : Carried) (past : Chronicle) →
+            StandsFor policy (P.rules policy) net u self past → MayCome net u (input_of input) →
+            Answers past (give (P.rules policy) net carried u past (input_of input)) (told_by r.1 outputs.new)) }
+        ensures stopped { IfErr result (λ stop. (policy : P) (net : Net) (u : ℕ) (carried : Carried) (past : Chronicle) →
+            StandsFor policy (P.rules policy) net u self past → MayCome net u (input_of input) →
+            StopsAt (node_limit (P.rules policy) net u (give (P.rules policy) net carried u past (input_of input))) stop) }
+    {
+        outputs.clear();
+        let (node, answer) = self.answer(input, outputs)?;
         let due = match answer {
             Answer::Did(due) => due,
-            Answer::Idle(reason) => return Ok((node, Outputs::Idle(reason))),
+            Answer::Idle(reason) => return Ok((node, Some(reason))),
         };
         let mut node = node;
-        node.conclude(due, &mut outputs)?;
+        node.conclude(due, outputs)?;
         if let Some(stop) = node.limit() {
             return Err(stop);
         }
-        Ok((node, Outputs::Did(outputs)))
+        Ok((node, None))
     }
 
     /// The number of the node.

@@ -1,17 +1,26 @@
 //! What a node hands out.
-ghost use Rattle.std.specs.Prelude.{◌≡◌, [], ◌∷◌, ◌++◌, Some, map, IfOk, OnOk};
+ghost use Rattle.std.specs.Prelude.{ℕ, suc, ◌≡◌, ◌↔◌, [], ◌∷◌, ◌++◌, Some, List, length, map, IsTrue, IfOk, OnOk};
+ghost use Rattle.path_vector.specs.Kept.{IsOfNeighbour};
+ghost use Rattle.trigger_log.specs.Entries.{Entry as Logged, entry};
+ghost use Rattle.trigger_log.specs.Fits.{CauseFits};
+ghost use Rattle.trigger_log.specs.Going.{going_by};
+ghost use Rattle.trigger_log.specs.Offered.{IsPlaced};
+ghost use Rattle.trigger_log.specs.Standing.{StandsFor as LogStandsFor};
 ghost use Rattle.node_core.specs.Entries.{first_of};
-ghost use Rattle.node_core.specs.declared.outputs.Output.TheVariants.{Send};
+ghost use Rattle.node_core.specs.Firsts.{seen_first};
+ghost use Rattle.node_core.specs.Outputs.{Logged as Enters, Send as Sends, output_of};
 ghost use Rattle.node_core.specs.declared.outputs.Stop.TheVariants.{NoMemory};
 
 use consolidator::Mail;
 use epoch_packet::{End, Packet};
+use path_vector::{Cause, Policy};
 use stable_table::Table;
 use std::alloc::Global;
 use std::marker::Model;
+use std::mem;
 use std::rc::Rc;
-use topology::{Epoch, LimitKind, NoMemory, NodeId, Reason};
-use trigger_log::Outgoing;
+use topology::{Epoch, LimitKind, NoMemory, NodeId, Reason, Scope, Topology, Trigger};
+use trigger_log::{NodeLog, Outgoing};
 
 /// Something that a node did, in the order in which it did it.
 #[derive(Debug, Drop)]
@@ -33,22 +42,27 @@ pub enum Output {
     Ended { id: u32, end: End },
 }
 
-/// An entry, and what goes out with it.
-#[derive(Debug, Drop)]
-pub struct Entered {
-    /// The log has this many entries now.
-    pub index: u32,
-    /// The items for neighbours, in their order.
-    pub sent: Vec<Outgoing>,
-}
-
 /// The outputs of one input, the oldest first. Most inputs come to an entry and what goes out with it: these stand as the
-/// log handed them out, and other outputs behind them.
+/// log handed them out, and other outputs behind them. The memory of a list is used again for the next input.
 #[derive(Debug, Drop)]
 pub struct OutputList {
     alloc: Global,
-    entered: Option<Entered>,
+    // So many entries the log has, where an entry stands first.
+    logged: Option<u32>,
+    // What goes out with that entry. Where none stands first, what is in this list means nothing.
+    sent: Vec<Outgoing>,
     more: Vec<Output>,
+}
+
+/// What stands first in a list of outputs.
+#[derive(Debug, Drop)]
+pub enum First {
+    /// No entry.
+    Nothing,
+    /// An entry with which nothing goes out: the log has so many entries now.
+    Quiet(u32),
+    /// The same with what goes out with it.
+    Telling(u32, Vec<Outgoing>),
 }
 
 impl Model for OutputList {
@@ -58,26 +72,18 @@ impl Model for OutputList {
 
     ghost Value = { List Output };
 
-    ghost view = { λ o. first_of o.entered ++ o.more.items };
+    ghost view = { λ o. first_of o.logged o.sent.items ++ o.more.items };
 }
 
-// Adds what goes out, in its order.
-fn send_all(list: Vec<Outgoing>, outputs: &mut Vec<Output>) -> Result<(), NoMemory>
-    ensures { OnOk result (outputs.new.items ≡ outputs.old.items ++ map (λ out. Send out) list.items) }
+// Adds an entry and what goes out with it, in its order.
+fn enter_all(index: u32, sent: Vec<Outgoing>, outputs: &mut Vec<Output>) -> Result<(), NoMemory>
+    ensures { OnOk result (outputs.new.items ≡ outputs.old.items ++ first_of (Some index) sent.items) }
 {
-    for out in list {
+    outputs.push(Output::Logged { index })?;
+    for out in sent {
         outputs.push(Output::Send(out))?;
     }
     Ok(())
-}
-
-// Adds an entry and what goes out with it.
-fn enter_all(entered: Entered, outputs: &mut Vec<Output>) -> Result<(), NoMemory>
-    ensures { OnOk result (outputs.new.items ≡ outputs.old.items ++ first_of (Some entered)) }
-{
-    let Entered { index, sent } = entered;
-    outputs.push(Output::Logged { index })?;
-    send_all(sent, outputs)
 }
 
 impl OutputList {
@@ -87,9 +93,30 @@ impl OutputList {
     {
         OutputList {
             alloc,
-            entered: None,
+            logged: None,
+            sent: Vec::new(alloc),
             more: Vec::new(alloc),
         }
+    }
+
+    /// Whether there are none. Takes no memory.
+    #[inline(always)]
+    pub fn is_empty(&self) -> bool
+        ensures { IsTrue result ↔ (self.now ≡ []) }
+    {
+        self.logged.is_none() && self.more.is_empty()
+    }
+
+    /// No outputs any more. Takes no memory.
+    #[inline(always)]
+    pub(crate) fn clear(&mut self)
+        ensures { self.new ≡ [] }
+    {
+        if self.is_empty() {
+            return;
+        }
+        self.logged = None;
+        self.more.clear();
     }
 
     /// Adds an output.
@@ -100,23 +127,83 @@ impl OutputList {
         Ok(())
     }
 
-    /// Adds an entry and what goes out with it.
+    /// The log makes an entry, which fits it: the entry is added, and what goes out with it.
     #[inline(always)]
-    pub(crate) fn enter(&mut self, entered: Entered) -> Result<(), NoMemory>
-        ensures { OnOk result (self.new ≡ self.old ++ first_of (Some entered)) }
+    pub(crate) fn enter<P: Policy + Copy>(
+        &mut self,
+        log: Box<NodeLog<P>>,
+        topology: &Topology,
+        trigger: Trigger,
+        scope: Scope,
+        cause: Cause,
+    ) -> Result<Box<NodeLog<P>>, NoMemory>
+        ensures log { IfOk result (λ longer. (policy : P) (u : ℕ) (h : List Logged) →
+            LogStandsFor policy (P.rules policy) topology.now u log.value h → IsOfNeighbour topology.now u cause →
+            IsPlaced topology.now scope → CauseFits h scope cause →
+            LogStandsFor policy (P.rules policy) topology.now u longer.value (entry (trigger ∷ []) scope cause ∷ h)) }
+        ensures outputs { OnOk result ((policy : P) (u : ℕ) (h : List Logged) →
+            LogStandsFor policy (P.rules policy) topology.now u log.value h → IsOfNeighbour topology.now u cause →
+            IsPlaced topology.now scope → CauseFits h scope cause →
+            map output_of self.new ≡ map output_of self.old
+            ++ Enters (suc (length h)) ∷ map Sends (going_by (P.rules policy) topology.now u h (entry (trigger ∷ []) scope cause))) }
     {
-        if self.entered.is_some() || !self.more.is_empty() {
-            return enter_all(entered, &mut self.more);
+        if !self.is_empty() {
+            return Ok(self.enter_behind(log, topology, trigger, scope, cause)?);
         }
-        self.entered = Some(entered);
-        Ok(())
+        let longer = NodeLog::append_boxed(log, topology, trigger, scope, cause, &mut self.sent)?;
+        self.logged = Some(longer.len());
+        Ok(longer)
     }
 
-    /// The entry that stands first, if one does, and the other outputs. Takes no memory.
-    pub fn into_parts(self) -> (Option<Entered>, Vec<Output>)
-        ensures { first_of result.0 ++ result.1.items ≡ self }
+    // The same behind other outputs.
+    #[inline(never)]
+    fn enter_behind<P: Policy + Copy>(
+        &mut self,
+        log: Box<NodeLog<P>>,
+        topology: &Topology,
+        trigger: Trigger,
+        scope: Scope,
+        cause: Cause,
+    ) -> Result<Box<NodeLog<P>>, NoMemory>
+        ensures log { IfOk result (λ longer. (policy : P) (u : ℕ) (h : List Logged) →
+            LogStandsFor policy (P.rules policy) topology.now u log.value h → IsOfNeighbour topology.now u cause →
+            IsPlaced topology.now scope → CauseFits h scope cause →
+            LogStandsFor policy (P.rules policy) topology.now u longer.value (entry (trigger ∷ []) scope cause ∷ h)) }
+        ensures outputs { OnOk result ((policy : P) (u : ℕ) (h : List Logged) →
+            LogStandsFor policy (P.rules policy) topology.now u log.value h → IsOfNeighbour topology.now u cause →
+            IsPlaced topology.now scope → CauseFits h scope cause →
+            map output_of self.new ≡ map output_of self.old
+            ++ Enters (suc (length h)) ∷ map Sends (going_by (P.rules policy) topology.now u h (entry (trigger ∷ []) scope cause))) }
     {
-        (self.entered, self.more)
+        let mut sent = Vec::new(self.alloc);
+        let longer = NodeLog::append_boxed(log, topology, trigger, scope, cause, &mut sent)?;
+        enter_all(longer.len(), sent, &mut self.more)?;
+        Ok(longer)
+    }
+
+    /// Takes what stands first, if it is an entry. Takes no memory.
+    #[inline(always)]
+    pub fn take_first(&mut self) -> First
+        ensures { self.old ≡ seen_first result ++ self.new }
+    {
+        let Some(index) = self.logged else {
+            return First::Nothing;
+        };
+        self.logged = None;
+        if self.sent.is_empty() {
+            return First::Quiet(index);
+        }
+        First::Telling(index, mem::replace(&mut self.sent, Vec::new(self.alloc)))
+    }
+
+    /// Keeps the memory of this list for the next entry. What is in it means nothing.
+    #[inline(always)]
+    pub fn reuse(&mut self, list: Vec<Outgoing>)
+        ensures { self.new ≡ self.old }
+    {
+        if self.logged.is_none() {
+            self.sent = list;
+        }
     }
 
     /// All outputs, one by one.
@@ -125,14 +212,15 @@ impl OutputList {
     {
         let OutputList {
             alloc,
-            entered,
+            logged,
+            sent,
             mut more,
         } = self;
-        let Some(entered) = entered else {
+        let Some(index) = logged else {
             return Ok(more);
         };
         let mut list = Vec::new(alloc);
-        enter_all(entered, &mut list)?;
+        enter_all(index, sent, &mut list)?;
         list.append(&mut more)?;
         Ok(list)
     }

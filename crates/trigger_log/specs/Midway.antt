@@ -5,7 +5,6 @@ use Rattle.path_vector.specs.declared.state.RouteState.{RouteState}
 use Rattle.path_vector.specs.Standing.{StandsFor as RoutesStandFor}
 use Rattle.trigger_log.specs.declared.log.NodeLog.{NodeLog}
 use Rattle.trigger_log.specs.declared.offers.Offer.{Offer}
-use Rattle.trigger_log.specs.declared.outgoing.Outgoing.{Outgoing}
 use Rattle.trigger_log.specs.Entries.{reads}
 use Rattle.trigger_log.specs.Fits.{CauseFits}
 use Rattle.trigger_log.specs.Going.{going_of, going_by}
@@ -27,7 +26,7 @@ pub record AreOffers (m : Making) (before after : List Offer) : Type 0 where
   pub chosen_before : AreChosen m.rules m.net m.node (reads m.before) before
   pub chosen_after : AreChosen m.rules m.net m.node (m.entry.read ∷ reads m.before) after
 
--- the log is that of the entries with the new one, and these are what goes out with it
-pub record IsMade {P : Type 0} (policy : P) (m : Making) (log : NodeLog P) (out : List Outgoing) : Type 0 where
+-- the log is that of the entries with the new one, and what it said is what goes out with that
+pub record IsMade {P : Type 0} (policy : P) (m : Making) (log : NodeLog P) : Type 0 where
   pub stands : StandsFor policy m.rules m.net m.node log (m.entry ∷ m.before)
-  pub goes : map going_of out ≡ going_by m.rules m.net m.node m.before m.entry
+  pub goes : map going_of log.said.outgoing.items ≡ going_by m.rules m.net m.node m.before m.entry

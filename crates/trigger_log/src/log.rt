@@ -1,5 +1,5 @@
 //! The log of a node.
-ghost use Rattle.std.specs.Prelude.{ℕ, suc, ◌≡◌, ◌<◌, ◌≤◌, ◌⊎◌, ◌↔◌, ◌-◌, [], ◌∷◌, ◌++◌, true, List, length, map, slice_get, is_some, Some, None, false, IsTrue, IsNone, IfOk, IfSome, IfNone, OnOk, if◌then◌else◌};
+ghost use Rattle.std.specs.Prelude.{ℕ, suc, ◌≡◌, ◌<◌, ◌≤◌, ◌⊎◌, ◌↔◌, ◌-◌, [], ◌∷◌, ◌++◌, true, List, length, map, slice_get, is_some, Some, None, false, IsTrue, IsNone, IfOk, IfSome, IfNone, OnOk, OnErr, if◌then◌else◌};
 ghost use Rattle.std.specs.List.{AllZip};
 ghost use Rattle.topology.specs.Lists.{has};
 ghost use Rattle.topology.specs.Net.{Net, neighbours};
@@ -24,15 +24,15 @@ use crate::counting::next_number;
 use crate::entries::Entry;
 use crate::marking::mark;
 use crate::offers::{Offer, offer_of, offers_again, offers_by, offers_for, offers_of};
-use crate::outgoing::Outgoing;
+use crate::outgoing::{Outgoing, forget};
 use crate::quiet::{same_offer, same_offers, stays};
 use crate::sessions::{SessionMark, Sessions};
-use crate::telling::Turn;
+use crate::telling::{Said, Turn};
 use crate::turns::tell_all;
 use path_vector::{Cause, Policy, RouteState};
 use std::alloc::Global;
 use std::{mem, slice};
-use topology::{NoMemory, NodeId, PrefixId, Scope, Sent, SentItems, Session, Topology, Trigger};
+use topology::{NoMemory, NodeId, PrefixId, Scope, SentItems, Session, Topology, Trigger};
 
 // The room that a log is made with: as many entries as a node may make, so that a log that grows is not copied. Memory
 // that is not touched costs nothing.
@@ -49,8 +49,8 @@ pub struct NodeLog<P: Policy + Copy> {
     entries: Vec<Entry>,
     len: u32,
     next_count: u32,
-    // A list for what an entry sends, used again for each: what is in it means nothing.
-    scratch: Vec<Sent>,
+    // What an entry says, in lists that are used again for each: what is in them means nothing.
+    said: Said,
 }
 
 // An equal scope.
@@ -88,7 +88,7 @@ impl<P: Policy + Copy> NodeLog<P> {
             entries: Vec::with_capacity(alloc, ROOM)?,
             len: 0,
             next_count: 1,
-            scratch: Vec::new(alloc),
+            said: Said::new(alloc),
         })
     }
 
@@ -130,35 +130,39 @@ impl<P: Policy + Copy> NodeLog<P> {
             SendsWhatIsDue (P.rules policy) topology.now u h (entry (trigger ∷ []) scope cause) (map going_of r.1.items)) }
     {
         let mut log = self;
-        let outgoing = log.enter(topology, trigger, scope, cause)?;
+        let mut outgoing = Vec::new(log.alloc);
+        log.enter(topology, trigger, scope, cause, &mut outgoing)?;
         Ok((log, outgoing))
     }
 
-    /// The same of a log behind a box. The log stays where it is: nothing of it is copied. It has to fit the
-    /// entries before: of a log with another entry nothing is promised.
+    /// The same of a log behind a box. The log stays where it is: nothing of it is copied. What goes out stands in the
+    /// list, in the place of whatever was in it. The entry has to fit the entries before: of a log with another entry
+    /// nothing is promised.
     pub fn append_boxed(
         log: Box<NodeLog<P>>,
         topology: &Topology,
         trigger: Trigger,
         scope: Scope,
         cause: Cause,
-    ) -> Result<(Box<NodeLog<P>>, Vec<Outgoing>), NoMemory>
-        ensures log { IfOk result (λ r. (policy : P) (u : ℕ) (h : List Logged) →
+        outgoing: &mut Vec<Outgoing>,
+    ) -> Result<Box<NodeLog<P>>, NoMemory>
+        ensures log { IfOk result (λ longer. (policy : P) (u : ℕ) (h : List Logged) →
             StandsFor policy (P.rules policy) topology.now u log.value h → IsOfNeighbour topology.now u cause →
             IsPlaced topology.now scope → CauseFits h scope cause →
-            StandsFor policy (P.rules policy) topology.now u r.0.value (entry (trigger ∷ []) scope cause ∷ h)) }
-        ensures outgoing { IfOk result (λ r. (policy : P) (u : ℕ) (h : List Logged) →
+            StandsFor policy (P.rules policy) topology.now u longer.value (entry (trigger ∷ []) scope cause ∷ h)) }
+        ensures outgoing { OnOk result ((policy : P) (u : ℕ) (h : List Logged) →
             StandsFor policy (P.rules policy) topology.now u log.value h → IsOfNeighbour topology.now u cause →
             IsPlaced topology.now scope → CauseFits h scope cause →
-            map going_of r.1.items ≡ going_by (P.rules policy) topology.now u h (entry (trigger ∷ []) scope cause)) }
-        ensures due { IfOk result (λ r. (policy : P) (u : ℕ) (h : List Logged) →
+            map going_of outgoing.new.items ≡ going_by (P.rules policy) topology.now u h (entry (trigger ∷ []) scope cause)) }
+        ensures due { OnOk result ((policy : P) (u : ℕ) (h : List Logged) →
             StandsFor policy (P.rules policy) topology.now u log.value h → IsOfNeighbour topology.now u cause →
             IsPlaced topology.now scope → CauseFits h scope cause →
-            SendsWhatIsDue (P.rules policy) topology.now u h (entry (trigger ∷ []) scope cause) (map going_of r.1.items)) }
+            SendsWhatIsDue (P.rules policy) topology.now u h (entry (trigger ∷ []) scope cause) (map going_of outgoing.new.items)) }
+        ensures err { OnErr result (outgoing.new ≡ outgoing.old) }
     {
         let mut longer = log;
-        let outgoing = longer.enter(topology, trigger, scope, cause)?;
-        Ok((longer, outgoing))
+        longer.enter(topology, trigger, scope, cause, outgoing)?;
+        Ok(longer)
     }
 
     /// The trigger that the next local entry gets.
@@ -296,21 +300,26 @@ impl<P: Policy + Copy> NodeLog<P> {
         trigger: Trigger,
         scope: Scope,
         cause: Cause,
-    ) -> Result<Vec<Outgoing>, NoMemory>
+        outgoing: &mut Vec<Outgoing>,
+    ) -> Result<(), NoMemory>
         ensures log { OnOk result ((policy : P) (u : ℕ) (h : List Logged) →
             StandsFor policy (P.rules policy) topology.now u self.old h → IsOfNeighbour topology.now u cause →
             IsPlaced topology.now scope → CauseFits h scope cause →
             StandsFor policy (P.rules policy) topology.now u self.new (entry (trigger ∷ []) scope cause ∷ h)) }
-        ensures outgoing { IfOk result (λ outgoing. (policy : P) (u : ℕ) (h : List Logged) →
+        ensures outgoing { OnOk result ((policy : P) (u : ℕ) (h : List Logged) →
             StandsFor policy (P.rules policy) topology.now u self.old h → IsOfNeighbour topology.now u cause →
             IsPlaced topology.now scope → CauseFits h scope cause →
-            map going_of outgoing.items ≡ going_by (P.rules policy) topology.now u h (entry (trigger ∷ []) scope cause)) }
+            map going_of outgoing.new.items ≡ going_by (P.rules policy) topology.now u h (entry (trigger ∷ []) scope cause)) }
+        ensures err { OnErr result (outgoing.new ≡ outgoing.old) }
     {
         if stays(&self.routes, &scope, &cause) {
             self.enter_quietly(trigger, scope, cause)?;
-            return Ok(Vec::new(self.alloc));
+            forget(outgoing);
+            return Ok(());
         }
-        Ok(self.enter_aloud(topology, trigger, scope, cause)?)
+        self.enter_aloud(topology, trigger, scope, cause)?;
+        mem::swap(&mut self.said.outgoing, outgoing);
+        Ok(())
     }
 
     // An entry that has nothing to tell.
@@ -347,15 +356,15 @@ impl<P: Policy + Copy> NodeLog<P> {
         trigger: Trigger,
         scope: Scope,
         cause: Cause,
-    ) -> Result<Vec<Outgoing>, NoMemory>
+    ) -> Result<(), NoMemory>
         ensures log { OnOk result ((policy : P) (u : ℕ) (h : List Logged) →
             StandsFor policy (P.rules policy) topology.now u self.old h → IsOfNeighbour topology.now u cause →
             IsPlaced topology.now scope → CauseFits h scope cause →
             StandsFor policy (P.rules policy) topology.now u self.new (entry (trigger ∷ []) scope cause ∷ h)) }
-        ensures outgoing { IfOk result (λ outgoing. (policy : P) (u : ℕ) (h : List Logged) →
+        ensures outgoing { OnOk result ((policy : P) (u : ℕ) (h : List Logged) →
             StandsFor policy (P.rules policy) topology.now u self.old h → IsOfNeighbour topology.now u cause →
             IsPlaced topology.now scope → CauseFits h scope cause →
-            map going_of outgoing.items ≡ going_by (P.rules policy) topology.now u h (entry (trigger ∷ []) scope cause)) }
+            map going_of self.new.said.outgoing.items ≡ going_by (P.rules policy) topology.now u h (entry (trigger ∷ []) scope cause)) }
     {
         match scope {
             Scope::One(prefix) => Ok(self.enter_one(prefix, trigger, cause)?),
@@ -370,15 +379,15 @@ impl<P: Policy + Copy> NodeLog<P> {
         prefix: PrefixId,
         trigger: Trigger,
         cause: Cause,
-    ) -> Result<Vec<Outgoing>, NoMemory>
+    ) -> Result<(), NoMemory>
         ensures log { OnOk result ((policy : P) (net : Net) (u : ℕ) (h : List Logged) →
             StandsFor policy (P.rules policy) net u self.old h → IsOfNeighbour net u cause →
             prefix < length net.prefixes → CauseFits h (One prefix) cause →
             StandsFor policy (P.rules policy) net u self.new (entry (trigger ∷ []) (One prefix) cause ∷ h)) }
-        ensures outgoing { IfOk result (λ outgoing. (policy : P) (net : Net) (u : ℕ) (h : List Logged) →
+        ensures outgoing { OnOk result ((policy : P) (net : Net) (u : ℕ) (h : List Logged) →
             StandsFor policy (P.rules policy) net u self.old h → IsOfNeighbour net u cause →
             prefix < length net.prefixes → CauseFits h (One prefix) cause →
-            map going_of outgoing.items ≡ going_by (P.rules policy) net u h (entry (trigger ∷ []) (One prefix) cause)) }
+            map going_of self.new.said.outgoing.items ≡ going_by (P.rules policy) net u h (entry (trigger ∷ []) (One prefix) cause)) }
     {
         let before = offer_of(&self.routes, prefix)?;
         self.routes.apply(Scope::One(prefix), &cause)?;
@@ -396,15 +405,15 @@ impl<P: Policy + Copy> NodeLog<P> {
         topology: &Topology,
         trigger: Trigger,
         cause: Cause,
-    ) -> Result<Vec<Outgoing>, NoMemory>
+    ) -> Result<(), NoMemory>
         ensures log { OnOk result ((policy : P) (u : ℕ) (h : List Logged) →
             StandsFor policy (P.rules policy) topology.now u self.old h → IsOfNeighbour topology.now u cause →
             CauseFits h All cause →
             StandsFor policy (P.rules policy) topology.now u self.new (entry (trigger ∷ []) All cause ∷ h)) }
-        ensures outgoing { IfOk result (λ outgoing. (policy : P) (u : ℕ) (h : List Logged) →
+        ensures outgoing { OnOk result ((policy : P) (u : ℕ) (h : List Logged) →
             StandsFor policy (P.rules policy) topology.now u self.old h → IsOfNeighbour topology.now u cause →
             CauseFits h All cause →
-            map going_of outgoing.items ≡ going_by (P.rules policy) topology.now u h (entry (trigger ∷ []) All cause)) }
+            map going_of self.new.said.outgoing.items ≡ going_by (P.rules policy) topology.now u h (entry (trigger ∷ []) All cause)) }
     {
         if let Cause::Ready { nbr, session } = cause {
             return Ok(self.enter_ready(topology, trigger, nbr, session)?);
@@ -426,15 +435,15 @@ impl<P: Policy + Copy> NodeLog<P> {
         trigger: Trigger,
         nbr: NodeId,
         session: Session,
-    ) -> Result<Vec<Outgoing>, NoMemory>
+    ) -> Result<(), NoMemory>
         ensures log { OnOk result ((policy : P) (u : ℕ) (h : List Logged) →
             StandsFor policy (P.rules policy) topology.now u self.old h → IsOfNeighbour topology.now u (Ready nbr session) →
             CauseFits h All (Ready nbr session) →
             StandsFor policy (P.rules policy) topology.now u self.new (entry (trigger ∷ []) All (Ready nbr session) ∷ h)) }
-        ensures outgoing { IfOk result (λ outgoing. (policy : P) (u : ℕ) (h : List Logged) →
+        ensures outgoing { OnOk result ((policy : P) (u : ℕ) (h : List Logged) →
             StandsFor policy (P.rules policy) topology.now u self.old h → IsOfNeighbour topology.now u (Ready nbr session) →
             CauseFits h All (Ready nbr session) →
-            map going_of outgoing.items ≡ going_by (P.rules policy) topology.now u h (entry (trigger ∷ []) All (Ready nbr session))) }
+            map going_of self.new.said.outgoing.items ≡ going_by (P.rules policy) topology.now u h (entry (trigger ∷ []) All (Ready nbr session))) }
     {
         let cause = Cause::Ready { nbr, session };
         self.routes.apply(Scope::All, &cause)?;
@@ -450,15 +459,15 @@ impl<P: Policy + Copy> NodeLog<P> {
         trigger: Trigger,
         nbr: NodeId,
         session: Session,
-    ) -> Result<Vec<Outgoing>, NoMemory>
+    ) -> Result<(), NoMemory>
         ensures log { OnOk result ((policy : P) (u : ℕ) (h : List Logged) →
             StandsFor policy (P.rules policy) topology.now u self.old h → IsOfNeighbour topology.now u (Down nbr session) →
             CauseFits h All (Down nbr session) →
             StandsFor policy (P.rules policy) topology.now u self.new (entry (trigger ∷ []) All (Down nbr session) ∷ h)) }
-        ensures outgoing { IfOk result (λ outgoing. (policy : P) (u : ℕ) (h : List Logged) →
+        ensures outgoing { OnOk result ((policy : P) (u : ℕ) (h : List Logged) →
             StandsFor policy (P.rules policy) topology.now u self.old h → IsOfNeighbour topology.now u (Down nbr session) →
             CauseFits h All (Down nbr session) →
-            map going_of outgoing.items ≡ going_by (P.rules policy) topology.now u h (entry (trigger ∷ []) All (Down nbr session))) }
+            map going_of self.new.said.outgoing.items ≡ going_by (P.rules policy) topology.now u h (entry (trigger ∷ []) All (Down nbr session))) }
     {
         let cause = Cause::Down { nbr, session };
         let before = offers_by(self.alloc, &self.routes, topology, nbr)?;
@@ -478,13 +487,13 @@ impl<P: Policy + Copy> NodeLog<P> {
         before: &[Offer],
         after: &[Offer],
         same: &[bool],
-    ) -> Result<Vec<Outgoing>, NoMemory>
+    ) -> Result<(), NoMemory>
         requires same_prefixes { prefixes_of before.now ≡ prefixes_of after.now }
         requires same { AreSame before.now after.now same.now }
-        ensures { IfOk result (λ outgoing. (policy : P) (net : Net) (u : ℕ) (h : List Logged) (routes : RouteState P) →
+        ensures { OnOk result ((policy : P) (net : Net) (u : ℕ) (h : List Logged) (routes : RouteState P) →
             IsMidway policy (making (P.rules policy) net u h (entry (trigger ∷ []) scope cause)) routes self.old →
             AreOffers (making (P.rules policy) net u h (entry (trigger ∷ []) scope cause)) before.now after.now →
-            IsMade policy (making (P.rules policy) net u h (entry (trigger ∷ []) scope cause)) self.new outgoing.items) }
+            IsMade policy (making (P.rules policy) net u h (entry (trigger ∷ []) scope cause)) self.new) }
     {
         mark(&mut self.sessions, &trigger, &cause)?;
         let turn = Turn {
@@ -494,17 +503,15 @@ impl<P: Policy + Copy> NodeLog<P> {
             after,
             same,
         };
-        let list = mem::replace(&mut self.scratch, Vec::new(self.alloc));
-        let said = tell_all(self.alloc, &self.routes, &mut self.sessions, &turn, list)?;
-        let sent = SentItems::of(self.alloc, &said.sent)?;
-        self.scratch = said.sent;
+        tell_all(&self.routes, &mut self.sessions, &turn, &mut self.said)?;
+        let sent = SentItems::of(self.alloc, &self.said.sent)?;
         self.keep(Entry {
             trigger,
             scope,
             cause,
             sent,
         })?;
-        Ok(said.outgoing)
+        Ok(())
     }
 
     // Keeps the entry, and counts it.
@@ -513,6 +520,7 @@ impl<P: Policy + Copy> NodeLog<P> {
         ensures node { OnOk result (self.new.node ≡ self.old.node) }
         ensures routes { OnOk result (self.new.routes ≡ self.old.routes) }
         ensures sessions { OnOk result (self.new.sessions ≡ self.old.sessions) }
+        ensures said { OnOk result (self.new.said ≡ self.old.said) }
         ensures count { OnOk result (self.new.len ≡ suc self.old.len) }
         ensures next { OnOk result (self.new.next_count
             ≡ (if is_local entry.cause then suc self.old.next_count else self.old.next_count)) }

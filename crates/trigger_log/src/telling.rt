@@ -16,7 +16,7 @@ ghost use Rattle.trigger_log.specs.Telling.{TellsUpdates, silence, speech_of, up
 
 use crate::counting::next_number;
 use crate::offers::Offer;
-use crate::outgoing::Outgoing;
+use crate::outgoing::{Outgoing, forget};
 use path_vector::{Cause, Policy, RouteState};
 use std::alloc::Global;
 use topology::{Item, NoMemory, NodeId, Path, PrefixId, Sent, Session, Trigger};
@@ -54,7 +54,8 @@ fn copy(path: Option<&Path>) -> Result<Option<Path>, NoMemory>
     }
 }
 
-/// What an entry says: the items that it lists, and what goes out with it.
+/// What an entry says: the items that it lists, and what goes out with it. The memory of both lists is used again for
+/// the next entry.
 #[derive(Drop)]
 pub struct Said {
     pub sent: Vec<Sent>,
@@ -62,26 +63,20 @@ pub struct Said {
 }
 
 impl Said {
-    /// Nothing, in the memory of this list. Takes no other.
-    pub fn nothing(alloc: Global, list: Vec<Sent>) -> Said
-        ensures { speech_of result ≡ silence }
-    {
-        let mut sent = list;
-        sent.clear();
+    /// Nothing. Takes no memory.
+    pub fn new(alloc: Global) -> Said {
         Said {
-            sent,
+            sent: Vec::new(alloc),
             outgoing: Vec::new(alloc),
         }
     }
 
-    /// Nothing yet, in the memory of this list, with room for this many items to go out.
-    pub fn with_room(alloc: Global, items: usize, list: Vec<Sent>) -> Result<Said, NoMemory>
-        ensures { IfOk result (λ said. speech_of said ≡ silence) }
+    /// Nothing again, whatever was said before.
+    pub fn clear(&mut self)
+        ensures { speech_of self.new ≡ silence }
     {
-        let mut sent = list;
-        sent.clear();
-        let outgoing = Vec::with_capacity(alloc, items)?;
-        Ok(Said { sent, outgoing })
+        self.sent.clear();
+        forget(&mut self.outgoing);
     }
 }
 

@@ -18,7 +18,6 @@ use crate::quiet::is_quiet;
 use crate::sessions::{SessionMark, Sessions};
 use crate::telling::{Listener, Said, Turn, tell};
 use path_vector::{Cause, Policy, RouteState};
-use std::alloc::Global;
 use topology::{NoMemory, NodeId, Sent};
 
 // Whether the entry ends a session with the neighbour.
@@ -135,27 +134,25 @@ fn tell_each<P: Policy + Copy>(
     Ok(())
 }
 
-/// What the entry says to each neighbour, ascending: it is counted in their sessions. Its items are listed in the memory
-/// of the list, whatever was in that. Nothing is looked at, and no memory taken, where the entry has nothing to say.
+/// What the entry says to each neighbour, ascending: it is counted in their sessions. It stands in the memory of what was
+/// said before. Nothing is looked at where the entry has nothing to say.
 pub fn tell_all<P: Policy + Copy>(
-    alloc: Global,
     routes: &RouteState<P>,
     sessions: &mut Sessions,
     turn: &Turn<'_>,
-    list: Vec<Sent>,
-) -> Result<Said, NoMemory>
+    said: &mut Said,
+) -> Result<(), NoMemory>
     requires same_prefixes { prefixes_of turn.now.before.now ≡ prefixes_of turn.now.after.now }
     requires same { AreSame turn.now.before.now turn.now.after.now turn.now.same.now }
-    ensures told { IfOk result (λ said. (policy : P) (net : Net) (u : ℕ) (h : List Entry) (k : Entry) →
+    ensures told { OnOk result ((policy : P) (net : Net) (u : ℕ) (h : List Entry) (k : Entry) →
         Enters policy (making (P.rules policy) net u h k) routes.now turn.now →
         ToldTo (making (P.rules policy) net u h k) 0 sessions.old.rows silence silence →
-        ToldTo (making (P.rules policy) net u h k) (length sessions.old.rows) sessions.new.rows silence (speech_of said)) }
+        ToldTo (making (P.rules policy) net u h k) (length sessions.old.rows) sessions.new.rows silence (speech_of said.new)) }
     ensures near { sessions.new.near ≡ sessions.old.near }
 {
+    said.clear();
     if is_quiet(turn) {
-        return Ok(Said::nothing(alloc, list));
+        return Ok(());
     }
-    let mut said = Said::with_room(alloc, sessions.len(), list)?;
-    tell_each(routes, sessions, turn, &mut said)?;
-    Ok(said)
+    Ok(tell_each(routes, sessions, turn, said)?)
 }

@@ -1,5 +1,6 @@
 -- The outputs of a node are what its facts show, one for each fact.
-use Rattle.std.proofs.Common.{ℕ, suc, true, is_some, Option, List, [], ◌∷◌, ◌++◌, ◌≡◌, refl, sym, ◌∙◌, ap, ap₂, subst, map, length, append_assoc}
+use Rattle.std.proofs.Common.{ℕ, suc, true, is_some, Option, Some, List, [], ◌∷◌, ◌++◌, ◌≡◌, refl, sym, ◌∙◌, ap, ap₂, subst, map, arith, drop, length, append_assoc}
+use Rattle.std.specs.Prelude.{option_to_list}
 use Rattle.std.proofs.lemmas.List.{append-nil, append_cancel_left}
 use Rattle.topology.specs.LinkStates.{carries}
 use Rattle.topology.specs.Lists.{has}
@@ -266,3 +267,12 @@ published_is net u past (Publish node d v ps) e value paths told shows =
     ap₂ (λ n c. Publish n c v ps) told epoch ∙ ap₂ (Publish u e) same has
 published_is net u past (Visit w packet) e value paths told shows = absurd (cc shows)
 published_is net u past (End id ending) e value paths told shows = absurd (cc shows)
+
+-- the first element was taken
+pub taken_one : {A : Type 0} (old new : List A) (taken : Option A) (x : A) → taken ≡ Some x → old ≡ option_to_list taken ++ new → old ≡ x ∷ new
+taken_one old new taken x some is = subst (λ t. old ≡ option_to_list t ++ new) some is
+
+-- a list that is as it was without its first element has none
+pub none_left : {A : Type 0} (xs : List A) → xs ≡ drop 1 xs → xs ≡ []
+none_left [] is = refl
+none_left (x ∷ xs) is = let shorter = ap length is in absurd (omega (arith, shorter))

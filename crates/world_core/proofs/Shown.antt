@@ -10,6 +10,7 @@ use Rattle.world_core.specs.declared.outcomes.Effect.TheVariants.{Queued, Lost}
 use Rattle.world_core.specs.Accounts.{AccountView}
 use Rattle.world_core.specs.Effects.{effects, effect_by}
 use Rattle.world_core.specs.declared.network.Network.{Network}
+use Rattle.node_core.specs.declared.outputs.Output.{Output as Given}
 use Rattle.world_core.specs.Happening.{AreSending, KeepsNodes, Since}
 use Rattle.world_core.specs.Matching.{Counts}
 use Rattle.world_core.specs.Telling.{AreTold, IsTold, shown}
@@ -56,6 +57,27 @@ keeps_on a b c first second = record {
   nodes = second.nodes ∙ first.nodes;
   crashed = second.crashed ∙ first.crashed;
   triggers = second.triggers ∙ first.triggers;
+}
+
+-- which outputs are still to be handed on is not asked
+pub sends_with : {P : Type 0} (away : ℕ → Bool) (first now : Chronicle) (counts : Counts) (network : Network P) (account : AccountView) (list : List Given)
+    → AreSending away first now counts network account → AreSending away first now counts (record network { outputs = list }) account
+sends_with away first now counts network account list was = record {
+  are_links = was.are_links;
+  are_mails = was.are_mails;
+  are_published = was.are_published;
+  are_walks = was.are_walks;
+  since = was.since;
+}
+
+-- nor of what stays
+pub keeps_with : {P : Type 0} (old new : Network P) (list : List Given) → KeepsNodes (record old { outputs = list }) new → KeepsNodes old new
+keeps_with old new list kept = record {
+  policy = kept.policy;
+  topology = kept.topology;
+  nodes = kept.nodes;
+  crashed = kept.crashed;
+  triggers = kept.triggers;
 }
 
 -- the one output that stands first was handed on

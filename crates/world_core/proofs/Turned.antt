@@ -1,6 +1,9 @@
 -- A list in which one element was taken out by a swap, and another put in its place.
-use Rattle.std.proofs.Common.{ℕ, zero, suc, ◌<◌, ◌+◌, ◌-◌, List, [], ◌∷◌, ◌++◌, ◌≡◌, ◌≢◌, refl, sym, ◌∙◌, ap, ap₂, arith, length, get_or, set, ⊎_elim}
+use Rattle.std.proofs.Common.{ℕ, zero, suc, ◌<◌, ◌≤◌, ◌+◌, ◌-◌, Some, None, List, [], ◌∷◌, ◌++◌, ◌≡◌, ◌≢◌, refl, sym, ◌∙◌, ap, ap₂, subst, arith, length, get_or, set, ⊎_elim}
+use Rattle.std.specs.List.{slice_get}
 use Rattle.std.proofs.lemmas.Bool.{cases_eq}
+use Rattle.std.proofs.lemmas.Option.{get_or_from_slice_get, slice_get_cases, slice_get_past}
+use Rattle.world_core.specs.Turning.{returned, returned_by}
 
 -- two lists with the same elements at the same places are one
 pub same_everywhere : {A : Type 0} (xs ys : List A) → length xs ≡ length ys → ((k : ℕ) (d : A) → k < length xs → get_or xs k d ≡ get_or ys k d) → xs ≡ ys
@@ -45,41 +48,77 @@ length-set_at (y ∷ ys) (suc i) x = ap suc (length-set_at ys i x)
 turned_back : {A : Type 0} (old short new : List A) (i : ℕ) (x : A) → i < length old → length short + 1 ≡ length old → length new ≡ length old
     → ((d : A) → i + 1 < length old → get_or short i d ≡ get_or old (length old - 1) d)
     → ((k : ℕ) (d : A) → k ≢ i → k + 1 < length old → get_or short k d ≡ get_or old k d)
-    → ((d : A) → get_or new i d ≡ get_or (short ++ x ∷ []) (length short) d)
-    → ((d : A) → get_or new (length short) d ≡ get_or (short ++ x ∷ []) i d)
-    → ((k : ℕ) (d : A) → k ≢ i → k ≢ length short → get_or new k d ≡ get_or (short ++ x ∷ []) k d)
+    → ((d : A) → get_or new i d ≡ x)
+    → ((d : A) → i < length short → get_or new (length short) d ≡ get_or short i d)
+    → ((k : ℕ) (d : A) → k ≢ i → k < length short → get_or new k d ≡ get_or short k d)
     → new ≡ set old i x
 turned_back old short new i x inside shorter count moved stays back last rest =
     same_everywhere new (set old i x) (count ∙ sym (length-set_at old i x))
     (λ k d below. ⊎_elim
-    (λ (e : k ≡ i). ap (λ j. get_or new j d) e ∙ (back d ∙ (get-last short x d ∙ sym (ap (λ j. get_or (set old i x) j d) e ∙ get-set_same old i x d inside))))
+    (λ (e : k ≡ i). ap (λ j. get_or new j d) e ∙ (back d ∙ sym (ap (λ j. get_or (set old i x) j d) e ∙ get-set_same old i x d inside)))
     (λ (ne : k ≢ i). ⊎_elim
     (λ (e : k ≡ length short).
     let place : length short ≡ length old - 1 = omega arith in
     let low : i < length short = omega arith in
     ap (λ j. get_or new j d) e
-    ∙ (last d
-    ∙ (get-append short (x ∷ []) i d low
+    ∙ (last d low
     ∙ (moved d (omega arith)
-    ∙ (ap (λ j. get_or old j d) (sym place ∙ sym e) ∙ sym (get-set_other old i k x d ne))))))
+    ∙ (ap (λ j. get_or old j d) (sym place ∙ sym e) ∙ sym (get-set_other old i k x d ne)))))
     (λ (off : k ≢ length short).
     let low : k < length short = omega arith in
-    rest k d ne off ∙ (get-append short (x ∷ []) k d low ∙ (stays k d ne (omega arith) ∙ sym (get-set_other old i k x d ne))))
+    rest k d ne low ∙ (stays k d ne (omega arith) ∙ sym (get-set_other old i k x d ne)))
     (cases_eq k (length short)))
     (cases_eq k i))
 
--- the same, where the lengths are n and last
-pub turned : {A : Type 0} (old short new : List A) (i n last : ℕ) (x : A) → n ≡ length old → last ≡ length short → i < n → last + 1 ≡ n → length new ≡ n
+-- an element that is put at the end is there
+at_end : {A : Type 0} (xs : List A) (n : ℕ) (x d : A) → n ≡ length xs → get_or (xs ++ x ∷ []) n d ≡ x
+at_end xs n x d is = ap (λ k. get_or (xs ++ x ∷ []) k d) is ∙ get-last xs x d
+
+-- one more at the end
+length-end : {A : Type 0} (xs : List A) (x : A) → length (xs ++ x ∷ []) ≡ length xs + 1
+length-end [] x = refl
+length-end (y ∷ ys) x = let e = length-end ys x in omega (arith, e)
+
+-- the same, where what came back is put where it stood, and the other one at the end
+pub turned : {A : Type 0} (old short : List A) (i n : ℕ) (x : A) → n ≡ length old → length short + 1 ≡ n → i < n
     → ((d : A) → i + 1 < n → get_or short i d ≡ get_or old (n - 1) d)
     → ((k : ℕ) (d : A) → k ≢ i → k + 1 < n → get_or short k d ≡ get_or old k d)
-    → ((d : A) → get_or new i d ≡ get_or (short ++ x ∷ []) last d)
-    → ((d : A) → get_or new last d ≡ get_or (short ++ x ∷ []) i d)
-    → ((k : ℕ) (d : A) → k ≢ i → k ≢ last → get_or new k d ≡ get_or (short ++ x ∷ []) k d)
-    → new ≡ set old i x
-turned old short new i n last x is_n is_last inside shorter count moved stays back at_last rest =
-    turned_back old short new i x (omega arith) (omega arith) (count ∙ is_n)
-    (λ d more. moved d (omega arith) ∙ ap (λ m. get_or old (m - 1) d) is_n)
-    (λ k d ne below. stays k d ne (omega arith))
-    (λ d. back d ∙ ap (λ m. get_or (short ++ x ∷ []) m d) is_last)
-    (λ d. ap (λ m. get_or new m d) (sym is_last) ∙ at_last d)
-    (λ k d ne off. rest k d ne (λ e. off (e ∙ is_last)))
+    → returned short i x ≡ set old i x
+turned {A} old short i n x is_n shorter inside moved stays =
+    ⊎_elim
+    (λ (found : (other : A) × (i < length short) × (slice_get short i ≡ Some other) × (get_or short i other ≡ other)).
+    let other = found.0 in
+    let low : i < length short = found.1 in
+    let kept : length (set short i x) ≡ length short = length-set_at short i x in
+    let grown = length-end (set short i x) other in
+    subst (λ got. returned_by short i x got ≡ set old i x) (sym found.2)
+    (turned_back old short (set short i x ++ other ∷ []) i x (omega arith) (omega arith) (omega arith) now_moved now_stays
+    (λ d. get-append (set short i x) (other ∷ []) i d (omega arith) ∙ get-set_same short i x d low)
+    (λ d below. at_end (set short i x) (length short) other d (sym kept) ∙ sym (get_or_from_slice_get short i other d found.2))
+    (λ k d ne below. get-append (set short i x) (other ∷ []) k d (omega arith) ∙ get-set_other short i k x d ne)))
+    (λ (past : (length short ≤ i) × (slice_get short i ≡ None)).
+    let late : length short ≤ i = past.0 in
+    let last : i ≡ length short = omega arith in
+    let grown = length-end short x in
+    subst (λ got. returned_by short i x got ≡ set old i x) (sym past.1)
+    (turned_back old short (short ++ x ∷ []) i x (omega arith) (omega arith) (omega arith) now_moved now_stays
+    (λ d. at_end short i x d last)
+    (λ d below. absurd (omega arith))
+    (λ k d ne below. get-append short (x ∷ []) k d below)))
+    (slice_get_cases short i).1
+  where
+    now_moved : (d : A) → i + 1 < length old → get_or short i d ≡ get_or old (length old - 1) d
+    now_moved d more = moved d (omega arith) ∙ ap (λ m. get_or old (m - 1) d) is_n
+
+    now_stays : (k : ℕ) (d : A) → k ≢ i → k + 1 < length old → get_or short k d ≡ get_or old k d
+    now_stays k d ne below = stays k d ne (omega arith)
+
+-- an element that is put where another one stood, which goes to the end
+pub put_there : {A : Type 0} (xs new : List A) (i : ℕ) (x put other at : A) → slice_get xs i ≡ Some at → put ≡ x → other ≡ at → new ≡ set xs i put ++ other ∷ []
+    → new ≡ returned xs i x
+put_there xs new i x put other at here is_x is_at is =
+    is ∙ (ap₂ (λ p o. set xs i p ++ o ∷ []) is_x is_at ∙ ap (returned_by xs i x) (sym here))
+
+-- an element that is put at the end
+pub put_last : {A : Type 0} (xs new : List A) (i : ℕ) (x : A) → length xs ≤ i → new ≡ xs ++ x ∷ [] → new ≡ returned xs i x
+put_last xs new i x late is = is ∙ ap (returned_by xs i x) (sym (slice_get_past xs i late))

@@ -1,5 +1,5 @@
 -- What a node promises of an input, as its own call says it.
-use Rattle.std.specs.Prelude.{ℕ}
+use Rattle.std.specs.Prelude.{ℕ, Option, Some, None, List, [], ◌∷◌, ◌++◌, slice_get, slice_set}
 use Rattle.topology.specs.Net.{Net}
 use Rattle.path_vector.specs.Rules.{Rules}
 use Rattle.chronicle.specs.Facts.{Chronicle}
@@ -33,3 +33,11 @@ IsStopped {P} rules old input stop =
     (policy : P) (net : Net) (u : ℕ) (carried : Carried) (past : Chronicle)
     → StandsFor policy (rules policy) net u old past → MayCome net u (input_of input)
     → StopsAt (node_limit (rules policy) net u (give (rules policy) net carried u past (input_of input))) stop
+
+abbrev pub returned_by : {A : Type 0} → List A → ℕ → A → Option A → List A
+returned_by xs i x None = xs ++ x ∷ []
+returned_by xs i x (Some other) = slice_set xs i x ++ other ∷ []
+
+-- the list with this element at a place, and the one that stood there at the end
+abbrev pub returned : {A : Type 0} → List A → ℕ → A → List A
+returned xs i x = returned_by xs i x (slice_get xs i)

@@ -17,7 +17,7 @@ use crate::limits::{counted, is_local, stop_of};
 use crate::network::Network;
 use crate::outcomes::{Effects, Outcome, Stop};
 use crate::turning::turn;
-use node_core::{Input, Outputs};
+use node_core::Input;
 use path_vector::Policy;
 use topology::{LimitKind, NodeId};
 
@@ -70,17 +70,16 @@ impl<P: Policy + Copy> Network<P> {
         let rank = self.topology.rank_of(node).unwrap();
         let is_local = is_local(&input);
         let before = self.nodes[rank].log().next_trigger().count;
-        let outputs = match turn(&mut self.nodes, rank, input) {
-            Ok(outputs) => outputs,
+        let idle = match turn(&mut self.nodes, rank, input, &mut self.outputs) {
+            Ok(idle) => idle,
             Err(stop) => return Err(stop_of(self.triggers, is_local, stop)),
         };
-        let list = match outputs {
-            Outputs::Did(list) => list,
-            Outputs::Idle(reason) => return Ok(Outcome::Idle(reason)),
-        };
+        if let Some(reason) = idle {
+            return Ok(Outcome::Idle(reason));
+        }
         let after = self.nodes[rank].log().next_trigger().count;
         self.triggers = counted(self.triggers, before, after)?;
-        let effects = self.hand_all(node, list, asked)?;
+        let effects = self.hand_all(node, asked)?;
         self.check_control()?;
         self.check_packets()?;
         Ok(Outcome::Did(Effects::new(effects)))

@@ -3,7 +3,7 @@ use crate::publications::Publication;
 use crate::walks::Walks;
 use control_mail::Mails;
 use link_model::Links;
-use node_core::Node;
+use node_core::{Node, OutputList};
 use path_vector::Policy;
 use std::alloc::Global;
 use std::rc::Rc;
@@ -28,4 +28,6 @@ pub struct Network<P: Policy + Copy> {
     pub walks: Walks,
     /// The triggers that all nodes gave.
     pub triggers: u32,
+    /// A list for what a node hands out, used again for each input: it is empty, but while they are handed on.
+    pub outputs: OutputList,
 }

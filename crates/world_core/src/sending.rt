@@ -10,6 +10,7 @@ ghost use Rattle.chronicle.specs.Facts.{Chronicle, Fact, Sent, Mail as Mailed, V
 ghost use Rattle.chronicle.specs.Links.{link};
 ghost use Rattle.chronicle.specs.Walks.{standing, visit_of};
 ghost use Rattle.node_core.specs.Entries.{first_of};
+ghost use Rattle.node_core.specs.Firsts.{seen_first};
 ghost use Rattle.node_core.specs.Outputs.{Hands, Output as OutputSeen, output_by, output_of};
 ghost use Rattle.world_core.specs.Happening.{AreSending, KeepsNodes};
 ghost use Rattle.world_core.specs.Matching.{AreLinks, AreMails, Counts};
@@ -26,9 +27,11 @@ use consolidator::Mail;
 use control_mail::Mails;
 use epoch_packet::{End, Packet};
 use link_model::Links;
-use node_core::{Entered, Output, OutputList};
+use node_core::{First, Output, OutputList};
 use path_vector::Policy;
 use stable_table::Table;
+use std::collections::VecDeque;
+use std::mem;
 use std::rc::Rc;
 use topology::{NoMemory, NodeId};
 use trigger_log::Outgoing;
@@ -138,6 +141,7 @@ impl<P: Policy + Copy> Network<P> {
     #[inline(always)]
     fn hand(&mut self, node: NodeId, output: Output, account: &mut Account) -> Result<(), NoMemory>
         ensures kept { OnOk result (KeepsNodes self.old self.new) }
+        ensures outputs { OnOk result (self.new.outputs ≡ self.old.outputs) }
         ensures asked { OnOk result (account.new.asked ≡ account.old.asked) }
         ensures sending { OnOk result ((away : ℕ → Bool) (first past : Chronicle) (counts : Counts) (f : Fact) →
             IsTold self.old.topology.value node past f → output_by f past ≡ output_of output ∷ [] →
@@ -161,45 +165,47 @@ impl<P: Policy + Copy> Network<P> {
     fn hand_entry(
         &mut self,
         node: NodeId,
-        entered: Entered,
+        index: u32,
+        sent: Vec<Outgoing>,
         account: &mut Account,
     ) -> Result<(), NoMemory>
         ensures kept { OnOk result (KeepsNodes self.old self.new) }
+        ensures outputs { OnOk result (self.new.outputs ≡ self.old.outputs) }
         ensures asked { OnOk result (account.new.asked ≡ account.old.asked) }
         ensures sending { OnOk result ((away : ℕ → Bool) (first past : Chronicle) (counts : Counts) (facts : List Fact) →
-            AreTold self.old.topology.value node past facts → map output_of (first_of (Some entered)) ≡ shown past facts →
+            AreTold self.old.topology.value node past facts → map output_of (first_of (Some index) sent.items) ≡ shown past facts →
             AreSending away first past counts self.old account.old →
             AreSending (still_after facts away) first (happen past facts) counts self.new account.new) }
     {
-        let Entered { index, sent } = entered;
         self.hand(node, Output::Logged { index }, account)?;
-        if sent.is_empty() {
-            return Ok(());
-        }
-        for out in sent {
+        let mut left = VecDeque::from_vec(sent);
+        while let Some(out) = left.pop_front() {
             self.hand(node, Output::Send(out), account)?;
         }
+        self.outputs.reuse(left.into_vec());
         Ok(())
     }
 
-    // Hands on the entry that stands first, if one does.
+    // Hands on what stands first, if it is an entry.
     #[inline(always)]
     fn hand_first(
         &mut self,
         node: NodeId,
-        entered: Option<Entered>,
+        leading: First,
         account: &mut Account,
     ) -> Result<(), NoMemory>
         ensures kept { OnOk result (KeepsNodes self.old self.new) }
+        ensures outputs { OnOk result (self.new.outputs ≡ self.old.outputs) }
         ensures asked { OnOk result (account.new.asked ≡ account.old.asked) }
         ensures sending { OnOk result ((away : ℕ → Bool) (first past : Chronicle) (counts : Counts) (facts : List Fact) →
-            AreTold self.old.topology.value node past facts → map output_of (first_of entered) ≡ shown past facts →
+            AreTold self.old.topology.value node past facts → map output_of (seen_first leading) ≡ shown past facts →
             AreSending away first past counts self.old account.old →
             AreSending (still_after facts away) first (happen past facts) counts self.new account.new) }
     {
-        match entered {
-            Some(entered) => self.hand_entry(node, entered, account),
-            None => Ok(()),
+        match leading {
+            First::Nothing => Ok(()),
+            First::Quiet(index) => Ok(self.hand(node, Output::Logged { index }, account)?),
+            First::Telling(index, sent) => Ok(self.hand_entry(node, index, sent, account)?),
         }
     }
 
@@ -228,24 +234,21 @@ impl<P: Policy + Copy> Network<P> {
 
     /// Hands on the outputs of a node, in their order, and tells what they did where it is asked.
     #[inline(always)]
-    pub fn hand_all(
-        &mut self,
-        node: NodeId,
-        outputs: OutputList,
-        asked: bool,
-    ) -> Result<Vec<Effect>, NoMemory>
+    pub fn hand_all(&mut self, node: NodeId, asked: bool) -> Result<Vec<Effect>, NoMemory>
         ensures kept { OnOk result (KeepsNodes self.old self.new) }
         ensures sending { IfOk result (λ effects. (away : ℕ → Bool) (first past : Chronicle) (counts : Counts) (facts : List Fact) →
-            AreTold self.old.topology.value node past facts → Hands past outputs (happen past facts) →
+            AreTold self.old.topology.value node past facts → Hands past self.old.outputs (happen past facts) →
             AreSending away first past counts self.old (record { asked = asked; list = [] }) →
             AreSending (still_after facts away) first (happen past facts) counts self.new (record { asked = asked; list = effects.items })) }
     {
-        let (entered, more) = outputs.into_parts();
         let mut account = Account::new(self.alloc, asked);
-        self.hand_first(node, entered, &mut account)?;
-        if more.is_empty() {
+        let leading = self.outputs.take_first();
+        self.hand_first(node, leading, &mut account)?;
+        if self.outputs.is_empty() {
             return Ok(account.into_list());
         }
+        let left = mem::replace(&mut self.outputs, OutputList::new(self.alloc));
+        let more = left.into_vec()?;
         self.hand_more(node, more, &mut account)?;
         Ok(account.into_list())
     }

@@ -7,7 +7,7 @@ use crate::network::Network;
 use crate::walks::Walks;
 use control_mail::Mails;
 use link_model::Links;
-use node_core::Node;
+use node_core::{Node, OutputList};
 use path_vector::Policy;
 use std::alloc::Global;
 use std::rc::Rc;
@@ -57,6 +57,7 @@ impl<P: Policy + Copy> Network<P> {
             publications: Vec::new(alloc),
             walks: Walks::new(alloc),
             triggers: 0,
+            outputs: OutputList::new(alloc),
         })
     }
 }

@@ -1,6 +1,7 @@
-use Rattle.std.proofs.Common.{◌≡◌, ◌<◌, ◌+◌, ◌-◌, ◌∷◌, ◌++◌, ◌∙◌, [], ap, refl, arith, length}
+use Rattle.std.proofs.Common.{◌≡◌, ◌<◌, ◌+◌, ◌∙◌, ap, refl, arith, length}
 use Rattle.std.proofs.lemmas.Option.{slice_get_read}
 use Rattle.std.proofs.lemmas.Result.{err_from_is_err_and}
+use Rattle.world_core.specs.Turning.{returned}
 use Rattle.world_core.proofs.Stopping.{handed_on}
 use Rattle.world_core.proofs.Turned.{turned}
 use Rattle.world_core.proofs.turning.turn.Goals as goal
@@ -17,25 +18,16 @@ returns-clause-turned g c =
     let old = c.args.nodes.now.items in
     let short = c.swap_remove-node.new.self.items in
     let new = c.in_ok-node.node in
-    let last = c.len-last.result - 1 in
     let here = slice_get_read old (length old) c.args.rank c.swap_remove-node.result refl c.requires c.swap_remove-node.ensures.value in
     let is_n : c.args.nodes.now.len ≡ length old = c.args.nodes.now.ok.0 in
     let is_short : c.swap_remove-node.new.self.len ≡ length short = c.swap_remove-node.new.self.ok.0 in
-    let is_new : c.swap.new.self.len ≡ length c.swap.new.self.items = c.swap.new.self.ok.0 in
-    let asked = c.reserve.ensures.len in
-    let pushed = c.push_reserved.ensures.len in
-    let swapped = c.swap.ensures.len in
-    let is_last : last ≡ length short = omega (arith, asked, pushed) in
-    let shorter : last + 1 ≡ c.args.nodes.now.len = omega (arith, asked, pushed) in
-    let count : length c.swap.new.self.items ≡ c.args.nodes.now.len = omega (arith, asked, pushed, swapped) in
+    let fewer = c.swap_remove-node.ensures.len in
+    let shorter : length short + 1 ≡ c.args.nodes.now.len = omega (arith, fewer, is_short) in
     let inside : c.args.rank < c.args.nodes.now.len = omega (arith, is_n) in
-    let grown : c.push_reserved.new.self.items ≡ short ++ new ∷ [] = c.push_reserved.ensures.items ∙ ap (λ l. l ++ new ∷ []) c.reserve.ensures.items in
-    let moves = rw grown at c.swap.ensures.by_index in
-    let turns = turned old short c.swap.new.self.items c.args.rank c.args.nodes.now.len last new is_n is_last inside shorter count
-    c.swap_remove-node.ensures.by_index.0 c.swap_remove-node.ensures.by_index.1 moves.0 moves.1 moves.2 in (
+    let turns = turned old short c.args.rank c.args.nodes.now.len new is_n shorter inside c.swap_remove-node.ensures.by_index.0 c.swap_remove-node.ensures.by_index.1 in (
       c.swap_remove-node.result,
       new,
       here,
-      turns,
+      c.put_back.ensures ∙ (ap (λ l. returned l c.args.rank new) c.reserve.ensures.items ∙ turns),
       record { stands = c.in_ok-node.ensures.node; answers = c.in_ok-node.ensures.outputs },
     )

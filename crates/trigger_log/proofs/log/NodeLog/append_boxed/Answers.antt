@@ -6,4 +6,4 @@ use Rattle.trigger_log.proofs.log.NodeLog.append_boxed.Goals as goal
 pub returns-clause-due : goal.returns-clause-due
 returns-clause-due g c = λ policy u h was near placed fits.
     sends_due (g.P.Policy.rules policy) c.args.topology.now u h (entry (c.args.trigger ∷ []) c.args.scope c.args.cause) (fits, was.fitting) placed _ was.routes.valid
-    ((rw c.deref_mut.ensures.value at c.in_ok-outgoing.ensures.outgoing) policy u h was near placed fits)
+    ((rw c.deref_mut.ensures.value at c.in_ok-enter.ensures.outgoing) policy u h was near placed fits)

@@ -14,5 +14,5 @@ returns-then-stays-clause-outgoing g c = λ policy u h was near placed fits.
     let rules = g.P.Policy.rules policy in
     let net = c.args.topology.now in
     let fitting = fits_now policy rules net u h c.args.trigger c.args.scope c.args.cause was fits in
-    ap (map going_of) c.new.ensures.items
+    ap (map going_of) c.forget.ensures
     ∙ sym (goes_nowhere rules net u h (entry (c.args.trigger ∷ []) c.args.scope c.args.cause) fitting placed (c.stays.ensures policy net u h c.args.trigger was.routes placed c.if-stays.true))

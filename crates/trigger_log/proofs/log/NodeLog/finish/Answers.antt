@@ -1,9 +1,11 @@
-use Rattle.std.proofs.Common.{◌≡◌, ◌∙◌, ◌∷◌, ◌≤◌, [], refl, sym, ap, subst, arith, length}
+use Rattle.std.proofs.Common.{◌≡◌, ◌∙◌, ◌∷◌, ◌≤◌, [], refl, sym, ap, subst, arith, length, map}
 use Rattle.topology.specs.Net.{neighbours}
 use Rattle.path_vector.specs.Standing.{StandsFor as RoutesStandFor}
 use Rattle.trigger_log.specs.Entries.{entry, reads}
 use Rattle.trigger_log.specs.Fits.{Fits}
 use Rattle.trigger_log.specs.Making.{making}
+use Rattle.trigger_log.specs.declared.telling.Said.{Said}
+use Rattle.trigger_log.specs.Going.{going_of}
 use Rattle.trigger_log.specs.Telling.{silence, speech_of}
 use Rattle.trigger_log.specs.Marked.{ToldTo}
 use Rattle.trigger_log.specs.Rows.{MarkRows}
@@ -24,8 +26,8 @@ returns g c = λ policy net u h routes mid offers.
     let rows = c.mark.new.sessions.rows in
     let n = length rows in
     let none_yet = told_none rules net u h k fitting rows silence marked in
-    let said = speech_of c.in_ok-said.said in
-    let told = c.in_ok-said.ensures.told policy net u h k
+    let said = speech_of c.tell_all.new.said in
+    let told = c.in_ok-tell_all.ensures.told policy net u h k
     (enters policy rules net u h trigger scope cause log.routes _ fitting mid.routes refl refl mid.placed offers)
     none_yet in
     let whole : length (neighbours net u) ≤ n = let same : n ≡ length (neighbours net u) = none_yet.width in omega arith in
@@ -35,5 +37,6 @@ returns g c = λ policy net u h routes mid offers.
           mid.was mid.fits (subst (λ r. RoutesStandFor policy net u r (k.read ∷ reads h)) (sym c.in_ok-keep.ensures.routes) mid.routes) c.in_ok-keep.ensures.node
           (ap (λ (s : MarkRows). s.near) c.in_ok-keep.ensures.sessions ∙ (c.tell_all.ensures.near ∙ c.mark.ensures.near)) c.in_ok-keep.ensures.count c.in_ok-keep.ensures.next c.in_ok-keep.ensures.entries (c.in_ok-sent.ensures ∙ c.deref.ensures.value) whole
           (subst (λ (s : MarkRows). ToldTo (making rules net u h k) n s.rows silence said) (sym c.in_ok-keep.ensures.sessions) told);
-      goes = went_out policy rules net u h trigger scope cause n c.tell_all.new.sessions.rows said whole told;
+      goes = ap (λ (s : Said). map going_of s.outgoing.items) c.in_ok-keep.ensures.said
+          ∙ went_out policy rules net u h trigger scope cause n c.tell_all.new.sessions.rows said whole told;
     }

@@ -3,7 +3,7 @@ use Rattle.std.proofs.lemmas.Result.{err_from_is_err_and}
 use Rattle.chronicle.specs.Logs.{log_of}
 use Rattle.chronicle.specs.Run.{carried_by, chronicle_of}
 use Rattle.node_core.specs.Inputs.{input_of}
-use Rattle.node_core.specs.Outputs.{Answers}
+use Rattle.node_core.specs.Outputs.{Answers, told_by}
 use Rattle.world_core.specs.declared.bounds.TheConstants.{MOST_TRIGGERS}
 use Rattle.world_core.specs.Limits.{makes_local, above_by, StopsAt}
 use Rattle.world_core.proofs.Near.{is_ranked}
@@ -52,8 +52,8 @@ returns-in-Err-clause-stopped g c past counts may values =
     (all_within policy rules net past c.args.self.now.nodes.items nodes) (others_same policy g.P.Policy.rules net past u i) may.counted.total may.counted.few
     (logs policy g.P.Policy.rules net past u i) values stops))
 
-pub returns-in-Idle-clause-stands : goal.returns-in-Idle-clause-stands
-returns-in-Idle-clause-stands g c past counts may =
+pub returns-in-Some-clause-stands : goal.returns-in-Some-clause-stands
+returns-in-Some-clause-stands g c past counts may =
     let policy = c.args.self.now.policy in
     let net = c.args.self.now.topology.value in
     let u = c.args.node in
@@ -61,31 +61,31 @@ returns-in-Idle-clause-stands g c past counts may =
     let s = what policy g.P.Policy.rules net past u i in
     let at = rw (c.unwrap-rank.ensures, c.deref.ensures) at c.rank_of.ensures.some in
     let turned = c.in-Ok.ensures.turned in
-    let answers = subst (Answers past s) c.in-Idle.is
-    (new_answers policy g.P.Policy.rules net past u i c.args.self.now.nodes.items c.turn.new.nodes.items c.unwrap-rank.result turned.0 turned.1 c.in-Ok.outputs may.are_nodes at may.may_come turned.2 turned.4) in
+    let answers = subst (λ idle. Answers past s (told_by idle c.turn.new.outputs)) c.in-Some.is
+    (new_answers policy g.P.Policy.rules net past u i c.args.self.now.nodes.items c.turn.new.nodes.items c.unwrap-rank.result turned.0 turned.1 (told_by c.in-Ok.idle c.turn.new.outputs) may.are_nodes at may.may_come turned.2 turned.4) in
     record {
-      are_nodes = nodes_given policy g.P.Policy.rules net past u i c.args.self.now.nodes.items c.turn.new.nodes.items c.unwrap-rank.result turned.0 turned.1 c.in-Ok.outputs may.are_nodes at may.may_come turned.2 turned.4 (stay policy g.P.Policy.rules net past u i c.others_change_nothing_of_what_a_node_stands_for.ensures.given) turned.3;
+      are_nodes = nodes_given policy g.P.Policy.rules net past u i c.args.self.now.nodes.items c.turn.new.nodes.items c.unwrap-rank.result turned.0 turned.1 (told_by c.in-Ok.idle c.turn.new.outputs) may.are_nodes at may.may_come turned.2 turned.4 (stay policy g.P.Policy.rules net past u i c.others_change_nothing_of_what_a_node_stands_for.ensures.given) turned.3;
       are_crashed = given_flags (g.P.Policy.rules policy) net past u (input_of i) c.args.self.now.crashed.items may.are_crashed;
-      are_links = idle_links net past u (input_of i) s c.in-Idle.reason c.args.self.now.links answers may.goes may.are_links;
-      are_mails = idle_mails net past counts s c.in-Idle.reason c.args.self.now.mails answers may.are_mails;
-      are_published = idle_published past s c.in-Idle.reason c.args.self.now.publications.items answers may.are_published;
-      are_walks = idle_walks net past (input_of i) s c.in-Idle.reason c.args.self.now.walks answers may.goes may.are_walks;
-      counted = idle_counted net past s c.in-Idle.reason c.args.self.now.triggers answers may.counted;
+      are_links = idle_links net past u (input_of i) s c.in-Some.reason c.args.self.now.links answers may.goes may.are_links;
+      are_mails = idle_mails net past counts s c.in-Some.reason c.args.self.now.mails answers may.are_mails;
+      are_published = idle_published past s c.in-Some.reason c.args.self.now.publications.items answers may.are_published;
+      are_walks = idle_walks net past (input_of i) s c.in-Some.reason c.args.self.now.walks answers may.goes may.are_walks;
+      counted = idle_counted net past s c.in-Some.reason c.args.self.now.triggers answers may.counted;
     }
 
-pub returns-in-Idle-clause-comes : goal.returns-in-Idle-clause-comes
-returns-in-Idle-clause-comes g c asked past counts may =
+pub returns-in-Some-clause-comes : goal.returns-in-Some-clause-comes
+returns-in-Some-clause-comes g c asked past counts may =
     let policy = c.args.self.now.policy in
     let net = c.args.self.now.topology.value in
     let u = c.args.node in
     let i = c.args.input in
     let at = rw (c.unwrap-rank.ensures, c.deref.ensures) at c.rank_of.ensures.some in
     let turned = c.in-Ok.ensures.turned in
-    let answers = subst (Answers past (what policy g.P.Policy.rules net past u i)) c.in-Idle.is
-    (new_answers policy g.P.Policy.rules net past u i c.args.self.now.nodes.items c.turn.new.nodes.items c.unwrap-rank.result turned.0 turned.1 c.in-Ok.outputs may.are_nodes at may.may_come turned.2 turned.4) in
+    let answers = subst (λ idle. Answers past (what policy g.P.Policy.rules net past u i) (told_by idle c.turn.new.outputs)) c.in-Some.is
+    (new_answers policy g.P.Policy.rules net past u i c.args.self.now.nodes.items c.turn.new.nodes.items c.unwrap-rank.result turned.0 turned.1 (told_by c.in-Ok.idle c.turn.new.outputs) may.are_nodes at may.may_come turned.2 turned.4) in
     record {
-      stands = returns-in-Idle-clause-stands g c past counts may;
-      tells = idle_tells past (what policy g.P.Policy.rules net past u i) c.in-Idle.reason answers;
+      stands = returns-in-Some-clause-stands g c past counts may;
+      tells = idle_tells past (what policy g.P.Policy.rules net past u i) c.in-Some.reason answers;
     }
 
 pub index-requires-2 : goal.index-requires-2
@@ -112,16 +112,16 @@ returns-in_err-self-clause-stopped g c =
     let items = c.args.self.now.nodes.items in
     let at = rw (c.unwrap-rank.ensures, c.deref.ensures) at c.rank_of.ensures.some in
     let turned = c.in-Ok.ensures.turned in
-    let now = nodes_given policy g.P.Policy.rules net past u i items c.turn.new.nodes.items rank turned.0 turned.1 c.in-Ok.outputs may.are_nodes at may.may_come turned.2 turned.4 (stay policy g.P.Policy.rules net past u i c.others_change_nothing_of_what_a_node_stands_for.ensures.given) turned.3 in
-    let answers = subst (Answers past s) c.in-Did.is (new_answers policy g.P.Policy.rules net past u i items c.turn.new.nodes.items rank turned.0 turned.1 c.in-Ok.outputs may.are_nodes at may.may_come turned.2 turned.4) in
-    let new = new_stands policy g.P.Policy.rules net past u i items c.turn.new.nodes.items rank turned.0 turned.1 c.in-Ok.outputs may.are_nodes at may.may_come turned.2 turned.4 in
+    let now = nodes_given policy g.P.Policy.rules net past u i items c.turn.new.nodes.items rank turned.0 turned.1 (told_by c.in-Ok.idle c.turn.new.outputs) may.are_nodes at may.may_come turned.2 turned.4 (stay policy g.P.Policy.rules net past u i c.others_change_nothing_of_what_a_node_stands_for.ensures.given) turned.3 in
+    let answers = subst (λ idle. Answers past s (told_by idle c.turn.new.outputs)) c.in_default.is (new_answers policy g.P.Policy.rules net past u i items c.turn.new.nodes.items rank turned.0 turned.1 (told_by c.in-Ok.idle c.turn.new.outputs) may.are_nodes at may.may_come turned.2 turned.4) in
+    let new = new_stands policy g.P.Policy.rules net past u i items c.turn.new.nodes.items rank turned.0 turned.1 (told_by c.in-Ok.idle c.turn.new.outputs) may.are_nodes at may.may_come turned.2 turned.4 in
     let before = c.next_trigger-before.ensures policy net u (log_of u past) (c.log.ensures policy net u past (node_at policy rules net past items may.are_nodes rank u c.index.result.now at c.index.ensures)) in
     let after = c.next_trigger-after.ensures policy net u (log_of u (chronicle_of past s)) (c.log-2.ensures policy net u (chronicle_of past s) (node_at policy rules net (chronicle_of past s) c.turn.new.nodes.items now rank u c.index-2.result.now at c.index-2.ensures)) in
     let sum = total_given net past u (makes_local (input_of i)) s c.args.self.now.triggers c.next_trigger-before.result.count c.next_trigger-after.result.count may.are_nodes.valid c.requires.node
     (others_same policy g.P.Policy.rules net past u i) (logs policy g.P.Policy.rules net past u i) may.counted.total (ap (λ t. t.count) before) (ap (λ t. t.count) after) in
     let stopped = c.in_err-self.ensures.stopped in
     rw (out.2, stopped.0)
-    (stops_at_triggers rules net past u (makes_local (input_of i)) c.args.self.now.triggers _ s c.in-Did.list may.are_nodes.valid c.requires.node
+    (stops_at_triggers rules net past u (makes_local (input_of i)) c.args.self.now.triggers _ s c.turn.new.outputs may.are_nodes.valid c.requires.node
     (all_within policy rules net past items may.are_nodes) (others_same policy g.P.Policy.rules net past u i) may.counted.total may.counted.few answers sum stopped.1 new.within))
 
 pub returns-in_err-check_control-clause-stopped : goal.returns-in_err-check_control-clause-stopped
@@ -139,21 +139,21 @@ returns-in_err-check_control-clause-stopped g c =
     let items = c.args.self.now.nodes.items in
     let at = rw (c.unwrap-rank.ensures, c.deref.ensures) at c.rank_of.ensures.some in
     let turned = c.in-Ok.ensures.turned in
-    let now = nodes_given policy g.P.Policy.rules net past u i items c.turn.new.nodes.items rank turned.0 turned.1 c.in-Ok.outputs may.are_nodes at may.may_come turned.2 turned.4 (stay policy g.P.Policy.rules net past u i c.others_change_nothing_of_what_a_node_stands_for.ensures.given) turned.3 in
-    let answers = subst (Answers past s) c.in-Did.is (new_answers policy g.P.Policy.rules net past u i items c.turn.new.nodes.items rank turned.0 turned.1 c.in-Ok.outputs may.are_nodes at may.may_come turned.2 turned.4) in
+    let now = nodes_given policy g.P.Policy.rules net past u i items c.turn.new.nodes.items rank turned.0 turned.1 (told_by c.in-Ok.idle c.turn.new.outputs) may.are_nodes at may.may_come turned.2 turned.4 (stay policy g.P.Policy.rules net past u i c.others_change_nothing_of_what_a_node_stands_for.ensures.given) turned.3 in
+    let answers = subst (λ idle. Answers past s (told_by idle c.turn.new.outputs)) c.in_default.is (new_answers policy g.P.Policy.rules net past u i items c.turn.new.nodes.items rank turned.0 turned.1 (told_by c.in-Ok.idle c.turn.new.outputs) may.are_nodes at may.may_come turned.2 turned.4) in
     let before = c.next_trigger-before.ensures policy net u (log_of u past) (c.log.ensures policy net u past (node_at policy rules net past items may.are_nodes rank u c.index.result.now at c.index.ensures)) in
     let after = c.next_trigger-after.ensures policy net u (log_of u (chronicle_of past s)) (c.log-2.ensures policy net u (chronicle_of past s) (node_at policy rules net (chronicle_of past s) c.turn.new.nodes.items now rank u c.index-2.result.now at c.index-2.ensures)) in
     let sum = total_given net past u (makes_local (input_of i)) s c.args.self.now.triggers c.next_trigger-before.result.count c.next_trigger-after.result.count may.are_nodes.valid c.requires.node
     (others_same policy g.P.Policy.rules net past u i) (logs policy g.P.Policy.rules net past u i) may.counted.total (ap (λ t. t.count) before) (ap (λ t. t.count) after) in
     let counted = c.in_ok-self.ensures.ok in
     let net_kept = c.in_ok-effects.ensures.kept in
-    let start = sending_begun past counts u (input_of i) (record c.args.self.now { nodes = c.turn.new.nodes; triggers = c.in_ok-self.field-0 }) c.args.asked may.are_links may.are_mails may.are_published may.are_walks in
+    let start = sending_begun past counts u (input_of i) (record c.args.self.now { nodes = c.turn.new.nodes; outputs = c.turn.new.outputs; triggers = c.in_ok-self.field-0 }) c.args.asked may.are_links may.are_mails may.are_published may.are_walks in
     let adds = give_adds rules net (carried_by u past) u past (λ w t. refl) may.are_nodes.valid c.requires.node (input_of i) may.may_come may.sender may.passing in
-    let sent = given_sent net past counts u (input_of i) s c.in-Did.list c.in-Did.list (record c.args.self.now { nodes = c.turn.new.nodes; triggers = c.in_ok-self.field-0 }) c.hand_all.new.self (record { asked = c.args.asked; list = [] }) (record { asked = c.args.asked; list = c.in_ok-effects.effects.items }) refl adds (comes_back rules net u past (input_of i)) answers start
+    let sent = given_sent net past counts u (input_of i) s c.turn.new.outputs c.turn.new.outputs (record c.args.self.now { nodes = c.turn.new.nodes; outputs = c.turn.new.outputs; triggers = c.in_ok-self.field-0 }) c.hand_all.new.self (record { asked = c.args.asked; list = [] }) (record { asked = c.args.asked; list = c.in_ok-effects.effects.items }) refl adds (comes_back rules net u past (input_of i)) answers start
     (λ away first mid facts told hands sending. c.in_ok-effects.ensures.sending away first mid counts facts told hands sending) in
     let stopped = c.in_err-check_control.ensures.stopped in
     rw (out.2, stopped.0)
-    (stops_at_control policy rules net past c.turn.new.nodes.items s c.in-Did.list now (subst (λ n. n ≤ MOST_TRIGGERS) (counted.0 ∙ sum) counted.1) answers (stopped.1 (chronicle_of past s) counts sent.are_mails)))
+    (stops_at_control policy rules net past c.turn.new.nodes.items s c.turn.new.outputs now (subst (λ n. n ≤ MOST_TRIGGERS) (counted.0 ∙ sum) counted.1) answers (stopped.1 (chronicle_of past s) counts sent.are_mails)))
 
 pub returns-in_err-check_packets-clause-stopped : goal.returns-in_err-check_packets-clause-stopped
 returns-in_err-check_packets-clause-stopped g c =
@@ -170,22 +170,22 @@ returns-in_err-check_packets-clause-stopped g c =
     let items = c.args.self.now.nodes.items in
     let at = rw (c.unwrap-rank.ensures, c.deref.ensures) at c.rank_of.ensures.some in
     let turned = c.in-Ok.ensures.turned in
-    let now = nodes_given policy g.P.Policy.rules net past u i items c.turn.new.nodes.items rank turned.0 turned.1 c.in-Ok.outputs may.are_nodes at may.may_come turned.2 turned.4 (stay policy g.P.Policy.rules net past u i c.others_change_nothing_of_what_a_node_stands_for.ensures.given) turned.3 in
-    let answers = subst (Answers past s) c.in-Did.is (new_answers policy g.P.Policy.rules net past u i items c.turn.new.nodes.items rank turned.0 turned.1 c.in-Ok.outputs may.are_nodes at may.may_come turned.2 turned.4) in
+    let now = nodes_given policy g.P.Policy.rules net past u i items c.turn.new.nodes.items rank turned.0 turned.1 (told_by c.in-Ok.idle c.turn.new.outputs) may.are_nodes at may.may_come turned.2 turned.4 (stay policy g.P.Policy.rules net past u i c.others_change_nothing_of_what_a_node_stands_for.ensures.given) turned.3 in
+    let answers = subst (λ idle. Answers past s (told_by idle c.turn.new.outputs)) c.in_default.is (new_answers policy g.P.Policy.rules net past u i items c.turn.new.nodes.items rank turned.0 turned.1 (told_by c.in-Ok.idle c.turn.new.outputs) may.are_nodes at may.may_come turned.2 turned.4) in
     let before = c.next_trigger-before.ensures policy net u (log_of u past) (c.log.ensures policy net u past (node_at policy rules net past items may.are_nodes rank u c.index.result.now at c.index.ensures)) in
     let after = c.next_trigger-after.ensures policy net u (log_of u (chronicle_of past s)) (c.log-2.ensures policy net u (chronicle_of past s) (node_at policy rules net (chronicle_of past s) c.turn.new.nodes.items now rank u c.index-2.result.now at c.index-2.ensures)) in
     let sum = total_given net past u (makes_local (input_of i)) s c.args.self.now.triggers c.next_trigger-before.result.count c.next_trigger-after.result.count may.are_nodes.valid c.requires.node
     (others_same policy g.P.Policy.rules net past u i) (logs policy g.P.Policy.rules net past u i) may.counted.total (ap (λ t. t.count) before) (ap (λ t. t.count) after) in
     let counted = c.in_ok-self.ensures.ok in
     let net_kept = c.in_ok-effects.ensures.kept in
-    let start = sending_begun past counts u (input_of i) (record c.args.self.now { nodes = c.turn.new.nodes; triggers = c.in_ok-self.field-0 }) c.args.asked may.are_links may.are_mails may.are_published may.are_walks in
+    let start = sending_begun past counts u (input_of i) (record c.args.self.now { nodes = c.turn.new.nodes; outputs = c.turn.new.outputs; triggers = c.in_ok-self.field-0 }) c.args.asked may.are_links may.are_mails may.are_published may.are_walks in
     let adds = give_adds rules net (carried_by u past) u past (λ w t. refl) may.are_nodes.valid c.requires.node (input_of i) may.may_come may.sender may.passing in
-    let sent = given_sent net past counts u (input_of i) s c.in-Did.list c.in-Did.list (record c.args.self.now { nodes = c.turn.new.nodes; triggers = c.in_ok-self.field-0 }) c.hand_all.new.self (record { asked = c.args.asked; list = [] }) (record { asked = c.args.asked; list = c.in_ok-effects.effects.items }) refl adds (comes_back rules net u past (input_of i)) answers start
+    let sent = given_sent net past counts u (input_of i) s c.turn.new.outputs c.turn.new.outputs (record c.args.self.now { nodes = c.turn.new.nodes; outputs = c.turn.new.outputs; triggers = c.in_ok-self.field-0 }) c.hand_all.new.self (record { asked = c.args.asked; list = [] }) (record { asked = c.args.asked; list = c.in_ok-effects.effects.items }) refl adds (comes_back rules net u past (input_of i)) answers start
     (λ away first mid facts told hands sending. c.in_ok-effects.ensures.sending away first mid counts facts told hands sending) in
     let few = c.in_ok-check_control.ensures.ok (chronicle_of past s) counts sent.are_mails in
     let stopped = c.in_err-check_packets.ensures.stopped in
     rw (out.2, stopped.0)
-    (stops_at_packets policy rules net past c.turn.new.nodes.items s c.in-Did.list now (subst (λ n. n ≤ MOST_TRIGGERS) (counted.0 ∙ sum) counted.1) few answers (stopped.1 (chronicle_of past s) sent.are_walks)))
+    (stops_at_packets policy rules net past c.turn.new.nodes.items s c.turn.new.outputs now (subst (λ n. n ≤ MOST_TRIGGERS) (counted.0 ∙ sum) counted.1) few answers (stopped.1 (chronicle_of past s) sent.are_walks)))
 
 pub returns-clause-stands : goal.returns-clause-stands
 returns-clause-stands g c past counts may =
@@ -199,21 +199,21 @@ returns-clause-stands g c past counts may =
     let items = c.args.self.now.nodes.items in
     let at = rw (c.unwrap-rank.ensures, c.deref.ensures) at c.rank_of.ensures.some in
     let turned = c.in-Ok.ensures.turned in
-    let now = nodes_given policy g.P.Policy.rules net past u i items c.turn.new.nodes.items rank turned.0 turned.1 c.in-Ok.outputs may.are_nodes at may.may_come turned.2 turned.4 (stay policy g.P.Policy.rules net past u i c.others_change_nothing_of_what_a_node_stands_for.ensures.given) turned.3 in
-    let answers = subst (Answers past s) c.in-Did.is (new_answers policy g.P.Policy.rules net past u i items c.turn.new.nodes.items rank turned.0 turned.1 c.in-Ok.outputs may.are_nodes at may.may_come turned.2 turned.4) in
+    let now = nodes_given policy g.P.Policy.rules net past u i items c.turn.new.nodes.items rank turned.0 turned.1 (told_by c.in-Ok.idle c.turn.new.outputs) may.are_nodes at may.may_come turned.2 turned.4 (stay policy g.P.Policy.rules net past u i c.others_change_nothing_of_what_a_node_stands_for.ensures.given) turned.3 in
+    let answers = subst (λ idle. Answers past s (told_by idle c.turn.new.outputs)) c.in_default.is (new_answers policy g.P.Policy.rules net past u i items c.turn.new.nodes.items rank turned.0 turned.1 (told_by c.in-Ok.idle c.turn.new.outputs) may.are_nodes at may.may_come turned.2 turned.4) in
     let before = c.next_trigger-before.ensures policy net u (log_of u past) (c.log.ensures policy net u past (node_at policy rules net past items may.are_nodes rank u c.index.result.now at c.index.ensures)) in
     let after = c.next_trigger-after.ensures policy net u (log_of u (chronicle_of past s)) (c.log-2.ensures policy net u (chronicle_of past s) (node_at policy rules net (chronicle_of past s) c.turn.new.nodes.items now rank u c.index-2.result.now at c.index-2.ensures)) in
     let sum = total_given net past u (makes_local (input_of i)) s c.args.self.now.triggers c.next_trigger-before.result.count c.next_trigger-after.result.count may.are_nodes.valid c.requires.node
     (others_same policy g.P.Policy.rules net past u i) (logs policy g.P.Policy.rules net past u i) may.counted.total (ap (λ t. t.count) before) (ap (λ t. t.count) after) in
     let counted = c.in_ok-self.ensures.ok in
     let net_kept = c.in_ok-effects.ensures.kept in
-    let start = sending_begun past counts u (input_of i) (record c.args.self.now { nodes = c.turn.new.nodes; triggers = c.in_ok-self.field-0 }) c.args.asked may.are_links may.are_mails may.are_published may.are_walks in
+    let start = sending_begun past counts u (input_of i) (record c.args.self.now { nodes = c.turn.new.nodes; outputs = c.turn.new.outputs; triggers = c.in_ok-self.field-0 }) c.args.asked may.are_links may.are_mails may.are_published may.are_walks in
     let adds = give_adds rules net (carried_by u past) u past (λ w t. refl) may.are_nodes.valid c.requires.node (input_of i) may.may_come may.sender may.passing in
-    let sent = given_sent net past counts u (input_of i) s c.in-Did.list c.in-Did.list (record c.args.self.now { nodes = c.turn.new.nodes; triggers = c.in_ok-self.field-0 }) c.hand_all.new.self (record { asked = c.args.asked; list = [] }) (record { asked = c.args.asked; list = c.in_ok-effects.effects.items }) refl adds (comes_back rules net u past (input_of i)) answers start
+    let sent = given_sent net past counts u (input_of i) s c.turn.new.outputs c.turn.new.outputs (record c.args.self.now { nodes = c.turn.new.nodes; outputs = c.turn.new.outputs; triggers = c.in_ok-self.field-0 }) c.hand_all.new.self (record { asked = c.args.asked; list = [] }) (record { asked = c.args.asked; list = c.in_ok-effects.effects.items }) refl adds (comes_back rules net u past (input_of i)) answers start
     (λ away first mid facts told hands sending. c.in_ok-effects.ensures.sending away first mid counts facts told hands sending) in
     let few = c.in_ok-check_control.ensures.ok (chronicle_of past s) counts sent.are_mails in
     let few_packets = c.in_ok-check_packets.ensures.ok (chronicle_of past s) sent.are_walks in
-    sent_stands rules past s counts (record c.args.self.now { nodes = c.turn.new.nodes; triggers = c.in_ok-self.field-0 }) c.hand_all.new.self (record { asked = c.args.asked; list = c.in_ok-effects.effects.items }) (begun u (input_of i) past) net_kept now
+    sent_stands rules past s counts (record c.args.self.now { nodes = c.turn.new.nodes; outputs = c.turn.new.outputs; triggers = c.in_ok-self.field-0 }) c.hand_all.new.self (record { asked = c.args.asked; list = c.in_ok-effects.effects.items }) (begun u (input_of i) past) net_kept now
     (given_flags rules net past u (input_of i) c.args.self.now.crashed.items may.are_crashed) (counted.0 ∙ sum) counted.1 few few_packets sent
 
 pub returns-clause-comes : goal.returns-clause-comes
@@ -228,12 +228,12 @@ returns-clause-comes g c asked past counts may =
     let items = c.args.self.now.nodes.items in
     let at = rw (c.unwrap-rank.ensures, c.deref.ensures) at c.rank_of.ensures.some in
     let turned = c.in-Ok.ensures.turned in
-    let answers = subst (Answers past s) c.in-Did.is (new_answers policy g.P.Policy.rules net past u i items c.turn.new.nodes.items rank turned.0 turned.1 c.in-Ok.outputs may.are_nodes at may.may_come turned.2 turned.4) in
-    let start = sending_begun past counts u (input_of i) (record c.args.self.now { nodes = c.turn.new.nodes; triggers = c.in_ok-self.field-0 }) c.args.asked may.are_links may.are_mails may.are_published may.are_walks in
+    let answers = subst (λ idle. Answers past s (told_by idle c.turn.new.outputs)) c.in_default.is (new_answers policy g.P.Policy.rules net past u i items c.turn.new.nodes.items rank turned.0 turned.1 (told_by c.in-Ok.idle c.turn.new.outputs) may.are_nodes at may.may_come turned.2 turned.4) in
+    let start = sending_begun past counts u (input_of i) (record c.args.self.now { nodes = c.turn.new.nodes; outputs = c.turn.new.outputs; triggers = c.in_ok-self.field-0 }) c.args.asked may.are_links may.are_mails may.are_published may.are_walks in
     let adds = give_adds rules net (carried_by u past) u past (λ w t. refl) may.are_nodes.valid c.requires.node (input_of i) may.may_come may.sender may.passing in
-    let sent = given_sent net past counts u (input_of i) s c.in-Did.list c.in-Did.list (record c.args.self.now { nodes = c.turn.new.nodes; triggers = c.in_ok-self.field-0 }) c.hand_all.new.self (record { asked = c.args.asked; list = [] }) (record { asked = c.args.asked; list = c.in_ok-effects.effects.items }) refl adds (comes_back rules net u past (input_of i)) answers start
+    let sent = given_sent net past counts u (input_of i) s c.turn.new.outputs c.turn.new.outputs (record c.args.self.now { nodes = c.turn.new.nodes; outputs = c.turn.new.outputs; triggers = c.in_ok-self.field-0 }) c.hand_all.new.self (record { asked = c.args.asked; list = [] }) (record { asked = c.args.asked; list = c.in_ok-effects.effects.items }) refl adds (comes_back rules net u past (input_of i)) answers start
     (λ away first mid facts told hands sending. c.in_ok-effects.ensures.sending away first mid counts facts told hands sending) in
     record {
       stands = returns-clause-stands g c past counts may;
-      tells = rw c.new.ensures (given_tells past u (input_of i) s c.in-Did.list c.in_ok-effects.effects.items answers (sent.since asked));
+      tells = rw c.new.ensures (given_tells past u (input_of i) s c.turn.new.outputs c.in_ok-effects.effects.items answers (sent.since asked));
     }
