@@ -15,7 +15,7 @@ fn add_nodes(net: &mut Topology) -> Result<(), BuildError> {
 
 fn path_of(alloc: Global, nodes: &[NodeId]) -> Result<Option<Path>, NoMemory> {
     let nodes = Vec::from_slice(alloc, nodes)?;
-    Ok(Path::new(nodes))
+    Ok(Path::new(nodes)?)
 }
 
 // The second node of the backup that a packet takes which visited these nodes; 0 for none.

@@ -4,15 +4,8 @@ ghost use Rattle.epoch_report.specs.Telling.{row_told, session_told};
 
 use incomplete_closure::{Row, Rows, SessionRow, SessionRows};
 use std::alloc::Global;
-use topology::{NoMemory, Sent, SentItems};
+use topology::NoMemory;
 use trigger_log::{Entry, SessionMark};
-
-// An equal list of items.
-fn copy_of(alloc: Global, sent: &[Sent]) -> Result<SentItems, NoMemory>
-    ensures { IfOk result (λ copy. copy ≡ sent.now) }
-{
-    Ok(SentItems::of(alloc, sent)?)
-}
 
 fn row_of(alloc: Global, entry: &Entry) -> Result<Row, NoMemory>
     ensures { IfOk result (λ row. row ≡ row_told entry.now) }
@@ -20,7 +13,7 @@ fn row_of(alloc: Global, entry: &Entry) -> Result<Row, NoMemory>
     Ok(Row {
         trigger: entry.trigger,
         scope: entry.scope,
-        sent: copy_of(alloc, entry.sent.as_slice())?,
+        sent: entry.sent.copy()?,
     })
 }
 

@@ -44,7 +44,7 @@ fn update(alloc: Global) -> Result<Cause, Fail> {
         from: NodeId::new(3),
         session: Session::new(1),
         seq: 1,
-        path: Path::new(nodes),
+        path: Path::new(nodes)?,
     })
 }
 
@@ -97,7 +97,8 @@ fn play(
 fn shows_row(rt: &impl Abort, row: &Row, (node, count, one, items): (u16, u32, bool, Items)) {
     assert_eq!(rt; row.trigger, trigger(node, count));
     assert!(rt; row.scope == scope(one));
-    let sent = row.sent.as_slice();
+    let laid_out = row.sent.laid_out();
+    let sent = laid_out.as_slice();
     assert_eq!(rt; sent.len(), items.len());
     for i in 0..items.len() {
         let (to, session, seq) = items[i];

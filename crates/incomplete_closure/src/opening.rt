@@ -75,7 +75,7 @@ fn gather_row(
         opened.new.items ≡ opened.old.items ++ open_in_row reports from row.now) }
     ensures steps { steps.new ≤ steps.old + length row.now.sent }
 {
-    for item in row.sent.as_slice() {
+    for item in row.sent.laid_out().as_slice() {
         steps.take();
         gather_item(opened, table, from, row.trigger, item)?;
     }

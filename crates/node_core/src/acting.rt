@@ -36,7 +36,7 @@ fn listed<P: Policy + Copy>(log: &NodeLog<P>) -> usize
 {
     match log.entry(log.len()) {
         None => 0,
-        Some(entry) => entry.sent.as_slice().len(),
+        Some(entry) => entry.sent.len(),
     }
 }
 

@@ -166,7 +166,7 @@ fn entry_fits(topology: &Topology, row: &Row) -> bool
     ensures { (triggers : List AnyTrigger) → result ≡ (scope_fits topology.now row.now.scope
         && list_all (listed_fits topology.now) (map (item_seen triggers) row.now.sent)) }
 {
-    scope_fits(topology, &row.scope) && all_sent_fit(topology, row.sent.as_slice())
+    scope_fits(topology, &row.scope) && all_sent_fit(topology, row.sent.laid_out().as_slice())
 }
 
 // Whether the row of an entry names what the network has.
@@ -194,7 +194,7 @@ fn items_are_few(rows: &[Row]) -> bool
 {
     let mut left = MOST_UPDATES as usize;
     for row in rows {
-        let count = row.sent.as_slice().len();
+        let count = row.sent.len();
         if count > left {
             return false;
         }

@@ -218,7 +218,7 @@ fn path_of(alloc: Global, nodes: &[u16]) -> Result<Option<Path>, Fail> {
     for node in nodes {
         path.push(NodeId::new(*node))?;
     }
-    Ok(Path::new(path))
+    Ok(Path::new(path)?)
 }
 
 fn update_of(alloc: Global, from: u16, seq: u32, nodes: &[u16]) -> Result<Item, Fail> {

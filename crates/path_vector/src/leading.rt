@@ -7,25 +7,26 @@ use crate::Cause;
 use crate::neighbours::Neighbour;
 use topology::{NoMemory, NodeId, Path};
 
-// A path of so many nodes takes memory when the own node goes before it. A shorter one stands in place, and is led at
-// once.
-const LONG: usize = 11;
-
-// Whether this is the node before the path.
+// Whether this is the node before the path. Two paths that differ mostly end at different origins.
 fn leads(led: &Path, node: NodeId, path: &Path) -> bool
     ensures { IsTrue result → led.now ≡ node ∷ path.now }
 {
-    match led.nodes() {
+    let nodes = path.nodes();
+    let led = led.nodes();
+    if led.last() != nodes.last() {
+        return false;
+    }
+    match led {
         [] => false,
-        [first, rest @ ..] => *first == node && rest == path.nodes(),
+        [first, rest @ ..] => *first == node && rest == nodes,
     }
 }
 
-// The node before the path, where this is the long path that the neighbour told last.
+// The node before the path, where this is the path that the neighbour told last.
 fn known<'a>(neighbour: &'a Neighbour, node: NodeId, path: &Path) -> Option<&'a Path>
     ensures { IfSome result (λ led. led.now ≡ node ∷ path.now) }
 {
-    let led = neighbour.long.as_ref()?;
+    let led = neighbour.last.as_ref()?;
     if leads(led, node, path) {
         Some(led)
     } else {
@@ -33,24 +34,19 @@ fn known<'a>(neighbour: &'a Neighbour, node: NodeId, path: &Path) -> Option<&'a 
     }
 }
 
-// The node before a path that the neighbour told: None where the node is on it. The copies of a long one share its
-// list, and a neighbour mostly tells it for many prefixes, so it is made once for all of them.
+// The node before a path that the neighbour told: None where the node is on it. A neighbour often tells one path for
+// many prefixes, or tells it again, so it is made once for all of them: its copies share its nodes.
 fn lead_for(neighbour: &mut Neighbour, node: NodeId, path: &Path) -> Result<Option<Path>, NoMemory>
     ensures led { IfOk result (λ led. led ≡ (if has path.now node then None else Some (node ∷ path.now))) }
-    ensures kept { neighbour.new ≡ record neighbour.old { long = neighbour.new.long } }
+    ensures kept { neighbour.new ≡ record neighbour.old { last = neighbour.new.last } }
     ensures err { OnErr result (neighbour.new ≡ neighbour.old) }
 {
-    let is_long = path.nodes().len() >= LONG;
-    if is_long {
-        if let Some(led) = known(neighbour, node, path) {
-            return Ok(Some(led.copy()?));
-        }
+    if let Some(led) = known(neighbour, node, path) {
+        return Ok(Some(led.copy()?));
     }
     let led = path.led_by(node)?;
-    if is_long {
-        if let Some(led) = &led {
-            neighbour.long = Some(led.copy()?);
-        }
+    if let Some(led) = &led {
+        neighbour.last = Some(led.copy()?);
     }
     Ok(led)
 }
@@ -62,7 +58,7 @@ pub(crate) fn lead(
     node: NodeId,
 ) -> Result<Option<Path>, NoMemory>
     ensures led { IfOk result (λ path. path ≡ led_by node cause.now) }
-    ensures kept { neighbour.new ≡ record neighbour.old { long = neighbour.new.long } }
+    ensures kept { neighbour.new ≡ record neighbour.old { last = neighbour.new.last } }
     ensures err { OnErr result (neighbour.new ≡ neighbour.old) }
 {
     match cause {

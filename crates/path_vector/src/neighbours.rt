@@ -22,9 +22,8 @@ pub struct Neighbour {
     pub highest: Session,
     pub preference: u32,
     pub told: Vec<Option<Path>>,
-    /// The own node before the last long path that it told, which is mostly the next one too: nothing is promised of
-    /// it.
-    pub long: Option<Path>,
+    /// The own node before the path that it told last, which is often the next one too: nothing is promised of it.
+    pub last: Option<Path>,
 }
 
 // A candidate: the place of its neighbour, and its rank.
@@ -103,7 +102,7 @@ impl Neighbour {
             highest: self.highest,
             preference: self.preference,
             told: copy_row(&self.told)?,
-            long: None,
+            last: None,
         })
     }
 
@@ -245,7 +244,7 @@ fn neighbour_of(
         highest: Session::new(1),
         preference: topology.pref(node, id),
         told: nothing_told(alloc, topology.prefix_count())?,
-        long: None,
+        last: None,
     })
 }
 

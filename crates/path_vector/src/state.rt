@@ -157,6 +157,16 @@ impl<P: Policy + Copy> RouteState<P> {
         self.owned.get(prefix.place() as usize) == Some(&true)
     }
 
+    /// The candidate of a neighbour, from the own node on.
+    pub fn candidate_path(&self, prefix: PrefixId, nbr: NodeId) -> Option<&Path>
+        ensures { (policy : P) (net : Net) (u : ℕ) (h : History) →
+            StandsFor policy net u self.now h →
+            prefix < length net.prefixes → has (neighbours net u) nbr ≡ true →
+            option_map (λ path. path.now) result ≡ candidate u h prefix nbr }
+    {
+        neighbours::find(&self.neighbours, &self.likely, nbr)?.path(prefix)
+    }
+
     /// The candidate of a neighbour, without the own node.
     pub fn candidate(&self, prefix: PrefixId, nbr: NodeId) -> Option<&[NodeId]>
         ensures { (policy : P) (net : Net) (u : ℕ) (h : History) →
@@ -164,7 +174,7 @@ impl<P: Policy + Copy> RouteState<P> {
             prefix < length net.prefixes → has (neighbours net u) nbr ≡ true →
             behind u (option_map (λ nodes. nodes.now) result) ≡ candidate u h prefix nbr }
     {
-        let path = neighbours::find(&self.neighbours, &self.likely, nbr)?.path(prefix)?;
+        let path = self.candidate_path(prefix, nbr)?;
         Some(&path.nodes()[1..])
     }
 

@@ -37,7 +37,7 @@ fn path_of(alloc: Global, nodes: &[u16]) -> Result<Option<Path>, Fail> {
     for node in nodes {
         path.push(NodeId::new(*node))?;
     }
-    Ok(Path::new(path))
+    Ok(Path::new(path)?)
 }
 
 // Takes an update of the first session.
@@ -99,4 +99,4 @@ fn each_call_answers_where_there_is_memory(rt: HostRuntime) -> Result<(), Fail> 
 }
 
 mod histories;
-mod long_paths;
+mod paths_told_again;

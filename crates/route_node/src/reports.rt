@@ -8,16 +8,16 @@ ghost use Rattle.admission_laws.specs.Handing.{table_fits};
 use incomplete_closure::{Report, Row, Rows, SessionRows};
 use stable_table::Table;
 use std::alloc::Global;
-use topology::{NoMemory, Path, PrefixId, SentItems, Topology};
+use topology::{NoMemory, Path, PrefixId, Topology};
 use wire_frames::Paths;
 
-fn row_copy(alloc: Global, row: &Row) -> Result<Row, NoMemory>
+fn row_copy(row: &Row) -> Result<Row, NoMemory>
     ensures { IfOk result (λ copy. copy ≡ row.now) }
 {
     Ok(Row {
         trigger: row.trigger,
         scope: row.scope,
-        sent: SentItems::new(Vec::from_slice(alloc, row.sent.as_slice())?),
+        sent: row.sent.copy()?,
     })
 }
 
@@ -26,7 +26,7 @@ fn rows_copy(alloc: Global, rows: &[Row]) -> Result<Rows, NoMemory>
 {
     let mut list = Vec::with_capacity(alloc, rows.len())?;
     for row in rows {
-        list.push(row_copy(alloc, row)?)?;
+        list.push(row_copy(row)?)?;
     }
     Ok(Rows::new(list))
 }
@@ -51,7 +51,8 @@ fn path_at(alloc: Global, table: &Table, prefix: PrefixId) -> Result<Option<Path
     let Some(nodes) = table.path(prefix) else {
         return Ok(None);
     };
-    Ok(Path::new(Vec::from_slice(alloc, nodes)?))
+    let list = Vec::from_slice(alloc, nodes)?;
+    Ok(Path::new(list)?)
 }
 
 /// The paths of a table, one for each prefix.

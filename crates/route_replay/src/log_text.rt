@@ -51,7 +51,7 @@ fn entry_line(
     place_words(out, node, index)?;
     trigger_words(out, &entry.trigger)?;
     change_words(out, topology, &entry.scope, &entry.cause)?;
-    sent_words(out, entry.sent.as_slice())?;
+    sent_words(out, entry.sent.laid_out().as_slice())?;
     out.push('\n')
 }
 

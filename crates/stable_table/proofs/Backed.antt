@@ -1,23 +1,20 @@
 -- The backups of a prefix, neighbour by neighbour.
-use Rattle.std.proofs.Common.{ℕ, zero, suc, ◌+◌, ◌<◌, ◌≤◌, get_or, length, drop, true, false, cond, not, ◌==◌, ◌||◌, Option, Some, None, List, [], ◌∷◌, ◌++◌, ◌≡◌, inl, inr, ⊎_elim, refl, sym, ◌∙◌, ap, subst, arith, map, filter, filter_map, Result, Ok, Err, IfOk, IfSome, option_map, option_and_then, append_assoc, append-nil}
+use Rattle.std.proofs.Common.{ℕ, zero, suc, ◌+◌, ◌<◌, ◌≤◌, get_or, length, drop, true, false, cond, not, ◌==◌, ◌||◌, Option, Some, None, List, [], ◌∷◌, ◌++◌, ◌≡◌, inl, inr, ⊎_elim, refl, sym, ◌∙◌, ap, subst, arith, map, filter, filter_map, option_map, option_and_then, append_assoc, append-nil}
 use Rattle.std.specs.Prelude.{if◌then◌else◌, is_some, option_to_list}
 use Rattle.std.specs.List.{AllByRecursion, cons_option}
 use Rattle.std.proofs.lemmas.Bool.Decides.{nat_tests}
 use Rattle.std.proofs.lemmas.List.{at_drop_all}
 use Rattle.topology.specs.Lists.{has, Among}
-use Rattle.topology.specs.Paths.{IsPath}
 use Rattle.topology.specs.Net.{Net, neighbours, file_preference}
 use Rattle.path_vector.specs.Rules.{Rules}
 use Rattle.path_vector.specs.History.{History, preference}
 use Rattle.path_vector.specs.Selection.{Choice, candidate, choice, choices}
 use Rattle.path_vector.specs.Order.{has_none}
 use Rattle.path_vector.specs.Ranking.{by_rank, order}
-use Rattle.path_vector.specs.Simple.{BringsPaths}
 use Rattle.path_vector.proofs.Ranking.{by_rank_is}
 use Rattle.incomplete_closure.specs.declared.values.Value.{Value}
 use Rattle.stable_table.specs.Tables.{all_responded, answered}
 use Rattle.stable_table.specs.Backups.{backup}
-use Rattle.stable_table.proofs.Simple.{candidate_simple}
 use Rattle.stable_table.proofs.Keeping.{dropped}
 
 -- what holds of each element holds of the one at a place
@@ -25,18 +22,6 @@ pub all_at : {A : Type 0} (P : A → Type 0) (xs : List A) (i : ℕ) (d : A) →
 all_at P [] i d below all = absurd (omega arith)
 all_at P (x ∷ xs) zero d below all = all.0
 all_at P (x ∷ xs) (suc i) d below all = all_at P xs i d (omega arith) all.1
-
--- what one fact gives of an answer, another gives
-pub if_ok : {A E : Type 0} (P Q : A → Type 0) (r : Result A E) → ((x : A) → P x → Q x) → IfOk r P → IfOk r Q
-if_ok P Q (Ok x) step p = step x p
-if_ok P Q (Err e) step p = tt
-
--- the path of a candidate whose nodes all responded
-pub from_candidate : (value : Value) (u : ℕ) (h : History) (p v : ℕ) (nodes : List ℕ) (path : Option (List ℕ)) → BringsPaths h → has value.responding u ≡ true
-    → all_responded value nodes ≡ true → Some (u ∷ nodes) ≡ candidate u h p v → (IsPath (u ∷ nodes) → path ≡ Some (u ∷ nodes)) → path ≡ backup value u h p v
-from_candidate value u h p v nodes path brings own all is made =
-    let taken : Some (u ∷ nodes) ≡ answered value u (u ∷ nodes) = rw (own, all) refl in
-    made (subst (λ o. IfSome o IsPath) (sym is) (candidate_simple u h p v brings)) ∙ (taken ∙ ap (option_and_then (answered value u)) is)
 
 -- one path more, and those still to come
 pub one_more : {A : Type 0} (xs ys : List A) (o : Option A) (all : List A) → xs ++ cons_option o ys ≡ all → (xs ++ option_to_list o) ++ ys ≡ all

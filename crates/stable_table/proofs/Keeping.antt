@@ -4,7 +4,6 @@ use Rattle.std.specs.Prelude.{if◌then◌else◌}
 use Rattle.std.specs.List.{list_any, AllZip}
 use Rattle.topology.specs.declared.names.Trigger.{Trigger}
 use Rattle.topology.specs.Triggers.{lists}
-use Rattle.topology.specs.Paths.{IsPath}
 use Rattle.topology.specs.Net.{Net}
 use Rattle.path_vector.specs.Rules.{Rules}
 use Rattle.path_vector.specs.History.{Change, History, Scoped, change, concerns, concerning}
@@ -15,7 +14,6 @@ use Rattle.trigger_log.specs.Fits.{Fits}
 use Rattle.trigger_log.specs.Standing.{Entered, all_entered, Shows}
 use Rattle.incomplete_closure.specs.declared.values.Value.{Value}
 use Rattle.stable_table.specs.Tables.{complete_in}
-use Rattle.path_vector.specs.Simple.{Brings, BringsPaths}
 use Rattle.trigger_log.specs.declared.entries.Entry.{Entry as Shown}
 use Rattle.trigger_log.specs.Entries.{Entry, reads}
 use Rattle.stable_table.specs.Keeping.{kept_by, kept}
@@ -26,10 +24,6 @@ accepted_before incomplete past [] a = a
 accepted_before incomplete past (e ∷ es) a =
     (elim (lists incomplete e.trigger) as (λ b. Accepted (if b then past else change e.scope e.cause ∷ past) → Accepted past) [ true ↦ λ x. x | false ↦ λ x. x.1 ])
     (accepted_before incomplete (kept_by incomplete past e) es a)
-
--- one more entry brings a path
-pub brings_more : (incomplete : List Trigger) (past : History) (e : Shown) → Brings IsPath e.cause → BringsPaths past → BringsPaths (kept_by incomplete past e)
-brings_more incomplete past e b before = elim (lists incomplete e.trigger) as (λ t. BringsPaths (if t then past else change e.scope e.cause ∷ past)) [ true ↦ before | false ↦ (b, before) ]
 
 -- what is left from a place on, by its first
 pub dropped : {A : Type 0} (xs : List A) (i : ℕ) (x : A) → i < length xs → x ≡ get_or xs i x → drop i xs ≡ x ∷ drop (suc i) xs

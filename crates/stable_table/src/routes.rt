@@ -1,47 +1,28 @@
 //! The routes of a node over the complete entries of a cut.
 ghost use Rattle.std.specs.Prelude.{ℕ, ◌≡◌, OnOk, IfOk};
 ghost use Rattle.topology.specs.Net.{Net};
-ghost use Rattle.topology.specs.Paths.{IsPath};
 ghost use Rattle.path_vector.specs.History.{History};
 ghost use Rattle.path_vector.specs.Parts.{Accepted};
-ghost use Rattle.path_vector.specs.Simple.{Brings, BringsPaths};
 ghost use Rattle.path_vector.specs.Standing.{StandsFor};
 ghost use Rattle.stable_table.specs.Keeping.{kept_by, kept};
 
 use crate::incomplete::Incomplete;
-use path_vector::{Cause, Policy, RouteState};
+use path_vector::{Policy, RouteState};
 use std::alloc::Global;
 use topology::{NoMemory, NodeId, Topology};
 use trigger_log::Entry;
 
-// What an update brings. No node is there twice, since that holds of each path.
-fn brought(cause: &Cause) -> &[NodeId]
-    ensures { Brings IsPath cause.now }
-{
-    match cause {
-        Cause::Recv {
-            path: Some(path),
-            ..
-        } => path.nodes(),
-        _ => &[],
-    }
-}
-
 // Takes the entry, if its trigger is not among the incomplete ones.
-#[tactic(auto, using(crate::proofs::Keeping::brings_more))]
 fn take<P: Policy + Copy>(
     state: &mut RouteState<P>,
     incomplete: &Incomplete,
     entry: &Entry,
 ) -> Result<(), NoMemory>
-    ensures stands { OnOk result ((policy : P) (net : Net) (u : ℕ) (past : History) →
+    ensures { OnOk result ((policy : P) (net : Net) (u : ℕ) (past : History) →
         Accepted (kept_by incomplete.now past entry.now) →
         StandsFor policy net u state.old past →
         StandsFor policy net u state.new (kept_by incomplete.now past entry.now)) }
-    ensures paths { (past : History) → BringsPaths past → BringsPaths (kept_by incomplete.now past entry.now) }
 {
-    // what holds of each path is said where it is read
-    let _nodes = brought(&entry.cause);
     if !incomplete.has(entry.trigger) {
         state.apply(entry.scope, &entry.cause)?;
     }
@@ -57,9 +38,8 @@ pub(crate) fn routes_of<P: Policy + Copy>(
     entries: &[Entry],
     incomplete: &Incomplete,
 ) -> Result<RouteState<P>, NoMemory>
-    ensures stands { IfOk result (λ state. Accepted (kept incomplete.now entries.now) →
+    ensures { IfOk result (λ state. Accepted (kept incomplete.now entries.now) →
         StandsFor policy topology.now node state (kept incomplete.now entries.now)) }
-    ensures paths { OnOk result (BringsPaths (kept incomplete.now entries.now)) }
 {
     let mut state = RouteState::new(alloc, topology, node, policy)?;
     for entry in entries {

@@ -5,7 +5,6 @@ ghost use Rattle.topology.specs.Lists.{has};
 ghost use Rattle.topology.specs.Net.{Net, places};
 ghost use Rattle.path_vector.specs.History.{History};
 ghost use Rattle.path_vector.specs.Selection.{best, path_of};
-ghost use Rattle.path_vector.specs.Simple.{BringsPaths};
 ghost use Rattle.path_vector.specs.Standing.{StandsFor};
 ghost use Rattle.stable_table.specs.Tables.{answered};
 ghost use Rattle.stable_table.specs.Rows.{IsRow, prefix_row};
@@ -53,7 +52,7 @@ fn row_of<P: Policy + Copy>(
     prefix: PrefixId,
 ) -> Result<Row, NoMemory>
     ensures { IfOk result (λ row. (policy : P) (net : Net) (h : History) →
-        StandsFor policy net node state.now h → BringsPaths h → prefix < length net.prefixes →
+        StandsFor policy net node state.now h → prefix < length net.prefixes →
         IsRow (prefix_row (P.rules policy) net node value.now h prefix) row) }
 {
     if !responded(value, node) {
@@ -64,7 +63,7 @@ fn row_of<P: Policy + Copy>(
     }
     Ok(Row {
         path: path_of(state, value, prefix)?,
-        backups: backups_of(alloc, state, value, node, prefix)?,
+        backups: backups_of(alloc, state, value, prefix)?,
     })
 }
 
@@ -77,7 +76,7 @@ pub(crate) fn rows_of<P: Policy + Copy>(
     node: NodeId,
 ) -> Result<Vec<Row>, NoMemory>
     ensures { IfOk result (λ rows. (policy : P) (h : History) →
-        StandsFor policy topology.now node state.now h → BringsPaths h →
+        StandsFor policy topology.now node state.now h →
         AllZip (λ p. IsRow (prefix_row (P.rules policy) topology.now node value.now h p))
         (places topology.now) rows.items) }
 {

@@ -82,7 +82,7 @@ fn update(alloc: Global, from: &str, seq: &str, path: &str) -> Result<Cause, Fai
         from: node(from)?,
         session: Session::new(1),
         seq: number(seq)?,
-        path: Path::new(ids(alloc, path)?),
+        path: Path::new(ids(alloc, path)?)?,
     })
 }
 

@@ -1,15 +1,14 @@
 -- What is added keeps a topology sound.
-use Rattle.std.proofs.Common.{◌≡◌, ◌≢◌, ℕ, suc, zero, ◌+◌, ◌<◌, ◌≤◌, ◌^◌, Bool, true, false, not, cond, ◌&&◌, ◌||◌, ◌==◌, List, [], ◌∷◌, ◌++◌, length, count_by, sum_by, map, set, get_or, slice_get, Option, Some, None, refl, sym, ap, subst, find, ◌∙◌, arith, IsTrue, if◌then◌else◌, nat_lt, nat_le, true≢false, ◌⊎◌, inl, inr}
+use Rattle.std.proofs.Common.{◌≡◌, ◌≢◌, ℕ, ◌+◌, ◌<◌, ◌≤◌, ◌^◌, Bool, true, false, not, cond, ◌&&◌, ◌==◌, List, [], ◌∷◌, ◌++◌, length, count_by, map, set, slice_get, Option, Some, None, refl, sym, ap, subst, find, ◌∙◌, arith, IsTrue, if◌then◌else◌, nat_le, inl, inr}
 use Rattle.std.specs.List.{list_any, AllByRecursion}
 use Rattle.std.proofs.lemmas.Bool.Decides.{nat_tests}
 use Rattle.std.proofs.lemmas.List.{length_push, map_push}
 use Rattle.std.proofs.lemmas.Option.{same_Some}
 use Rattle.std.proofs.lemmas.List.Sums.{sum_by-cons, sum_by_push}
-use Rattle.std.proofs.lemmas.List.Folds.{list_any-append}
 use Rattle.topology.specs.Lists.{has, put_ascending}
 use Rattle.topology.specs.Paths.{differ}
-use Rattle.topology.specs.Net.{Net, PrefersLinked, joins, linked, prefers, neighbours, same_prefix, has_prefix, JoinsNodes, IsValid, Leads}
-use Rattle.topology.specs.Building.{nothing, with_node, with_link, with_pref, with_prefix, with_hops, with_scheme, put_preference, node_refusal, link_refusal, pref_refusal, scheme_refusal}
+use Rattle.topology.specs.Net.{Net, joins, linked, prefers, neighbours, same_prefix, has_prefix, IsValid, Leads}
+use Rattle.topology.specs.Building.{with_node, with_link, with_pref, with_prefix, with_hops, with_scheme, put_preference, node_refusal, link_refusal, pref_refusal, scheme_refusal}
 use Rattle.topology.specs.Tables.{Keeps}
 use Rattle.topology.specs.declared.building.BuildError.TheVariants.{DuplicateNode, UnknownNode, DuplicateLink, SelfLink, TooMany, NoLink}
 use Rattle.topology.specs.declared.links.Link.{Link}

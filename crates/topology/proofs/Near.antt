@@ -1,5 +1,5 @@
 -- Neighbours, and what becomes of them.
-use Rattle.std.proofs.Common.{◌≡◌, ◌≢◌, ℕ, suc, zero, ◌+◌, ◌<◌, ◌≤◌, Bool, true, false, not, cond, ◌&&◌, ◌||◌, ◌==◌, List, [], ◌∷◌, ◌++◌, length, filter, map, refl, sym, ap, ◌∙◌, arith, IsTrue, if◌then◌else◌, nat_lt, true≢false, ◌⊎◌, inl, inr}
+use Rattle.std.proofs.Common.{◌≡◌, ◌≢◌, ℕ, suc, ◌<◌, ◌≤◌, Bool, true, false, cond, ◌&&◌, ◌||◌, ◌==◌, List, [], ◌∷◌, length, filter, refl, sym, ap, ◌∙◌, arith, if◌then◌else◌, nat_lt}
 use Rattle.std.specs.List.{list_any, AllByRecursion}
 use Rattle.std.proofs.lemmas.Bool.Decides.{nat_tests}
 use Rattle.std.proofs.lemmas.List.Elements.{filter_agree}
@@ -7,10 +7,10 @@ use Rattle.std.proofs.lemmas.List.Folds.{list_any-append}
 use Rattle.topology.specs.Lists.{has, put_ascending, ascending}
 use Rattle.topology.specs.Paths.{differ}
 use Rattle.topology.specs.Net.{Net, joins, linked, neighbours, JoinsNodes, IsValid}
-use Rattle.topology.specs.Building.{with_node, with_link, with_prefix}
+use Rattle.topology.specs.Building.{with_node, with_link}
 use Rattle.topology.specs.declared.links.Link.{Link}
-use Rattle.topology.proofs.Tests.{and_left, and_right, and_both, and_no, or_left, or_right, or_none, or_first, or_second, or_false, or_comm, not_true, not_false, same_sym, same_is, same_not, same_refl}
-use Rattle.topology.proofs.Ascending.{Rises, absent, each_weaker, ascending-append, rises-ascending, has-ascending, length-ascending}
+use Rattle.topology.proofs.Tests.{and_no, or_second, or_false, or_comm, same_sym, same_is}
+use Rattle.topology.proofs.Ascending.{Rises, absent, ascending-append, rises-ascending, has-ascending, length-ascending}
 
 -- lists that are filtered
 

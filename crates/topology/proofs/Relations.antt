@@ -1,14 +1,12 @@
 -- What the two ends of a link are to each other.
-use Rattle.std.proofs.Common.{◌≡◌, ◌≢◌, ℕ, Bool, true, false, cond, ◌&&◌, ◌||◌, ◌==◌, List, [], ◌∷◌, find, Option, Some, None, is_some, option_map, refl, sym, ap, ◌∙◌, ◌⊎◌, inl, inr, if◌then◌else◌}
-use Rattle.std.specs.List.{list_any}
-use Rattle.topology.specs.Net.{Net, joins, linked, relation, seen_from, converse, IsValid}
+use Rattle.std.proofs.Common.{◌≡◌, ◌≢◌, ℕ, true, false, cond, ◌&&◌, ◌==◌, List, [], ◌∷◌, find, Option, Some, None, is_some, option_map, refl, sym, ap, ◌∙◌, inl, inr}
+use Rattle.topology.specs.Net.{Net, joins, linked, relation, seen_from, converse}
 use Rattle.topology.specs.declared.links.Link.{Link}
 use Rattle.topology.specs.declared.links.Relation.{Relation}
 use Rattle.topology.specs.declared.links.Relation.TheVariants.{Customer, Provider, Peer, Any}
-use Rattle.topology.proofs.Tests.{and_left, and_right, or_cases, same_is, same_not, same_refl}
+use Rattle.topology.proofs.Tests.{and_left, or_cases, same_is, same_not, same_refl}
 use Rattle.topology.proofs.Linked.{is_some_find}
 use Rattle.topology.proofs.Near.{joins_sym}
-use Rattle.topology.proofs.Neighbours.{not_linked_with_itself}
 
 is_some-map : {X Y : Type 0} (f : X → Y) (o : Option X) → is_some (option_map f o) ≡ is_some o
 is_some-map f None = refl

@@ -1,5 +1,5 @@
 -- Sets of nodes in two orders.
-use Rattle.std.proofs.Common.{◌≡◌, ◌≢◌, ℕ, suc, zero, ◌+◌, ◌<◌, ◌≤◌, Bool, true, false, not, cond, ◌&&◌, ◌||◌, ◌==◌, List, [], ◌∷◌, ◌++◌, length, get_or, one-add, insert, position, true≢false, refl, sym, ap, ◌∙◌, arith, IsTrue, IsNone, IfSome, MatchOption, MatchResult, if◌then◌else◌, nat_lt, nat_cmp, slice_get, Option, Some, None, Result, Ok, Err, unwrap_or, OnOk, is_ok}
+use Rattle.std.proofs.Common.{◌≡◌, ℕ, ◌+◌, ◌<◌, ◌≤◌, Bool, true, false, not, cond, ◌||◌, ◌==◌, List, [], ◌∷◌, ◌++◌, length, get_or, one-add, insert, position, true≢false, refl, sym, ap, ◌∙◌, arith, IsNone, IfSome, if◌then◌else◌, nat_lt, nat_cmp, slice_get, Option, Some, None, Result, Ok, Err, unwrap_or, OnOk, is_ok}
 use Rattle.std.specs.List.{list_any, position_or_len}
 use Rattle.std.specs.List.Sorted.{IsBinarySearchResult}
 use Rattle.std.specs.Result.{result_ok}
@@ -13,7 +13,7 @@ use Rattle.std.proofs.lemmas.Bool.Decides.{nat_tests}
 use Rattle.topology.specs.Lists.{has, put_ascending, ascending}
 use Rattle.topology.specs.Paths.{differ}
 use Rattle.topology.specs.Tables.{InBothOrders}
-use Rattle.topology.proofs.Tests.{or_false, and_left, and_right, and_both, or_left, or_right, or_none, not_true, not_false, same_sym, same_is, same_refl}
+use Rattle.topology.proofs.Tests.{or_false, and_left, and_right, and_both, or_left, or_right, or_none, not_true, not_false, same_sym, same_refl}
 use Rattle.topology.proofs.Places.{has_placed}
 use Rattle.topology.proofs.Ascending.{Climbs, climbs_at, ascending-append, climbs-ascending, has-ascending}
 

@@ -1,5 +1,5 @@
 -- What each call of a topology adds, and when it refuses.
-use Rattle.std.specs.Prelude.{ℕ, Bool, true, false, not, ◌&&◌, ◌==◌, nat_le, List, [], ◌∷◌, ◌++◌, length, Option, Some, None, Result, IsErrOf, IsOkUnless, if◌then◌else◌}
+use Rattle.std.specs.Prelude.{ℕ, Bool, not, ◌&&◌, ◌==◌, nat_le, List, [], ◌∷◌, ◌++◌, length, Option, Some, None, Result, IsErrOf, IsOkUnless, if◌then◌else◌}
 use Rattle.topology.specs.Lists.{has}
 use Rattle.topology.specs.Net.{Net, linked, prefers, has_prefix}
 use Rattle.topology.specs.declared.links.Link.{Link}

@@ -1,10 +1,12 @@
 //! What goes over a link.
-ghost use Rattle.std.specs.Prelude.{◌≡◌, [], IfOk};
+ghost use Rattle.std.specs.Prelude.{◌≡◌, ◌≤◌, [], length, IfOk, IsOk};
 
-use crate::few_sent::{FewSent, ROOM};
+use crate::two_sent::TwoSent;
 use crate::{Epoch, NoMemory, NodeId, Path, PrefixId, Session, Trigger};
+use smallvec::SmallVec;
 use std::alloc::Global;
 use std::marker::Model;
+use std::rc::Rc;
 
 /// One message of a session, in its order.
 #[derive(Debug, Drop)]
@@ -24,12 +26,15 @@ pub enum Item {
 }
 
 /// That an item was sent to a neighbour in a session, with this number.
-#[derive(Clone, Copy, Debug, PartialEq, Eq)]
+#[derive(Clone, Copy, Debug, Default, PartialEq, Eq)]
 pub struct Sent {
     pub to: NodeId,
     pub session: Session,
     pub seq: u32,
 }
+
+// How many items of a longer list stand in the block that its copies share.
+const IN_PLACE: usize = 8;
 
 /// The items that an entry sent: by neighbour ascending, then by prefix in file order. A `close`
 /// stands at its neighbour's place.
@@ -38,11 +43,13 @@ pub struct SentItems {
     kept: Kept,
 }
 
-// The items of an entry. Most entries send few of them, which take no memory.
+// The items of an entry. Most entries send few of them, which take no memory; the copies of a longer list share it.
 #[derive(Debug, Drop)]
 enum Kept {
-    Few(FewSent),
-    Many(Vec<Sent>),
+    Nothing,
+    One(Sent),
+    Two(TwoSent),
+    Many(Rc<SmallVec<Sent, IN_PLACE>>),
 }
 
 impl Model for SentItems {
@@ -56,23 +63,16 @@ impl Model for SentItems {
 }
 
 impl SentItems {
-    /// The list of these items. Takes no memory.
-    pub fn new(list: Vec<Sent>) -> SentItems
-        ensures { result ≡ list.items }
-    {
-        SentItems {
-            kept: Kept::Many(list),
-        }
-    }
-
-    /// The list of these items. A few stand in place, and take no memory.
+    /// The list of these items. Up to two take no memory.
     pub fn of(alloc: Global, items: &[Sent]) -> Result<SentItems, NoMemory>
-        ensures { IfOk result (λ sent. sent ≡ items.now) }
+        ensures items { IfOk result (λ sent. sent ≡ items.now) }
+        ensures few { length items.now ≤ 2 → IsOk result }
     {
-        let kept = if items.len() <= ROOM {
-            Kept::Few(FewSent::of(items))
-        } else {
-            Kept::Many(Vec::from_slice(alloc, items)?)
+        let kept = match items {
+            [] => Kept::Nothing,
+            [one] => Kept::One(*one),
+            [one, other] => Kept::Two(TwoSent::new(*one, *other)),
+            _ => Kept::Many(Rc::new(alloc, SmallVec::from_slice(alloc, items)?)?),
         };
         Ok(SentItems { kept })
     }
@@ -82,16 +82,80 @@ impl SentItems {
         ensures { result ≡ [] }
     {
         SentItems {
-            kept: Kept::Few(FewSent::of(&[])),
+            kept: Kept::Nothing,
         }
     }
 
+    /// The same items again.
+    pub fn copy(&self) -> Result<SentItems, NoMemory>
+        ensures { IfOk result (λ sent. sent ≡ self.now) }
+    {
+        let kept = match &self.kept {
+            Kept::Nothing => Kept::Nothing,
+            Kept::One(item) => Kept::One(*item),
+            Kept::Two(items) => Kept::Two(items.copy()),
+            Kept::Many(items) => Kept::Many(items.clone()?),
+        };
+        Ok(SentItems { kept })
+    }
+
+    /// How many items there are.
+    pub fn len(&self) -> usize
+        ensures { result ≡ length self.now }
+    {
+        match &self.kept {
+            Kept::Nothing => 0,
+            Kept::One(_) => 1,
+            Kept::Two(items) => items.to_array().len(),
+            Kept::Many(items) => items.len(),
+        }
+    }
+
+    /// The items one behind the other: a few are laid out, a longer list is lent.
+    pub fn laid_out(&self) -> LaidOut<'_>
+        ensures { result ≡ self.now }
+    {
+        let items = match &self.kept {
+            Kept::Nothing => Laid::Lent(&[]),
+            Kept::One(item) => Laid::One([*item]),
+            Kept::Two(items) => Laid::Two(items.to_array()),
+            Kept::Many(items) => Laid::Lent(items.as_slice()),
+        };
+        LaidOut { items }
+    }
+}
+
+/// The items that an entry sent, one behind the other.
+#[derive(Drop)]
+pub struct LaidOut<'a> {
+    items: Laid<'a>,
+}
+
+#[derive(Drop)]
+enum Laid<'a> {
+    One([Sent; 1]),
+    Two([Sent; 2]),
+    Lent(&'a [Sent]),
+}
+
+impl<'a> Model for LaidOut<'a> {
+    ghost use Rattle.std.specs.Prelude.{List};
+    ghost use Rattle.topology.specs.declared.items.Sent.{Sent};
+    ghost use Rattle.topology.specs.SentLists.{laid_items};
+
+    ghost Value = { List Sent };
+
+    ghost view = { λ l. laid_items l.items };
+}
+
+impl LaidOut<'_> {
     pub fn as_slice(&self) -> &[Sent]
         ensures { result.now ≡ self.now }
     {
-        match &self.kept {
-            Kept::Few(items) => items.as_slice(),
-            Kept::Many(items) => items,
+        match &self.items {
+            Laid::One(items) => items,
+            Laid::Two(items) => items,
+            Laid::Lent(items) => items,
         }
     }
 }

@@ -140,7 +140,7 @@ fn a_detour_follows_the_path_of_its_node(rt: HostRuntime) -> Result<(), Fail> {
 
 fn path_of(alloc: Global, nodes: &[NodeId]) -> Result<Option<Path>, NoMemory> {
     let nodes = Vec::from_slice(alloc, nodes)?;
-    Ok(Path::new(nodes))
+    Ok(Path::new(nodes)?)
 }
 
 // 1@t 3@t 4@t: it takes the backup 1 3 4 2, since the link to 2 is down, and goes along it.

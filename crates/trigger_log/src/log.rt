@@ -23,7 +23,7 @@ ghost use Rattle.trigger_log.specs.Midway.{AreOffers, IsMade, IsMidway};
 use crate::counting::next_number;
 use crate::entries::Entry;
 use crate::marking::mark;
-use crate::offers::{Offer, offer_of, offers_again, offers_by, offers_for, offers_of};
+use crate::offers::{Offer, Offers, offer_of, offers_again, offers_by, offers_for, offers_of};
 use crate::outgoing::{Outgoing, forget};
 use crate::quiet::{same_offer, same_offers, stays};
 use crate::sessions::{SessionMark, Sessions};
@@ -393,10 +393,12 @@ impl<P: Policy + Copy> NodeLog<P> {
         self.routes.apply(Scope::One(prefix), &cause)?;
         let after = offer_of(&self.routes, prefix)?;
         let same = same_offer(&before, &after);
-        let before = slice::from_ref(&before);
-        let after = slice::from_ref(&after);
-        let same = slice::from_ref(&same);
-        Ok(self.finish(trigger, Scope::One(prefix), cause, before, after, same)?)
+        let offers = Offers {
+            before: slice::from_ref(&before),
+            after: slice::from_ref(&after),
+            same: slice::from_ref(&same),
+        };
+        Ok(self.finish(trigger, Scope::One(prefix), cause, offers)?)
     }
 
     // An entry of all prefixes, of which each neighbour is told what changes for it.
@@ -425,7 +427,12 @@ impl<P: Policy + Copy> NodeLog<P> {
         self.routes.apply(Scope::All, &cause)?;
         let after = offers_for(self.alloc, &self.routes, topology, &cause)?;
         let same = same_offers(self.alloc, &before, &after)?;
-        Ok(self.finish(trigger, Scope::All, cause, &before, &after, &same)?)
+        let offers = Offers {
+            before: &before,
+            after: &after,
+            same: &same,
+        };
+        Ok(self.finish(trigger, Scope::All, cause, offers)?)
     }
 
     // A session is ready. That changes no best route: those after the entry are those before it, too.
@@ -449,7 +456,12 @@ impl<P: Policy + Copy> NodeLog<P> {
         self.routes.apply(Scope::All, &cause)?;
         let offers = offers_of(self.alloc, &self.routes, topology)?;
         let same = vec![in self.alloc; true; offers.len()]?;
-        Ok(self.finish(trigger, Scope::All, cause, &offers, &offers, &same)?)
+        let offers = Offers {
+            before: &offers,
+            after: &offers,
+            same: &same,
+        };
+        Ok(self.finish(trigger, Scope::All, cause, offers)?)
     }
 
     // A session ends. That may change the best routes that went by its neighbour, and no other: only those are compared.
@@ -474,7 +486,12 @@ impl<P: Policy + Copy> NodeLog<P> {
         self.routes.apply(Scope::All, &cause)?;
         let after = offers_again(self.alloc, &self.routes, &before)?;
         let same = same_offers(self.alloc, &before, &after)?;
-        Ok(self.finish(trigger, Scope::All, cause, &before, &after, &same)?)
+        let offers = Offers {
+            before: &before,
+            after: &after,
+            same: &same,
+        };
+        Ok(self.finish(trigger, Scope::All, cause, offers)?)
     }
 
     // The rest of an entry that the routes took already: its sessions are marked, each neighbour is told, and it is kept.
@@ -484,24 +501,22 @@ impl<P: Policy + Copy> NodeLog<P> {
         trigger: Trigger,
         scope: Scope,
         cause: Cause,
-        before: &[Offer],
-        after: &[Offer],
-        same: &[bool],
+        offers: Offers<'_>,
     ) -> Result<(), NoMemory>
-        requires same_prefixes { prefixes_of before.now ≡ prefixes_of after.now }
-        requires same { AreSame before.now after.now same.now }
+        requires same_prefixes { prefixes_of offers.before.now ≡ prefixes_of offers.after.now }
+        requires same { AreSame offers.before.now offers.after.now offers.same.now }
         ensures { OnOk result ((policy : P) (net : Net) (u : ℕ) (h : List Logged) (routes : RouteState P) →
             IsMidway policy (making (P.rules policy) net u h (entry (trigger ∷ []) scope cause)) routes self.old →
-            AreOffers (making (P.rules policy) net u h (entry (trigger ∷ []) scope cause)) before.now after.now →
+            AreOffers (making (P.rules policy) net u h (entry (trigger ∷ []) scope cause)) offers.entry.before.now offers.entry.after.now →
             IsMade policy (making (P.rules policy) net u h (entry (trigger ∷ []) scope cause)) self.new) }
     {
         mark(&mut self.sessions, &trigger, &cause)?;
         let turn = Turn {
             trigger: &trigger,
             cause: &cause,
-            before,
-            after,
-            same,
+            before: offers.before,
+            after: offers.after,
+            same: offers.same,
         };
         tell_all(&self.routes, &mut self.sessions, &turn, &mut self.said)?;
         let sent = SentItems::of(self.alloc, &self.said.sent)?;

@@ -19,6 +19,14 @@ pub struct Offer {
     pub chosen: Chosen,
 }
 
+/// The best routes of some prefixes, before an entry and after it, and of each whether it is the same.
+#[derive(Clone, Copy)]
+pub struct Offers<'a> {
+    pub before: &'a [Offer],
+    pub after: &'a [Offer],
+    pub same: &'a [bool],
+}
+
 /// The best route of one prefix.
 #[inline(always)]
 pub fn offer_of<P: Policy + Copy>(

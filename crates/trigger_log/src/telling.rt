@@ -64,7 +64,9 @@ pub struct Said {
 
 impl Said {
     /// Nothing. Takes no memory.
-    pub fn new(alloc: Global) -> Said {
+    pub fn new(alloc: Global) -> Said
+        ensures { speech_of result ≡ silence }
+    {
         Said {
             sent: Vec::new(alloc),
             outgoing: Vec::new(alloc),

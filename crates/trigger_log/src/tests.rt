@@ -85,7 +85,7 @@ fn fill(topology: &mut Topology) -> Result<(), Fail> {
 fn path_of(alloc: Global, from: u16) -> Result<Option<Path>, Fail> {
     let mut nodes = Vec::new(alloc);
     nodes.push(NodeId::new(from))?;
-    Ok(Path::new(nodes))
+    Ok(Path::new(nodes)?)
 }
 
 fn cause_of(alloc: Global, act: Act) -> Result<(Scope, Cause), Fail> {
@@ -128,7 +128,8 @@ fn trigger_of<P: Policy + Copy>(log: &NodeLog<P>, act: Act) -> Trigger {
 }
 
 fn lists(rt: &impl Abort, entry: &Entry, items: Items) {
-    let sent = entry.sent.as_slice();
+    let laid_out = entry.sent.laid_out();
+    let sent = laid_out.as_slice();
     assert_eq!(rt; sent.len(), items.len());
     for i in 0..items.len() {
         let (to, session, seq) = items[i];

@@ -142,7 +142,7 @@ fn all_fit(frame: &Frame) -> bool
 fn row_length(entry: &Row) -> usize
     ensures { result ≡ min (length ((row 0).spells entry.now)) (2 ^ 64 - 1) }
 {
-    let items = entry.sent.as_slice().len();
+    let items = entry.sent.len();
     items.saturating_mul(10).saturating_add(10)
 }
 

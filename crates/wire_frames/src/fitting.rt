@@ -203,7 +203,7 @@ pub(crate) fn row_fits(entry: &Row, before: u32) -> bool
 {
     trigger_fits(entry.trigger)
         && scope_fits(entry.scope)
-        && items_fits(entry.sent.as_slice(), before)
+        && items_fits(entry.sent.laid_out().as_slice(), before)
 }
 
 fn down_fits(mark: Option<Trigger>) -> bool

@@ -45,7 +45,7 @@ pub(crate) fn read_path(alloc: Global, fields: &mut Fields<'_>) -> Result<Option
 {
     let count = fields.few(64)?;
     let list = read_different(alloc, count, fields)?;
-    Ok(Path::new(list))
+    Ok(Path::new(list)?)
 }
 
 #[tactic(auto, unfolding(crate::specs::Fields::nodes))]

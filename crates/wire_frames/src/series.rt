@@ -352,16 +352,15 @@ impl Run for ReportRows {
         Ok(Row {
             trigger,
             scope,
-            sent: SentItems::new(sent),
+            sent: SentItems::of(alloc, &sent)?,
         })
     }
 
     fn fits(&mut self, item: &Row) -> bool {
-        let items = item.sent.as_slice();
         if !row_fits(item, self.before) {
             return false;
         }
-        self.before += items.len() as u32;
+        self.before += item.sent.len() as u32;
         true
     }
 

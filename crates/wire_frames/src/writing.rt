@@ -227,9 +227,9 @@ pub(crate) fn put_row(out: &mut Vec<u8>, entry: &Row) -> Result<(), NoMemory>
 {
     put_trigger(out, entry.trigger)?;
     put_scope(out, entry.scope)?;
-    let items = entry.sent.as_slice();
-    put_many(out, items.len())?;
-    write_many::<Items>(items, out)
+    put_many(out, entry.sent.len())?;
+    let items = entry.sent.laid_out();
+    write_many::<Items>(items.as_slice(), out)
 }
 
 fn put_down(out: &mut Vec<u8>, mark: Option<Trigger>) -> Result<(), NoMemory>

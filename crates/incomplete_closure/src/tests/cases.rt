@@ -60,7 +60,7 @@ fn size(reports: &[Rc<Report>]) -> usize {
         size = size.saturating_add(report.rows.as_slice().len());
         size = size.saturating_add(report.sessions.as_slice().len());
         for row in report.rows.as_slice() {
-            size = size.saturating_add(row.sent.as_slice().len());
+            size = size.saturating_add(row.sent.len());
         }
     }
     size

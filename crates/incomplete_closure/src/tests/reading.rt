@@ -73,7 +73,7 @@ fn row(alloc: Global, word: &str) -> Result<Row, Fail> {
     Ok(Row {
         trigger: trigger(of)?,
         scope: scope(concerns),
-        sent: SentItems::new(sent),
+        sent: SentItems::of(alloc, &sent)?,
     })
 }
 

@@ -39,7 +39,7 @@ fn mark_item(
 
 fn mark_items(marks: &mut Marks, from: &Report, to: &Report) -> Result<(), Fail> {
     for row in from.rows.as_slice() {
-        for item in row.sent.as_slice() {
+        for item in row.sent.laid_out().as_slice() {
             mark_item(marks, from, to, row.trigger, item)?;
         }
     }

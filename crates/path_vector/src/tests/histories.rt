@@ -47,7 +47,7 @@ fn cause(alloc: Global, kind: &str, nbr: u16, number: u32, path: &[u16]) -> Resu
             from: nbr,
             session,
             seq: 1,
-            path: Path::new(ids(alloc, path)?),
+            path: Path::new(ids(alloc, path)?)?,
         },
     })
 }

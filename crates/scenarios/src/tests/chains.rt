@@ -27,15 +27,15 @@ fn trigger(node: u16, count: u32) -> Trigger {
 
 // The items of the row with which a link begins: the first link has one, which nobody received.
 fn items(alloc: Global, link: u32) -> Result<SentItems, Fail> {
-    let mut sent = Vec::new(alloc);
-    if link == 1 {
-        sent.push(Sent {
-            to: NodeId::new(1),
-            session: Session::new(1),
-            seq: 1,
-        })?;
+    if link != 1 {
+        return Ok(SentItems::none());
     }
-    Ok(SentItems::new(sent))
+    let item = Sent {
+        to: NodeId::new(1),
+        session: Session::new(1),
+        seq: 1,
+    };
+    Ok(SentItems::of(alloc, &[item])?)
 }
 
 fn row(trigger: Trigger, prefix: u16, sent: SentItems) -> Row {
@@ -52,8 +52,8 @@ fn push_link(alloc: Global, rows: &mut Vec<Row>, link: u32) -> Result<(), Fail> 
     let prefix = (link.saturating_sub(1) % LINKS) as u16;
     let sent = items(alloc, link)?;
     rows.push(row(trigger(1, link), prefix, sent))?;
-    let none = SentItems::new(Vec::new(alloc));
-    rows.push(row(trigger(1, link.saturating_add(1)), prefix, none))?;
+    let behind = trigger(1, link.saturating_add(1));
+    rows.push(row(behind, prefix, SentItems::none()))?;
     Ok(())
 }
 
@@ -61,8 +61,7 @@ fn push_link(alloc: Global, rows: &mut Vec<Row>, link: u32) -> Result<(), Fail> 
 fn rows(alloc: Global, last: u32) -> Result<Rows, Fail> {
     let mut rows = Vec::new(alloc);
     for _place in 0..ROWS_BEFORE {
-        let none = SentItems::new(Vec::new(alloc));
-        rows.push(row(trigger(2, 1), 0, none))?;
+        rows.push(row(trigger(2, 1), 0, SentItems::none()))?;
     }
     for before in 0..LINKS {
         push_link(alloc, &mut rows, last.saturating_sub(before))?;

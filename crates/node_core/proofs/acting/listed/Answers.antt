@@ -9,5 +9,5 @@ returns-in-None g c policy net u k h stands =
 pub returns-in-Some : goal.returns-in-Some
 returns-in-Some g c policy net u k h stands =
     let found = c.in-Some.ensures.some policy net u (k ∷ h) stands in
-    ap length (c.as_slice.ensures
-    ∙ shown_newest (g.P.Policy.rules policy) net u k h c.len.result found.0 c.in-Some.entry.now (c.len.ensures policy net u (k ∷ h) stands) found.1 found.2)
+    c.len-in-Some.ensures
+    ∙ ap length (shown_newest (g.P.Policy.rules policy) net u k h c.len.result found.0 c.in-Some.entry.now (c.len.ensures policy net u (k ∷ h) stands) found.1 found.2)

@@ -17,7 +17,6 @@ loop-entry-preserved g c =
     rw step (sym (ap (fold (kept_by incomplete) before.0) (dropped entries i entry (omega arith) c.entry-item.is)) ∙ before.1) in (
       past,
       same,
-      c.take.ensures.paths before.0 before.2,
-      λ a. c.in_ok-take.ensures.stands c.args.policy c.args.topology.now c.args.node before.0
-          (accepted_before incomplete past (drop (i + 1) entries) (subst Accepted (sym same) a)) (before.3 a),
+      λ a. c.in_ok-take.ensures c.args.policy c.args.topology.now c.args.node before.0
+          (accepted_before incomplete past (drop (i + 1) entries) (subst Accepted (sym same) a)) (before.2 a),
     )

@@ -6,8 +6,8 @@ use Rattle.path_vector.specs.Parts.{Accepted}
 use Rattle.path_vector.specs.Standing.{StandsFor}
 use Rattle.stable_table.proofs.routes.take.Goals as goal
 
-pub returns-in_ok-apply-clause-stands : goal.returns-in_ok-apply-clause-stands
-returns-in_ok-apply-clause-stands g c = λ policy net u past.
+pub returns-in_ok-apply : goal.returns-in_ok-apply
+returns-in_ok-apply g c = λ policy net u past.
     let e = c.args.entry.now in
     let off : lists c.args.incomplete.now e.trigger ≡ false = grind (arith, c.has.ensures, c.if-not-has.true) in
     subst (λ b. Accepted (if b then past else change e.scope e.cause ∷ past) → StandsFor policy net u c.args.state.now past

@@ -1,11 +1,10 @@
 use Rattle.std.specs.List.{AllZip, range_with_len}
 use Rattle.path_vector.specs.History.{History}
-use Rattle.path_vector.specs.Simple.{BringsPaths}
 use Rattle.path_vector.specs.Standing.{StandsFor}
 use Rattle.stable_table.specs.Rows.{IsRow, prefix_row}
 use Rattle.stable_table.proofs.rows.rows_of.Given as goal
 
 abbrev pub invariant-loop-place : goal.invariant-loop-place
 invariant-loop-place g l =
-    (policy : _) (h : History) → StandsFor policy l.topology l.node l.state h → BringsPaths h
+    (policy : _) (h : History) → StandsFor policy l.topology l.node l.state h
     → AllZip (λ p. IsRow (prefix_row (g.P.Policy.rules policy) l.topology l.node l.value h p)) (range_with_len 0 l.place) l.rows.items

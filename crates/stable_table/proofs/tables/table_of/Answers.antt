@@ -22,8 +22,8 @@ returns g c = λ u newer entries stands is.
     let alike = kept_alike c.in_ok-incomplete.incomplete c.as_slice.result.now c.in_ok-incomplete.ensures [] c.first_of-entries.result.now in
     let same = alike ∙ cut_kept rules net u c.args.cut value newer entries c.as_slice.result.now c.entries.result.now c.first_of-entries.result.now
     (c.entries.ensures policy net u log stands) c.first_of-entries.ensures is c.as_slice.ensures in
-    let routes = c.in_ok-state.ensures.stands (subst Accepted (sym same) (kept_accepted value.incomplete entries fits)) in
-    let rows = c.in_ok-rows.ensures policy _ routes c.in_ok-state.ensures.paths in
+    let routes = c.in_ok-state.ensures (subst Accepted (sym same) (kept_accepted value.incomplete entries fits)) in
+    let rows = c.in_ok-rows.ensures policy _ routes in
     table_is rules net u value entries fits c.args.epoch c.in_ok-copy.field-0 c.in_ok-rows.rows.items c.in_ok-copy.ensures
     (subst (λ w. AllZip (λ p. IsRow (kept_row rules net w value entries p)) (places net) c.in_ok-rows.rows.items) own
     (subst (λ (h : History). AllZip (λ p. IsRow (prefix_row rules net node value h p)) (places net) c.in_ok-rows.rows.items) same rows))

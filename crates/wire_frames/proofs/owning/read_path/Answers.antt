@@ -8,5 +8,5 @@ unfolding path
 returns c =
     let list = c.in_ok-list.list.items in
     let apart = (many_differ [] list c.in_ok-count.count c.few.new.self c.read_different.new.fields c.in_ok-list.ensures).0 in
-    let same : path_of list ≡ c.new.result = path_is list c.new.result apart c.new.ensures.some c.new.ensures.none in
+    let same : path_of list ≡ c.in_ok-new.field-0 = path_is list c.in_ok-new.field-0 apart c.in_ok-new.ensures.some c.in_ok-new.ensures.none in
     rw (c.in_ok-count.ensures.number, c.in_ok-list.ensures, same) refl

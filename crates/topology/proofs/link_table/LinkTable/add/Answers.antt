@@ -1,8 +1,8 @@
-use Rattle.std.proofs.Common.{◌≡◌, ◌∙◌, ap, false, ◌++◌, ◌∷◌, []}
+use Rattle.std.proofs.Common.{◌≡◌, ◌∙◌, ap, ◌++◌, ◌∷◌, []}
 use Rattle.std.specs.List.{list_any}
 use Rattle.std.proofs.lemmas.List.{map_push}
 use Rattle.topology.specs.Net.{joins}
-use Rattle.topology.specs.Tables.{ends, UnderTheirEnds}
+use Rattle.topology.specs.Tables.{ends}
 use Rattle.topology.proofs.Linked.{inserted_last, under-append, same_ends}
 use Rattle.topology.proofs.link_table.LinkTable.add.Goals as goal
 

@@ -1,4 +1,4 @@
-use Rattle.std.proofs.Common.{◌≡◌, ◌∙◌, ap, sym, subst, None, Some, slice_get, map}
+use Rattle.std.proofs.Common.{◌≡◌, ◌∙◌, ap, sym, subst, None, Some, slice_get}
 use Rattle.std.proofs.lemmas.List.{map-set}
 use Rattle.topology.specs.Lists.{put_ascending}
 use Rattle.topology.specs.Net.{neighbours}

@@ -1,4 +1,4 @@
-use Rattle.std.proofs.Common.{◌≡◌, ◌<◌, ◌∙◌, sym, ap, false, ◌++◌, ◌∷◌, [], length, arith}
+use Rattle.std.proofs.Common.{◌≡◌, ◌∙◌, sym, ap, false, length, arith}
 use Rattle.topology.specs.Net.{has_prefix}
 use Rattle.topology.proofs.Adding.{keeps-prefix}
 use Rattle.topology.proofs.PrefixPlaces.{last_of, place_of_new}

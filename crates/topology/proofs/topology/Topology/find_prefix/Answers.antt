@@ -1,4 +1,4 @@
-use Rattle.std.proofs.Common.{◌∙◌, ap, Some, slice_get}
+use Rattle.std.proofs.Common.{Some}
 use Rattle.topology.proofs.PrefixPlaces.{prefix_found}
 use Rattle.topology.proofs.topology.Topology.find_prefix.Goals as goal
 

@@ -1,5 +1,4 @@
-use Rattle.std.proofs.Common.{◌≡◌, ◌≤◌, ◌∙◌, sym, ap, length, arith, false, refl}
-use Rattle.topology.specs.Lists.{has}
+use Rattle.std.proofs.Common.{◌∙◌, sym, ap, refl}
 use Rattle.topology.specs.Net.{neighbours}
 use Rattle.topology.proofs.Places.{value_there, has_placed}
 use Rattle.topology.proofs.Near.{neighbours_few, neighbours-none}

@@ -1,4 +1,4 @@
-//! A neighbour that tells long paths, and what is kept of each, worked out by hand.
+//! A neighbour that tells paths again, and what is kept of each, worked out by hand.
 use crate::{Cause, RouteState, ShortestAll};
 use std::alloc::Global;
 use std::process::Abort;
@@ -7,7 +7,7 @@ use topology::{NodeId, Path, Prefix, PrefixId, Relation, Scope, Session, Topolog
 
 const NODE: u16 = 30;
 
-// Two long paths that differ in their last node alone, and one that the own node is on.
+// Two paths that differ in their last node alone, and one that the own node is on.
 const FIRST: [u16; 12] = [1, 2, 3, 4, 5, 6, 7, 8, 9, 10, 11, 12];
 
 const SECOND: [u16; 12] = [1, 2, 3, 4, 5, 6, 7, 8, 9, 10, 11, 13];
@@ -42,7 +42,7 @@ fn hear(
         from: NodeId::new(1),
         session: Session::new(1),
         seq: 1,
-        path: Path::new(ids(alloc, path)?),
+        path: Path::new(ids(alloc, path)?)?,
     };
     state.apply(Scope::One(PrefixId::new(prefix)), &cause)?;
     Ok(())
@@ -86,7 +86,7 @@ fn all_hold(
 }
 
 #[test]
-fn long_paths_told_again(rt: HostRuntime) -> Result<(), Fail> {
+fn paths_told_again(rt: HostRuntime) -> Result<(), Fail> {
     let mut topology = Topology::empty(rt.alloc());
     fill(&mut topology)?;
     let mut state = RouteState::new(rt.alloc(), &topology, NodeId::new(NODE), ShortestAll)?;
