@@ -1,0 +1,12 @@
+pub mod Disks
+pub mod Ends
+pub mod Histories
+pub mod Images
+pub mod Journals
+pub mod Memory
+pub mod Parts
+pub mod Places
+pub mod Records
+pub mod JournalFiles
+pub mod Durable
+pub mod Views
