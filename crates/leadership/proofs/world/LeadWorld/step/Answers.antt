@@ -1,0 +1,58 @@
+use Rattle.std.proofs.Common.{[], ◌∷◌, ◌++◌, ℕ, List, ◌≡◌, true, false, length, None, nat_lt, nat_le, ◌&&◌, ◌||◌, sym, ◌∙◌, ap, subst}
+use Rattle.std.specs.BTreeSet.{contains}
+use Rattle.std.specs.Ordering.{nat_cmp}
+use Rattle.leadership.specs.Deliveries.{delivers}
+use Rattle.leadership.specs.declared.bounds.TheConstants.{MOST_EVENTS}
+use Rattle.leadership.specs.declared.events.LeadEvent.{LeadEvent}
+use Rattle.leadership.specs.Fits.{fits}
+use Rattle.leadership.specs.Holding.{Holds}
+use Rattle.leadership.specs.Limits.{limit_of, StopsAt}
+use Rattle.leadership.specs.View.{LeadView}
+use Rattle.leadership.proofs.Running.{one_chosen}
+use Rattle.leadership.proofs.Stepping.{rounds_left, step_full, step_holds, step_stops, step_within, to_members}
+use Rattle.leadership.proofs.world.LeadWorld.step.Goals as goal
+
+pub returns-then-is_full-clause-stopped : goal.returns-then-is_full-clause-stopped
+returns-then-is_full-clause-stopped c =
+    let events : c.args.self.events ≡ c.self.inside.events.items = sym (ap (λ (v : LeadView). v.events) c.self.view_is) in
+    step_full c.args.self.members c.args.self.events c.args.event
+    (ap (λ (es : List LeadEvent). nat_le MOST_EVENTS (length es)) (events ∙ sym c.deref.ensures.value) ∙ (sym c.is_full.ensures ∙ c.if-is_full.true))
+
+pub returns-in-Err-clause-stopped : goal.returns-in-Err-clause-stopped
+returns-in-Err-clause-stopped c =
+    let room : nat_le MOST_EVENTS (length c.self.inside.events.items) ≡ false = ap (λ (es : List LeadEvent). nat_le MOST_EVENTS (length es)) (sym c.deref.ensures.value) ∙ (sym c.is_full.ensures ∙ c.if-is_full.false) in
+    subst (λ (v : LeadView). StopsAt (limit_of v.members v.events c.args.event) c.in-Err.stop) c.self.view_is
+    (step_stops c.self.inside.network c.self.inside.delivered c.self.inside.events.items c.args.event c.in-Err.stop c.self.invariant room c.in-Err.ensures.stopped)
+
+pub invariant_of-world : goal.invariant_of-world
+invariant_of-world c =
+    subst (Holds c.happen.new.self c.mark.new.delivered) (sym c.in-Ok-push.ensures.items)
+    (step_holds c.self.inside.network c.happen.new.self c.self.inside.delivered c.mark.new.delivered c.self.inside.events.items c.args.event c.in-Ok-happen.reason c.self.invariant
+    (subst (λ (v : LeadView). fits v.members c.args.event ≡ true) (sym c.self.view_is) c.requires)
+    (λ k. c.in-Ok.ensures k ∙ ap (λ (n : ℕ). (delivers k c.args.event && (nat_lt 0 k && nat_le k n)) || contains nat_cmp c.self.inside.delivered k) c.mail_count.ensures)
+    c.in-Ok-happen.ensures.members c.in-Ok-happen.ensures.few c.in-Ok-happen.ensures.goes_on).0
+
+pub returns-clause-within : goal.returns-clause-within
+returns-clause-within c =
+    let room : nat_le MOST_EVENTS (length c.self.inside.events.items) ≡ false = ap (λ (es : List LeadEvent). nat_le MOST_EVENTS (length es)) (sym c.deref.ensures.value) ∙ (sym c.is_full.ensures ∙ c.if-is_full.false) in
+    subst (λ (v : LeadView). limit_of v.members v.events c.args.event ≡ None) c.self.view_is
+    (step_within c.self.inside.network c.happen.new.self c.self.inside.delivered c.mark.new.delivered c.self.inside.events.items c.args.event room c.in-Ok-happen.ensures.members
+    (step_holds c.self.inside.network c.happen.new.self c.self.inside.delivered c.mark.new.delivered c.self.inside.events.items c.args.event c.in-Ok-happen.reason c.self.invariant
+    (subst (λ (v : LeadView). fits v.members c.args.event ≡ true) (sym c.self.view_is) c.requires)
+    (λ k. c.in-Ok.ensures k ∙ ap (λ (n : ℕ). (delivers k c.args.event && (nat_lt 0 k && nat_le k n)) || contains nat_cmp c.self.inside.delivered k) c.mail_count.ensures)
+    c.in-Ok-happen.ensures.members c.in-Ok-happen.ensures.few c.in-Ok-happen.ensures.goes_on).0)
+
+pub returns-clause-agreed : goal.returns-clause-agreed
+returns-clause-agreed c = λ e v w. one_chosen c.args.self.members (c.args.self.events ++ c.args.event ∷ []) e v w
+
+pub happen-requires-clause-rounds : goal.happen-requires-clause-rounds
+happen-requires-clause-rounds c =
+    rounds_left c.self.inside.network c.self.inside.delivered c.self.inside.events.items c.self.invariant
+    (ap (λ (es : List LeadEvent). nat_le MOST_EVENTS (length es)) (sym c.deref.ensures.value) ∙ (sym c.is_full.ensures ∙ c.if-is_full.false))
+
+pub happen-requires-clause-member : goal.happen-requires-clause-member
+happen-requires-clause-member c =
+    subst (λ ns. fits ns c.args.event ≡ true) (sym c.self.invariant.stands.members) (subst (λ (v : LeadView). fits v.members c.args.event ≡ true) (sym c.self.view_is) c.requires)
+
+pub happen-requires-clause-addressees : goal.happen-requires-clause-addressees
+happen-requires-clause-addressees c = to_members c.self.inside.network c.self.inside.delivered c.self.inside.events.items c.self.invariant

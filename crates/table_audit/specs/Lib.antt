@@ -1,0 +1,8 @@
+pub mod Words
+pub mod Rows
+pub mod Verdicts
+pub mod Walks
+pub mod Index
+pub mod Tables
+pub mod Reading
+pub mod Audited
