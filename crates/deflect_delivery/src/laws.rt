@@ -1,0 +1,76 @@
+//! Laws of deflection over a network that stays as it is, whatever the order of the neighbours is at each hop. A call of a
+//! law brings what it says into the caller's proof.
+ghost use Rattle.std.specs.Prelude.{ℕ, ◌≡◌, ◌≤◌, ◌<◌, ◌*◌, ◌-◌, [], List, length, true};
+ghost use Rattle.topology.specs.Lists.{has};
+ghost use Rattle.topology.specs.Net.{Net, IsValid};
+ghost use Rattle.topology.specs.declared.names.Scheme.TheVariants as scheme;
+ghost use Rattle.epoch_packet.specs.declared.packets.Packet.{Packet};
+ghost use Rattle.epoch_packet.specs.declared.walks.End.{End as Ending};
+ghost use Rattle.epoch_packet.specs.declared.walks.End.TheVariants.{Delivered};
+ghost use Rattle.epoch_packet.specs.Visited.{bit};
+ghost use Rattle.transient_mode.specs.Sights.{Sight};
+ghost use Rattle.transient_mode.specs.TransientHops.{Ended, Next, hop_under};
+ghost use Rattle.deflect_delivery.specs.Terrain.{Connects, Terrain, IsTerrain, Shows};
+ghost use Rattle.deflect_delivery.specs.Touring.{EndsWell, IsTour, Trip};
+ghost use Rattle.deflect_delivery.specs.declared.stills.Still.{Still};
+ghost use Rattle.deflect_delivery.specs.Stills.{IsStill};
+ghost use Rattle.deflect_delivery.specs.Delivering.{WalkDelivers};
+
+/// A packet that was at one node alone since it left the tables, with no way back, begins a tour there.
+#[tactic(auto, using(crate::proofs::Touring::begins))]
+pub fn a_packet_begins_a_tour()
+    ensures { (net : Net) (terrain : Terrain) (u : ℕ) (packet : Packet) → has net.nodes u ≡ true →
+        packet.visited ≡ bit net u → packet.trail ≡ [] →
+        IsTour net terrain packet.budget (record { from = u; at = u; packet = packet }) }
+{}
+
+/// Each deflection goes on with the tour, whatever the order of the neighbours is: to a node that the packet did not see,
+/// or back.
+#[tactic(auto, using(crate::proofs::Touring::goes_on))]
+pub fn a_deflection_goes_on_with_the_tour()
+    ensures { (net : Net) (terrain : Terrain) (hops from w : ℕ) (packet moved : Packet) (view : Sight) →
+        IsTerrain net terrain → Shows terrain view → length net.nodes ≤ 64 →
+        IsTour net terrain hops (record { from = from; at = view.at; packet = packet }) →
+        hop_under scheme.Deflect net packet view ≡ Next w moved →
+        IsTour net terrain hops (record { from = from; at = w; packet = moved }) }
+{}
+
+/// On a tour a packet makes at most two moves for each of the other nodes.
+pub fn a_tour_has_few_moves()
+    ensures { (net : Net) (terrain : Terrain) (hops : ℕ) (trip : Trip) (tour : IsTour net terrain hops trip) →
+        tour.moves ≤ 2 * (length net.nodes - 1) }
+{}
+
+/// The way back is shorter than 64 nodes, so that it always has room for one more.
+pub fn a_tour_has_room()
+    ensures { (net : Net) (terrain : Terrain) (hops : ℕ) (trip : Trip) → IsTour net terrain hops trip →
+        length net.nodes ≤ 64 → length trip.packet.trail < 64 }
+{}
+
+/// A walk that ends on a tour ends as it should: as delivered only where its first node is connected with an owner, as stuck
+/// only where it is not, and as expired only where it had too few moves.
+#[tactic(auto, using(crate::proofs::Touring::ends_well))]
+pub fn a_tour_ends_well()
+    ensures { (net : Net) (terrain : Terrain) (hops from : ℕ) (packet : Packet) (view : Sight) (ending : Ending) →
+        IsTerrain net terrain → Shows terrain view → length net.nodes ≤ 64 →
+        IsTour net terrain hops (record { from = from; at = view.at; packet = packet }) →
+        hop_under scheme.Deflect net packet view ≡ Ended ending →
+        EndsWell net terrain hops (record { from = from; at = view.at; packet = packet }) ending }
+{}
+
+/// After two moves for each of the other nodes, at a node that is connected with an owner, the packet is delivered.
+pub fn after_all_moves_a_tour_is_delivered()
+    ensures { (net : Net) (terrain : Terrain) (hops from : ℕ) (packet : Packet) (view : Sight) →
+        IsTerrain net terrain → Shows terrain view → length net.nodes ≤ 64 →
+        (tour : IsTour net terrain hops (record { from = from; at = view.at; packet = packet })) →
+        2 * (length net.nodes - 1) ≤ tour.moves → Connects terrain view.at →
+        hop_under scheme.Deflect net packet view ≡ Ended Delivered }
+{}
+
+/// The walk over a network that does not move comes to its end. It is delivered exactly where links that are up connect its
+/// first node with an owner, else it is stuck; it never expires, and has at most two moves for each of the other nodes.
+#[tactic(auto, using(crate::proofs::WholeWalks::walk_delivers))]
+pub fn a_whole_walk_delivers()
+    ensures { (net : Net) (still : Still) (p u : ℕ) → IsValid net → IsStill net still →
+        has net.nodes u ≡ true → WalkDelivers net still p u }
+{}

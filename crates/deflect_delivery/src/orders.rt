@@ -1,0 +1,34 @@
+//! The orders in which nodes try their neighbours.
+ghost use Rattle.std.specs.Prelude.{◌≡◌};
+
+use epoch_packet::Nodes;
+use std::marker::Model;
+
+/// For each node, as the nodes ascend, the order in which it tries its neighbours.
+#[derive(Debug, Drop)]
+pub struct Orders {
+    list: Vec<Nodes>,
+}
+
+impl Model for Orders {
+    ghost use Rattle.std.specs.Prelude.{ℕ, List};
+
+    ghost Value = { List (List ℕ) };
+
+    ghost view = { λ o. o.list.items };
+}
+
+impl Orders {
+    /// These orders. Takes no memory.
+    pub fn new(list: Vec<Nodes>) -> Orders
+        ensures { result ≡ list.items }
+    {
+        Orders { list }
+    }
+
+    pub fn as_slice(&self) -> &[Nodes]
+        ensures { result.now ≡ self.now }
+    {
+        &self.list
+    }
+}
