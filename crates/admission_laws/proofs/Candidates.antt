@@ -5,6 +5,7 @@ use Rattle.std.specs.List.{cons_option, list_all}
 use Rattle.topology.specs.Lists.{has, Among}
 use Rattle.topology.specs.Paths.{differ}
 use Rattle.topology.specs.Net.{Net, IsValid, neighbours}
+use Rattle.topology.specs.declared.names.Trigger.{Trigger}
 use Rattle.topology.specs.Triggers.{lists}
 use Rattle.topology.proofs.Few.{no_more}
 use Rattle.topology.proofs.Tests.{and_left, and_right, and_both, or_first, or_second, or_cases, not_true, not_false, same_is, same_refl}
@@ -15,9 +16,11 @@ use Rattle.path_vector.specs.History.{concerns, held, heard, heard_by}
 use Rattle.path_vector.specs.Selection.{Choice, usable, learnt, beyond, candidate, choice, choices}
 use Rattle.path_vector.specs.Ranking.{by_rank}
 use Rattle.path_vector.proofs.Ranking.{by_rank_is}
+use Rattle.trigger_log.specs.Dropping.{Trimmed, may_go}
 use Rattle.trigger_log.specs.Entries.{Entry, reads}
 use Rattle.incomplete_closure.specs.declared.values.Value.{Value}
-use Rattle.stable_table.specs.Tables.{is_complete, complete_in, all_responded, backups}
+use Rattle.stable_table.specs.Tables.{all_responded}
+use Rattle.stable_table.specs.Trimming.{complete_after, trimmed_complete, trimmed_backups}
 use Rattle.node_core.specs.Fits.{begins_with, path_fits}
 use Rattle.node_core.specs.Names.{are_nodes, is_number}
 use Rattle.node_core.specs.PacketFits.{carried_fits}
@@ -136,6 +139,17 @@ chosen_is net choose each (v ∷ vs) c there =
       | Some d ↦ λ e a. ⊎_elim (λ (same : d ≡ c). each v c (e ∙ ap (λ (z : Choice). Some z) same)) (λ (later : Among c (filter_map choose vs)). chosen_is net choose each vs c later) a
     ]) refl there
 
+-- the complete entries are some of the log
+each_complete : (net : Net) (u n : ℕ) (incomplete : Trigger → Bool) (p : ℕ) (h : List Entry) → AllFit net u h → AllFit net u (complete_after n incomplete p h)
+each_complete net u n incomplete p [] all = all
+each_complete net u n incomplete p (k ∷ h) all =
+    let others = complete_after n incomplete p h in
+    let fit = each_complete net u n incomplete p h (rest_fits net u k h all) in
+    elim (concerns p k.read.scope && may_go incomplete n h k) as (λ b. AllFit net u (if b then k ∷ others else others)) [
+      | true ↦ and_both (entry_fits net u k) (list_all (entry_fits net u) others) (first_fits net u k h all) fit
+      | false ↦ fit
+    ]
+
 module _ (rules : Rules) (net : Net) (u : ℕ) (valid : IsValid net) (own : has net.nodes u ≡ true) where
   -- a candidate by rank
   ranked_is : (h : List Entry) (p : ℕ) (c : Choice) → AllFit net u h → Among c (by_rank rules net u (reads h) p) → simple_fits net c.path ≡ true
@@ -145,13 +159,13 @@ module _ (rules : Rules) (net : Net) (u : ℕ) (valid : IsValid net) (own : has 
       (by_rank_is rules net u (reads h) p c there)
 
   -- each backup can be carried
-  pub backups_carried : (value : Value) (c : List Entry) (p : ℕ) → AllFit net u c → list_all (carried_fits net) (backups rules net u value c p) ≡ true
-  unfolding backups
+  pub backups_carried : (value : Value) (c : Trimmed) (p : ℕ) → AllFit net u c.entries → list_all (carried_fits net) (trimmed_backups rules net u value c p) ≡ true
+  unfolding trimmed_backups
   backups_carried value c p all =
-      let some = complete_in value p c in
+      let some = trimmed_complete value p c in
       let ranked = by_rank rules net u (reads some) p in
       let paths = map (λ (d : Choice). d.path) ranked in
-      let fits = each_filter (entry_fits net u) (is_complete (lists value.incomplete) p) c all in
+      let fits = each_complete net u c.dropped (lists value.incomplete) p c.entries all in
       let each = each_map (carried_fits net) (λ (d : Choice). d.path) ranked (λ d there. simple_carried net d.path valid (ranked_is some p d fits there)) in
       elim (has value.responding u) as (λ t. list_all (carried_fits net) (cond t (filter (all_responded value) paths) []) ≡ true) [
         | true ↦ each_filter (carried_fits net) (all_responded value) paths each

@@ -15,9 +15,10 @@ use Rattle.trigger_log.specs.Entries.{Entry, reads, local, locals, is_local}
 use Rattle.trigger_log.specs.Fits.{Fits}
 use Rattle.trigger_log.specs.Going.{Marker, Hello, Going, going_by}
 use Rattle.consolidator.specs.Messages.{Reports}
-use Rattle.epoch_report.specs.Reporting.{report_of}
+use Rattle.epoch_report.specs.Trimming.{trimmed_report}
 use Rattle.chronicle.specs.Facts.{Chronicle, Log, Sent, Raise, happen}
 use Rattle.chronicle.specs.Logs.{log_of}
+use Rattle.chronicle.specs.Drops.{dropped, kept_log}
 use Rattle.chronicle.specs.Epochs.{epoch}
 use Rattle.chronicle.specs.Steps.{Carried, sends, write, open_session, markers, take_cut, reporting, raise}
 use Rattle.node_core.specs.ControlFits.{epoch_fits, scope_fits, message_fits}
@@ -93,9 +94,11 @@ module _ (rules : Rules) (net : Net) (u : ℕ) (valid : IsValid net) (own : has 
       let log = log_fits net u past all in
       let marks = spread_fits net u (held (reads h)) (λ w s. Marker e ∷ []) (λ w s near holds. (held_number net u h w s log holds, and_both (epoch_fits e) true fits refl)) in
       let cut = sends_fit net u carried (markers net u e h) (Raise u e ∷ past) marks (one_more net u (Raise u e) past (and_both (u == u) (epoch_fits e) (same_refl u) fits) all) in
-      mails_more net u (reporting rules net u e h) (take_cut net carried u e past)
-      (each_map (mail_fits net u) (λ c. (c, Reports (report_of rules net u e h))) (ascending net.consolidators)
-      (λ c there. and_both (has net.nodes c) (message_fits net u (Reports (report_of rules net u e h)) && is_short (Reports (report_of rules net u e h)))
+      let report = trimmed_report rules net u e (kept_log net u past) in
+      let n = dropped net u past in
+      mails_more net u (reporting rules net u e (kept_log net u past)) (take_cut net carried u e past)
+      (each_map (mail_fits net u) (λ c. (c, Reports report)) (ascending net.consolidators)
+      (λ c there. and_both (has net.nodes c) (message_fits net u (Reports report) && is_short (Reports report))
       (one_of (has net.nodes) (ascending net.consolidators) c (consolidators_known net valid) there)
-      (and_both (message_fits net u (Reports (report_of rules net u e h))) (is_short (Reports (report_of rules net u e h)))
-      (report_is rules net u valid own e h fits log fitting few) (report_short rules net u valid own e h few)))) cut
+      (and_both (message_fits net u (Reports report)) (is_short (Reports report))
+      (report_is rules net u valid own e n h fits log fitting few) (report_short rules net u valid own e n h few)))) cut

@@ -6,12 +6,14 @@ use Rattle.topology.specs.Lists.{has}
 use Rattle.topology.specs.Net.{Net, IsValid}
 use Rattle.topology.proofs.Tests.{and_left, and_right, and_both}
 use Rattle.path_vector.specs.Rules.{Rules}
+use Rattle.trigger_log.specs.Dropping.{trimmed}
 use Rattle.trigger_log.specs.Entries.{Entry}
 use Rattle.incomplete_closure.specs.declared.values.Value.{Value}
 use Rattle.stable_table.specs.Published as tables
 use Rattle.chronicle.specs.Facts.{Fact, Chronicle, Log, Raise, Publish}
 use Rattle.chronicle.specs.Logs.{log_of, log_by}
 use Rattle.chronicle.specs.Epochs.{epoch, epoch_by, cut, cut_by}
+use Rattle.chronicle.specs.Drops.{dropped_below}
 use Rattle.chronicle.specs.Publications.{Publication, publications, publications_by, epoch_of, newest, path_in, newest_path, backups_over, backups_in, newest_backups, newest_epoch}
 use Rattle.node_core.specs.ControlFits.{epoch_fits, value_fits}
 use Rattle.node_core.specs.Fits.{path_fits}
@@ -152,11 +154,11 @@ module _ (net : Net) (u : ℕ) (past : Chronicle) (all : AllFacts net u past) wh
   newest_backups_carried rules p valid own = of_table (newest u past)
     where
       -- over the cut that there may be
-      of_cut : (value : Value) (c : Option (List Entry)) → IfSome c (AllFit net u) → list_all (carried_fits net) (backups_over rules net u p value c) ≡ true
-      of_cut value None fits = refl
-      of_cut value (Some c) fits = backups_carried rules net u valid own value c p fits
+      of_cut : (value : Value) (n : ℕ) (c : Option (List Entry)) → IfSome c (AllFit net u) → list_all (carried_fits net) (backups_over rules net u p value (option_map (trimmed n) c)) ≡ true
+      of_cut value n None fits = refl
+      of_cut value n (Some c) fits = backups_carried rules net u valid own value (trimmed n c) p fits
 
       -- of the table that there may be
       of_table : (o : Option Publication) → list_all (carried_fits net) (backups_in rules net u p past o) ≡ true
       of_table None = refl
-      of_table (Some t) = of_cut t.value (cut u t.epoch past) (cut_fits net u t.epoch past all)
+      of_table (Some t) = of_cut t.value (dropped_below net u t.epoch past) (cut u t.epoch past) (cut_fits net u t.epoch past all)

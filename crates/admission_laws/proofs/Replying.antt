@@ -6,16 +6,18 @@ use Rattle.topology.specs.Lists.{has}
 use Rattle.topology.specs.Net.{Net, IsValid}
 use Rattle.topology.proofs.Tests.{and_left, and_right, and_both, or_left, or_right, not_false, same_refl, same_is}
 use Rattle.path_vector.specs.Rules.{Rules}
+use Rattle.trigger_log.specs.Dropping.{Trimmed, trimmed}
 use Rattle.trigger_log.specs.Entries.{Entry, reads}
 use Rattle.trigger_log.specs.Sending.{sent_of}
 use Rattle.incomplete_closure.specs.declared.values.Value.{Value}
-use Rattle.stable_table.specs.Tables.{table}
+use Rattle.stable_table.specs.Trimming.{trimmed_table}
 use Rattle.consolidator.specs.Answers.{refusal_of, replies, proposal_refusal, ballot_of, asks}
 use Rattle.consolidator.specs.Facts as consolidator
 use Rattle.consolidator.specs.Facts.{agreement}
 use Rattle.consolidator.specs.Messages.{Message, Reports, Agrees}
 use Rattle.chronicle.specs.Control.{control_by, control, decision}
 use Rattle.chronicle.specs.Epochs.{epoch, raised, cut}
+use Rattle.chronicle.specs.Drops.{dropped_below}
 use Rattle.chronicle.specs.Facts.{Fact, Chronicle, Raise, Start, Mail, Heard, Crash, Publish, happen}
 use Rattle.chronicle.specs.Giving.{unless, proposes, hears, answer, concluded, give}
 use Rattle.chronicle.specs.Inputs.{Input}
@@ -211,26 +213,26 @@ module _ (rules : Rules) (net : Net) (u : ℕ) (here : has net.nodes u ≡ true)
       (decision_fits net (agreement e (control now)) u (agreement_fits net e (control now) (control_all net u now all)))
 
   -- the table over a cut of u
-  cut_table : (e : ℕ) (c : List Entry) (v : Value) → cut u e now ≡ Some c → table_fits net u (table rules net u v c) ≡ true
-  cut_table e c v is =
+  cut_table : (e n : ℕ) (c : List Entry) (v : Value) → cut u e now ≡ Some c → table_fits net u (trimmed_table rules net u v (trimmed n c)) ≡ true
+  cut_table e n c v is =
       let brings = older_brings net (log_of u now) c (own.marks.older e c is) own.paths in
-      table_of_fits rules net u here v c (brings_simple net (reads c) brings) (brings_inside net (reads c) brings)
+      table_of_fits rules net u here v (trimmed n c) (brings_simple net (reads c) brings) (brings_inside net (reads c) brings)
 
-  publishing : (e : ℕ) (o : Option (List Entry)) (d : Option Value) → cut u e now ≡ o → decision u e now ≡ d
-      → AllFacts net u (goes_on_with (option_and_then (λ (c : List Entry). option_map (λ (v : Value). Publish u e v (table rules net u v c)) d) o) now)
-  publishing e None d is known = all
-  publishing e (Some c) None is known = all
-  publishing e (Some c) (Some v) is known =
-      let paths = table rules net u v c in
+  publishing : (e n : ℕ) (o : Option (List Entry)) (d : Option Value) → cut u e now ≡ o → decision u e now ≡ d
+      → AllFacts net u (goes_on_with (option_and_then (λ (c : Trimmed). option_map (λ (v : Value). Publish u e v (trimmed_table rules net u v c)) d) (option_map (trimmed n) o)) now)
+  publishing e n None d is known = all
+  publishing e n (Some c) None is known = all
+  publishing e n (Some c) (Some v) is known =
+      let paths = trimmed_table rules net u v (trimmed n c) in
       one_more net u (Publish u e v paths) now
       (and_both (u == u) (epoch_fits e && (value_fits net v && table_fits net u paths)) (same_refl u)
       (and_both (epoch_fits e) (value_fits net v && table_fits net u paths) (cut_epoch net u e now c all is)
-      (and_both (value_fits net v) (table_fits net u paths) (known_fits e v known) (cut_table e c v is))))
+      (and_both (value_fits net v) (table_fits net u paths) (known_fits e v known) (cut_table e n c v is))))
       all
 
   publishing_at : (o : Option ℕ) → AllFacts net u (goes_on_with (option_and_then (λ e. publication_of rules net u e now) o) now)
   publishing_at None = all
-  publishing_at (Some e) = publishing e (cut u e now) (decision u e now) refl refl
+  publishing_at (Some e) = publishing e (dropped_below net u e now) (cut u e now) (decision u e now) refl refl
 
   -- the table that is due
   pub published_facts : (past : Chronicle) → AllFacts net u (publish rules net u past now)

@@ -1,5 +1,5 @@
 -- The report of a cut fits.
-use Rattle.std.proofs.Common.{ℕ, suc, ◌+◌, ◌^◌, ◌<◌, ◌≤◌, Bool, true, false, cond, ◌&&◌, ◌==◌, Option, Some, None, List, [], ◌∷◌, ◌++◌, ◌≡◌, refl, ap, arith, length, map}
+use Rattle.std.proofs.Common.{ℕ, zero, suc, ◌+◌, ◌^◌, ◌<◌, ◌≤◌, Bool, true, false, cond, ◌&&◌, ◌==◌, Option, Some, None, List, [], ◌∷◌, ◌++◌, ◌≡◌, refl, ap, arith, length, map, drop}
 use Rattle.std.specs.Prelude.{nat_le}
 use Rattle.std.specs.List.{list_all}
 use Rattle.std.proofs.lemmas.List.{length-append, length-map}
@@ -7,9 +7,10 @@ use Rattle.std.proofs.lemmas.Grind.{flat_map-append}
 use Rattle.topology.specs.declared.items.Sent.{Sent}
 use Rattle.topology.specs.Lists.{has}
 use Rattle.topology.specs.Net.{Net, IsValid, neighbours}
-use Rattle.topology.proofs.Tests.{and_both, same_refl}
+use Rattle.topology.proofs.Tests.{and_right, and_both, same_refl}
 use Rattle.path_vector.specs.Rules.{Rules}
 use Rattle.path_vector.specs.History.{held, opened, ready}
+use Rattle.trigger_log.specs.Dropping.{trimmed}
 use Rattle.trigger_log.specs.Entries.{Entry, Update, reads, closes}
 use Rattle.trigger_log.specs.Fits.{Fits}
 use Rattle.trigger_log.specs.Making.{making}
@@ -17,7 +18,8 @@ use Rattle.trigger_log.specs.Sending.{news, next_number, sent_from, updates_sent
 use Rattle.trigger_log.proofs.Silence.{ready_held}
 use Rattle.incomplete_closure.specs.Reports.{Row}
 use Rattle.consolidator.specs.Messages.{Reports}
-use Rattle.epoch_report.specs.Reporting.{listed, entry_row, entry_rows, session_rows, report_of}
+use Rattle.epoch_report.specs.Reporting.{listed, entry_row, entry_rows, session_rows}
+use Rattle.epoch_report.specs.Trimming.{trimmed_report}
 use Rattle.node_core.specs.ControlFits.{epoch_fits, scope_fits, listed_fits, item_lists_fit, row_fits, items_of, rows_are_few, rows_fit, sessions_fit, message_fits}
 use Rattle.node_core.specs.Names.{is_number, triggers_fit}
 use Rattle.node_core.specs.declared.limits.TheConstants.{MOST_ENTRIES, MOST_UPDATES}
@@ -41,6 +43,27 @@ from_fits net w s n [] node session one few = refl
 from_fits net w s n (x ∷ xs) node session one few =
     and_both (has net.nodes w && (is_number s && is_number n)) (list_all (sent_fits net) (sent_from w s (suc n) xs)) (sent_is net w s n node session one (omega arith))
     (from_fits net w s (suc n) xs node session (omega arith) (omega arith))
+
+-- what all rows pass, those behind the first n pass
+each_left : (test : Row → Bool) (n : ℕ) (rows : List Row) → list_all test rows ≡ true → list_all test (drop n rows) ≡ true
+each_left test zero rows all = all
+each_left test (suc n) [] all = refl
+each_left test (suc n) (r ∷ rows) all = each_left test n rows (and_right (test r) (list_all test rows) all)
+
+-- there are no more of them
+few_left : (n : ℕ) (rows : List Row) → length (drop n rows) ≤ length rows
+few_left zero rows = omega arith
+few_left (suc n) [] = omega arith
+few_left (suc n) (r ∷ rows) = let less = few_left n rows in omega arith
+
+-- nor do they list more items
+few_items_left : (n : ℕ) (rows : List Row) → length (items_of (drop n rows)) ≤ length (items_of rows)
+few_items_left zero rows = omega arith
+few_items_left (suc n) [] = omega arith
+few_items_left (suc n) (r ∷ rows) =
+    let less = few_items_left n rows in
+    let both = length-append r.sent (items_of rows) in
+    omega arith
 
 module _ (rules : Rules) (net : Net) (u : ℕ) (valid : IsValid net) (own : has net.nodes u ≡ true) where
   module _ (k : Entry) (h : List Entry) (all : AllFit net u (k ∷ h)) (fits : Fits (k ∷ h)) (few : Within rules net u (k ∷ h)) where
@@ -118,27 +141,29 @@ module _ (rules : Rules) (net : Net) (u : ℕ) (valid : IsValid net) (own : has 
       omega arith
 
   -- the report, as a control message of u
-  pub report_is : (e : ℕ) (h : List Entry) → epoch_fits e ≡ true → AllFit net u h → Fits h → Within rules net u h → message_fits net u (Reports (report_of rules net u e h)) ≡ true
-  unfolding report_of
-  report_is e h epoch all fits few =
-      let rows = entry_rows rules net u h in
+  pub report_is : (e n : ℕ) (h : List Entry) → epoch_fits e ≡ true → AllFit net u h → Fits h → Within rules net u h → message_fits net u (Reports (trimmed_report rules net u e (trimmed n h))) ≡ true
+  unfolding trimmed_report
+  report_is e n h epoch all fits few =
+      let rows = drop n (entry_rows rules net u h) in
       let sessions = session_rows net u h in
       and_both (has net.nodes u) (epoch_fits e && (u == u && (rows_fit net rows && sessions_fit net sessions))) own
       (and_both (epoch_fits e) (u == u && (rows_fit net rows && sessions_fit net sessions)) epoch
       (and_both (u == u) (rows_fit net rows && sessions_fit net sessions) (same_refl u)
       (and_both (rows_fit net rows) (sessions_fit net sessions)
-      (and_both (list_all (row_fits net) rows) (rows_are_few rows) (rows_are h all fits few) (counted h few))
+      (and_both (list_all (row_fits net) rows) (rows_are_few rows) (each_left (row_fits net) n (entry_rows rules net u h) (rows_are h all fits few)) (counted h few))
       (sessions_are net u h valid own all fits few.entries))))
     where
       -- they are no more than there may be
-      counted : (l : List Entry) → Within rules net u l → rows_are_few (entry_rows rules net u l) ≡ true
+      counted : (l : List Entry) → Within rules net u l → rows_are_few (drop n (entry_rows rules net u l)) ≡ true
       counted l within =
-          let rows = entry_rows rules net u l in
+          let rows = drop n (entry_rows rules net u l) in
+          let less = few_left n (entry_rows rules net u l) in
+          let fewer = few_items_left n (entry_rows rules net u l) in
           and_both (nat_le (length rows) MOST_ENTRIES) (nat_le (length (items_of rows)) MOST_UPDATES)
           (most_is (length rows) MOST_ENTRIES (let count = rows_count l in let limit = within.entries in omega arith))
           (most_is (length (items_of rows)) MOST_UPDATES (let count = items_count l in let limit = within.updates in omega arith))
 
   -- it has few sessions
-  pub report_short : (e : ℕ) (h : List Entry) → Within rules net u h → is_short (Reports (report_of rules net u e h)) ≡ true
-  unfolding report_of
-  report_short e h few = most_is (length (session_rows net u h)) 2112 (let most = sessions_few net u h valid own few.entries in omega arith)
+  pub report_short : (e n : ℕ) (h : List Entry) → Within rules net u h → is_short (Reports (trimmed_report rules net u e (trimmed n h))) ≡ true
+  unfolding trimmed_report
+  report_short e n h few = most_is (length (session_rows net u h)) 2112 (let most = sessions_few net u h valid own few.entries in omega arith)

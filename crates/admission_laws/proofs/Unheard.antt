@@ -7,14 +7,16 @@ use Rattle.topology.specs.Net.{Net}
 use Rattle.path_vector.specs.declared.causes.Cause.TheVariants as cause
 use Rattle.path_vector.specs.Rules.{Rules}
 use Rattle.path_vector.specs.History.{held, last, owns, ready}
+use Rattle.trigger_log.specs.Dropping.{Trimmed}
 use Rattle.trigger_log.specs.Entries.{Entry, reads, local, inbox, is_session}
 use Rattle.trigger_log.specs.Going.{Item, News, Marker, Hello, Going, going_by}
 use Rattle.incomplete_closure.specs.declared.values.Value.{Value}
-use Rattle.stable_table.specs.Tables.{table}
+use Rattle.stable_table.specs.Trimming.{trimmed_table}
 use Rattle.consolidator.specs.Answers.{proposal_refusal, ballot_of, asks}
 use Rattle.consolidator.specs.Messages.{Message}
 use Rattle.chronicle.specs.Control.{control, decision}
-use Rattle.chronicle.specs.Epochs.{epoch, raised, cut}
+use Rattle.chronicle.specs.Epochs.{epoch, raised}
+use Rattle.chronicle.specs.Drops.{kept_log, table_cut}
 use Rattle.chronicle.specs.Facts.{Fact, Chronicle, Log, Sent, Took, Raise, Start, Mail, Heard, Crash, Publish, Visit, End, happen}
 use Rattle.chronicle.specs.Giving.{unless, out_of_turn, comes, closes, opens, proposes, answer}
 use Rattle.chronicle.specs.Inputs.{Input, Arrival, arrival}
@@ -75,7 +77,7 @@ module _ (rules : Rules) (net : Net) (carried : Carried) (u : ℕ) (P : Chronicl
   raise_keeps : (e : ℕ) (now : Chronicle) → P now → P (raise rules net carried u e now)
   unfolding raise take_cut
   raise_keeps e now before =
-      mails_keep (reporting rules net u e (log_of u now)) (happen (Raise u e ∷ now) (sends carried u (markers net u e (log_of u now))))
+      mails_keep (reporting rules net u e (kept_log net u now)) (happen (Raise u e ∷ now) (sends carried u (markers net u e (log_of u now))))
       (sends_keep (markers net u e (log_of u now)) (Raise u e ∷ now) (more (Raise u e) now tt before))
 
   -- a mark that u meets
@@ -162,15 +164,15 @@ module _ (rules : Rules) (net : Net) (carried : Carried) (u : ℕ) (P : Chronicl
   answer_keeps (input.Hop packet up) past quiet before = forwards_keep rules net u past P (λ f of. more f past (unheard_packet f of) before) packet up
 
   -- the table that is due
-  published_by : (e : ℕ) (c : Option (List Entry)) (value : Option Value) (now : Chronicle) → P now
-      → P (goes_on_with (option_and_then (λ (k : List Entry). option_map (λ (v : Value). Publish u e v (table rules net u v k)) value) c) now)
+  published_by : (e : ℕ) (c : Option Trimmed) (value : Option Value) (now : Chronicle) → P now
+      → P (goes_on_with (option_and_then (λ (k : Trimmed). option_map (λ (v : Value). Publish u e v (trimmed_table rules net u v k)) value) c) now)
   published_by e None value now before = before
   published_by e (Some k) None now before = before
-  published_by e (Some k) (Some v) now before = more (Publish u e v (table rules net u v k)) now tt before
+  published_by e (Some k) (Some v) now before = more (Publish u e v (trimmed_table rules net u v k)) now tt before
 
   publish_at : (o : Option ℕ) (now : Chronicle) → P now → P (goes_on_with (option_and_then (λ e. publication_of rules net u e now) o) now)
   publish_at None now before = before
-  publish_at (Some e) now before = published_by e (cut u e now) (decision u e now) now before
+  publish_at (Some e) now before = published_by e (table_cut net u e now) (decision u e now) now before
 
   pub publish_keeps : (past now : Chronicle) → P now → P (publish rules net u past now)
   unfolding publish

@@ -1,5 +1,5 @@
--- What a log tells is the report of its entries.
-use Rattle.std.proofs.Common.{ℕ, List, [], ◌∷◌, ◌++◌, ◌≡◌, refl, ◌∙◌, ap, ap₂, Option, length, map, flat_map}
+-- What a log tells is the report of its entries, without those that it dropped.
+use Rattle.std.proofs.Common.{ℕ, zero, suc, drop, List, [], ◌∷◌, ◌++◌, ◌≡◌, refl, ◌∙◌, ap, ap₂, Option, length, map, flat_map}
 use Rattle.std.specs.Prelude.{option_map}
 use Rattle.std.specs.List.{AllZip}
 use Rattle.topology.specs.Net.{Net, neighbours}
@@ -11,14 +11,16 @@ use Rattle.path_vector.specs.History.{Change}
 use Rattle.trigger_log.specs.declared.entries.Entry.{Entry as Shown}
 use Rattle.trigger_log.specs.declared.sessions.SessionMark.{SessionMark}
 use Rattle.trigger_log.specs.Entries.{Entry, inbox}
+use Rattle.trigger_log.specs.Dropping.{trimmed}
 use Rattle.trigger_log.specs.Sending.{sent_count}
 use Rattle.trigger_log.specs.Sessions.{ever, Says, AreMarks, AreAllMarks}
-use Rattle.trigger_log.specs.Standing.{Entered, all_entered, Shows}
+use Rattle.trigger_log.specs.Entered.{Entered, all_entered, Shows}
 use Rattle.incomplete_closure.specs.Reports.{Listed, Row, SessionRow, Report}
 use Rattle.incomplete_closure.specs.declared.cut_rows.Row.{Row as TheRow}
 use Rattle.incomplete_closure.specs.declared.session_rows.SessionRow.{SessionRow as TheSessionRow}
 use Rattle.incomplete_closure.specs.Seen.{item_seen, row_seen, session_seen, report_seen}
 use Rattle.epoch_report.specs.Reporting.{entry_row, entry_rows, session_row, session_rows, listed, report_of}
+use Rattle.epoch_report.specs.Trimming.{trimmed_report}
 use Rattle.epoch_report.specs.Telling.{row_told, session_told}
 
 -- ---- lists
@@ -30,6 +32,11 @@ map_append f (x ∷ xs) ys = ap (λ r. f x ∷ r) (map_append f xs ys)
 map_map : {A B C : Type 0} (f : A → B) (g : B → C) (xs : List A) → map g (map f xs) ≡ map (λ x. g (f x)) xs
 map_map f g [] = refl
 map_map f g (x ∷ xs) = ap (λ r. g (f x) ∷ r) (map_map f g xs)
+
+map_drop : {A B : Type 0} (f : A → B) (n : ℕ) (xs : List A) → map f (drop n xs) ≡ drop n (map f xs)
+map_drop f zero xs = refl
+map_drop f (suc n) [] = refl
+map_drop f (suc n) (x ∷ xs) = map_drop f n xs
 
 -- two lists place by place, whose members have the same image
 zip_same : {A B C : Type 0} (R : A → B → Type 0) (f : A → C) (g : B → C) → ((x : A) (y : B) → R x y → g y ≡ f x) → (xs : List A) (ys : List B) → AllZip R xs ys → map g ys ≡ map f xs
@@ -65,9 +72,12 @@ module _ (rules : Rules) (net : Net) (u : ℕ) where
       ∙ (ap (λ (c : Change). made step.entry.triggers c.scope (map (item_seen step.entry.triggers) shown.sent)) s.read
       ∙ ap (λ (xs : List Sent). made step.entry.triggers step.entry.read.scope (map (listed step.entry.triggers) xs)) s.sent)
 
-  -- what is told of the entries is their rows
-  pub rows_are : (h : List Entry) (shown : List Shown) → AllZip (Shows rules net u) (all_entered h) shown → map row_seen (map row_told shown) ≡ entry_rows rules net u h
-  rows_are h shown z = map_map row_told row_seen shown ∙ (zip_same (Shows rules net u) entered_row (λ s. row_seen (row_told s)) row_is (all_entered h) shown z ∙ entered_rows h)
+  -- what is told of the entries behind the first n is their rows
+  pub rows_are : (n : ℕ) (h : List Entry) (shown : List Shown) → AllZip (Shows rules net u) (drop n (all_entered h)) shown → map row_seen (map row_told shown) ≡ drop n (entry_rows rules net u h)
+  rows_are n h shown z =
+      map_map row_told row_seen shown
+      ∙ (zip_same (Shows rules net u) entered_row (λ s. row_seen (row_told s)) row_is (drop n (all_entered h)) shown z
+      ∙ (map_drop entered_row n (all_entered h) ∙ ap (drop n) (entered_rows h)))
 
   -- ---- sessions
 
@@ -100,12 +110,17 @@ module _ (rules : Rules) (net : Net) (u : ℕ) where
 
   -- ---- the report
 
-  -- a report of these parts is that of the entries
-  pub report_is : (e node : ℕ) (h : List Entry) (shown : List Shown) (marks : List SessionMark) (rows : List TheRow) (sessions : List TheSessionRow)
+  -- a report of these parts is that of the entries behind the first n
+  pub report_is : (e node n : ℕ) (h : List Entry) (shown : List Shown) (marks : List SessionMark) (rows : List TheRow) (sessions : List TheSessionRow)
       → node ≡ u → rows ≡ map row_told shown → sessions ≡ map session_told marks
-      → AllZip (Shows rules net u) (all_entered h) shown → AreAllMarks rules net u h marks
-      → report_seen (record { node = node; epoch = e; rows = rows; sessions = sessions }) ≡ report_of rules net u e h
-  unfolding whole report_of
-  report_is e node h shown marks rows sessions own are_rows are_sessions z all =
+      → AllZip (Shows rules net u) (drop n (all_entered h)) shown → AreAllMarks rules net u h marks
+      → report_seen (record { node = node; epoch = e; rows = rows; sessions = sessions }) ≡ trimmed_report rules net u e (trimmed n h)
+  unfolding whole trimmed_report
+  report_is e node n h shown marks rows sessions own are_rows are_sessions z all =
       ap (λ n. whole n e (map row_seen rows) (map session_seen sessions)) own
-      ∙ ap₂ (whole u e) (ap (map row_seen) are_rows ∙ rows_are h shown z) (ap (map session_seen) are_sessions ∙ sessions_are h marks all)
+      ∙ ap₂ (whole u e) (ap (map row_seen) are_rows ∙ rows_are n h shown z) (ap (map session_seen) are_sessions ∙ sessions_are h marks all)
+
+-- where nothing was dropped, what is reported has a row for each entry
+pub whole_report : (rules : Rules) (net : Net) (u e : ℕ) (h : List Entry) → trimmed_report rules net u e (trimmed 0 h) ≡ report_of rules net u e h
+unfolding trimmed_report report_of
+whole_report rules net u e h = refl

@@ -5,6 +5,3 @@ pub mod reporting;
 mod telling;
 
 pub use reporting::report_of;
-
-#[cfg(test)]
-mod tests;

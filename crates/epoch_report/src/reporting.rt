@@ -2,9 +2,10 @@
 ghost use Rattle.std.specs.Prelude.{ℕ, List, ◌≡◌, IfOk};
 ghost use Rattle.topology.specs.Net.{Net};
 ghost use Rattle.trigger_log.specs.Entries.{Entry};
-ghost use Rattle.trigger_log.specs.Standing.{StandsFor};
+ghost use Rattle.trigger_log.specs.Dropping.{trimmed};
+ghost use Rattle.trigger_log.specs.Standing.{StandsFor, dropped_of};
 ghost use Rattle.incomplete_closure.specs.Seen.{report_seen};
-ghost use Rattle.epoch_report.specs.Reporting.{report_of};
+ghost use Rattle.epoch_report.specs.Trimming.{trimmed_report};
 
 use crate::telling::{rows_of, sessions_of};
 use incomplete_closure::Report;
@@ -14,9 +15,9 @@ use topology::{Epoch, NoMemory};
 use trigger_log::NodeLog;
 
 /// What the node of a log reports of an epoch, where its cut is the whole log: a row for each
-/// entry, the oldest first, with all items that the entry sent, `close` included; and a row for
-/// each session that it ever held, by neighbour, ascending, then by session. Takes time and memory
-/// in proportion to the entries, their items and the sessions.
+/// entry that the log keeps, the oldest first, with all items that the entry sent, `close` included; and a row for
+/// each session that it ever held, by neighbour, ascending, then by session. An entry that was dropped has no
+/// row; the sessions are whole. Takes time and memory in proportion to the entries that are kept, their items and the sessions.
 pub fn report_of<P: Policy + Copy>(
     alloc: Global,
     log: &NodeLog<P>,
@@ -24,7 +25,7 @@ pub fn report_of<P: Policy + Copy>(
 ) -> Result<Report, NoMemory>
     ensures { IfOk result (λ report. (policy : P) (net : Net) (u : ℕ) (h : List Entry) →
         StandsFor policy (P.rules policy) net u log.now h →
-        report_seen report ≡ report_of (P.rules policy) net u epoch h) }
+        report_seen report ≡ trimmed_report (P.rules policy) net u epoch (trimmed (dropped_of log.now) h)) }
 {
     Ok(Report {
         node: log.next_trigger().node,

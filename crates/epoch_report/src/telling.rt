@@ -7,7 +7,7 @@ use std::alloc::Global;
 use topology::NoMemory;
 use trigger_log::{Entry, SessionMark};
 
-fn row_of(alloc: Global, entry: &Entry) -> Result<Row, NoMemory>
+fn row_of(entry: &Entry) -> Result<Row, NoMemory>
     ensures { IfOk result (λ row. row ≡ row_told entry.now) }
 {
     Ok(Row {
@@ -23,7 +23,7 @@ pub(crate) fn rows_of(alloc: Global, entries: &[Entry]) -> Result<Rows, NoMemory
 {
     let mut rows = Vec::with_capacity(alloc, entries.len())?;
     for entry in entries {
-        rows.push(row_of(alloc, entry)?)?;
+        rows.push(row_of(entry)?)?;
     }
     Ok(Rows::new(rows))
 }

@@ -12,3 +12,4 @@ pub mod Sorting
 pub mod Tabled
 pub mod Told
 pub mod Wired
+mod Startless

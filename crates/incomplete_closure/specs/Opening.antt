@@ -1,5 +1,5 @@
 -- The items that are open: sent to a node of the reports, and not received there.
-use Rattle.std.specs.Prelude.{ℕ, ◌==◌, ◌&&◌, Option, Some, None, List, [], ◌∷◌, nat_lt, find, flat_map, if◌then◌else◌}
+use Rattle.std.specs.Prelude.{ℕ, Bool, is_none, ◌==◌, ◌&&◌, Option, Some, None, List, [], ◌∷◌, nat_lt, find, flat_map, if◌then◌else◌}
 use Rattle.topology.specs.declared.names.Trigger.{Trigger}
 use Rattle.topology.specs.declared.items.Sent.{Sent}
 use Rattle.incomplete_closure.specs.declared.cut_rows.Row.{Row}
@@ -45,3 +45,7 @@ open_in_report reports from = flat_map (open_in_row reports from.node) from.rows
 -- all of them
 abbrev pub open_items : List Report → List OpenItem
 open_items reports = flat_map (open_in_report reports) reports
+
+-- the receiver of the item has not closed its session
+abbrev pub is_start : OpenItem → Bool
+is_start item = is_none item.down

@@ -1,19 +1,20 @@
 //! The value of reports.
 ghost use Rattle.std.specs.Prelude.{◌≡◌, ◌+◌, ◌*◌, ◌≤◌, [], map, length, OnOk, IfOk};
+ghost use Rattle.std.specs.List.{list_any};
 ghost use Rattle.std.specs.Rc.{rc_value};
 ghost use Rattle.incomplete_closure.specs.Seen.{reports_seen};
 ghost use Rattle.incomplete_closure.specs.Values.{IsValue};
 ghost use Rattle.incomplete_closure.specs.Marking.{value_of};
 ghost use Rattle.incomplete_closure.specs.Marks.{mark_names};
 ghost use Rattle.incomplete_closure.specs.Graphs.{has_seen};
-ghost use Rattle.incomplete_closure.specs.Opening.{open_items};
+ghost use Rattle.incomplete_closure.specs.Opening.{is_start, open_items};
 ghost use Rattle.incomplete_closure.specs.Closed.{IsLeast};
 ghost use Rattle.incomplete_closure.specs.Together.{OfOneEpoch, nodes_of};
 ghost use Rattle.incomplete_closure.specs.Sizes.{size_of};
 
 use crate::marks::Marks;
 use crate::names::Names;
-use crate::opening::open_items;
+use crate::opening::{OpenItem, open_items};
 use crate::search::{Reached, search};
 use crate::steps::Steps;
 use crate::wiring::graph_of;
@@ -35,7 +36,19 @@ fn mark(alloc: Global, names: &Names, reached: &Reached) -> Result<Marks, NoMemo
     Ok(marks)
 }
 
-// The incomplete triggers.
+// Whether one of the items has a receiver that has not closed its session. Every chain of blocked triggers begins at such an item.
+fn has_start(opened: &[OpenItem]) -> bool
+    ensures { result ≡ list_any is_start opened.now }
+{
+    for item in opened {
+        if item.down.is_none() {
+            return true;
+        }
+    }
+    false
+}
+
+// The incomplete triggers. Where no chain of blocked triggers begins there is none, and no graph is made.
 fn incomplete(alloc: Global, reports: &[Rc<Report>], steps: &mut Steps) -> Result<Marks, NoMemory>
     ensures least { IfOk result (λ marks.
         IsLeast (open_items (map rc_value reports.now)) (map rc_value reports.now) marks) }
@@ -43,6 +56,9 @@ fn incomplete(alloc: Global, reports: &[Rc<Report>], steps: &mut Steps) -> Resul
 {
     let mut names = Names::new(alloc);
     let opened = open_items(alloc, reports, &mut names, steps)?;
+    if !has_start(&opened) {
+        return Ok(Marks::new(alloc));
+    }
     let mut graph = graph_of(alloc, &names, reports, &opened, steps)?;
     let reached = search(alloc, &mut graph, names.len(), steps)?;
     let marks = mark(alloc, &names, &reached)?;

@@ -23,6 +23,3 @@ pub use reports::{Report, missing};
 pub use session_rows::{SessionRow, SessionRows};
 pub use steps::Steps;
 pub use values::{Nodes, Triggers, Value};
-
-#[cfg(test)]
-mod tests;

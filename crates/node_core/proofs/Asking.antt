@@ -24,6 +24,8 @@ use Rattle.consolidator.specs.Messages.{Message, Reports, Agrees as Agreed}
 use Rattle.consolidator.specs.Seen.{mails_seen}
 use Rattle.consolidator.specs.Standing.{StandsFor as PartStandsFor}
 use Rattle.consolidator.proofs.Parting.{decided_known}
+use Rattle.chronicle.specs.Drops.{table_cut}
+use Rattle.chronicle.proofs.Dropping.{dropped_mails, reported_mails, table_cut_mails}
 use Rattle.chronicle.specs.Facts.{Chronicle, Start, Heard}
 use Rattle.chronicle.specs.Logs.{log_of}
 use Rattle.chronicle.specs.Epochs.{epoch, raised, cut}
@@ -51,21 +53,24 @@ use Rattle.node_core.specs.NodeLimits.{has_large_value, node_above, node_limit, 
 use Rattle.node_core.specs.Standing.{Follows}
 use Rattle.node_core.proofs.Agreements.{agrees_on}
 use Rattle.node_core.proofs.Entering.{same_keeps}
+use Rattle.node_core.proofs.Undropped.{SameDrops, no_drops}
 use Rattle.node_core.proofs.Handing.{outputs_mails}
 use Rattle.node_core.proofs.Counting.{epoch_low, triggers_above}
 use Rattle.node_core.proofs.Proposing.{any_large, large_mails, reply_large}
 
--- a step of agreement: it changes no log, epoch or cut, and publishes nothing
-pub record Quietly (u : ℕ) (past now : Chronicle) : Type 0 where
+-- a step of agreement: it changes no log, epoch or cut, publishes nothing, and drops nothing
+pub record Quietly (net : Net) (u : ℕ) (past now : Chronicle) : Type 0 where
   pub logs : log_of u now ≡ log_of u past
   pub epochs : epoch u now ≡ epoch u past
   pub cuts : (e : ℕ) → cut u e now ≡ cut u e past
   pub items : (v s : ℕ) → took v u s now ≡ took v u s past
   pub tables : publications u now ≡ publications u past
+  pub drops : SameDrops net u past now
+  pub table_cuts : (e : ℕ) → table_cut net u e now ≡ table_cut net u e past
 
 -- at first
-pub still : (u : ℕ) (past : Chronicle) → Quietly u past past
-still u past = record { logs = refl; epochs = refl; cuts = λ e. refl; items = λ v s. refl; tables = refl }
+pub still : (net : Net) (u : ℕ) (past : Chronicle) → Quietly net u past past
+still net u past = record { logs = refl; epochs = refl; cuts = λ e. refl; items = λ v s. refl; tables = refl; drops = no_drops; table_cuts = λ e. refl }
 
 -- the step goes on, the messages are sent, and of no other epoch than this may u have both its cut and its decision now
 pub record Went (net : Net) (u : ℕ) (past : Chronicle) (step : Step) (list : Mails) (kept : Kept) (due : Option ℕ) : Type 0 where
@@ -73,7 +78,7 @@ pub record Went (net : Net) (u : ℕ) (past : Chronicle) (step : Step) (list : M
   pub goes : step ≡ Goes now
   pub part : PartStandsFor net kept (control now) u
   pub shown : outputs now ≡ outputs past ++ posts (mails_seen list)
-  pub quietly : Quietly u past now
+  pub quietly : Quietly net u past now
   pub proposed : has_large_value u now ≡ (any_large (mails_seen list) || has_large_value u past)
   pub completes : MayComplete u past now due
 
@@ -154,6 +159,8 @@ module _ (rules : Rules) (net : Net) (carried : Carried) (u : ℕ) (past : Chron
             cuts = λ d. cut_mails u ms started u d;
             items = λ v s. took_mails u ms started v u s;
             tables = publications_mails u ms started u;
+            drops = record { same_count = dropped_mails net u u ms started; same_reported = λ d. reported_mails net u d u ms started };
+            table_cuts = λ d. table_cut_mails net u d u ms started;
           };
           proposed = large_mails u ms started ∙ ap (λ l. any_large l || has_large_value u past) (sym c.answer.1);
           completes = λ d. ap₂ (λ (r : List ℕ) (o : Option Value). has r d && is_some o) (raised_proposes net u past e u) (decision_proposes net u past e u d);
@@ -187,6 +194,8 @@ module _ (rules : Rules) (net : Net) (carried : Carried) (u : ℕ) (past : Chron
             cuts = λ d. cut_mails u ms heard u d;
             items = λ v s. took_mails u ms heard v u s;
             tables = publications_mails u ms heard u;
+            drops = record { same_count = dropped_mails net u u ms heard; same_reported = λ d. reported_mails net u d u ms heard };
+            table_cuts = λ d. table_cut_mails net u d u ms heard;
           };
           proposed = large_mails u ms heard ∙ ap (λ l. any_large l || has_large_value u past) (sym c.answer.1);
           completes = hear_completes net u past from m is;
@@ -232,12 +241,12 @@ consulted {parts} net kept r past u i same is stands asks =
     (subst (λ (n : Net). PartStandsFor n parts.agreement.consolidator past u) (sym is) stands))
 
 -- what the node keeps then
-pub follows_quietly : {P : Type 0} (policy : P) (rules : Rules) (net : Net) (u : ℕ) (past now : Chronicle) (old new : Node P) → Quietly u past now → Keeps policy rules net u new past
+pub follows_quietly : {P : Type 0} (policy : P) (rules : Rules) (net : Net) (u : ℕ) (past now : Chronicle) (old new : Node P) → Quietly net u past now → Keeps policy rules net u new past
     → new.parts.value.agreement.tables ≡ old.parts.value.agreement.tables → PartStandsFor net new.parts.value.agreement.consolidator (control now) u → Agrees rules net u old.parts.value.agreement past → has_large_value u now ≡ false → Follows policy rules net u new now
 follows_quietly policy rules net u past now old new quiet keeps tables part was small = record {
   small = small;
-  keeps = same_keeps policy rules net u new past now quiet.logs quiet.epochs quiet.cuts quiet.items keeps;
-  agrees = agrees_on rules net u past now old.parts.value.agreement new.parts.value.agreement tables part quiet.tables (let same = quiet.epochs in omega (arith, same)) (λ e low. quiet.cuts e) was;
+  keeps = same_keeps policy rules net u new past now quiet.logs quiet.epochs quiet.cuts quiet.items quiet.drops keeps;
+  agrees = agrees_on rules net u past now old.parts.value.agreement new.parts.value.agreement tables part quiet.tables (let same = quiet.epochs in omega (arith, same)) (λ e low. quiet.table_cuts e) was;
 }
 
 -- where nothing is done it follows what was

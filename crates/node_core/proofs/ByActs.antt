@@ -10,13 +10,15 @@ use Rattle.path_vector.specs.Rules.{Rules}
 use Rattle.path_vector.specs.History.{ready}
 use Rattle.trigger_log.specs.Entries.{Entry, local, reads}
 use Rattle.trigger_log.specs.Going.{Item, News, Marker, Hello, Going, going_by, item_of}
-use Rattle.epoch_report.specs.Reporting.{report_of}
+use Rattle.trigger_log.specs.Dropping.{Trimmed}
+use Rattle.epoch_report.specs.Trimming.{trimmed_report}
 use Rattle.consolidator.specs.Facts as agreement
 use Rattle.consolidator.specs.Messages.{Reports}
 use Rattle.chronicle.specs.Facts.{Fact, Chronicle, Log, Sent, Took, Raise, Mail, happen}
 use Rattle.chronicle.specs.Logs.{log_of}
 use Rattle.chronicle.specs.Epochs.{epoch, epoch_by, raised_by, cut_by}
 use Rattle.chronicle.specs.Control.{control_by}
+use Rattle.chronicle.specs.Drops.{dropped_below, kept_log}
 use Rattle.chronicle.specs.Publications.{Publication, publications_by}
 use Rattle.chronicle.specs.Inputs.{arrival}
 use Rattle.chronicle.specs.Steps.{Carried, sends, mails, write, open_session, markers, take_cut, raise, meet_mark, heard, unless_ready, take_item}
@@ -31,6 +33,7 @@ pub record Quiet (f : Fact) : Type 0 where
   pub no_raise : (u : ℕ) (before : List ℕ) → raised_by u f before ≡ before
   pub no_cut : (u e : ℕ) (entries : List Entry) (before : Option (List Entry)) → cut_by u e f entries before ≡ before
   pub no_table : (u : ℕ) (before : List Publication) → publications_by u f before ≡ before
+  pub no_drop : (net : Net) (u e : ℕ) (past : Chronicle) → dropped_below net u e (f ∷ past) ≡ dropped_below net u e past
 
 -- quiet facts, at most one raise, and then quiet facts and reports: P holds before the raise, Q after it
 pub record Acting (rules : Rules) (net : Net) (u : ℕ) (P Q : Chronicle → Type 0) : Type 0 where
@@ -38,19 +41,19 @@ pub record Acting (rules : Rules) (net : Net) (u : ℕ) (P Q : Chronicle → Typ
   pub nothing : (past : Chronicle) → P past → Q past
   pub rises : (e : ℕ) (past : Chronicle) → epoch u past < e → P past → Q (Raise u e ∷ past)
   pub further : (f : Fact) (past : Chronicle) → Quiet f → Q past → Q (f ∷ past)
-  pub reports : (w e : ℕ) (c : List Entry) (past : Chronicle) → Q past → Q (Mail u w (Reports (report_of rules net u e c)) ∷ past)
+  pub reports : (w e : ℕ) (c : Trimmed) (past : Chronicle) → Q past → Q (Mail u w (Reports (trimmed_report rules net u e c)) ∷ past)
 
 -- an entry is quiet
 quiet_log : (u : ℕ) (k : Entry) → Quiet (Log u k)
-quiet_log u k = record { no_control = refl; no_epoch = λ v b. refl; no_raise = λ v b. refl; no_cut = λ v e l b. refl; no_table = λ v b. refl }
+quiet_log u k = record { no_control = refl; no_epoch = λ v b. refl; no_raise = λ v b. refl; no_cut = λ v e l b. refl; no_table = λ v b. refl; no_drop = λ n v e p. refl }
 
 -- so is an item that is taken
 quiet_took : (v u s : ℕ) (x : Item) → Quiet (Took v u s x)
-quiet_took w u s x = record { no_control = refl; no_epoch = λ v b. refl; no_raise = λ v b. refl; no_cut = λ v e l b. refl; no_table = λ v b. refl }
+quiet_took w u s x = record { no_control = refl; no_epoch = λ v b. refl; no_raise = λ v b. refl; no_cut = λ v e l b. refl; no_table = λ v b. refl; no_drop = λ n v e p. refl }
 
 -- so is one that is sent
 quiet_sent : (u w s : ℕ) (x : Item) (queued : Bool) → Quiet (Sent u w s x queued)
-quiet_sent u w s x queued = record { no_control = refl; no_epoch = λ v b. refl; no_raise = λ v b. refl; no_cut = λ v e l b. refl; no_table = λ v b. refl }
+quiet_sent u w s x queued = record { no_control = refl; no_epoch = λ v b. refl; no_raise = λ v b. refl; no_cut = λ v e l b. refl; no_table = λ v b. refl; no_drop = λ n v e p. refl }
 
 module _ (R : Chronicle → Type 0) (on : (f : Fact) (past : Chronicle) → Quiet f → R past → R (f ∷ past)) (carried : Carried) (u : ℕ) where
   -- what goes out
@@ -67,16 +70,16 @@ module _ (R : Chronicle → Type 0) (on : (f : Fact) (past : Chronicle) → Quie
 
 module _ (rules : Rules) (net : Net) (u : ℕ) (P Q : Chronicle → Type 0) (a : Acting rules net u P Q) (carried : Carried) where
   -- the reports of one cut
-  reports_keep : (e : ℕ) (c : List Entry) (tos : List ℕ) (now : Chronicle) → Q now → Q (happen now (mails u (map (λ w. (w, Reports (report_of rules net u e c))) tos)))
+  reports_keep : (e : ℕ) (c : Trimmed) (tos : List ℕ) (now : Chronicle) → Q now → Q (happen now (mails u (map (λ w. (w, Reports (trimmed_report rules net u e c))) tos)))
   reports_keep e c [] now q = q
-  reports_keep e c (w ∷ tos) now q = reports_keep e c tos (Mail u w (Reports (report_of rules net u e c)) ∷ now) (a.reports w e c now q)
+  reports_keep e c (w ∷ tos) now q = reports_keep e c tos (Mail u w (Reports (trimmed_report rules net u e c)) ∷ now) (a.reports w e c now q)
 
   -- the epoch rises
   raise_keeps : (e : ℕ) (past : Chronicle) → epoch u past < e → P past → Q (raise rules net carried u e past)
   unfolding raise take_cut
   raise_keeps e past above p =
       let gs = markers net u e (log_of u past) in
-      reports_keep e (log_of u past) (ascending net.consolidators) (happen (Raise u e ∷ past) (sends carried u gs))
+      reports_keep e (kept_log net u past) (ascending net.consolidators) (happen (Raise u e ∷ past) (sends carried u gs))
       (sends_keep Q a.further carried u gs (Raise u e ∷ past) (a.rises e past above p))
 
   -- a mark is met

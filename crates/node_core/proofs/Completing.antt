@@ -5,8 +5,8 @@ use Rattle.std.proofs.lemmas.Bool.Decides.{nat_tests}
 use Rattle.topology.specs.Lists.{has}
 use Rattle.topology.specs.Net.{Net}
 use Rattle.path_vector.specs.Rules.{Rules}
-use Rattle.trigger_log.specs.Entries.{Entry}
-use Rattle.epoch_report.specs.Reporting.{report_of}
+use Rattle.trigger_log.specs.Dropping.{Trimmed}
+use Rattle.epoch_report.specs.Trimming.{trimmed_report}
 use Rattle.incomplete_closure.specs.declared.values.Value.{Value}
 use Rattle.consolidator.specs.Messages.{Reports}
 use Rattle.chronicle.specs.Facts.{Fact, Chronicle, Raise, Mail}
@@ -79,11 +79,11 @@ module _ (rules : Rules) (net : Net) (u : ℕ) (first : Chronicle) where
       })
 
   -- nor do reports
-  reported_once : (w e : ℕ) (c : List Entry) (past : Chronicle) → Once u first past → Once u first (Mail u w (Reports (report_of rules net u e c)) ∷ past)
+  reported_once : (w e : ℕ) (c : Trimmed) (past : Chronicle) → Once u first past → Once u first (Mail u w (Reports (trimmed_report rules net u e c)) ∷ past)
   reported_once w e c past (inl was) =
-      inl (record { knows = λ d. known_reported (control past) u d w (report_of rules net u e c) ∙ was.knows d; epochs = was.epochs; same_epoch = was.same_epoch })
+      inl (record { knows = λ d. known_reported (control past) u d w (trimmed_report rules net u e c) ∙ was.knows d; epochs = was.epochs; same_epoch = was.same_epoch })
   reported_once w e c past (inr was) =
-      inr (record { knows = λ d. known_reported (control past) u d w (report_of rules net u e c) ∙ was.knows d; epochs = was.epochs; above = was.above })
+      inr (record { knows = λ d. known_reported (control past) u d w (trimmed_report rules net u e c) ∙ was.knows d; epochs = was.epochs; above = was.above })
 
   -- what the node does of its own accord, or over its links
   pub acted_once : (carried : Carried) (act : Act) → MayDo net u first act → Once u first (acted rules net carried u first act)

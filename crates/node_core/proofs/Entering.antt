@@ -1,6 +1,6 @@
 -- What a node keeps where it makes an entry, opens a session, or takes an update.
 use Rattle.std.proofs.Common.{ℕ, suc, true, false, Option, Some, None, List, [], ◌∷◌, ◌++◌, map, length, is_some, ◌≡◌, refl, sym, ◌∙◌, ap, subst, flat_map}
-use Rattle.std.specs.Prelude.{if◌then◌else◌, option_and_then}
+use Rattle.std.specs.Prelude.{if◌then◌else◌, option_and_then, option_map}
 use Rattle.topology.specs.declared.names.Scope.{Scope}
 use Rattle.topology.specs.declared.names.Scope.TheVariants.{All}
 use Rattle.topology.specs.declared.names.Trigger.{Trigger}
@@ -17,14 +17,18 @@ use Rattle.trigger_log.specs.Fits.{CauseFits}
 use Rattle.trigger_log.specs.Going.{Going, Item, Hello, going_by, going_in, going_to, numbered, spread, told}
 use Rattle.trigger_log.specs.Offered.{IsPlaced}
 use Rattle.trigger_log.specs.Sending.{news, next_number, sent_of}
-use Rattle.trigger_log.specs.Standing.{StandsFor as LogStandsFor}
+use Rattle.trigger_log.specs.Standing.{StandsFor as LogStandsFor, dropped_of}
+use Rattle.incomplete_closure.specs.Reports.{Report}
+use Rattle.epoch_report.specs.Trimming.{trimmed_report}
 use Rattle.marker_snapshot.specs.Standing.{StandsFor as SnapshotsStandFor}
 use Rattle.chronicle.specs.Facts.{Chronicle, Log, Sent, happen}
 use Rattle.chronicle.specs.Logs.{log_of}
 use Rattle.chronicle.specs.Epochs.{epoch, cut}
+use Rattle.chronicle.specs.Drops.{reported_cut}
 use Rattle.chronicle.specs.Messages.{took}
 use Rattle.chronicle.specs.Steps.{Carried, sends, write, open_session, unless_ready}
 use Rattle.chronicle.proofs.Blocks.{log_own, took_write, epoch_write, cut_write}
+use Rattle.chronicle.proofs.Dropping.{dropped_write, reported_write}
 use Rattle.node_core.specs.declared.agreement.Agreement.{Agreement}
 use Rattle.node_core.specs.declared.node.Node.{Node}
 use Rattle.node_core.specs.declared.outputs.Output.{Output as Given}
@@ -34,6 +38,7 @@ use Rattle.node_core.specs.Outputs.{Logged, Send, output_of, Hands}
 use Rattle.node_core.specs.Reports.{AreReports}
 use Rattle.node_core.proofs.Alike.{same_alike}
 use Rattle.node_core.proofs.Handing.{hands_more, outputs_write}
+use Rattle.node_core.proofs.Undropped.{SameDrops}
 
 -- ---- an entry and its outputs, in the network of the node
 
@@ -60,19 +65,25 @@ module _ {P : Type 0} (policy : P) (rules : Rules) (topo net : Net) (u : ℕ) (h
 
 -- ---- what a node keeps
 
--- only the log, epochs, cuts and what was taken matter
+-- the reports are those of the cuts where these are reported as they were
+pub same_reports : (rules : Rules) (net : Net) (u : ℕ) (past now : Chronicle) (kept : List Report) → ((e : ℕ) → reported_cut net u e now ≡ reported_cut net u e past)
+    → AreReports rules net u past kept → AreReports rules net u now kept
+same_reports rules net u past now kept cuts are e = are e ∙ ap (option_map (trimmed_report rules net u e)) (sym (cuts e))
+
+-- only the log, epochs, cuts, what was taken and what was dropped matter
 pub same_keeps : {P : Type 0} (policy : P) (rules : Rules) (net : Net) (u : ℕ) (node : Node P) (past now : Chronicle)
-    → log_of u now ≡ log_of u past → epoch u now ≡ epoch u past → ((e : ℕ) → cut u e now ≡ cut u e past) → ((v s : ℕ) → took v u s now ≡ took v u s past)
+    → log_of u now ≡ log_of u past → epoch u now ≡ epoch u past → ((e : ℕ) → cut u e now ≡ cut u e past) → ((v s : ℕ) → took v u s now ≡ took v u s past) → SameDrops net u past now
     → Keeps policy rules net u node past → Keeps policy rules net u node now
-same_keeps policy rules net u node past now logs epochs cuts items was = record {
+same_keeps policy rules net u node past now logs epochs cuts items drops was = record {
   same_net = was.same_net;
   same_id = was.same_id;
   log = subst (LogStandsFor policy rules net u node.log.value) (sym logs) was.log;
+  drops = was.drops ∙ sym drops.same_count;
   listed = was.listed ∙ ap (λ h. length (sent_of rules net u h)) (sym logs);
   acts = was.acts;
   snapshots = was.snapshots;
   alike = same_alike was.acts u past now epochs cuts items was.alike;
-  reports = was.reports;
+  reports = same_reports rules net u past now node.parts.value.agreement.reports drops.same_reported was.reports;
 }
 
 -- of what it keeps of agreements the reports alone are read
@@ -82,30 +93,33 @@ keeps_as policy rules net u old new past same logs written reports was = record 
   same_net = ap (λ (k : NodeParts). k.topology.value) written ∙ (ap (λ (k : NodeParts). k.topology.value) same ∙ was.same_net);
   same_id = ap (λ (k : NodeParts). k.id) written ∙ (ap (λ (k : NodeParts). k.id) same ∙ was.same_id);
   log = subst (λ l. LogStandsFor policy rules net u l.value (log_of u past)) (sym logs) was.log;
+  drops = ap (λ l. dropped_of l.value) logs ∙ was.drops;
   listed = ap (λ (k : NodeParts). k.updates) written ∙ (ap (λ (k : NodeParts). k.updates) same ∙ was.listed);
   acts = was.acts;
   snapshots = subst (λ kept. SnapshotsStandFor net u kept was.acts) (sym (ap (λ (k : NodeParts). k.snapshots) written ∙ ap (λ (k : NodeParts). k.snapshots) same)) was.snapshots;
   alike = was.alike;
-  reports = subst (AreReports rules net u was.acts) (sym (ap (λ (k : NodeParts). k.agreement.reports) written ∙ (reports ∙ ap (λ (k : NodeParts). k.agreement.reports) same))) was.reports;
+  reports = subst (AreReports rules net u past) (sym (ap (λ (k : NodeParts). k.agreement.reports) written ∙ (reports ∙ ap (λ (k : NodeParts). k.agreement.reports) same))) was.reports;
 }
 
 -- an entry is made, and beside the log their number alone is written
 pub entered : {P : Type 0} {kept : NodeParts} {more : ℕ} (policy : P) (rules : Rules) (net : Net) (u : ℕ) (carried : Carried) (past : Chronicle) (k : Entry) (old new : Node P)
     → Keeps policy rules net u old past → kept ≡ old.parts.value → new.parts.value ≡ record kept { updates = more }
-    → LogStandsFor policy rules net u new.log.value (k ∷ log_of u past) → more ≡ length (sent_of rules net u (k ∷ log_of u past))
+    → LogStandsFor policy rules net u new.log.value (k ∷ log_of u past) → dropped_of new.log.value ≡ dropped_of old.log.value → more ≡ length (sent_of rules net u (k ∷ log_of u past))
     → Keeps policy rules net u new (write rules net carried u k past)
-entered policy rules net u carried past k old new was kept_is written log updates =
+entered policy rules net u carried past k old new was kept_is written log drops updates =
     let same = sym (log_own rules net carried u k past) in
     record {
       same_net = ap (λ (p : NodeParts). p.topology.value) written ∙ (ap (λ (p : NodeParts). p.topology.value) kept_is ∙ was.same_net);
       same_id = ap (λ (p : NodeParts). p.id) written ∙ (ap (λ (p : NodeParts). p.id) kept_is ∙ was.same_id);
       log = subst (LogStandsFor policy rules net u new.log.value) same log;
+      drops = drops ∙ (was.drops ∙ sym (dropped_write rules net carried u k past u));
       listed = ap (λ (p : NodeParts). p.updates) written ∙ (updates ∙ ap (λ h. length (sent_of rules net u h)) same);
       acts = was.acts;
       snapshots = subst (λ kept. SnapshotsStandFor net u kept was.acts) (sym (ap (λ (p : NodeParts). p.snapshots) written ∙ ap (λ (p : NodeParts). p.snapshots) kept_is)) was.snapshots;
       alike = same_alike was.acts u past (write rules net carried u k past) (epoch_write rules net carried u k past u) (cut_write rules net carried u k past u)
           (λ v s. took_write rules net carried u k past v u s) was.alike;
-      reports = subst (AreReports rules net u was.acts) (sym (ap (λ (p : NodeParts). p.agreement.reports) written ∙ ap (λ (p : NodeParts). p.agreement.reports) kept_is)) was.reports;
+      reports = same_reports rules net u past (write rules net carried u k past) new.parts.value.agreement.reports (reported_write rules net carried u k past u)
+          (subst (AreReports rules net u past) (sym (ap (λ (p : NodeParts). p.agreement.reports) written ∙ ap (λ (p : NodeParts). p.agreement.reports) kept_is)) was.reports);
     }
 
 -- its place and what goes out are handed out
@@ -156,7 +170,7 @@ module _ {P : Type 0} (policy : P) (rules : Rules) (net : Net) (u v s : ℕ) (ca
   unfolding open_session
   opened_keeps node was =
       let k = local u (log_of u past) All (Up v s) in
-      same_keeps policy rules net u node (Log u k ∷ past) (Sent u v s (Hello (epoch u past)) (carried v s) ∷ Log u k ∷ past) refl refl (λ e. refl) (λ w t. refl)
+      same_keeps policy rules net u node (Log u k ∷ past) (Sent u v s (Hello (epoch u past)) (carried v s) ∷ Log u k ∷ past) refl refl (λ e. refl) (λ w t. refl) (record { same_count = refl; same_reported = λ d. refl })
       (subst (Keeps policy rules net u node) alone was)
 
   -- the greeting is handed out after the entry

@@ -10,6 +10,7 @@ use Rattle.consolidator.specs.declared.messages.Mail.{Mail as Posting}
 use Rattle.consolidator.specs.Messages.{Message}
 use Rattle.consolidator.specs.Seen.{message_seen, mails_seen}
 use Rattle.chronicle.specs.Facts.{Chronicle, Log, Sent, Raise, Mail, happen}
+use Rattle.chronicle.specs.Drops.{kept_log}
 use Rattle.chronicle.specs.Logs.{log_of}
 use Rattle.chronicle.specs.Steps.{Carried, sends, mails, write, markers, take_cut, reporting, raise}
 use Rattle.node_core.specs.declared.outputs.Output.{Output as Given}
@@ -49,11 +50,11 @@ module _ (rules : Rules) (net : Net) (u : ℕ) (carried : Carried) (past : Chron
 
   -- a cut shows its epoch, the markers, and the reports
   pub outputs_raise : (e : ℕ) → outputs (raise rules net carried u e past)
-      ≡ outputs past ++ Cut e ∷ (map Send (markers net u e (log_of u past)) ++ posts (reporting rules net u e (log_of u past)))
+      ≡ outputs past ++ Cut e ∷ (map Send (markers net u e (log_of u past)) ++ posts (reporting rules net u e (kept_log net u past)))
   unfolding raise take_cut
   outputs_raise e =
       let marks = markers net u e (log_of u past) in
-      let reports = reporting rules net u e (log_of u past) in
+      let reports = reporting rules net u e (kept_log net u past) in
       outputs_mails u (happen (Raise u e ∷ past) (sends carried u marks)) reports
       ∙ (ap (λ l. l ++ posts reports) (outputs_sends carried u (Raise u e ∷ past) marks)
       ∙ (append_assoc (outputs past ++ Cut e ∷ []) (map Send marks) (posts reports)

@@ -3,6 +3,7 @@ pub mod Counting
 pub mod Answering
 pub mod Handing
 pub mod Alike
+pub mod Undropped
 pub mod Entering
 pub mod Raising
 pub mod Received

@@ -1,5 +1,5 @@
 -- What a log lists.
-use Rattle.std.proofs.Common.{ℕ, suc, ◌+◌, ◌-◌, ◌<◌, ◌⊎◌, ⊎_elim, Option, Some, List, [], ◌∷◌, ◌++◌, ◌≡◌, refl, sym, subst, ◌∙◌, ap, arith, length, slice_get}
+use Rattle.std.proofs.Common.{ℕ, suc, ◌+◌, ◌-◌, ◌<◌, ◌≤◌, ◌⊎◌, ⊎_elim, Option, Some, List, [], ◌∷◌, ◌++◌, ◌≡◌, refl, sym, subst, ◌∙◌, ap, arith, length, slice_get}
 use Rattle.std.specs.Option.{SomeIff}
 use Rattle.std.proofs.lemmas.List.{length-append}
 use Rattle.topology.specs.Net.{Net}
@@ -7,7 +7,7 @@ use Rattle.path_vector.specs.Rules.{Rules}
 use Rattle.trigger_log.specs.declared.entries.Entry.{Entry as Shown}
 use Rattle.trigger_log.specs.Entries.{Entry}
 use Rattle.trigger_log.specs.Sending.{sent_by, sent_of}
-use Rattle.trigger_log.specs.Standing.{Entered, all_entered, Shows}
+use Rattle.trigger_log.specs.Entered.{Entered, all_entered, Shows}
 
 -- what is there is one thing
 same_some : (x y : Entered) → Some x ≡ Some y → x ≡ y
@@ -38,9 +38,9 @@ at_end (y ∷ ys) x = at_end ys x
 pub newest : (k : Entry) (h : List Entry) → slice_get (all_entered (k ∷ h)) (length h) ≡ Some (record { before = h; entry = k })
 newest k h = ap (slice_get (all_entered (k ∷ h))) (sym (length_steps h)) ∙ at_end (all_entered h) (record { before = h; entry = k })
 
--- there is a newest entry
-pub has_newest : (index n : ℕ) → index ≡ suc n → (index ≡ 0) ⊎ (suc n < index) → ⊥
-has_newest index n is none = ⊎_elim (λ (e : index ≡ 0). omega arith) (λ (l : suc n < index). omega arith) none
+-- there is a newest entry, where it was not dropped
+pub has_newest : (index n dropped : ℕ) → index ≡ suc n → dropped ≤ n → (index ≤ dropped) ⊎ (suc n < index) → ⊥
+has_newest index n dropped is few none = ⊎_elim (λ (e : index ≤ dropped). omega (arith, e, is, few)) (λ (l : suc n < index). omega arith) none
 
 -- what is kept of the newest entry shows what that lists
 pub shown_newest : (rules : Rules) (net : Net) (u : ℕ) (k : Entry) (h : List Entry) (index : ℕ) (at : Entered) (shown : Shown) → index ≡ suc (length h)

@@ -22,6 +22,7 @@ use Rattle.node_core.specs.NodeLimits.{has_large_value, node_above}
 use Rattle.node_core.specs.Standing.{StandsFor}
 use Rattle.node_core.proofs.Agreements.{agrees_on}
 use Rattle.node_core.proofs.Entering.{same_keeps}
+use Rattle.node_core.proofs.Undropped.{drops_of_same, table_cuts_of_same}
 use Rattle.node_core.proofs.Proposing.{small_on, beside_small, given_small}
 
 -- a fact of others is none of what a node says and hears over its links
@@ -69,8 +70,8 @@ module _ {P : Type 0} (policy : P) (rules : Rules) (net : Net) (u : ℕ) (past :
       → StandsFor policy rules net u node now
   same_stands node now same large part was = record {
     own = own_same rules net past now u was.own same;
-    keeps = same_keeps policy rules net u node past now same.same_log same.same_epoch same.same_cut (λ v s. same.same_took v s) was.keeps;
-    agrees = agrees_on rules net u past now node.parts.value.agreement node.parts.value.agreement refl part same.same_publications (let still = same.same_epoch in omega (arith, still)) (λ e low. same.same_cut e) was.agrees;
+    keeps = same_keeps policy rules net u node past now same.same_log same.same_epoch same.same_cut (λ v s. same.same_took v s) (drops_of_same net u past now same) was.keeps;
+    agrees = agrees_on rules net u past now node.parts.value.agreement node.parts.value.agreement refl part same.same_publications (let still = same.same_epoch in omega (arith, still)) (λ e low. table_cuts_of_same net u past now same e) was.agrees;
     within = same_above rules net u past now same large ∙ was.within;
   }
 
@@ -94,7 +95,7 @@ module _ {P : Type 0} (policy : P) (rules : Rules) (net : Net) (u : ℕ) (past :
       let same = same_by_fact u (Crash u) past tt in
       record {
         own = own_same rules net past (Crash u ∷ past) u was.own same;
-        keeps = same_keeps policy rules net u new past (Crash u ∷ past) refl refl (λ e. refl) (λ v s. refl) keeps;
+        keeps = same_keeps policy rules net u new past (Crash u ∷ past) refl refl (λ e. refl) (λ v s. refl) (record { same_count = refl; same_reported = λ d. refl }) keeps;
         agrees = agrees_on rules net u past (Crash u ∷ past) old.parts.value.agreement new.parts.value.agreement tables part refl (omega arith) (λ e low. refl) was.agrees;
         within = same_above rules net u past (Crash u ∷ past) same refl ∙ was.within;
       }

@@ -114,13 +114,13 @@ module _ {P : Type 0} (policy : P) (rules : Rules) (net : Net) (u : ℕ) (past :
   -- the node keeps what it kept
   packet_follows : (f : Fact) → IsOfPacket f → Follows policy rules net u node (f ∷ past)
   packet_follows (Visit w packet) of = record {
-    keeps = same_keeps policy rules net u node past (Visit w packet ∷ past) refl refl (λ e. refl) (λ v s. refl) was.keeps;
+    keeps = same_keeps policy rules net u node past (Visit w packet ∷ past) refl refl (λ e. refl) (λ v s. refl) (record { same_count = refl; same_reported = λ d. refl }) was.keeps;
     agrees = agrees_on rules net u past (Visit w packet ∷ past) node.parts.value.agreement node.parts.value.agreement refl
         (stands_beside net node.parts.value.agreement.consolidator (control past) u consolidator.Other tt was.agrees.part) refl (omega arith) (λ e low. refl) was.agrees;
     small = was.small;
   }
   packet_follows (End k ending) of = record {
-    keeps = same_keeps policy rules net u node past (End k ending ∷ past) refl refl (λ e. refl) (λ v s. refl) was.keeps;
+    keeps = same_keeps policy rules net u node past (End k ending ∷ past) refl refl (λ e. refl) (λ v s. refl) (record { same_count = refl; same_reported = λ d. refl }) was.keeps;
     agrees = agrees_on rules net u past (End k ending ∷ past) node.parts.value.agreement node.parts.value.agreement refl
         (stands_beside net node.parts.value.agreement.consolidator (control past) u consolidator.Other tt was.agrees.part) refl (omega arith) (λ e low. refl) was.agrees;
     small = was.small;

@@ -3,7 +3,7 @@ use Rattle.std.proofs.Common.{ℕ, Bool, true, false, ◌==◌, ◌&&◌, ◌||�
 use Rattle.std.specs.List.{list_any}
 use Rattle.topology.specs.Net.{Net}
 use Rattle.path_vector.specs.Rules.{Rules}
-use Rattle.epoch_report.specs.Reporting.{report_of}
+use Rattle.epoch_report.specs.Trimming.{trimmed_report}
 use Rattle.consolidator.specs.declared.messages.Mail.{Mail as Given}
 use Rattle.consolidator.specs.declared.messages.Mails.{Mails}
 use Rattle.consolidator.specs.declared.messages.Reply.{Reply}
@@ -90,7 +90,7 @@ module _ (rules : Rules) (net : Net) (u : ℕ) where
         nothing = λ now is. is;
         rises = λ e now above is. is;
         further = λ f now quiet is. small_on u f now (quiet_small u f quiet) ∙ is;
-        reports = λ w e c now is. small_on u (Mail u w (Reports (report_of rules net u e c))) now (no_report (u == u)) ∙ is;
+        reports = λ w e c now is. small_on u (Mail u w (Reports (trimmed_report rules net u e c))) now (no_report (u == u)) ∙ is;
       })
       carried past act may was
 

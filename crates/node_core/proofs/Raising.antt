@@ -1,6 +1,6 @@
 -- What a node keeps where its epoch rises, and where it meets a mark.
-use Rattle.std.proofs.Common.{ℕ, ◌+◌, ◌<◌, ◌≤◌, Bool, true, false, Option, Some, List, [], ◌∷◌, ◌++◌, map, length, take, get_or, ◌≡◌, refl, sym, ◌∙◌, ap, subst, arith, append_assoc, nat_lt, nat_cmp, is_lt, flat_map}
-use Rattle.std.specs.Prelude.{if◌then◌else◌}
+use Rattle.std.proofs.Common.{ℕ, ◌+◌, ◌<◌, ◌≤◌, Bool, true, false, ◌==◌, ◌&&◌, Option, Some, List, [], ◌∷◌, ◌++◌, map, length, take, get_or, ◌≡◌, refl, sym, ◌∙◌, ap, subst, arith, append_assoc, nat_lt, nat_cmp, is_lt, flat_map}
+use Rattle.std.specs.Prelude.{if◌then◌else◌, option_map}
 use Rattle.std.proofs.lemmas.Bool.Decides.{nat_tests}
 use Rattle.std.proofs.lemmas.List.{append-nil, map-append, take_more, flat_map_more}
 use Rattle.topology.specs.Lists.{ascending}
@@ -8,22 +8,25 @@ use Rattle.topology.specs.Net.{Net, neighbours}
 use Rattle.path_vector.specs.Rules.{Rules}
 use Rattle.path_vector.specs.History.{held}
 use Rattle.trigger_log.specs.declared.log.NodeLog.{NodeLog}
+use Rattle.trigger_log.specs.Dropping.{Trimmed, trimmed}
 use Rattle.trigger_log.specs.Entries.{Entry, reads}
 use Rattle.trigger_log.specs.Going.{Item, Marker, Going, mark_of, going_in, spread}
 use Rattle.trigger_log.specs.Sending.{sent_of}
-use Rattle.trigger_log.specs.Standing.{StandsFor as LogStandsFor}
+use Rattle.trigger_log.specs.Standing.{StandsFor as LogStandsFor, dropped_of}
 use Rattle.marker_snapshot.specs.Acts.{Acts, Takes, Meets}
 use Rattle.marker_snapshot.specs.Cuts.{epoch_of}
 use Rattle.marker_snapshot.specs.Keeping.{Kept}
 use Rattle.marker_snapshot.specs.Standing.{StandsFor as SnapshotsStandFor}
 use Rattle.chronicle.specs.Facts.{Chronicle, Took}
+use Rattle.chronicle.specs.Drops.{dropped, dropped_then, kept_log, reported_cut}
 use Rattle.chronicle.specs.Logs.{log_of}
-use Rattle.chronicle.specs.Epochs.{epoch}
+use Rattle.chronicle.specs.Epochs.{epoch, cut}
 use Rattle.chronicle.specs.Messages.{took_by}
 use Rattle.chronicle.specs.Steps.{Carried, markers, meet_mark, raise, reporting}
-use Rattle.chronicle.proofs.Blocks.{log_raise, epoch_raise, cut_raise, took_raise}
+use Rattle.chronicle.proofs.Blocks.{same_number, log_raise, epoch_raise, cut_raise, took_raise}
+use Rattle.chronicle.proofs.Dropping.{dropped_raise, reported_raise}
 use Rattle.cut_laws.specs.Own.{Own}
-use Rattle.epoch_report.specs.Reporting.{report_of}
+use Rattle.epoch_report.specs.Trimming.{trimmed_report}
 use Rattle.node_core.specs.declared.node.Node.{Node}
 use Rattle.node_core.specs.declared.outputs.Output.{Output as Given}
 use Rattle.node_core.specs.Alike.{Alike}
@@ -33,6 +36,7 @@ use Rattle.consolidator.specs.Messages.{Reports}
 use Rattle.node_core.specs.Outputs.{Cut, Send, Mail, output_of, outputs, Hands}
 use Rattle.node_core.proofs.Alike.{mark_alike, rise_alike}
 use Rattle.node_core.specs.Reports.{AreReports}
+use Rattle.node_core.proofs.Completing.{no_later_cut}
 use Rattle.node_core.proofs.Entering.{same_keeps}
 use Rattle.node_core.proofs.Reporting.{one_report_more}
 use Rattle.node_core.specs.Answering.{posts}
@@ -75,12 +79,14 @@ taken_at policy rules topo net u log h old new acts e same taken =
 
 -- its snapshots were told more, its reports are those of its cuts, and the log is as it was
 pub told_keeps : {P : Type 0} (policy : P) (rules : Rules) (net : Net) (u : ℕ) (past now : Chronicle) (old new : Node P) (acts : Acts)
-    → Keeps policy rules net u old past → KeepsAllBut old new → log_of u now ≡ log_of u past → SnapshotsStandFor net u new.parts.value.snapshots acts → Alike acts u now → AreReports rules net u acts new.parts.value.agreement.reports
+    → Keeps policy rules net u old past → KeepsAllBut old new → log_of u now ≡ log_of u past → dropped net u now ≡ dropped net u past
+    → SnapshotsStandFor net u new.parts.value.snapshots acts → Alike acts u now → AreReports rules net u now new.parts.value.agreement.reports
     → Keeps policy rules net u new now
-told_keeps policy rules net u past now old new acts was rest logs snapshots alike reports = record {
+told_keeps policy rules net u past now old new acts was rest logs drops snapshots alike reports = record {
   same_net = (λ k. (rest.topology k).value) ∙ was.same_net;
   same_id = rest.id ∙ was.same_id;
   log = subst (LogStandsFor policy rules net u new.log.value) (sym logs) (subst (λ l. LogStandsFor policy rules net u l.value (log_of u past)) (sym rest.log) was.log);
+  drops = ap (λ l. dropped_of l.value) rest.log ∙ (was.drops ∙ sym drops);
   listed = rest.updates ∙ (was.listed ∙ ap (λ h. length (sent_of rules net u h)) (sym logs));
   acts = acts;
   snapshots = snapshots;
@@ -88,27 +94,42 @@ told_keeps policy rules net u past now old new acts was rest logs snapshots alik
   reports = reports;
 }
 
+-- the cut is reported without what u has dropped, and the others as they were
+risen_cuts : (rules : Rules) (net : Net) (u : ℕ) (carried : Carried) (past : Chronicle) (e d : ℕ)
+    → reported_cut net u d (raise rules net carried u e past) ≡ (if e == d then Some (kept_log net u past) else reported_cut net u d past)
+risen_cuts rules net u carried past e d =
+    reported_raise rules net carried u e past u d
+    ∙ (ap (λ b. option_map (trimmed (if b && e == d then dropped net u past else dropped_then net u d past)) (if b && e == d then Some (log_of u past) else cut u d past)) (same_number u)
+    ∙ by (e == d))
+  where
+    by : (b : Bool) → option_map (trimmed (if b then dropped net u past else dropped_then net u d past)) (if b then Some (log_of u past) else cut u d past) ≡ (if b then Some (kept_log net u past) else reported_cut net u d past)
+    by true = refl
+    by false = refl
+
 -- the epoch rises
 pub risen : {P : Type 0} (policy : P) (rules : Rules) (net : Net) (u : ℕ) (carried : Carried) (past : Chronicle) (e : ℕ) (old new : Node P)
     → Own rules net past u → Keeps policy rules net u old past → epoch u past < e → KeepsAllBut old new
     → ((acts : Acts) → SnapshotsStandFor net u old.parts.value.snapshots acts → epoch_of acts < e → SnapshotsStandFor net u new.parts.value.snapshots (Takes e (log_of u past) ∷ acts))
-    → new.parts.value.agreement.reports ≡ old.parts.value.agreement.reports ++ report_of rules net u e (log_of u past) ∷ []
+    → new.parts.value.agreement.reports ≡ old.parts.value.agreement.reports ++ trimmed_report rules net u e (trimmed (dropped_of old.log.value) (log_of u past)) ∷ []
     → Keeps policy rules net u new (raise rules net carried u e past)
 risen policy rules net u carried past e old new own was high rest taken kept =
     let above : epoch_of was.acts < e = subst (λ n. n < e) (sym was.alike.same_epoch) high in
     told_keeps policy rules net u past (raise rules net carried u e past) old new (Takes e (log_of u past) ∷ was.acts) was rest (log_raise rules net carried u e past u)
+    (dropped_raise rules net carried u e past u)
     (taken was.acts was.snapshots above) (rise_alike rules net u carried e past was.acts own was.alike high)
-    (one_report_more rules net u was.acts old.parts.value.agreement.reports new.parts.value.agreement.reports e (log_of u past) was.reports (was.snapshots.newest e above) kept)
+    (one_report_more rules net u past (raise rules net carried u e past) old.parts.value.agreement.reports new.parts.value.agreement.reports e (kept_log net u past) was.reports
+    (ap (option_map (trimmed (dropped_then net u e past))) (no_later_cut policy rules net u past old was e high)) (risen_cuts rules net u carried past e)
+    (kept ∙ ap (λ n. old.parts.value.agreement.reports ++ trimmed_report rules net u e (trimmed n (log_of u past)) ∷ []) was.drops))
 
 -- the report to each consolidator
-pub mailed_reports : (rules : Rules) (topo net : Net) (u e : ℕ) (h : List Entry) (nodes : List ℕ) (r : Report) → nodes ≡ ascending topo.consolidators → topo ≡ net → r ≡ report_of rules net u e h
+pub mailed_reports : (rules : Rules) (topo net : Net) (u e : ℕ) (h : Trimmed) (nodes : List ℕ) (r : Report) → nodes ≡ ascending topo.consolidators → topo ≡ net → r ≡ trimmed_report rules net u e h
     → map (λ to. Mail to (Reports r)) nodes ≡ posts (reporting rules net u e h)
 mailed_reports rules topo net u e h nodes r are same is =
-    ap (λ x. map (λ to. Mail to (Reports x)) nodes) is ∙ (each nodes ∙ ap (λ ns. posts (map (λ c. (c, Reports (report_of rules net u e h))) ns)) (are ∙ ap (λ (n : Net). ascending n.consolidators) same))
+    ap (λ x. map (λ to. Mail to (Reports x)) nodes) is ∙ (each nodes ∙ ap (λ ns. posts (map (λ c. (c, Reports (trimmed_report rules net u e h))) ns)) (are ∙ ap (λ (n : Net). ascending n.consolidators) same))
   where
-    each : (ns : List ℕ) → map (λ to. Mail to (Reports (report_of rules net u e h))) ns ≡ posts (map (λ c. (c, Reports (report_of rules net u e h))) ns)
+    each : (ns : List ℕ) → map (λ to. Mail to (Reports (trimmed_report rules net u e h))) ns ≡ posts (map (λ c. (c, Reports (trimmed_report rules net u e h))) ns)
     each [] = refl
-    each (n ∷ ns) = ap (λ l. Mail n (Reports (report_of rules net u e h)) ∷ l) (each ns)
+    each (n ∷ ns) = ap (λ l. Mail n (Reports (trimmed_report rules net u e h)) ∷ l) (each ns)
 
 -- what was taken is not handed out
 pub hands_took : (first past : Chronicle) (list : List Given) (v u s : ℕ) (x : Item) → Hands first list past → Hands first list (Took v u s x ∷ past)
@@ -116,10 +137,10 @@ hands_took first past list v u s x was = was ∙ sym (append-nil (outputs past))
 
 -- a cut, its markers and its reports are handed out
 pub risen_hands : (rules : Rules) (net : Net) (u : ℕ) (carried : Carried) (first past : Chronicle) (e : ℕ) (old new : List Given)
-    → map output_of new ≡ map output_of old ++ Cut e ∷ (map Send (markers net u e (log_of u past)) ++ posts (reporting rules net u e (log_of u past)))
+    → map output_of new ≡ map output_of old ++ Cut e ∷ (map Send (markers net u e (log_of u past)) ++ posts (reporting rules net u e (kept_log net u past)))
     → Hands first old past → Hands first new (raise rules net carried u e past)
 risen_hands rules net u carried first past e old new list was =
-    hands_more first past (raise rules net carried u e past) old new (Cut e ∷ (map Send (markers net u e (log_of u past)) ++ posts (reporting rules net u e (log_of u past)))) list
+    hands_more first past (raise rules net carried u e past) old new (Cut e ∷ (map Send (markers net u e (log_of u past)) ++ posts (reporting rules net u e (kept_log net u past)))) list
     (outputs_raise rules net u carried past e) was
 
 module _ (rules : Rules) (net : Net) (u : ℕ) (carried : Carried) (past : Chronicle) (v s e : ℕ) (x : Item) (Q : Chronicle → Type 0) where
@@ -157,13 +178,13 @@ module _ {P : Type 0} (policy : P) (rules : Rules) (net : Net) (u : ℕ) (carrie
   -- a mark is met
   marked_keeps : (now : Chronicle) → Keeps policy rules net u mid now → Keeps policy rules net u new (Took v u s x ∷ now)
   marked_keeps now then' =
-      told_keeps policy rules net u now (Took v u s x ∷ now) mid new (Meets v s e ∷ then'.acts) then' rest refl (meets then'.acts then'.snapshots)
-      (mark_alike u now then'.acts v s e x is then'.alike) (subst (AreReports rules net u then'.acts) (sym same_reports) then'.reports)
+      told_keeps policy rules net u now (Took v u s x ∷ now) mid new (Meets v s e ∷ then'.acts) then' rest refl refl (meets then'.acts then'.snapshots)
+      (mark_alike u now then'.acts v s e x is then'.alike) (subst (AreReports rules net u now) (sym same_reports) then'.reports)
 
   -- a higher one is met after the cut that it asks for
   pub met_above : (raised : Node P) → mid ≡ raised → epoch u past < e → KeepsAllBut old raised
       → ((acts : Acts) → SnapshotsStandFor net u old.parts.value.snapshots acts → epoch_of acts < e → SnapshotsStandFor net u raised.parts.value.snapshots (Takes e (log_of u past) ∷ acts))
-      → raised.parts.value.agreement.reports ≡ old.parts.value.agreement.reports ++ report_of rules net u e (log_of u past) ∷ []
+      → raised.parts.value.agreement.reports ≡ old.parts.value.agreement.reports ++ trimmed_report rules net u e (trimmed (dropped_of old.log.value) (log_of u past)) ∷ []
       → Keeps policy rules net u new (meet_mark rules net carried u e (Took v u s x ∷ past))
   met_above raised same high others taken kept =
       let keeps : Keeps policy rules net u mid (raise rules net carried u e past) =
@@ -174,6 +195,10 @@ module _ {P : Type 0} (policy : P) (rules : Rules) (net : Net) (u : ℕ) (carrie
       (epoch_raise rules net carried u e (Took v u s x ∷ past) u ∙ sym (epoch_raise rules net carried u e past u))
       (λ d. cut_raise rules net carried u e (Took v u s x ∷ past) u d ∙ sym (cut_raise rules net carried u e past u d))
       (λ w t. took_raise rules net carried u e (Took v u s x ∷ past) w u t ∙ ap (took_by w u t (Took v u s x)) (sym (took_raise rules net carried u e past w u t)))
+      (record {
+        same_count = dropped_raise rules net carried u e (Took v u s x ∷ past) u ∙ sym (dropped_raise rules net carried u e past u);
+        same_reported = λ d. reported_raise rules net carried u e (Took v u s x ∷ past) u d ∙ sym (reported_raise rules net carried u e past u d);
+      })
       (marked_keeps (raise rules net carried u e past) keeps))
 
   -- another one is only met

@@ -64,6 +64,6 @@ module _ {P : Type 0} (policy : P) (rules : Rules) (net : Net) (u : ℕ) (past :
       → Keeps policy rules net u new (Took v u s (News n (record { prefix = p; triggers = t ∷ []; path = path })) ∷ past)
   heard_keeps old new own was rest same hears =
       let x : Update = record { prefix = p; triggers = t ∷ []; path = path } in
-      told_keeps policy rules net u past (Took v u s (News n x) ∷ past) old new (Hears v s n ∷ was.acts) was rest refl
+      told_keeps policy rules net u past (Took v u s (News n x) ∷ past) old new (Hears v s n ∷ was.acts) was rest refl refl
       (hears was.acts was.snapshots (continues rules net u past was.acts own was.alike v s n may_so.in_turn))
-      (news_alike rules net u past was.acts own was.alike v s n x) (subst (AreReports rules net u was.acts) (sym same) was.reports)
+      (news_alike rules net u past was.acts own was.alike v s n x) (subst (AreReports rules net u past) (sym same) was.reports)

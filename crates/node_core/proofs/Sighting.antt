@@ -5,12 +5,13 @@ use Rattle.std.proofs.lemmas.List.FromFn.{get_or-map-range_with_len}
 use Rattle.std.proofs.lemmas.Option.{unwrap_or-slice_get}
 use Rattle.topology.specs.Net.{Net, places}
 use Rattle.path_vector.specs.Rules.{Rules}
-use Rattle.trigger_log.specs.Entries.{Entry}
-use Rattle.stable_table.specs.Tables.{View, backups}
+use Rattle.trigger_log.specs.Dropping.{Trimmed}
+use Rattle.stable_table.specs.Tables.{View}
+use Rattle.stable_table.specs.Trimming.{trimmed_backups}
 use Rattle.stable_table.specs.Published as tables
 use Rattle.stable_table.specs.TwoTables.{epoch_of}
 use Rattle.stable_table.proofs.Published.{newest_map, kept_map}
-use Rattle.chronicle.specs.Epochs.{cut}
+use Rattle.chronicle.specs.Drops.{table_cut}
 use Rattle.chronicle.specs.Facts.{Chronicle}
 use Rattle.chronicle.specs.Publications.{Publication, publications, newest, kept, newest_epoch, newest_path, newest_backups, kept_path, path_in, backups_in}
 use Rattle.chronicle.specs.Publications as published
@@ -87,8 +88,8 @@ module _ (rules : Rules) (net : Net) (u : ℕ) (past : Chronicle) where
     pub backups_are : (p : ℕ) → p < length net.prefixes → unwrap_or (slice_get t.backups p) [] ≡ newest_backups rules net u p past
     backups_are p inside =
         ap (λ (v : View). unwrap_or (slice_get v.backups p) []) found.2
-        ∙ (over (cut u (found.0).epoch past) ∙ sym (ap (backups_in rules net u p past) found.1))
+        ∙ (over (table_cut net u (found.0).epoch past) ∙ sym (ap (backups_in rules net u p past) found.1))
       where
-        over : (c : Option (List Entry)) → unwrap_or (slice_get (backups_over rules net u (found.0).value c) p) [] ≡ published.backups_over rules net u p (found.0).value c
+        over : (c : Option Trimmed) → unwrap_or (slice_get (backups_over rules net u (found.0).value c) p) [] ≡ published.backups_over rules net u p (found.0).value c
         over None = refl
-        over (Some c) = backed (backups rules net u (found.0).value c) net p inside
+        over (Some c) = backed (trimmed_backups rules net u (found.0).value c) net p inside

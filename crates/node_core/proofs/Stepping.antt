@@ -13,8 +13,8 @@ use Rattle.chronicle.specs.Inputs.{Input, Originate, Withdraw, Prefer, Arrive, N
 use Rattle.chronicle.specs.Run.{chronicle_of}
 use Rattle.chronicle.proofs.Publishing.{epoch_publish, log_publish}
 use Rattle.chronicle.specs.Steps.{Step, Carried, Goes, Idle, raise}
-use Rattle.cut_laws.specs.Own.{Own, MayReach}
-use Rattle.cut_laws.proofs.Owning.{own_given}
+use Rattle.cut_laws.specs.Own.{Own, DropsWithin, MayReach}
+use Rattle.cut_laws.proofs.Owning.{own_answered, own_given}
 use Rattle.node_core.specs.declared.deciding.Act.{Act}
 use Rattle.node_core.specs.declared.deciding.Act.TheVariants.{Rise}
 use Rattle.node_core.specs.declared.answers.Answer.{Answer}
@@ -119,6 +119,12 @@ module _ {P : Type 0} (policy : P) (rules : Rules) (net : Net) (u : ℕ) (carrie
   stops_before stop stops = subst (λ limit. StopsAt limit stop) (sym (same_limit (answer rules net carried u past input))) stops
 
   module _ (now : Chronicle) (goes : answer rules net carried u past input ≡ Goes now) where
+    -- before its table what it dropped is part of its log and of its cuts
+    pub drops_within : (old : Node P) → StandsFor policy rules net u old past → MayCome net u input → DropsWithin net now u
+    drops_within old was may =
+        subst (λ s. DropsWithin net (chronicle_of past s) u) goes
+        (own_answered rules net u carried past input was.keeps.log.routes.valid was.own (may_reach net u input may)).drops
+
     -- the node stands for the chronicle after it
     pub then_stands : (old new : Node P) → StandsFor policy rules net u old past → MayCome net u input → Follows policy rules net u new (publish rules net u past now) → node_above rules net u (publish rules net u past now) ≡ None
         → StandsFor policy rules net u new (chronicle_of past (give rules net carried u past input))

@@ -1,10 +1,11 @@
 -- What a node answers before the table is published that may be due.
-use Rattle.std.specs.Prelude.{ℕ, ◌==◌, ◌≡◌, false, Option, Some, None, List, map, if◌then◌else◌}
+use Rattle.std.specs.Prelude.{ℕ, suc, ◌==◌, ◌≡◌, true, false, Option, Some, None, List, ◌∷◌, map, if◌then◌else◌}
 use Rattle.topology.specs.Net.{Net}
 use Rattle.path_vector.specs.Rules.{Rules}
-use Rattle.trigger_log.specs.Entries.{Entry}
+use Rattle.trigger_log.specs.Dropping.{Trimmed}
 use Rattle.incomplete_closure.specs.declared.values.Value.{Value}
-use Rattle.stable_table.specs.Tables.{View, table_of}
+use Rattle.stable_table.specs.Tables.{View}
+use Rattle.stable_table.specs.Trimming.{trimmed_table, trimmed_table_of}
 use Rattle.paxos_core.specs.Facts.{delivery}
 use Rattle.consolidator.specs.declared.messages.Reply.{Reply}
 use Rattle.consolidator.specs.Answers.{is_for_all}
@@ -12,15 +13,17 @@ use Rattle.consolidator.specs.Facts as consolidator
 use Rattle.consolidator.specs.Keeping.{Kept}
 use Rattle.consolidator.specs.Messages.{Message, epoch_of}
 use Rattle.consolidator.specs.Standing.{Handles, Proposes}
-use Rattle.chronicle.specs.Facts.{Chronicle}
-use Rattle.chronicle.specs.Epochs.{cut}
+use Rattle.chronicle.specs.Facts.{Chronicle, Publish}
+use Rattle.chronicle.specs.Drops.{dropped, table_cut}
 use Rattle.chronicle.specs.Control.{decision}
 use Rattle.chronicle.specs.Inputs.{Input, Propose, Control}
-use Rattle.chronicle.specs.Publications.{has_both}
+use Rattle.chronicle.specs.Publications.{has_both, is_above, newest}
 use Rattle.chronicle.specs.Steps.{Step, Idle, Goes}
+use Rattle.cut_laws.specs.Own.{DropsWithin}
 use Rattle.node_core.specs.declared.answers.Answer.{Answer}
 use Rattle.node_core.specs.declared.answers.Answer.TheVariants.{Did, Idle as Declines}
 use Rattle.node_core.specs.declared.outputs.Output.{Output as Given}
+use Rattle.node_core.specs.declared.publishing.Due.{Due}
 use Rattle.node_core.specs.Outputs.{Output, Mail, Hands}
 
 -- of no epoch did u get both its cut and its decision on the way from the one chronicle to the other, but for this one,
@@ -37,18 +40,21 @@ Says u past (Idle reason) (Did due) outputs = ⊥
 Says u past (Goes now) (Declines told) outputs = ⊥
 Says u past (Goes now) (Did due) outputs = Hands past outputs now × MayComplete u past now due
 
--- the table of e by u's cut and the decision that it knows
-pub record Tabled (rules : Rules) (net : Net) (u e : ℕ) (now : Chronicle) (table : View) : Type 0 where
-  pub entries : List Entry
+-- the table of e by u's cut, of which it dropped the first entries, and the decision that it knows; and the place of the first
+-- entry that u keeps once it has published the table
+pub record Tabled (rules : Rules) (net : Net) (u e : ℕ) (now : Chronicle) (table : View) (place : ℕ) : Type 0 where
+  pub cut : Trimmed
   pub value : Value
-  pub has_cut : cut u e now ≡ Some entries
+  pub has_cut : table_cut net u e now ≡ Some cut
   pub knows : decision u e now ≡ Some value
-  pub is : table ≡ table_of rules net u e value entries
+  pub is : table ≡ trimmed_table_of rules net u e value cut
+  pub keeps_from : place ≡ suc (dropped net u (Publish u e value (trimmed_table rules net u value cut) ∷ now))
 
--- the same, where u has both; else nothing
-abbrev pub IsTableOf : Rules → Net → ℕ → ℕ → Chronicle → Option View → Type 0
-IsTableOf rules net u e now None = has_both u e now ≡ false
-IsTableOf rules net u e now (Some table) = Tabled rules net u e now table
+-- a table of e, which is the one by the cut and the decision where u published none that is as new; nothing where u has not both
+abbrev pub IsDue : Rules → Net → ℕ → ℕ → Chronicle → Option Due → Type 0
+IsDue rules net u e now None = has_both u e now ≡ false
+IsDue rules net u e now (Some due) =
+    (due.table.epoch ≡ e) × (is_above e (newest u now) ≡ true → DropsWithin net now u → Tabled rules net u e now due.table due.place)
 
 -- control messages, as outputs
 abbrev pub posts : List (ℕ × Message) → List Output

@@ -9,11 +9,12 @@ use Rattle.trigger_log.specs.Entries.{Entry}
 use Rattle.trigger_log.specs.Fits.{CauseFits}
 use Rattle.trigger_log.specs.Offered.{IsPlaced}
 use Rattle.trigger_log.specs.Sending.{sent_of}
-use Rattle.trigger_log.specs.Standing.{StandsFor as LogStandsFor}
+use Rattle.trigger_log.specs.Standing.{StandsFor as LogStandsFor, dropped_of}
 use Rattle.marker_snapshot.specs.Acts.{Acts}
 use Rattle.marker_snapshot.specs.Standing.{StandsFor as SnapshotsStandFor}
 use Rattle.chronicle.specs.Facts.{Chronicle}
 use Rattle.chronicle.specs.Logs.{log_of}
+use Rattle.chronicle.specs.Drops.{dropped}
 use Rattle.node_core.specs.declared.node.Node.{Node}
 use Rattle.node_core.specs.Agreeing.{AgreesAs}
 use Rattle.node_core.specs.Alike.{Alike}
@@ -25,17 +26,18 @@ pub record MayEnter (net : Net) (u : ℕ) (h : List Entry) (scope : Scope) (caus
   pub placed : IsPlaced net scope
   pub fits : CauseFits h scope cause
 
--- the node is u in this network; its log, and how many items that lists, are those of u after these facts,
--- its snapshots were told what u did, and its reports are those of the cuts of u
+-- the node is u in this network; its log, what it has dropped of it, and how many items that lists, are those of u after
+-- these facts, its snapshots were told what u did, and its reports are those of the cuts of u
 pub record Keeps {P : Type 0} (policy : P) (rules : Rules) (net : Net) (u : ℕ) (node : Node P) (past : Chronicle) : Type 0 where
   pub same_net : node.parts.value.topology.value ≡ net
   pub same_id : node.parts.value.id ≡ u
   pub log : LogStandsFor policy rules net u node.log.value (log_of u past)
+  pub drops : dropped_of node.log.value ≡ dropped net u past
   pub listed : node.parts.value.updates ≡ length (sent_of rules net u (log_of u past))
   pub acts : Acts
   pub snapshots : SnapshotsStandFor net u node.parts.value.snapshots acts
   pub alike : Alike acts u past
-  pub reports : AreReports rules net u acts node.parts.value.agreement.reports
+  pub reports : AreReports rules net u past node.parts.value.agreement.reports
 
 -- the second is as the first but for its snapshots and its reports
 pub record KeepsAllBut {P : Type 0} (old new : Node P) : Type 0 where

@@ -2,25 +2,26 @@
 use Rattle.std.specs.Prelude.{ℕ, Option, Some, None, List, [], map}
 use Rattle.topology.specs.Net.{Net, places}
 use Rattle.path_vector.specs.Rules.{Rules}
-use Rattle.trigger_log.specs.Entries.{Entry}
+use Rattle.trigger_log.specs.Dropping.{Trimmed}
 use Rattle.incomplete_closure.specs.declared.values.Value.{Value}
-use Rattle.stable_table.specs.Tables.{View, backups}
+use Rattle.stable_table.specs.Tables.{View}
+use Rattle.stable_table.specs.Trimming.{trimmed_backups}
 use Rattle.chronicle.specs.Facts.{Chronicle}
-use Rattle.chronicle.specs.Epochs.{cut}
+use Rattle.chronicle.specs.Drops.{table_cut}
 use Rattle.chronicle.specs.Publications.{Publication, publications}
 
 -- the backups of each prefix over the cut, in file order, where there is a cut
-abbrev pub backups_over : Rules → Net → ℕ → Value → Option (List Entry) → List (List (List ℕ))
+abbrev pub backups_over : Rules → Net → ℕ → Value → Option Trimmed → List (List (List ℕ))
 backups_over rules net u value None = []
-backups_over rules net u value (Some c) = map (backups rules net u value c) (places net)
+backups_over rules net u value (Some c) = map (trimmed_backups rules net u value c) (places net)
 
--- what u published, with the backups over its cut of that epoch
+-- what u published, with the backups over its cut of that epoch as the table is made of it
 abbrev pub view_of : Rules → Net → ℕ → Chronicle → Publication → View
 view_of rules net u past t = record {
   epoch = t.epoch;
   value = t.value;
   paths = t.paths;
-  backups = backups_over rules net u t.value (cut u t.epoch past);
+  backups = backups_over rules net u t.value (table_cut net u t.epoch past);
 }
 
 -- all tables that u published, the newest first

@@ -1,5 +1,5 @@
 //! What a node does with an input that it does not decline.
-ghost use Rattle.std.specs.Prelude.{◌≡◌, ◌∷◌, [], ℕ, Some, true, List, length, IfOk, OnOk};
+ghost use Rattle.std.specs.Prelude.{◌≡◌, ◌≤◌, ◌∷◌, [], ℕ, Some, true, List, length, IfOk, OnOk};
 ghost use Rattle.topology.specs.declared.names.Scope.TheVariants.{All};
 ghost use Rattle.topology.specs.Lists.{has};
 ghost use Rattle.topology.specs.Net.{Net, neighbours};
@@ -8,7 +8,7 @@ ghost use Rattle.path_vector.specs.History.{ready};
 ghost use Rattle.trigger_log.specs.Entries.{Entry, entry, local, reads};
 ghost use Rattle.trigger_log.specs.Going.{item_of};
 ghost use Rattle.trigger_log.specs.Sending.{sent_by, sent_of};
-ghost use Rattle.trigger_log.specs.Standing.{StandsFor as LogStandsFor};
+ghost use Rattle.trigger_log.specs.Standing.{StandsFor as LogStandsFor, dropped_of};
 ghost use Rattle.chronicle.specs.Facts.{Chronicle};
 ghost use Rattle.chronicle.specs.Inputs.{arrival};
 ghost use Rattle.chronicle.specs.Logs.{log_of};
@@ -27,11 +27,11 @@ use path_vector::{Cause, Policy};
 use topology::{Item, NoMemory, NodeId, Scope, Session, Trigger};
 use trigger_log::{NodeLog, Outgoing};
 
-// How many items the newest entry of the log lists.
+// How many items the newest entry of the log lists, which was not dropped.
 #[inline(always)]
 fn listed<P: Policy + Copy>(log: &NodeLog<P>) -> usize
     ensures { (policy : P) (net : Net) (u : ℕ) (k : Entry) (h : List Entry) →
-        LogStandsFor policy (P.rules policy) net u log.now (k ∷ h) →
+        LogStandsFor policy (P.rules policy) net u log.now (k ∷ h) → dropped_of log.now ≤ length h →
         result ≡ length (sent_by (P.rules policy) net u h k) }
 {
     match log.entry(log.len()) {
@@ -44,7 +44,7 @@ fn listed<P: Policy + Copy>(log: &NodeLog<P>) -> usize
 #[inline(always)]
 fn more<P: Policy + Copy>(updates: usize, log: &NodeLog<P>) -> Result<usize, NoMemory>
     ensures { IfOk result (λ more. (policy : P) (net : Net) (u : ℕ) (k : Entry) (h : List Entry) →
-        LogStandsFor policy (P.rules policy) net u log.now (k ∷ h) →
+        LogStandsFor policy (P.rules policy) net u log.now (k ∷ h) → dropped_of log.now ≤ length h →
         updates ≡ length (sent_of (P.rules policy) net u h) →
         more ≡ length (sent_of (P.rules policy) net u (k ∷ h))) }
 {

@@ -26,6 +26,3 @@ pub use node::Node;
 pub use outputs::{First, Output, OutputList, Outputs, Stop};
 #[doc(hidden)]
 pub use parts::NodeParts;
-
-#[cfg(test)]
-mod tests;

@@ -2,15 +2,17 @@
 ghost use Rattle.std.specs.Prelude.{◌≡◌, ◌<◌, ℕ, Some, [], ◌∷◌, ◌++◌, List, map, true, IfOk, OnOk};
 ghost use Rattle.topology.specs.Lists.{has};
 ghost use Rattle.topology.specs.Net.{Net, neighbours};
+ghost use Rattle.trigger_log.specs.Dropping.{trimmed};
 ghost use Rattle.trigger_log.specs.Entries.{Entry};
 ghost use Rattle.trigger_log.specs.Going.{Item as Gone, mark_of};
-ghost use Rattle.trigger_log.specs.Standing.{StandsFor as LogStandsFor};
+ghost use Rattle.trigger_log.specs.Standing.{StandsFor as LogStandsFor, dropped_of};
 ghost use Rattle.marker_snapshot.specs.Acts.{Acts, Takes};
 ghost use Rattle.marker_snapshot.specs.Cuts.{epoch_of};
 ghost use Rattle.marker_snapshot.specs.Standing.{StandsFor as SnapshotsStandFor};
 ghost use Rattle.incomplete_closure.specs.Seen.{report_seen};
-ghost use Rattle.epoch_report.specs.Reporting.{report_of};
+ghost use Rattle.epoch_report.specs.Trimming.{trimmed_report};
 ghost use Rattle.consolidator.specs.Messages.{Reports};
+ghost use Rattle.chronicle.specs.Drops.{dropped};
 ghost use Rattle.chronicle.specs.Facts.{Chronicle, Took};
 ghost use Rattle.chronicle.specs.Logs.{log_of};
 ghost use Rattle.chronicle.specs.Run.{held_with};
@@ -79,11 +81,13 @@ impl<P: Policy + Copy> Node<P> {
             SnapshotsStandFor net u node.parts.value.snapshots (Takes epoch h ∷ acts)) }
         ensures reports { IfOk result (λ node. (policy : P) (net : Net) (u : ℕ) (h : List Entry) →
             LogStandsFor policy (P.rules policy) net u self.log.value h →
-            node.parts.value.agreement.reports ≡ self.parts.value.agreement.reports ++ report_of (P.rules policy) net u epoch h ∷ []) }
+            node.parts.value.agreement.reports ≡ self.parts.value.agreement.reports
+            ++ trimmed_report (P.rules policy) net u epoch (trimmed (dropped_of self.log.value) h) ∷ []) }
         ensures outputs { OnOk result ((policy : P) (net : Net) (u : ℕ) (carried : Carried) (first past : Chronicle) →
             self.parts.value.topology.value ≡ net → self.parts.value.id ≡ u →
             LogStandsFor policy (P.rules policy) net u self.log.value (log_of u past) →
-            Hands first outputs.old past → Hands first outputs.new (raise (P.rules policy) net carried u epoch past)) }
+            dropped_of self.log.value ≡ dropped net u past → Hands first outputs.old past →
+            Hands first outputs.new (raise (P.rules policy) net carried u epoch past)) }
     {
         outputs.push(Output::Cut { epoch })?;
         self.send_markers(epoch, outputs)?;

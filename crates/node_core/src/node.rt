@@ -1,12 +1,12 @@
 //! A node: its log, its snapshots, and what it keeps of epochs.
 ghost use Rattle.std.specs.Prelude.{◌≡◌, ◌∷◌, ℕ, [], option_copied, option_map, IfOk, IfErr};
 ghost use Rattle.topology.specs.Net.{Net};
-ghost use Rattle.trigger_log.specs.Standing.{StandsFor as LogStandsFor};
+ghost use Rattle.trigger_log.specs.Standing.{StandsFor as LogStandsFor, dropped_of};
 ghost use Rattle.incomplete_closure.specs.Seen.{report_seen};
-ghost use Rattle.epoch_report.specs.Reporting.{report_of};
+ghost use Rattle.epoch_report.specs.Trimming.{trimmed_report};
 ghost use Rattle.stable_table.specs.TwoTables.{StandsFor as TablesStandFor};
 ghost use Rattle.chronicle.specs.Control.{decision};
-ghost use Rattle.chronicle.specs.Epochs.{cut};
+ghost use Rattle.chronicle.specs.Drops.{dropped, reported_cut};
 ghost use Rattle.chronicle.specs.Facts.{Chronicle, Crash};
 ghost use Rattle.chronicle.specs.Giving.{give};
 ghost use Rattle.chronicle.specs.Logs.{log_of};
@@ -121,8 +121,7 @@ impl<P: Policy + Copy> Node<P> {
             Answer::Did(due) => due,
             Answer::Idle(reason) => return Ok((node, Some(reason))),
         };
-        let mut node = node;
-        node.conclude(due, outputs)?;
+        let node = node.conclude(due, outputs)?;
         if let Some(stop) = node.limit() {
             return Err(stop);
         }
@@ -137,11 +136,14 @@ impl<P: Policy + Copy> Node<P> {
         self.parts.id
     }
 
-    /// The log of the node.
+    /// The log of the node. It has dropped the entries that the node needs no more for any table: what the tables that it published
+    /// by the answers of all nodes allow.
     pub fn log(&self) -> &NodeLog<P>
-        ensures { (policy : P) (net : Net) (u : ℕ) (past : Chronicle) →
+        ensures log { (policy : P) (net : Net) (u : ℕ) (past : Chronicle) →
             StandsFor policy (P.rules policy) net u self.now past →
             LogStandsFor policy (P.rules policy) net u result.now (log_of u past) }
+        ensures dropped { (policy : P) (net : Net) (u : ℕ) (past : Chronicle) →
+            StandsFor policy (P.rules policy) net u self.now past → dropped_of result.now ≡ dropped net u past }
     {
         &self.log
     }
@@ -154,12 +156,13 @@ impl<P: Policy + Copy> Node<P> {
         &self.parts.snapshots
     }
 
-    /// What the node reported of its cut of an epoch. None exactly where it has no such cut. Takes no memory.
+    /// What the node reported of its cut of an epoch, without what it had dropped when it took the cut. None exactly where it has
+    /// no such cut. Takes no memory.
     pub fn report(&self, epoch: Epoch) -> Option<&Rc<Report>>
         ensures { (policy : P) (net : Net) (u : ℕ) (past : Chronicle) →
             StandsFor policy (P.rules policy) net u self.now past →
             option_map (λ report. report_seen report.now.value) result
-            ≡ option_map (report_of (P.rules policy) net u epoch) (cut u epoch past) }
+            ≡ option_map (trimmed_report (P.rules policy) net u epoch) (reported_cut net u epoch past) }
     {
         self.parts.agreement.reports.of(epoch)
     }

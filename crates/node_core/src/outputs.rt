@@ -5,7 +5,7 @@ ghost use Rattle.trigger_log.specs.Entries.{Entry as Logged, entry};
 ghost use Rattle.trigger_log.specs.Fits.{CauseFits};
 ghost use Rattle.trigger_log.specs.Going.{going_by};
 ghost use Rattle.trigger_log.specs.Offered.{IsPlaced};
-ghost use Rattle.trigger_log.specs.Standing.{StandsFor as LogStandsFor};
+ghost use Rattle.trigger_log.specs.Standing.{StandsFor as LogStandsFor, dropped_of};
 ghost use Rattle.node_core.specs.Entries.{first_of};
 ghost use Rattle.node_core.specs.Firsts.{seen_first};
 ghost use Rattle.node_core.specs.Outputs.{Logged as Enters, Send as Sends, output_of};
@@ -146,6 +146,7 @@ impl OutputList {
             IsPlaced topology.now scope → CauseFits h scope cause →
             map output_of self.new ≡ map output_of self.old
             ++ Enters (suc (length h)) ∷ map Sends (going_by (P.rules policy) topology.now u h (entry (trigger ∷ []) scope cause))) }
+        ensures dropped { IfOk result (λ longer. dropped_of longer.value ≡ dropped_of log.value) }
     {
         if !self.is_empty() {
             return Ok(self.enter_behind(log, topology, trigger, scope, cause)?);
@@ -174,6 +175,7 @@ impl OutputList {
             IsPlaced topology.now scope → CauseFits h scope cause →
             map output_of self.new ≡ map output_of self.old
             ++ Enters (suc (length h)) ∷ map Sends (going_by (P.rules policy) topology.now u h (entry (trigger ∷ []) scope cause))) }
+        ensures dropped { IfOk result (λ longer. dropped_of longer.value ≡ dropped_of log.value) }
     {
         let mut sent = Vec::new(self.alloc);
         let longer = NodeLog::append_boxed(log, topology, trigger, scope, cause, &mut sent)?;

@@ -1,27 +1,35 @@
--- The rows of all prefixes are the table.
-use Rattle.std.proofs.Common.{ℕ, ◌+◌, Option, List, [], ◌∷◌, ◌++◌, length, take, ◌≡◌, refl, sym, ◌∙◌, ap, ap₂, subst, arith, map, filter, filter_map, fold, option_and_then}
+-- The rows of all prefixes are the table, over the entries of the cut that are kept, on top of those that were dropped.
+use Rattle.std.proofs.Common.{ℕ, ◌+◌, ◌-◌, ◌≤◌, false, Option, List, [], ◌∷◌, ◌++◌, length, length-append, drop, take, ◌≡◌, refl, sym, ◌∙◌, ap, ap₂, subst, arith, map, filter, filter_map, fold, option_and_then}
 use Rattle.std.specs.Prelude.{if◌then◌else◌}
-use Rattle.std.specs.List.{AllZip, cons_option, range_with_len}
+use Rattle.std.specs.List.{AllZip, cons_option, list_any, range_with_len}
 use Rattle.std.proofs.lemmas.List.FromFn.{map-range_with_len_more}
 use Rattle.topology.specs.declared.names.Trigger.{Trigger}
 use Rattle.topology.specs.Lists.{has}
+use Rattle.topology.specs.Triggers.{lists}
 use Rattle.topology.specs.Net.{Net, neighbours, places, file_preference}
 use Rattle.path_vector.specs.Rules.{Rules}
 use Rattle.path_vector.specs.History.{History, Scoped, concerning}
+use Rattle.path_vector.specs.Parts.{Accepted}
 use Rattle.path_vector.specs.Selection.{Choice, Route, best, choice, choices, path_of}
 use Rattle.path_vector.specs.Ranking.{put_choice, by_rank}
 use Rattle.path_vector.proofs.Local.{best_local, candidate_local, preference_local}
 use Rattle.trigger_log.specs.declared.entries.Entry.{Entry as Shown}
 use Rattle.trigger_log.specs.Entries.{Entry, reads}
 use Rattle.trigger_log.specs.Fits.{Fits}
-use Rattle.trigger_log.specs.Standing.{all_entered, Shows}
+use Rattle.trigger_log.specs.Entered.{all_entered, Shows}
+use Rattle.trigger_log.specs.Dropping.{Trimmed, trimmed, base_of, kept_of}
+use Rattle.trigger_log.specs.KeptEntries.{taken}
+use Rattle.trigger_log.proofs.Droppable.{kept_and_base, base_length}
+use Rattle.trigger_log.proofs.Kept.{entered_on, first_shown, reads_parts, taken_all}
 use Rattle.trigger_log.proofs.Zips.{zip_push}
 use Rattle.incomplete_closure.specs.declared.values.Value.{Value}
 use Rattle.stable_table.specs.declared.rows.Row.{Row}
-use Rattle.stable_table.specs.Keeping.{kept}
+use Rattle.stable_table.specs.Keeping.{kept_by}
 use Rattle.stable_table.specs.Rows.{RowView, IsRow, prefix_row}
-use Rattle.stable_table.specs.Tables.{View, all_responded, answered, complete_in, table_path, table, backups, table_of}
-use Rattle.stable_table.proofs.Keeping.{reads_kept, kept_is, cut_shown, kept_accepted, scoped_of, complete_reads}
+use Rattle.stable_table.specs.Tables.{View, all_responded, answered}
+use Rattle.stable_table.specs.Trimming.{trimmed_complete, trimmed_path, trimmed_table, trimmed_backups, trimmed_table_of}
+use Rattle.stable_table.proofs.Based.{kept_on_base, trimmed_reads}
+use Rattle.stable_table.proofs.Keeping.{all_kept, reads_kept, kept_accepted, scoped_of}
 
 -- ---- one row more
 
@@ -62,41 +70,83 @@ zip_same R f g same (x ∷ xs) (y ∷ ys) z = ap₂ (λ a b. a ∷ b) (same x y 
 made : ℕ → Value → List (Option (List ℕ)) → List (List (List ℕ)) → View
 made epoch value paths backups = record { epoch = epoch; value = value; paths = paths; backups = backups }
 
--- what the row of p has over what is kept of these entries
-abbrev pub kept_row : Rules → Net → ℕ → Value → List Entry → ℕ → RowView
-kept_row rules net u value entries p = prefix_row rules net u value (reads_kept value.incomplete entries) p
+-- what routing reads of the entries that are kept and list no incomplete trigger, on top of those that were dropped
+abbrev pub kept_reads : Value → Trimmed → History
+kept_reads value log = reads_kept value.incomplete (kept_of log) ++ reads (base_of log)
 
-module _ (rules : Rules) (net : Net) (u : ℕ) (value : Value) (entries : List Entry) (fits : Fits entries) where
-  scoped : Scoped (reads_kept value.incomplete entries)
-  scoped = scoped_of (reads_kept value.incomplete entries) (kept_accepted value.incomplete entries fits)
+-- what the row of p has over them
+abbrev pub kept_row : Rules → Net → ℕ → Value → Trimmed → ℕ → RowView
+kept_row rules net u value log p = prefix_row rules net u value (kept_reads value log) p
 
-  best_is : (p : ℕ) → best rules net u (reads_kept value.incomplete entries) p ≡ best rules net u (reads (complete_in value p entries)) p
-  best_is p = sym (ap (λ h. best rules net u h p) (complete_reads value p entries) ∙ best_local rules net u p (reads_kept value.incomplete entries) scoped)
+pub reads_accepted : (value : Value) (log : Trimmed) → Fits log.entries → Accepted (kept_reads value log)
+reads_accepted value log fits = kept_accepted value.incomplete (kept_of log) (base_of log) (subst Fits (sym (kept_and_base log)) fits)
 
-  ranks_are : (p : ℕ) → by_rank rules net u (reads_kept value.incomplete entries) p ≡ by_rank rules net u (reads (complete_in value p entries)) p
-  ranks_are p = sym (ap (λ h. by_rank rules net u h p) (complete_reads value p entries) ∙ by_rank_local rules net u p (reads_kept value.incomplete entries) scoped)
+module _ (rules : Rules) (net : Net) (u : ℕ) (value : Value) (log : Trimmed) (within : log.dropped ≤ length log.entries) (fits : Fits log.entries) where
+  scoped : Scoped (kept_reads value log)
+  scoped = scoped_of (kept_reads value log) (reads_accepted value log fits)
 
-  path_is : (p : ℕ) (row : Row) → IsRow (kept_row rules net u value entries p) row → row.path ≡ table_path rules net u value entries p
-  unfolding table_path
+  best_is : (p : ℕ) → best rules net u (kept_reads value log) p ≡ best rules net u (reads (trimmed_complete value p log)) p
+  best_is p = sym (ap (λ h. best rules net u h p) (trimmed_reads value p log within) ∙ best_local rules net u p (kept_reads value log) scoped)
+
+  ranks_are : (p : ℕ) → by_rank rules net u (kept_reads value log) p ≡ by_rank rules net u (reads (trimmed_complete value p log)) p
+  ranks_are p = sym (ap (λ h. by_rank rules net u h p) (trimmed_reads value p log within) ∙ by_rank_local rules net u p (kept_reads value log) scoped)
+
+  path_is : (p : ℕ) (row : Row) → IsRow (kept_row rules net u value log p) row → row.path ≡ trimmed_path rules net u value log p
+  unfolding trimmed_path
   path_is p row r = r.path ∙ ap (λ (b : Route). option_and_then (answered value u) (path_of u b)) (best_is p)
 
-  backups_is : (p : ℕ) (row : Row) → IsRow (kept_row rules net u value entries p) row → row.backups.items ≡ backups rules net u value entries p
-  unfolding backups
+  backups_is : (p : ℕ) (row : Row) → IsRow (kept_row rules net u value log p) row → row.backups.items ≡ trimmed_backups rules net u value log p
+  unfolding trimmed_backups
   backups_is p row r = r.backups ∙ ap (λ (cs : List Choice). if has value.responding u then filter (all_responded value) (map (λ (c : Choice). c.path) cs) else []) (ranks_are p)
 
-  pub table_is : (epoch : ℕ) (copied : Value) (rows : List Row) → copied ≡ value → AllZip (λ p. IsRow (kept_row rules net u value entries p)) (places net) rows
-      → record { epoch = epoch; value = copied; paths = map (λ (r : Row). r.path) rows; backups = map (λ (r : Row). r.backups.items) rows } ≡ table_of rules net u epoch value entries
-  unfolding made table
+  pub table_is : (epoch : ℕ) (copied : Value) (rows : List Row) → copied ≡ value → AllZip (λ p. IsRow (kept_row rules net u value log p)) (places net) rows
+      → record { epoch = epoch; value = copied; paths = map (λ (r : Row). r.path) rows; backups = map (λ (r : Row). r.backups.items) rows } ≡ trimmed_table_of rules net u epoch value log
+  unfolding made trimmed_table
   table_is epoch copied rows same z =
       ap (λ v. made epoch v (map (λ (r : Row). r.path) rows) (map (λ (r : Row). r.backups.items) rows)) same
       ∙ ap₂ (made epoch value)
-      (zip_same (λ p. IsRow (kept_row rules net u value entries p)) (table_path rules net u value entries) (λ (r : Row). r.path) path_is (places net) rows z)
-      (zip_same (λ p. IsRow (kept_row rules net u value entries p)) (backups rules net u value entries) (λ (r : Row). r.backups.items) backups_is (places net) rows z)
+      (zip_same (λ p. IsRow (kept_row rules net u value log p)) (trimmed_path rules net u value log) (λ (r : Row). r.path) path_is (places net) rows z)
+      (zip_same (λ p. IsRow (kept_row rules net u value log p)) (trimmed_backups rules net u value log) (λ (r : Row). r.backups.items) backups_is (places net) rows z)
 
--- what is kept of the first entries that are shown is read of the cut
-pub cut_kept : (rules : Rules) (net : Net) (u cut : ℕ) (value : Value) (newer entries : List Entry) (incomplete : List Trigger) (all shown : List Shown)
-    → AllZip (Shows rules net u) (all_entered (newer ++ entries)) all → shown ≡ take cut all → cut ≡ length entries → incomplete ≡ value.incomplete
-    → kept incomplete shown ≡ reads_kept value.incomplete entries
-cut_kept rules net u cut value newer entries incomplete all shown z first is same =
-    ap₂ (λ (i : List Trigger) (s : List Shown). kept i s) same (first ∙ ap (λ n. take n all) is)
-    ∙ kept_is rules net u value.incomplete entries (take (length entries) all) (cut_shown rules net u newer entries all z)
+-- ---- what is shown of a cut
+
+-- the entries of the cut that are kept stand first in what the log keeps
+pub cut_shown : (rules : Rules) (net : Net) (u n cut : ℕ) (newer entries : List Entry) (all : List Shown) → AllZip (Shows rules net u) (drop n (all_entered (newer ++ entries))) all → cut ≡ length entries → n ≤ cut
+    → AllZip (Shows rules net u) (entered_on (kept_of (trimmed n entries)) (base_of (trimmed n entries))) (take (cut - n) all)
+cut_shown rules net u n cut newer entries all z is within =
+    let log = trimmed n entries in
+    let mid = kept_of log in
+    let base = base_of log in
+    let short : n ≤ length entries = omega (arith, is, within) in
+    let halves : mid ++ base ≡ entries = kept_and_base log in
+    let size : length base ≡ n = base_length log short in
+    let total : length (mid ++ base) ≡ length entries = ap length halves in
+    let parts = length-append mid base in
+    let first : cut - n ≡ length mid = omega (arith, is, size, total, parts) in
+    subst (λ m. AllZip (Shows rules net u) (entered_on mid base) (take m all)) (sym first)
+    (first_shown rules net u newer mid base all
+    (subst (λ l. AllZip (Shows rules net u) l all) (ap₂ (λ m h. drop m (all_entered (newer ++ h))) (sym size) (sym halves)) z))
+
+module _ (rules : Rules) (net : Net) (u n cut : ℕ) (value : Value) (newer entries : List Entry) (incomplete : List Trigger) (all shown : List Shown)
+    (z : AllZip (Shows rules net u) (drop n (all_entered (newer ++ entries))) all) (first : shown ≡ take (cut - n) all) (is : cut ≡ length entries) (within : n ≤ cut) (same : incomplete ≡ value.incomplete) where
+  -- what comes of the kept entries of the cut, behind the base
+  pub cut_kept : fold (kept_by incomplete) (reads (base_of (trimmed n entries))) shown ≡ kept_reads value (trimmed n entries)
+  cut_kept =
+      ap₂ (λ (i : List Trigger) (s : List Shown). fold (kept_by i) (reads (base_of (trimmed n entries))) s) same first
+      ∙ kept_on_base rules net u value.incomplete (kept_of (trimmed n entries)) (base_of (trimmed n entries)) (take (cut - n) all) (reads (base_of (trimmed n entries))) (cut_shown rules net u n cut newer entries all z is within)
+
+  -- where no entry of the cut that is kept lists an incomplete trigger, that is what routing reads of the whole cut
+  pub cut_whole : list_any (λ (e : Shown). lists incomplete e.trigger) shown ≡ false → kept_reads value (trimmed n entries) ≡ reads entries
+  cut_whole none =
+      sym cut_kept
+      ∙ (all_kept incomplete (reads (base_of (trimmed n entries))) shown none
+      ∙ (ap (fold taken (reads (base_of (trimmed n entries)))) first
+      ∙ (taken_all rules net u (kept_of (trimmed n entries)) (base_of (trimmed n entries)) (take (cut - n) all) (reads (base_of (trimmed n entries))) (cut_shown rules net u n cut newer entries all z is within)
+      ∙ (reads_parts (kept_of (trimmed n entries)) (base_of (trimmed n entries)) ∙ ap reads (kept_and_base (trimmed n entries))))))
+
+-- a cut that is as long as the log is the log
+pub no_newer : (newer entries : List Entry) (cut count : ℕ) → cut ≡ length entries → count ≡ length (newer ++ entries) → cut ≡ count → newer ≡ []
+no_newer [] entries cut count is all same = refl
+no_newer (k ∷ newer) entries cut count is all same =
+    let long = length-append newer entries in
+    absurd (omega (arith, is, all, long, same))

@@ -1,5 +1,5 @@
--- The entries of a cut that list no incomplete trigger, as routing reads them.
-use Rattle.std.specs.Prelude.{List, [], ◌∷◌, fold, if◌then◌else◌}
+-- The entries of a cut that list no incomplete trigger, as routing reads them, behind what was read before.
+use Rattle.std.specs.Prelude.{ℕ, suc, List, [], ◌∷◌, fold, if◌then◌else◌}
 use Rattle.topology.specs.declared.names.Trigger.{Trigger}
 use Rattle.topology.specs.Triggers.{lists}
 use Rattle.path_vector.specs.History.{History, change}
@@ -9,6 +9,11 @@ use Rattle.trigger_log.specs.declared.entries.Entry.{Entry}
 abbrev pub kept_by : List Trigger → History → Entry → History
 kept_by incomplete past entry = if lists incomplete entry.trigger then past else change entry.scope entry.cause ∷ past
 
--- what is read of the entries, the oldest first
-abbrev pub kept : List Trigger → List Entry → History
-kept incomplete entries = fold (kept_by incomplete) [] entries
+-- what is read of the entries, the oldest first, behind what was read before
+abbrev pub kept : List Trigger → History → List Entry → History
+kept incomplete past entries = fold (kept_by incomplete) past entries
+
+-- how many of the first entries list no incomplete trigger
+abbrev pub complete_first : List Trigger → List Entry → ℕ
+complete_first incomplete [] = 0
+complete_first incomplete (e ∷ es) = if lists incomplete e.trigger then 0 else suc (complete_first incomplete es)

@@ -1,6 +1,8 @@
 pub mod Tables
+pub mod Trimming
 pub mod Published
 pub mod TwoTables
 pub mod Keeping
 pub mod Backups
 pub mod Rows
+pub mod Marks

@@ -9,8 +9,7 @@ ghost use Rattle.path_vector.specs.Standing.{StandsFor};
 ghost use Rattle.stable_table.specs.Tables.{all_responded};
 ghost use Rattle.stable_table.specs.Backups.{backup};
 
-use crate::responders::all_responded;
-use incomplete_closure::Value;
+use crate::responders::Responders;
 use path_vector::{Policy, RouteState};
 use std::alloc::Global;
 use topology::{NoMemory, NodeId, Path, PrefixId};
@@ -18,19 +17,19 @@ use topology::{NoMemory, NodeId, Path, PrefixId};
 // The candidate of the neighbour, where all its nodes responded.
 fn backup_by<P: Policy + Copy>(
     state: &RouteState<P>,
-    value: &Value,
+    responders: &Responders<'_>,
     prefix: PrefixId,
     nbr: NodeId,
 ) -> Result<Option<Path>, NoMemory>
     ensures { IfOk result (λ path. (policy : P) (net : Net) (u : ℕ) (h : History) →
         StandsFor policy net u state.now h → prefix < length net.prefixes →
-        has value.now.responding u ≡ true → has (neighbours net u) nbr ≡ true →
-        path ≡ backup value.now u h prefix nbr) }
+        has responders.now.value.now.responding u ≡ true → has (neighbours net u) nbr ≡ true →
+        path ≡ backup responders.now.value.now u h prefix nbr) }
 {
     let Some(path) = state.candidate_path(prefix, nbr) else {
         return Ok(None);
     };
-    if !all_responded(value, path.nodes()) {
+    if !responders.all_responded(path.nodes()) {
         return Ok(None);
     }
     Ok(Some(path.copy()?))
@@ -50,19 +49,19 @@ fn push_some(list: &mut Vec<Path>, path: Option<Path>) -> Result<(), NoMemory>
 pub(crate) fn backups_of<P: Policy + Copy>(
     alloc: Global,
     state: &RouteState<P>,
-    value: &Value,
+    responders: &Responders<'_>,
     prefix: PrefixId,
 ) -> Result<Vec<Path>, NoMemory>
     ensures { IfOk result (λ backups. (policy : P) (net : Net) (u : ℕ) (h : History) →
         StandsFor policy net u state.now h → prefix < length net.prefixes →
-        has value.now.responding u ≡ true →
-        backups.items ≡ filter (all_responded value.now)
+        has responders.now.value.now.responding u ≡ true →
+        backups.items ≡ filter (all_responded responders.now.value.now)
         (map (λ (c : Choice). c.path) (by_rank (P.rules policy) net u h prefix))) }
 {
     let order = state.order(prefix)?;
     let mut backups = Vec::new(alloc);
     for nbr in &order {
-        push_some(&mut backups, backup_by(state, value, prefix, *nbr)?)?;
+        push_some(&mut backups, backup_by(state, responders, prefix, *nbr)?)?;
     }
     Ok(backups)
 }

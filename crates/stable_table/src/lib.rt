@@ -3,6 +3,7 @@
 #![tactic(auto)]
 
 mod backups;
+mod dropping;
 mod incomplete;
 mod responders;
 mod routes;
@@ -10,8 +11,6 @@ pub mod rows;
 pub mod tables;
 pub mod two_tables;
 
+pub use dropping::droppable_before;
 pub use tables::{Table, table_of};
 pub use two_tables::{Older, TwoTables};
-
-#[cfg(test)]
-mod tests;

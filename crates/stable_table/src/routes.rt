@@ -1,15 +1,17 @@
 //! The routes of a node over the complete entries of a cut.
 ghost use Rattle.std.specs.Prelude.{ℕ, ◌≡◌, OnOk, IfOk};
+ghost use Rattle.std.specs.List.{list_any};
 ghost use Rattle.topology.specs.Net.{Net};
+ghost use Rattle.topology.specs.Triggers.{lists};
 ghost use Rattle.path_vector.specs.History.{History};
 ghost use Rattle.path_vector.specs.Parts.{Accepted};
 ghost use Rattle.path_vector.specs.Standing.{StandsFor};
+ghost use Rattle.trigger_log.specs.declared.entries.Entry.{Entry as Shown};
 ghost use Rattle.stable_table.specs.Keeping.{kept_by, kept};
 
 use crate::incomplete::Incomplete;
 use path_vector::{Policy, RouteState};
-use std::alloc::Global;
-use topology::{NoMemory, NodeId, Topology};
+use topology::NoMemory;
 use trigger_log::Entry;
 
 // Takes the entry, if its trigger is not among the incomplete ones.
@@ -29,21 +31,31 @@ fn take<P: Policy + Copy>(
     Ok(())
 }
 
-/// The routes of the node after those of the entries whose trigger is not among the incomplete ones.
+/// The routes from the base on, after those of the entries whose trigger is not among the incomplete ones.
 pub(crate) fn routes_of<P: Policy + Copy>(
-    alloc: Global,
-    topology: &Topology,
-    node: NodeId,
-    policy: P,
+    base: &RouteState<P>,
     entries: &[Entry],
     incomplete: &Incomplete,
 ) -> Result<RouteState<P>, NoMemory>
-    ensures { IfOk result (λ state. Accepted (kept incomplete.now entries.now) →
-        StandsFor policy topology.now node state (kept incomplete.now entries.now)) }
+    ensures { IfOk result (λ state. (policy : P) (net : Net) (u : ℕ) (past : History) →
+        StandsFor policy net u base.now past → Accepted (kept incomplete.now past entries.now) →
+        StandsFor policy net u state (kept incomplete.now past entries.now)) }
 {
-    let mut state = RouteState::new(alloc, topology, node, policy)?;
+    let mut state = base.copy()?;
     for entry in entries {
         take(&mut state, incomplete, entry)?;
     }
     Ok(state)
+}
+
+/// Whether the trigger of one of the entries is among the incomplete ones.
+pub(crate) fn has_incomplete(entries: &[Entry], incomplete: &Incomplete) -> bool
+    ensures { result ≡ list_any (λ (e : Shown). lists incomplete.now e.trigger) entries.now }
+{
+    for entry in entries {
+        if incomplete.has(entry.trigger) {
+            return true;
+        }
+    }
+    false
 }

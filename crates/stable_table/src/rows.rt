@@ -10,8 +10,7 @@ ghost use Rattle.stable_table.specs.Tables.{answered};
 ghost use Rattle.stable_table.specs.Rows.{IsRow, prefix_row};
 
 use crate::backups::backups_of;
-use crate::responders::{all_responded, responded};
-use incomplete_closure::Value;
+use crate::responders::Responders;
 use path_vector::{Policy, RouteState};
 use std::alloc::Global;
 use topology::{NoMemory, NodeId, Path, PrefixId, Topology};
@@ -26,18 +25,18 @@ pub struct Row {
 // The best path, where all its nodes responded.
 fn path_of<P: Policy + Copy>(
     state: &RouteState<P>,
-    value: &Value,
+    responders: &Responders<'_>,
     prefix: PrefixId,
 ) -> Result<Option<Path>, NoMemory>
     ensures { IfOk result (λ path. (policy : P) (net : Net) (u : ℕ) (h : History) →
         StandsFor policy net u state.now h → prefix < length net.prefixes →
-        has value.now.responding u ≡ true →
-        path ≡ option_and_then (answered value.now u) (path_of u (best (P.rules policy) net u h prefix))) }
+        has responders.now.value.now.responding u ≡ true →
+        path ≡ option_and_then (answered responders.now.value.now u) (path_of u (best (P.rules policy) net u h prefix))) }
 {
     let Some(path) = state.best_path(prefix) else {
         return Ok(None);
     };
-    if !all_responded(value, path.nodes()) {
+    if !responders.all_responded(path.nodes()) {
         return Ok(None);
     }
     Ok(Some(path.copy()?))
@@ -47,23 +46,23 @@ fn path_of<P: Policy + Copy>(
 fn row_of<P: Policy + Copy>(
     alloc: Global,
     state: &RouteState<P>,
-    value: &Value,
+    responders: &Responders<'_>,
     node: NodeId,
     prefix: PrefixId,
 ) -> Result<Row, NoMemory>
     ensures { IfOk result (λ row. (policy : P) (net : Net) (h : History) →
         StandsFor policy net node state.now h → prefix < length net.prefixes →
-        IsRow (prefix_row (P.rules policy) net node value.now h prefix) row) }
+        IsRow (prefix_row (P.rules policy) net node responders.now.value.now h prefix) row) }
 {
-    if !responded(value, node) {
+    if !responders.responded(node) {
         return Ok(Row {
             path: None,
             backups: Vec::new(alloc),
         });
     }
     Ok(Row {
-        path: path_of(state, value, prefix)?,
-        backups: backups_of(alloc, state, value, prefix)?,
+        path: path_of(state, responders, prefix)?,
+        backups: backups_of(alloc, state, responders, prefix)?,
     })
 }
 
@@ -72,17 +71,17 @@ pub(crate) fn rows_of<P: Policy + Copy>(
     alloc: Global,
     topology: &Topology,
     state: &RouteState<P>,
-    value: &Value,
+    responders: &Responders<'_>,
     node: NodeId,
 ) -> Result<Vec<Row>, NoMemory>
     ensures { IfOk result (λ rows. (policy : P) (h : History) →
         StandsFor policy topology.now node state.now h →
-        AllZip (λ p. IsRow (prefix_row (P.rules policy) topology.now node value.now h p))
+        AllZip (λ p. IsRow (prefix_row (P.rules policy) topology.now node responders.now.value.now h p))
         (places topology.now) rows.items) }
 {
     let mut rows = Vec::with_capacity(alloc, topology.prefix_count() as usize)?;
     for place in 0..topology.prefix_count() {
-        rows.push(row_of(alloc, state, value, node, PrefixId::new(place))?)?;
+        rows.push(row_of(alloc, state, responders, node, PrefixId::new(place))?)?;
     }
     Ok(rows)
 }

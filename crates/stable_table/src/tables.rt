@@ -1,11 +1,13 @@
 //! The table of an epoch.
-ghost use Rattle.std.specs.Prelude.{ℕ, List, [], ◌≡◌, ◌++◌, length, take, slice_get, option_map, option_and_then, unwrap_or, IfOk};
+ghost use Rattle.std.specs.Prelude.{ℕ, List, [], ◌≡◌, ◌≤◌, ◌++◌, length, take, slice_get, option_map, option_and_then, unwrap_or, IfOk};
 ghost use Rattle.trigger_log.specs.Entries.{Entry as Logged};
-ghost use Rattle.trigger_log.specs.Standing.{StandsFor};
-ghost use Rattle.stable_table.specs.Tables.{table_of};
+ghost use Rattle.trigger_log.specs.Dropping.{trimmed};
+ghost use Rattle.trigger_log.specs.Standing.{StandsFor, dropped_of};
+ghost use Rattle.stable_table.specs.Trimming.{trimmed_table_of};
 
 use crate::incomplete::Incomplete;
-use crate::routes::routes_of;
+use crate::responders::Responders;
+use crate::routes::{has_incomplete, routes_of};
 use crate::rows::{Row, rows_of};
 use incomplete_closure::Value;
 use path_vector::Policy;
@@ -76,7 +78,7 @@ impl Table {
 }
 
 // The first entries, up to this number.
-fn first_of(entries: &[Entry], count: u32) -> &[Entry]
+pub(crate) fn first_of(entries: &[Entry], count: u32) -> &[Entry]
     ensures { result.now ≡ take count entries.now }
 {
     &entries[..entries.len().min(count as usize)]
@@ -85,8 +87,9 @@ fn first_of(entries: &[Entry], count: u32) -> &[Entry]
 /// The table of an epoch at the node of a log, where the first `cut` entries are its cut and this is
 /// the value that was agreed on: for each prefix the best path over the complete entries of the cut,
 /// where the node and all nodes of the path responded, and all candidates over these entries whose
-/// nodes all responded, by rank. Takes a search in the incomplete triggers for each entry, and the
-/// memory of one routing state beside the table.
+/// nodes all responded, by rank. An entry that the log dropped counts as complete, and the cut has at least those: of a
+/// shorter one nothing is promised. Where the cut is the whole log and no entry of it is incomplete, the table is read off
+/// the routes of the log. Else the routes after the dropped entries are copied, and take each complete entry that is kept.
 pub fn table_of<P: Policy + Copy>(
     alloc: Global,
     topology: &Topology,
@@ -94,17 +97,28 @@ pub fn table_of<P: Policy + Copy>(
     cut: u32,
     epoch: Epoch,
     value: &Value,
-    policy: P,
 ) -> Result<Table, NoMemory>
-    ensures { IfOk result (λ table. (u : ℕ) (newer entries : List Logged) →
+    ensures epoch { IfOk result (λ table. table.epoch ≡ epoch) }
+    ensures table { IfOk result (λ table. (policy : P) (u : ℕ) (newer entries : List Logged) →
         StandsFor policy (P.rules policy) topology.now u log.now (newer ++ entries) → cut ≡ length entries →
-        table ≡ table_of (P.rules policy) topology.now u epoch value.now entries) }
+        dropped_of log.now ≤ cut →
+        table ≡ trimmed_table_of (P.rules policy) topology.now u epoch value.now (trimmed (dropped_of log.now) entries)) }
 {
     let node = log.next_trigger().node;
-    let entries = first_of(log.entries(), cut);
+    let dropped = log.kept_from().saturating_sub(1);
+    let entries = first_of(log.entries(), cut.saturating_sub(dropped));
     let incomplete = Incomplete::new(alloc, value.incomplete.as_slice())?;
-    let state = routes_of(alloc, topology, node, policy, entries, &incomplete)?;
-    let rows = rows_of(alloc, topology, &state, value, node)?;
+    let responders = Responders::new(alloc, value)?;
+    if cut == log.len() && !has_incomplete(entries, &incomplete) {
+        let rows = rows_of(alloc, topology, log.live(), &responders, node)?;
+        return Ok(Table {
+            epoch,
+            value: value.copy()?,
+            rows,
+        });
+    }
+    let state = routes_of(log.base(), entries, &incomplete)?;
+    let rows = rows_of(alloc, topology, &state, &responders, node)?;
     Ok(Table {
         epoch,
         value: value.copy()?,

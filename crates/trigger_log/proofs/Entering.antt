@@ -1,7 +1,6 @@
 -- A log with one entry more.
-use Rattle.std.proofs.Common.{ℕ, suc, ◌≤◌, Bool, true, false, List, [], ◌∷◌, ◌++◌, ◌≡◌, refl, sym, ◌∙◌, ap, subst, length, flat_map, map, take}
+use Rattle.std.proofs.Common.{ℕ, suc, ◌≤◌, Bool, true, false, List, [], ◌∷◌, ◌≡◌, refl, sym, ◌∙◌, ap, subst, length, flat_map, map, take}
 use Rattle.std.specs.Prelude.{if◌then◌else◌, is_some}
-use Rattle.std.specs.List.{AllZip}
 use Rattle.std.proofs.lemmas.List.{take_all}
 use Rattle.topology.specs.declared.names.Trigger.{Trigger}
 use Rattle.topology.specs.declared.names.Scope.{Scope}
@@ -26,13 +25,14 @@ use Rattle.trigger_log.specs.Making.{Making, making}
 use Rattle.trigger_log.specs.Sending.{sent_by, sent_to}
 use Rattle.trigger_log.specs.Going.{going_of, going_by, going_in, spread, told}
 use Rattle.trigger_log.specs.Fits.{CauseFits, Fits}
-use Rattle.trigger_log.specs.Standing.{Shows, StandsFor, all_entered}
+use Rattle.trigger_log.specs.Entered.{Shows}
+use Rattle.trigger_log.specs.KeptEntries.{KeepsEntries}
+use Rattle.trigger_log.specs.Standing.{StandsFor}
 use Rattle.trigger_log.specs.Telling.{Speech, silence}
 use Rattle.trigger_log.specs.Marked.{Enters, ToldTo}
 use Rattle.trigger_log.specs.Midway.{AreOffers, IsMidway}
 use Rattle.trigger_log.specs.Offered.{Covers, IsPlaced, asked, updates_over}
 use Rattle.trigger_log.proofs.Holding.{accepted}
-use Rattle.trigger_log.proofs.Zips.{zip_push}
 use Rattle.trigger_log.proofs.Rounds.{told_all}
 
 module _ {P : Type 0} (policy : P) (rules : Rules) (net : Net) (u : ℕ) (h : List Entry) (trigger : Trigger) (scope : Scope) (cause : Cause) where
@@ -53,21 +53,18 @@ module _ {P : Type 0} (policy : P) (rules : Rules) (net : Net) (u : ℕ) (h : Li
 
   -- the log that keeps the entry is that of the entries with it
   pub entered : (old new : NodeLog P) (n : ℕ) (said : Speech) (kept : List Sent) → StandsFor policy rules net u old h → CauseFits h scope cause
-      → RoutesStandFor policy net u new.routes (made.read ∷ reads h) → new.node ≡ old.node → new.sessions.near ≡ old.sessions.near → new.len ≡ suc old.len
+      → RoutesStandFor policy net u new.routes (made.read ∷ reads h) → new.node ≡ old.node → new.sessions.near ≡ old.sessions.near
       → new.next_count ≡ (if is_local cause then suc old.next_count else old.next_count)
-      → new.entries.items ≡ old.entries.items ++ record { trigger = trigger; scope = scope; cause = cause; sent = kept } ∷ [] → kept ≡ said.sent
+      → ((k : Entry) → KeepsEntries policy rules net u old.kept h → Shows rules net u (record { before = h; entry = k }) (record { trigger = trigger; scope = scope; cause = cause; sent = kept }) → KeepsEntries policy rules net u new.kept (k ∷ h)) → kept ≡ said.sent
       → length (neighbours net u) ≤ n → ToldTo (making rules net u h made) n new.sessions.rows silence said
       → StandsFor policy rules net u new (made ∷ h)
-  entered old new n said kept was fits routes node near len next entries same whole told = record {
+  entered old new n said kept was fits routes node near next entries same whole told = record {
     routes = routes;
     fitting = (fits, was.fitting);
     node = node ∙ was.node;
     near = near ∙ was.near;
-    count = len ∙ ap suc was.count;
     next = next ∙ (ap (λ m. if is_local cause then suc m else m) was.next ∙ either (is_local cause));
-    shown = subst (AllZip (Shows rules net u) (all_entered (made ∷ h))) (sym entries)
-        (zip_push (Shows rules net u) (all_entered h) old.entries.items (record { before = h; entry = made }) (record { trigger = trigger; scope = scope; cause = cause; sent = kept }) was.shown
-        (record { trigger = refl; read = refl; sent = same ∙ sent_all n said.sent whole told.sent }));
+    kept = entries made was.kept (record { trigger = refl; read = refl; sent = same ∙ sent_all n said.sent whole told.sent });
     marks = told_all rules net u h made (fits, was.fitting) n new.sessions.rows silence said whole told;
   }
     where

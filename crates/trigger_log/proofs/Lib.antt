@@ -1,6 +1,7 @@
 pub mod Holding
 pub mod Closings
 pub mod Fresh
+pub mod Droppable
 pub mod Silence
 pub mod Spreading
 pub mod Saying
@@ -26,3 +27,4 @@ pub mod Ended
 pub mod Entering
 pub mod Due
 pub mod Reading
+pub mod Kept

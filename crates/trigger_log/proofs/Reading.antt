@@ -3,7 +3,7 @@ use Rattle.std.proofs.Common.{ℕ, zero, suc, ◌+◌, ◌<◌, ◌≤◌, Bool,
 use Rattle.std.specs.Prelude.{if◌then◌else◌, IfSome, IfNone, ◌↔◌, IsTrue, is_some, is_none}
 use Rattle.std.proofs.lemmas.Option.{same_Some, slice_get_read}
 use Rattle.std.proofs.lemmas.Bool.Decides.{nat_tests}
-use Rattle.trigger_log.specs.Standing.{all_entered}
+use Rattle.trigger_log.specs.Entered.{all_entered}
 use Rattle.std.specs.List.{AllZip}
 use Rattle.topology.specs.Net.{Net, neighbours}
 use Rattle.path_vector.specs.Rules.{Rules}

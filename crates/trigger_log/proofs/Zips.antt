@@ -1,5 +1,5 @@
 -- Two lists place by place.
-use Rattle.std.proofs.Common.{ℕ, zero, suc, true, false, not, ◌==◌, Some, List, [], ◌∷◌, ◌++◌, ◌≡◌, ◌≢◌, refl, sym, ◌∙◌, subst, arith, length, set, slice_get}
+use Rattle.std.proofs.Common.{ℕ, zero, suc, true, false, not, ◌==◌, Some, List, [], ◌∷◌, ◌++◌, ◌≡◌, ◌≢◌, refl, sym, ◌∙◌, ap, subst, arith, fold, length, set, slice_get}
 use Rattle.std.specs.List.{AllZip, AllByRecursion}
 use Rattle.std.proofs.lemmas.Option.{same_Some}
 use Rattle.std.proofs.lemmas.Bool.Decides.{nat_tests}
@@ -22,6 +22,17 @@ zip_end R [] (b ∷ c ∷ ys) x y all = absurd all.1
 zip_end R (a ∷ []) [] x y all = absurd all.1
 zip_end R (a ∷ b ∷ xs) [] x y all = absurd all.1
 zip_end R (a ∷ xs) (b ∷ ys) x y all = let more = zip_end R xs ys x y all.1 in ((all.0, more.0), more.1)
+
+-- the two parts of a list, place by place
+pub zip_split : {A B : Type 0} (R : A → B → Type 0) (xs ys : List A) (zs : List B) → AllZip R (xs ++ ys) zs → (ls : List B) × (rs : List B) × (ls ++ rs ≡ zs) × AllZip R xs ls × AllZip R ys rs
+zip_split R [] ys zs z = ([], zs, refl, tt, z)
+zip_split R (x ∷ xs) ys [] z = absurd z
+zip_split R (x ∷ xs) ys (c ∷ zs) z = let more = zip_split R xs ys zs z.1 in (c ∷ more.0, more.1, ap (λ l. c ∷ l) more.2, (z.0, more.3), more.4)
+
+-- what comes of two lists, one behind the other
+pub fold_append : {A B : Type 0} (f : B → A → B) (b : B) (xs ys : List A) → fold f b (xs ++ ys) ≡ fold f (fold f b xs) ys
+fold_append f b [] ys = refl
+fold_append f b (x ∷ xs) ys = fold_append f (f b x) xs ys
 
 pub zip_each : {A B : Type 0} (P : A → Type 0) (R S : A → B → Type 0) → ((x : A) (y : B) → P x → R x y → S x y) → (xs : List A) (ys : List B) → AllByRecursion P xs → AllZip R xs ys → AllZip S xs ys
 zip_each P R S step [] [] ps all = tt

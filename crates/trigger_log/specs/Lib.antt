@@ -1,10 +1,13 @@
 pub mod Entries
+pub mod Dropping
 pub mod Making
 pub mod Sending
 pub mod Fits
 pub mod Going
 pub mod Sessions
 pub mod Rows
+pub mod Entered
+pub mod KeptEntries
 pub mod Standing
 pub mod Offered
 pub mod Telling

@@ -3,6 +3,7 @@
 
 mod counting;
 pub mod entries;
+pub mod kept_entries;
 pub mod laws;
 pub mod log;
 mod marking;
@@ -18,6 +19,3 @@ pub use entries::Entry;
 pub use log::NodeLog;
 pub use outgoing::Outgoing;
 pub use sessions::SessionMark;
-
-#[cfg(test)]
-mod tests;

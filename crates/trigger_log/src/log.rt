@@ -1,5 +1,5 @@
 //! The log of a node.
-ghost use Rattle.std.specs.Prelude.{ℕ, suc, ◌≡◌, ◌<◌, ◌≤◌, ◌⊎◌, ◌↔◌, ◌-◌, [], ◌∷◌, ◌++◌, true, List, length, map, slice_get, is_some, Some, None, false, IsTrue, IsNone, IfOk, IfSome, IfNone, OnOk, OnErr, if◌then◌else◌};
+ghost use Rattle.std.specs.Prelude.{ℕ, suc, ◌≡◌, ◌<◌, ◌≤◌, ◌⊎◌, ◌↔◌, ◌-◌, ◌^◌, [], ◌∷◌, ◌++◌, true, List, drop, length, map, slice_get, is_some, Some, None, false, IsTrue, IsNone, IfOk, IfSome, IfNone, OnOk, OnErr, if◌then◌else◌};
 ghost use Rattle.std.specs.List.{AllZip};
 ghost use Rattle.topology.specs.Lists.{has};
 ghost use Rattle.topology.specs.Net.{Net, neighbours};
@@ -16,12 +16,16 @@ ghost use Rattle.trigger_log.specs.Due.{SendsWhatIsDue};
 ghost use Rattle.trigger_log.specs.Sessions.{ever, Says, AreAllMarks};
 ghost use Rattle.trigger_log.specs.Offered.{AreSame, IsPlaced, prefixes_of};
 ghost use Rattle.trigger_log.specs.Quiet.{Stays};
-ghost use Rattle.trigger_log.specs.Standing.{Entered, all_entered, Shows, StandsFor};
+ghost use Rattle.trigger_log.specs.Entered.{Entered, all_entered, Shows};
+ghost use Rattle.trigger_log.specs.Dropping.{trimmed, base_of};
+ghost use Rattle.trigger_log.specs.KeptEntries.{KeepsEntries};
+ghost use Rattle.trigger_log.specs.Standing.{StandsFor, dropped_of};
 ghost use Rattle.trigger_log.specs.Making.{making};
 ghost use Rattle.trigger_log.specs.Midway.{AreOffers, IsMade, IsMidway};
 
 use crate::counting::next_number;
 use crate::entries::Entry;
+use crate::kept_entries::KeptEntries;
 use crate::marking::mark;
 use crate::offers::{Offer, Offers, offer_of, offers_again, offers_by, offers_for, offers_of};
 use crate::outgoing::{Outgoing, forget};
@@ -34,20 +38,16 @@ use std::alloc::Global;
 use std::{mem, slice};
 use topology::{NoMemory, NodeId, PrefixId, Scope, SentItems, Session, Topology, Trigger};
 
-// The room that a log is made with: as many entries as a node may make, so that a log that grows is not copied. Memory
-// that is not touched costs nothing.
-const ROOM: usize = 2048;
-
 /// What a node entered, the oldest entry first, and what it needs to make the next one: its routes,
-/// its sessions, the number of its entries and the counter of its next trigger.
+/// its sessions, the number of its entries and the counter of its next trigger. A log may drop its first
+/// entries. It counts them all the same, each entry keeps its place, and the routes after the dropped ones are kept.
 #[derive(Drop)]
 pub struct NodeLog<P: Policy + Copy> {
     alloc: Global,
     node: NodeId,
     routes: RouteState<P>,
     sessions: Sessions,
-    entries: Vec<Entry>,
-    len: u32,
+    kept: KeptEntries<P>,
     next_count: u32,
     // What an entry says, in lists that are used again for each: what is in them means nothing.
     said: Said,
@@ -78,15 +78,15 @@ impl<P: Policy + Copy> NodeLog<P> {
         node: NodeId,
         policy: P,
     ) -> Result<NodeLog<P>, NoMemory>
-        ensures { IfOk result (λ log. StandsFor policy (P.rules policy) topology.now node log []) }
+        ensures stands { IfOk result (λ log. StandsFor policy (P.rules policy) topology.now node log []) }
+        ensures dropped { IfOk result (λ log. dropped_of log ≡ 0) }
     {
         Ok(NodeLog {
             alloc,
             node,
             routes: RouteState::new(alloc, topology, node, policy)?,
             sessions: Sessions::new(alloc, topology.neighbours(node))?,
-            entries: Vec::with_capacity(alloc, ROOM)?,
-            len: 0,
+            kept: KeptEntries::new(alloc, topology, node, policy)?,
             next_count: 1,
             said: Said::new(alloc),
         })
@@ -128,6 +128,7 @@ impl<P: Policy + Copy> NodeLog<P> {
             StandsFor policy (P.rules policy) topology.now u self h → IsOfNeighbour topology.now u cause →
             IsPlaced topology.now scope → CauseFits h scope cause →
             SendsWhatIsDue (P.rules policy) topology.now u h (entry (trigger ∷ []) scope cause) (map going_of r.1.items)) }
+        ensures dropped { IfOk result (λ r. dropped_of r.0 ≡ dropped_of self) }
     {
         let mut log = self;
         let mut outgoing = Vec::new(log.alloc);
@@ -158,6 +159,7 @@ impl<P: Policy + Copy> NodeLog<P> {
             StandsFor policy (P.rules policy) topology.now u log.value h → IsOfNeighbour topology.now u cause →
             IsPlaced topology.now scope → CauseFits h scope cause →
             SendsWhatIsDue (P.rules policy) topology.now u h (entry (trigger ∷ []) scope cause) (map going_of outgoing.new.items)) }
+        ensures dropped { IfOk result (λ longer. dropped_of longer.value ≡ dropped_of log.value) }
         ensures err { OnErr result (outgoing.new ≡ outgoing.old) }
     {
         let mut longer = log;
@@ -176,41 +178,85 @@ impl<P: Policy + Copy> NodeLog<P> {
         }
     }
 
-    /// How many entries were made.
+    /// The log without the entries before the place, which is at least that of the first entry that is kept, and at most
+    /// one past that of the last entry: of another place nothing is promised. The routes move on by the dropped entries,
+    /// and their memory is freed. What is counted or read of the log stays as it is, but that the dropped entries are
+    /// shown no more. Takes time in proportion to the entries that were kept.
+    pub fn drop_before(self, topology: &Topology, place: u32) -> Result<NodeLog<P>, NoMemory>
+        ensures log { IfOk result (λ log. (policy : P) (u : ℕ) (h : List Logged) →
+            StandsFor policy (P.rules policy) topology.now u self h →
+            dropped_of self < place → place ≤ suc (length h) →
+            StandsFor policy (P.rules policy) topology.now u log h) }
+        ensures dropped { IfOk result (λ log. dropped_of log ≡ place - 1) }
+    {
+        let mut log = self;
+        log.kept.drop_before(place)?;
+        Ok(log)
+    }
+
+    /// The same of a log behind a box, which stays where it is.
+    pub fn drop_before_boxed(log: Box<NodeLog<P>>, place: u32) -> Result<Box<NodeLog<P>>, NoMemory>
+        ensures log { IfOk result (λ shorter. (policy : P) (net : Net) (u : ℕ) (h : List Logged) →
+            StandsFor policy (P.rules policy) net u log.value h →
+            dropped_of log.value < place → place ≤ suc (length h) →
+            StandsFor policy (P.rules policy) net u shorter.value h) }
+        ensures dropped { IfOk result (λ shorter. dropped_of shorter.value ≡ place - 1) }
+    {
+        let mut shorter = log;
+        shorter.kept.drop_before(place)?;
+        Ok(shorter)
+    }
+
+    /// How many entries were made, those that were dropped among them.
     pub fn len(&self) -> u32
         ensures { (policy : P) (net : Net) (u : ℕ) (h : List Logged) →
             StandsFor policy (P.rules policy) net u self.now h → result ≡ length h }
     {
-        self.len
+        self.kept.count()
     }
 
-    /// The index of the first entry that is kept, from 1. All are.
+    /// The place of the first entry that is kept, from 1: one past the last where all were dropped. A log is never so long
+    /// that its next entry has no place.
     pub fn kept_from(&self) -> u32
-        ensures { result ≡ 1 }
+        ensures place { (policy : P) (net : Net) (u : ℕ) (h : List Logged) →
+            StandsFor policy (P.rules policy) net u self.now h → result ≡ suc (dropped_of self.now) }
+        ensures few { (policy : P) (net : Net) (u : ℕ) (h : List Logged) →
+            StandsFor policy (P.rules policy) net u self.now h → suc (length h) < 2 ^ 32 }
     {
-        1
+        // the next entry has a place, which is a number of four bytes
+        let _next = self.kept.next();
+        self.kept.from()
     }
 
-    /// The entry of an index, from 1. None exactly where there is none.
+    /// The routes after the entries that were dropped.
+    pub fn base(&self) -> &RouteState<P>
+        ensures { (policy : P) (net : Net) (u : ℕ) (h : List Logged) →
+            StandsFor policy (P.rules policy) net u self.now h →
+            RoutesStandFor policy net u result.now (reads (base_of (trimmed (dropped_of self.now) h))) }
+    {
+        self.kept.base()
+    }
+
+    /// The entry of an index, from 1. None exactly where there is none, and where it was dropped.
     pub fn entry(&self, index: u32) -> Option<&Entry>
         ensures some { IfSome result (λ shown. (policy : P) (net : Net) (u : ℕ) (h : List Logged) →
             StandsFor policy (P.rules policy) net u self.now h →
             (one : Entered) × (slice_get (all_entered h) (index - 1) ≡ Some one) × Shows (P.rules policy) net u one shown.now) }
         ensures none { (policy : P) (net : Net) (u : ℕ) (h : List Logged) →
             StandsFor policy (P.rules policy) net u self.now h →
-            IsNone result ↔ ((index ≡ 0) ⊎ (length h < index)) }
+            IsNone result ↔ ((index ≤ dropped_of self.now) ⊎ (length h < index)) }
     {
-        let place = index.checked_sub(1)?;
-        self.entries.get(place as usize)
+        let place = index.checked_sub(self.kept.from())?;
+        self.kept.as_slice().get(place as usize)
     }
 
     /// All entries that are kept, the oldest first.
     pub fn entries(&self) -> &[Entry]
         ensures { (policy : P) (net : Net) (u : ℕ) (h : List Logged) →
             StandsFor policy (P.rules policy) net u self.now h →
-            AllZip (Shows (P.rules policy) net u) (all_entered h) result.now }
+            AllZip (Shows (P.rules policy) net u) (drop (dropped_of self.now) (all_entered h)) result.now }
     {
-        &self.entries
+        self.kept.as_slice()
     }
 
     /// How many items the entries list for a neighbour in a session, its `close` included.
@@ -311,6 +357,7 @@ impl<P: Policy + Copy> NodeLog<P> {
             IsPlaced topology.now scope → CauseFits h scope cause →
             map going_of outgoing.new.items ≡ going_by (P.rules policy) topology.now u h (entry (trigger ∷ []) scope cause)) }
         ensures err { OnErr result (outgoing.new ≡ outgoing.old) }
+        ensures dropped { OnOk result (dropped_of self.new ≡ dropped_of self.old) }
     {
         if stays(&self.routes, &scope, &cause) {
             self.enter_quietly(trigger, scope, cause)?;
@@ -330,11 +377,12 @@ impl<P: Policy + Copy> NodeLog<P> {
         scope: Scope,
         cause: Cause,
     ) -> Result<(), NoMemory>
-        ensures { OnOk result ((policy : P) (net : Net) (u : ℕ) (h : List Logged) →
+        ensures log { OnOk result ((policy : P) (net : Net) (u : ℕ) (h : List Logged) →
             StandsFor policy (P.rules policy) net u self.old h → IsOfNeighbour net u cause →
             IsPlaced net scope → CauseFits h scope cause →
             Stays (P.rules policy) net u h (entry (trigger ∷ []) scope cause) →
             StandsFor policy (P.rules policy) net u self.new (entry (trigger ∷ []) scope cause ∷ h)) }
+        ensures dropped { OnOk result (dropped_of self.new ≡ dropped_of self.old) }
     {
         self.routes.apply(copied(&scope), &cause)?;
         mark(&mut self.sessions, &trigger, &cause)?;
@@ -365,6 +413,7 @@ impl<P: Policy + Copy> NodeLog<P> {
             StandsFor policy (P.rules policy) topology.now u self.old h → IsOfNeighbour topology.now u cause →
             IsPlaced topology.now scope → CauseFits h scope cause →
             map going_of self.new.said.outgoing.items ≡ going_by (P.rules policy) topology.now u h (entry (trigger ∷ []) scope cause)) }
+        ensures dropped { OnOk result (dropped_of self.new ≡ dropped_of self.old) }
     {
         match scope {
             Scope::One(prefix) => Ok(self.enter_one(prefix, trigger, cause)?),
@@ -388,6 +437,7 @@ impl<P: Policy + Copy> NodeLog<P> {
             StandsFor policy (P.rules policy) net u self.old h → IsOfNeighbour net u cause →
             prefix < length net.prefixes → CauseFits h (One prefix) cause →
             map going_of self.new.said.outgoing.items ≡ going_by (P.rules policy) net u h (entry (trigger ∷ []) (One prefix) cause)) }
+        ensures dropped { OnOk result (dropped_of self.new ≡ dropped_of self.old) }
     {
         let before = offer_of(&self.routes, prefix)?;
         self.routes.apply(Scope::One(prefix), &cause)?;
@@ -416,6 +466,7 @@ impl<P: Policy + Copy> NodeLog<P> {
             StandsFor policy (P.rules policy) topology.now u self.old h → IsOfNeighbour topology.now u cause →
             CauseFits h All cause →
             map going_of self.new.said.outgoing.items ≡ going_by (P.rules policy) topology.now u h (entry (trigger ∷ []) All cause)) }
+        ensures dropped { OnOk result (dropped_of self.new ≡ dropped_of self.old) }
     {
         if let Cause::Ready { nbr, session } = cause {
             return Ok(self.enter_ready(topology, trigger, nbr, session)?);
@@ -451,6 +502,7 @@ impl<P: Policy + Copy> NodeLog<P> {
             StandsFor policy (P.rules policy) topology.now u self.old h → IsOfNeighbour topology.now u (Ready nbr session) →
             CauseFits h All (Ready nbr session) →
             map going_of self.new.said.outgoing.items ≡ going_by (P.rules policy) topology.now u h (entry (trigger ∷ []) All (Ready nbr session))) }
+        ensures dropped { OnOk result (dropped_of self.new ≡ dropped_of self.old) }
     {
         let cause = Cause::Ready { nbr, session };
         self.routes.apply(Scope::All, &cause)?;
@@ -480,6 +532,7 @@ impl<P: Policy + Copy> NodeLog<P> {
             StandsFor policy (P.rules policy) topology.now u self.old h → IsOfNeighbour topology.now u (Down nbr session) →
             CauseFits h All (Down nbr session) →
             map going_of self.new.said.outgoing.items ≡ going_by (P.rules policy) topology.now u h (entry (trigger ∷ []) All (Down nbr session))) }
+        ensures dropped { OnOk result (dropped_of self.new ≡ dropped_of self.old) }
     {
         let cause = Cause::Down { nbr, session };
         let before = offers_by(self.alloc, &self.routes, topology, nbr)?;
@@ -505,10 +558,11 @@ impl<P: Policy + Copy> NodeLog<P> {
     ) -> Result<(), NoMemory>
         requires same_prefixes { prefixes_of offers.before.now ≡ prefixes_of offers.after.now }
         requires same { AreSame offers.before.now offers.after.now offers.same.now }
-        ensures { OnOk result ((policy : P) (net : Net) (u : ℕ) (h : List Logged) (routes : RouteState P) →
+        ensures made { OnOk result ((policy : P) (net : Net) (u : ℕ) (h : List Logged) (routes : RouteState P) →
             IsMidway policy (making (P.rules policy) net u h (entry (trigger ∷ []) scope cause)) routes self.old →
             AreOffers (making (P.rules policy) net u h (entry (trigger ∷ []) scope cause)) offers.entry.before.now offers.entry.after.now →
             IsMade policy (making (P.rules policy) net u h (entry (trigger ∷ []) scope cause)) self.new) }
+        ensures dropped { OnOk result (dropped_of self.new ≡ dropped_of self.old) }
     {
         mark(&mut self.sessions, &trigger, &cause)?;
         let turn = Turn {
@@ -536,16 +590,16 @@ impl<P: Policy + Copy> NodeLog<P> {
         ensures routes { OnOk result (self.new.routes ≡ self.old.routes) }
         ensures sessions { OnOk result (self.new.sessions ≡ self.old.sessions) }
         ensures said { OnOk result (self.new.said ≡ self.old.said) }
-        ensures count { OnOk result (self.new.len ≡ suc self.old.len) }
         ensures next { OnOk result (self.new.next_count
             ≡ (if is_local entry.cause then suc self.old.next_count else self.old.next_count)) }
-        ensures entries { OnOk result (self.new.entries.items ≡ self.old.entries.items ++ entry ∷ []) }
+        ensures kept { OnOk result ((policy : P) (net : Net) (u : ℕ) (h : List Logged) (k : Logged) →
+            KeepsEntries policy (P.rules policy) net u self.old.kept h →
+            Shows (P.rules policy) net u (record { before = h; entry = k }) entry →
+            KeepsEntries policy (P.rules policy) net u self.new.kept (k ∷ h)) }
+        ensures dropped { OnOk result (dropped_of self.new ≡ dropped_of self.old) }
     {
-        self.len = next_number(self.len)?;
         self.next_count = counted(self.next_count, &entry.cause)?;
-        // Room first, and then nothing can fail: a push that may fail would copy the entry, to give it back.
-        self.entries.reserve(1)?;
-        self.entries.push_reserved(entry);
+        self.kept.push(entry)?;
         Ok(())
     }
 

@@ -23,6 +23,7 @@ use Rattle.consolidator.specs.Messages.{Message}
 use Rattle.chronicle.specs.declared.events.Event.{Event}
 use Rattle.chronicle.specs.declared.events.Event.TheVariants.{Originate, Withdraw, Prefer, Deliver, Fail, Restore, Notice, OpenSession, Snap, Propose, Control, Crash, Restart, Inject, Hop}
 use Rattle.chronicle.specs.declared.ways.Way.{Way}
+use Rattle.chronicle.specs.Drops.{kept_log}
 use Rattle.chronicle.specs.Facts.{Fact, Chronicle, Log, Raise, Sent, Took, Start, Heard, Mail, Publish, Visit, End, happen}
 use Rattle.chronicle.specs.Facts as fact
 use Rattle.chronicle.specs.Crashes.{crashed}
@@ -123,7 +124,7 @@ module _ (rules : Rules) (net : Net) (carried : Carried) (u : ℕ) (ways : List 
   unfolding raise
   risen_keep past e =
       let cut = take_cut net carried u e past in
-      let ms = reporting rules net u e (log_of u past) in
+      let ms = reporting rules net u e (kept_log net u past) in
       both net ways past cut (happen cut (mails u ms)) (cut_keep past e) (mails_keep net ways u ms cut)
 
   -- nor a mark that is met

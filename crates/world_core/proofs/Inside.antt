@@ -7,9 +7,9 @@ use Rattle.topology.specs.Lists.{has, ascending}
 use Rattle.topology.specs.Net.{Net, IsValid}
 use Rattle.topology.proofs.Ascending.{has-ascending}
 use Rattle.path_vector.specs.Rules.{Rules}
-use Rattle.trigger_log.specs.Entries.{Entry}
+use Rattle.trigger_log.specs.Dropping.{Trimmed}
 use Rattle.incomplete_closure.specs.declared.values.Value.{Value}
-use Rattle.epoch_report.specs.Reporting.{report_of}
+use Rattle.epoch_report.specs.Trimming.{trimmed_report}
 use Rattle.paxos_core.specs.Facts as paxos
 use Rattle.paxos_core.specs.Facts.{Prepare, Promise, Accept, Accepted, Decision}
 use Rattle.paxos_core.specs.Readings.{promises, voters}
@@ -60,8 +60,8 @@ module _ (net : Net) (valid : IsValid net) where
   ballots_to_each e m (x ∷ xs) all = (all.0, ballots_to_each e m xs all.1)
 
   -- reports
-  pub reports_inside : (rules : Rules) (u e : ℕ) (h : List Entry) → AllTo net (reporting rules net u e h)
-  reports_inside rules u e h = one_to_each (Reports (report_of rules net u e h)) (ascending net.consolidators) members_in
+  pub reports_inside : (rules : Rules) (u e : ℕ) (cut : Trimmed) → AllTo net (reporting rules net u e cut)
+  reports_inside rules u e cut = one_to_each (Reports (trimmed_report rules net u e cut)) (ascending net.consolidators) members_in
 
   -- the questions of a ballot
   pub asks_inside : (past : Chronicle) (u e : ℕ) → AllTo net (asks net past u e)

@@ -29,3 +29,4 @@ pub mod Stepped
 pub mod Held
 mod Steady
 mod Crashing
+pub mod Listed

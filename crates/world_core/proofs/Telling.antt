@@ -17,6 +17,7 @@ use Rattle.trigger_log.specs.Entries.{Entry, inbox, local, reads, is_session}
 use Rattle.trigger_log.specs.Making.{making}
 use Rattle.trigger_log.specs.Going.{Going, Item, News, Marker, Hello, going_by, going_in, going_to, spread, told}
 use Rattle.chronicle.specs.Epochs.{epoch}
+use Rattle.chronicle.specs.Drops.{kept_log}
 use Rattle.chronicle.specs.Facts.{Fact, Chronicle, Log, Sent, Took, Raise, Start, Heard, Mail, Publish, Visit, End, happen}
 use Rattle.chronicle.specs.Control.{control}
 use Rattle.chronicle.specs.Publications.{kept_path, newest_epoch, publish}
@@ -197,7 +198,7 @@ module _ (net : Net) (u : ℕ) where
     unfolding raise
     raise_adds rules e now are =
         let cut = take_cut net carried u e now in
-        adds_both now cut (happen cut (mails u (reporting rules net u e (log_of u now)))) (cut_adds e now are) (mails_adds (reporting rules net u e (log_of u now)) cut node (reports_inside net valid rules u e (log_of u now)))
+        adds_both now cut (happen cut (mails u (reporting rules net u e (kept_log net u now)))) (cut_adds e now are) (mails_adds (reporting rules net u e (kept_log net u now)) cut node (reports_inside net valid rules u e (kept_log net u now)))
 
     -- a mark that is met
     meet_adds : (rules : Rules) (e : ℕ) (now : Chronicle) → AreCarried carried u now → Adds net u now (meet_mark rules net carried u e now)

@@ -17,3 +17,4 @@ pub mod Refreshing
 pub mod Sound
 pub mod Holding
 pub mod Stepping
+pub mod StillLinks

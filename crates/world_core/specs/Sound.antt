@@ -16,9 +16,11 @@ use Rattle.cut_laws.specs.Counted.{failures, queued, restorings, state_after, ta
 use Rattle.cut_laws.specs.Cuts.{Consistent, RecordsWhatIsMissing}
 use Rattle.cut_laws.specs.Joined.{Joined}
 use Rattle.cut_laws.specs.Received.{BringsFrom}
-use Rattle.rest_laws.specs.Rest.{AtRest, TablesContinue}
+use Rattle.rest_laws.specs.Rest.{TablesContinue}
 use Rattle.agreement_laws.specs.Agreed.{IsAgreed}
+use Rattle.drop_laws.specs.Dropped.{DropsAreUnseen, RestsAsTold, DropsAreInCuts}
 use Rattle.walk_laws.specs.Walked.{IsWalked}
+use Rattle.delivery_laws.specs.Deflected.{DeflectionDelivers}
 use Rattle.world_core.specs.declared.outcomes.Outcome.{Outcome}
 use Rattle.world_core.specs.declared.outcomes.Outcome.TheVariants as outcome
 
@@ -43,11 +45,16 @@ pub record IsSound (rules : Rules) (net : Net) (past : Chronicle) : Type 0 where
   pub cuts : (e u v : ℕ) → has (neighbours net v) u ≡ true → Consistent rules net past e u v
   -- a recording that is done lists what is missing to the one cut of what the other has sent
   pub recordings : (e u v : ℕ) → has (neighbours net v) u ≡ true → RecordsWhatIsMissing rules net past e u v
-  -- the cuts of an epoch, of any nodes that have one, are at rest without their incomplete entries: what a node
-  -- has of a neighbour is what the neighbour offers
-  pub rest : (e : ℕ) (nodes : List ℕ) → AtRest rules net past e nodes
-  -- the tables by the value of their reports continue: a path in one is its node alone, or goes on as the path of
-  -- its next node
+  -- the cuts of an epoch, of any nodes that have one, are at rest without their incomplete entries, where those that a node had
+  -- dropped are complete: what a node has of a neighbour is what the neighbour offers
+  pub rest : (e : ℕ) (nodes : List ℕ) → RestsAsTold rules net past e nodes
+  -- what a node dropped is not seen: nothing blocks it later, and values, missing items, tables and backups are what they are
+  -- without any drop
+  pub unseen : DropsAreUnseen rules net past
+  -- what a node had dropped at a cut or at a table is part of that cut
+  pub in_cuts : DropsAreInCuts net past
+  -- the tables by the value of the reports with all their rows continue: a path in one is its node alone, or goes on as the path
+  -- of its next node
   pub tables : (e : ℕ) (nodes : List ℕ) → TablesContinue rules net past e nodes
   -- for an epoch one value is chosen at most, and decisions are such values, each that of reports of cuts; what a node
   -- publishes is its table by a decision and its cut, in rising epochs, in the step that completes the two; published
@@ -57,6 +64,9 @@ pub record IsSound (rules : Rules) (net : Net) (past : Chronicle) : Type 0 where
   -- them it makes no more moves than the hop limit, and then its walk ends; and under backups no move of it goes to a
   -- node where it was before
   pub walked : IsWalked rules net past
+  -- a packet that is deflected while links and owners stay, and has moves enough, is delivered where links that are up lead
+  -- to an owner
+  pub delivered : DeflectionDelivers rules net past
 
 -- no update was out of turn, no session an old one, and rounds did not come to their end: these reasons only a node
 -- alone meets

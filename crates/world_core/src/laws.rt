@@ -14,6 +14,8 @@ ghost use Rattle.world_core.specs.Stepping.{IsStep};
 
 use agreement_laws::laws as of_agreement;
 use cut_laws::laws;
+use delivery_laws::laws as of_delivery;
+use drop_laws::laws as of_drops;
 use rest_laws::laws as of_rest;
 use walk_laws::laws as of_walks;
 
@@ -30,10 +32,12 @@ pub fn every_run_is_sound()
     laws::received_paths_begin_with_their_senders();
     laws::the_cuts_of_an_epoch_fit_together();
     laws::a_recording_lists_what_is_missing();
-    of_rest::the_cuts_of_an_epoch_are_at_rest();
+    of_drops::the_cuts_of_an_epoch_are_at_rest_as_told();
+    of_drops::what_was_dropped_is_not_seen();
     of_rest::the_tables_of_a_value_continue();
-    of_agreement::a_run_is_agreed();
+    of_drops::a_run_is_agreed();
     of_walks::a_run_is_walked();
+    of_delivery::deflection_delivers();
 }
 
 /// What one more event may rest on, while there are fewer than there may be: what stands in front of a way is what its

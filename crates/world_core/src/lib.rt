@@ -9,6 +9,7 @@ mod limits;
 mod network;
 pub mod outcomes;
 mod passing;
+mod probing;
 pub mod publications;
 mod refreshing;
 mod sending;
@@ -26,6 +27,3 @@ pub use node_core::Node;
 pub use outcomes::{Effect, Effects, Outcome, Stop};
 pub use publications::Publication;
 pub use world::World;
-
-#[cfg(test)]
-mod tests;

@@ -17,8 +17,8 @@ use node_core::Input;
 use path_vector::Policy;
 use topology::{LinkState, NoMemory, NodeId, PrefixId, Reason};
 
-// Whether a link in this state is up.
-fn is_up(state: LinkState) -> bool
+/// Whether a link in this state is up.
+pub(crate) fn is_up(state: LinkState) -> bool
     ensures { result ≡ is_up state }
 {
     matches!(state, LinkState::Up(_))

@@ -15,7 +15,7 @@ loop-nbr-preserved g c = λ policy net u h stands below own near.
     let w = c.nbr-item.result in
     let here : has (neighbours net u) w ≡ true =
     subst (λ v. has (neighbours net u) v ≡ true) (sym c.nbr-item.is) (all_at (λ v. has (neighbours net u) v ≡ true) nbrs c.loop-nbr.nbr-index w (omega arith) near) in
-    backed_more (backup c.args.value.now u h c.args.prefix) nbrs c.loop-nbr.nbr-index w c.loop-nbr.backups.items c.push_some.new.list.items c.in_ok-backup_by.field-0
+    backed_more (backup c.args.responders.now.value.now u h c.args.prefix) nbrs c.loop-nbr.nbr-index w c.loop-nbr.backups.items c.push_some.new.list.items c.in_ok-backup_by.field-0
     (omega arith) c.nbr-item.is (c.in_ok-backup_by.ensures policy net u h stands below own here) c.in_ok-push_some.ensures
     (c.loop-nbr.invariant policy net u h stands below own near)
 
@@ -29,5 +29,5 @@ returns g c = λ policy net u h stands below own.
     let is : nbrs ≡ order rules net u h p =
     c.deref-nbr-items.ensures.value ∙ order_is_one rules.before net u h p c.in_ok-order.order.items (order rules net u h p) ranking ordered (ranking_is net u h p rules ranking stands.valid) in
     let near = subst (λ l. AllByRecursion (λ w. has (neighbours net u) w ≡ true) l) (sym is) (order_near net u h p rules) in
-    backed_all (backup c.args.value.now u h p) nbrs c.loop-nbr.nbr-index c.loop-nbr.backups.items (omega arith) (c.loop-nbr.invariant policy net u h stands below own near)
-    ∙ (ap (filter_map (backup c.args.value.now u h p)) is ∙ backups_are net u h p c.args.value.now own rules)
+    backed_all (backup c.args.responders.now.value.now u h p) nbrs c.loop-nbr.nbr-index c.loop-nbr.backups.items (omega arith) (c.loop-nbr.invariant policy net u h stands below own near)
+    ∙ (ap (filter_map (backup c.args.responders.now.value.now u h p)) is ∙ backups_are net u h p c.args.responders.now.value.now own rules)

@@ -9,6 +9,6 @@ use Rattle.stable_table.proofs.backups.backups_of.Given as goal
 
 abbrev pub invariant-loop-nbr : goal.invariant-loop-nbr
 invariant-loop-nbr g l =
-    (policy : _) (net : Net) (u : ℕ) (h : History) → StandsFor policy net u l.state h → l.prefix < length net.prefixes → has l.value.responding u ≡ true
+    (policy : _) (net : Net) (u : ℕ) (h : History) → StandsFor policy net u l.state h → l.prefix < length net.prefixes → has l.responders.value.now.responding u ≡ true
     → AllByRecursion (λ w. has (neighbours net u) w ≡ true) l.nbr-items
-    → l.backups.items ++ filter_map (backup l.value u h l.prefix) (drop l.nbr-index l.nbr-items) ≡ filter_map (backup l.value u h l.prefix) l.nbr-items
+    → l.backups.items ++ filter_map (backup l.responders.value.now u h l.prefix) (drop l.nbr-index l.nbr-items) ≡ filter_map (backup l.responders.value.now u h l.prefix) l.nbr-items

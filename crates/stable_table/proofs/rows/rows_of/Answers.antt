@@ -7,7 +7,7 @@ use Rattle.stable_table.proofs.rows.rows_of.Goals as goal
 
 pub loop-place-preserved : goal.loop-place-preserved
 loop-place-preserved g c = λ policy h stands.
-    let IsRowAt = λ (p : ℕ). IsRow (prefix_row (g.P.Policy.rules policy) c.args.topology.now c.args.node c.args.value.now h p) in
+    let IsRowAt = λ (p : ℕ). IsRow (prefix_row (g.P.Policy.rules policy) c.args.topology.now c.args.node c.args.responders.now.value.now h p) in
     let row = c.in_ok-row_of.field-0 in
     rw c.in_ok-push.ensures.items
     (rows_more IsRowAt c.loop-place.rows.items c.loop-place.place row (c.loop-place.invariant policy h stands)
@@ -17,4 +17,4 @@ pub returns : goal.returns
 unfolding places
 returns g c = λ policy h stands.
     let end : c.loop-place.place ≡ length c.args.topology.now.prefixes = omega arith in
-    subst (λ n. AllZip (λ p. IsRow (prefix_row (g.P.Policy.rules policy) c.args.topology.now c.args.node c.args.value.now h p)) (range_with_len 0 n) c.loop-place.rows.items) end (c.loop-place.invariant policy h stands)
+    subst (λ n. AllZip (λ p. IsRow (prefix_row (g.P.Policy.rules policy) c.args.topology.now c.args.node c.args.responders.now.value.now h p)) (range_with_len 0 n) c.loop-place.rows.items) end (c.loop-place.invariant policy h stands)

@@ -7,4 +7,4 @@ use Rattle.stable_table.proofs.rows.rows_of.Given as goal
 abbrev pub invariant-loop-place : goal.invariant-loop-place
 invariant-loop-place g l =
     (policy : _) (h : History) → StandsFor policy l.topology l.node l.state h
-    → AllZip (λ p. IsRow (prefix_row (g.P.Policy.rules policy) l.topology l.node l.value h p)) (range_with_len 0 l.place) l.rows.items
+    → AllZip (λ p. IsRow (prefix_row (g.P.Policy.rules policy) l.topology l.node l.responders.value.now h p)) (range_with_len 0 l.place) l.rows.items

@@ -10,8 +10,11 @@ returns c rules net events valid = record {
   paths = λ u. c.received_paths_begin_with_their_senders.ensures rules net events u valid;
   cuts = λ e u v. c.the_cuts_of_an_epoch_fit_together.ensures rules net events e u v valid;
   recordings = λ e u v. c.a_recording_lists_what_is_missing.ensures rules net events e u v valid;
-  rest = λ e nodes. c.the_cuts_of_an_epoch_are_at_rest.ensures rules net events e nodes valid;
+  rest = λ e nodes. c.the_cuts_of_an_epoch_are_at_rest_as_told.ensures rules net events e nodes valid;
+  unseen = c.what_was_dropped_is_not_seen.ensures.unseen rules net events valid;
+  in_cuts = c.what_was_dropped_is_not_seen.ensures.in_cuts rules net events valid;
   tables = λ e nodes. c.the_tables_of_a_value_continue.ensures rules net events e nodes valid;
   agreed = c.a_run_is_agreed.ensures rules net events valid;
   walked = c.a_run_is_walked.ensures rules net events valid;
+  delivered = c.deflection_delivers.ensures rules net events valid;
 }

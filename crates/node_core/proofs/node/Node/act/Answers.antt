@@ -25,5 +25,5 @@ returns-in-Rise-clause-outputs g c = on_ok_weaker c.raise.result
     (λ h policy net u carried past was may none.
     let up = rises (g.P.Policy.rules policy) net carried u past c.args.act c.in-Rise.epoch c.in-Rise.is may in
     subst (Hands past c.raise.new.outputs) (sym up.1)
-    (h policy net u carried past past was.keeps.same_net was.keeps.same_id was.keeps.log (hands_nothing past c.args.outputs.now none)))
+    (h policy net u carried past past was.keeps.same_net was.keeps.same_id was.keeps.log was.keeps.drops (hands_nothing past c.args.outputs.now none)))
     c.raise.ensures.outputs

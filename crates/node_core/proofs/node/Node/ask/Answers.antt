@@ -21,7 +21,7 @@ returns-in-Idle-clause-node g c = λ policy net u carried past was.
     let asks = consulted net kept c.in_ok-parts.reply (control past) u input c.into_inner.ensures was.keeps.same_net was.agrees.part (λ stands. c.in_ok-parts.ensures.part (control past) u stands) in
     let idle = asked_idle rules net carried u past kept input c.in-Idle.reason (subst (λ r. Consults net r kept (control past) u input) c.in-Idle.is asks) in
     follows_idle policy rules net u past (answer rules net carried u past input) c.in-Idle.reason _ idle.0
-    (follows_quietly policy rules net u past past c.args.self _ (still u past)
+    (follows_quietly policy rules net u past past c.args.self _ (still net u past)
     (keeps_as policy rules net u c.args.self _ past c.into_inner.ensures refl goes refl was.keeps)
     (ap (λ (k : NodeParts). k.agreement.tables) goes ∙ ap (λ (k : NodeParts). k.agreement.tables) c.into_inner.ensures)
     (subst (λ (k : NodeParts). PartStandsFor net k.agreement.consolidator (control past) u) (sym made) idle.1) was.agrees (values_small rules net u past was.within))

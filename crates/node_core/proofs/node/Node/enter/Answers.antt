@@ -1,4 +1,4 @@
-use Rattle.std.proofs.Common.{[], ◌∷◌, ◌∙◌, refl, ap}
+use Rattle.std.proofs.Common.{[], ◌∷◌, ◌∙◌, ◌≤◌, refl, sym, ap, subst, length}
 use Rattle.node_core.specs.declared.parts.NodeParts.{NodeParts}
 use Rattle.trigger_log.specs.Entries.{entry}
 use Rattle.chronicle.specs.Logs.{log_of}
@@ -14,8 +14,8 @@ returns-clause-node g c policy net u carried past was may =
     let made = appended policy rules c.deref-2.result.now net u h k c.args.self.log.value c.in_ok-log.log.value c.args.outputs.now c.enter.new.self (net_of c.deref-2.ensures c.deref.ensures was.same_net) was.log may
     (λ stands near placed fits. c.in_ok-log.ensures.log policy u h stands near placed fits)
     (λ stands near placed fits. c.in_ok-log.ensures.outputs policy u h stands near placed fits) in
-    entered policy rules net u carried past k c.args.self _ was c.deref_mut.ensures.value refl made.log
-    ((rw c.deref-4.ensures at c.in_ok-parts.ensures) policy net u k h made.log (ap (λ (p : NodeParts). p.updates) c.deref-3.ensures ∙ was.listed))
+    entered policy rules net u carried past k c.args.self _ was c.deref_mut.ensures.value refl made.log c.in_ok-log.ensures.dropped
+    ((rw c.deref-4.ensures at c.in_ok-parts.ensures) policy net u k h made.log (subst (λ n. n ≤ length h) (sym c.in_ok-log.ensures.dropped) was.log.kept.within) (ap (λ (p : NodeParts). p.updates) c.deref-3.ensures ∙ was.listed))
 
 pub returns-clause-outputs : goal.returns-clause-outputs
 returns-clause-outputs g c policy net u carried past first was may hands =

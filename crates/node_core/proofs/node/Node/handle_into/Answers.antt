@@ -2,7 +2,7 @@ use Rattle.std.proofs.lemmas.Result.{err_from_is_err_and}
 use Rattle.chronicle.specs.Giving.{answer}
 use Rattle.chronicle.specs.Publications.{publish}
 use Rattle.node_core.specs.Inputs.{input_of}
-use Rattle.node_core.proofs.Stepping.{said, said_why, then_stands, then_answers, then_stops, stops_before, handed_on, still_stands, then_declines, follows_now}
+use Rattle.node_core.proofs.Stepping.{said, said_why, then_stands, then_answers, then_stops, drops_within, stops_before, handed_on, still_stands, then_declines, follows_now}
 use Rattle.node_core.proofs.node.Node.handle_into.Goals as goal
 
 pub returns-in-Idle-clause-node : goal.returns-in-Idle-clause-node
@@ -26,9 +26,10 @@ returns-clause-node g c policy net u carried past was may =
     let input = input_of c.args.input in
     let went = said u past (answer rules net carried u past input) c.in_ok-node.answer c.answer.new.outputs c.in-Did.due c.in-Did.is
     (c.in_ok-node.ensures.says policy net u carried past was may c.clear.ensures) in
-    let follows = c.in_ok-conclude.ensures.node policy net u past went.now
-    (follows_now policy rules net u past (answer rules net carried u past input) went.now c.in_ok-node.node went.goes (c.in_ok-node.ensures.node policy net u carried past was may)) went.completes in
-    then_stands policy rules net u carried past input went.now went.goes c.args.self c.conclude.new.self was may follows
+    let follows = c.in_ok-node-2.ensures.node policy net u past went.now
+    (follows_now policy rules net u past (answer rules net carried u past input) went.now c.in_ok-node.node went.goes (c.in_ok-node.ensures.node policy net u carried past was may)) went.completes
+    (drops_within policy rules net u carried past input went.now went.goes c.args.self was may) in
+    then_stands policy rules net u carried past input went.now went.goes c.args.self c.in_ok-node-2.node was may follows
     (c.in_default.ensures.none policy net u (publish rules net u past went.now) follows)
 
 pub returns-clause-outputs : goal.returns-clause-outputs
@@ -39,7 +40,7 @@ returns-clause-outputs g c policy net u carried past was may =
     (c.in_ok-node.ensures.says policy net u carried past was may c.clear.ensures) in
     let follows = follows_now policy rules net u past (answer rules net carried u past input) went.now c.in_ok-node.node went.goes (c.in_ok-node.ensures.node policy net u carried past was may) in
     then_answers policy rules net u carried past input went.now went.goes c.conclude.new.outputs
-    (c.in_ok-conclude.ensures.outputs policy net u past past went.now follows went.completes went.hands)
+    (c.in_ok-node-2.ensures.outputs policy net u past past went.now follows went.completes (drops_within policy rules net u carried past input went.now went.goes c.args.self was may) went.hands)
 
 pub returns-in-Some-clause-stopped : goal.returns-in-Some-clause-stopped
 returns-in-Some-clause-stopped g c policy net u carried past was may =
@@ -47,8 +48,9 @@ returns-in-Some-clause-stopped g c policy net u carried past was may =
     let input = input_of c.args.input in
     let went = said u past (answer rules net carried u past input) c.in_ok-node.answer c.answer.new.outputs c.in-Did.due c.in-Did.is
     (c.in_ok-node.ensures.says policy net u carried past was may c.clear.ensures) in
-    let follows = c.in_ok-conclude.ensures.node policy net u past went.now
-    (follows_now policy rules net u past (answer rules net carried u past input) went.now c.in_ok-node.node went.goes (c.in_ok-node.ensures.node policy net u carried past was may)) went.completes in
+    let follows = c.in_ok-node-2.ensures.node policy net u past went.now
+    (follows_now policy rules net u past (answer rules net carried u past input) went.now c.in_ok-node.node went.goes (c.in_ok-node.ensures.node policy net u carried past was may)) went.completes
+    (drops_within policy rules net u carried past input went.now went.goes c.args.self was may) in
     then_stops policy rules net u carried past input went.now went.goes c.in-Some.stop (c.in-Some.ensures.some policy net u (publish rules net u past went.now) follows)
 
 pub returns-in_err-node-clause-stopped : goal.returns-in_err-node-clause-stopped

@@ -38,7 +38,7 @@ returns-clause-outputs g c policy net u carried past item first was hands =
       | then-lt+in_ok-node w ↦
           meets_above (g.P.Policy.rules policy) net u carried past v s e item (λ now. Hands first c.if-lt.outputs now)
           (is_above c.epoch.result e (epoch u past) c.lt.result c.lt.ensures w.if-lt.true test)
-          (rw w.outputs-is (w.in_ok-node.ensures.outputs policy net u carried first (Took v u s item ∷ past) was.keeps.same_net was.keeps.same_id was.keeps.log (hands_took first past old v u s item hands)))
+          (rw w.outputs-is (w.in_ok-node.ensures.outputs policy net u carried first (Took v u s item ∷ past) was.keeps.same_net was.keeps.same_id was.keeps.log was.keeps.drops (hands_took first past old v u s item hands)))
       | else-lt w ↦
           meets_below (g.P.Policy.rules policy) net u carried past v s e item (λ now. Hands first c.if-lt.outputs now)
           (is_below c.epoch.result e (epoch u past) c.lt.result c.lt.ensures w.if-lt.false test)

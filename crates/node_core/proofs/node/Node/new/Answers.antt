@@ -1,5 +1,5 @@
 use Rattle.std.proofs.Common.{[], sym, ◌∙◌, ap, subst}
-use Rattle.trigger_log.specs.Standing.{StandsFor as LogStandsFor}
+use Rattle.trigger_log.specs.Standing.{StandsFor as LogStandsFor, dropped_of}
 use Rattle.marker_snapshot.specs.Standing.{StandsFor as SnapshotsStandFor}
 use Rattle.consolidator.specs.Standing.{StandsFor as PartStandsFor}
 use Rattle.stable_table.specs.TwoTables.{StandsFor as TablesStandFor}
@@ -24,7 +24,8 @@ returns g c =
       keeps = record {
         same_net = ap (λ (k : NodeParts). k.topology.value) made;
         same_id = ap (λ (k : NodeParts). k.id) made;
-        log = subst (λ l. LogStandsFor c.args.policy rules net u l []) (sym c.in_ok-log-2.ensures.ok) (subst (λ n. LogStandsFor c.args.policy rules n u c.in_ok-log.log []) c.deref.ensures c.in_ok-log.ensures);
+        log = subst (λ l. LogStandsFor c.args.policy rules net u l []) (sym c.in_ok-log-2.ensures.ok) (subst (λ n. LogStandsFor c.args.policy rules n u c.in_ok-log.log []) c.deref.ensures c.in_ok-log.ensures.stands);
+        drops = ap (λ l. dropped_of l) c.in_ok-log-2.ensures.ok ∙ c.in_ok-log.ensures.dropped;
         listed = ap (λ (k : NodeParts). k.updates) made ∙ sym (none_sent rules net u);
         acts = [];
         snapshots = subst (λ (k : NodeParts). SnapshotsStandFor net u k.snapshots []) (sym made) (c.new-6.ensures net u);

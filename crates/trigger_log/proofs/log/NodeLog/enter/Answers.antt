@@ -7,7 +7,7 @@ use Rattle.trigger_log.proofs.log.NodeLog.enter.Goals as goal
 
 pub returns-then-stays-clause-log : goal.returns-then-stays-clause-log
 returns-then-stays-clause-log g c = λ policy u h was near placed fits.
-    c.in_ok-enter_quietly.ensures policy c.args.topology.now u h was near placed fits (c.stays.ensures policy c.args.topology.now u h c.args.trigger was.routes placed c.if-stays.true)
+    c.in_ok-enter_quietly.ensures.log policy c.args.topology.now u h was near placed fits (c.stays.ensures policy c.args.topology.now u h c.args.trigger was.routes placed c.if-stays.true)
 
 pub returns-then-stays-clause-outgoing : goal.returns-then-stays-clause-outgoing
 returns-then-stays-clause-outgoing g c = λ policy u h was near placed fits.

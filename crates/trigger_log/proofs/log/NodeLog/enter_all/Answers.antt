@@ -21,7 +21,7 @@ returns-clause-log g c = λ policy u h was near fits.
       chosen_before = c.in_ok-before.ensures.chosen policy u (reads h) was.routes;
       chosen_after = c.in_ok-after.ensures.chosen policy u (k.read ∷ reads h) stands;
     } in
-    (c.in_ok-finish.ensures policy net u h c.args.self.now.routes (midway policy rules net u h trigger All cause c.args.self.now c.apply.new.self was near tt fits stands)
+    (c.in_ok-finish.ensures.made policy net u h c.args.self.now.routes (midway policy rules net u h trigger All cause c.args.self.now c.apply.new.self was near tt fits stands)
     (as_offered (making rules net u h k) c.deref-3.ensures.value c.deref-4.ensures.value offers)).stands
 
 pub returns-clause-outgoing : goal.returns-clause-outgoing
@@ -37,5 +37,5 @@ returns-clause-outgoing g c = λ policy u h was near fits.
       chosen_before = c.in_ok-before.ensures.chosen policy u (reads h) was.routes;
       chosen_after = c.in_ok-after.ensures.chosen policy u (k.read ∷ reads h) stands;
     } in
-    (c.in_ok-finish.ensures policy net u h c.args.self.now.routes (midway policy rules net u h trigger All cause c.args.self.now c.apply.new.self was near tt fits stands)
+    (c.in_ok-finish.ensures.made policy net u h c.args.self.now.routes (midway policy rules net u h trigger All cause c.args.self.now c.apply.new.self was near tt fits stands)
     (as_offered (making rules net u h k) c.deref-3.ensures.value c.deref-4.ensures.value offers)).goes

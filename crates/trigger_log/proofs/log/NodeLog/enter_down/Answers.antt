@@ -26,7 +26,7 @@ returns-clause-log g c = λ policy u h was near fits.
       chosen_before = c.in_ok-before.ensures.chosen policy u (reads h) was.routes;
       chosen_after = c.in_ok-after.ensures.chosen policy net u (k.read ∷ reads h) stands (subst (ArePlaced net) (sym c.deref.ensures.value) c.in_ok-before.ensures.placed);
     } in
-    (c.in_ok-finish.ensures policy net u h c.args.self.now.routes (midway policy rules net u h trigger All cause c.args.self.now c.apply.new.self was near tt fits stands)
+    (c.in_ok-finish.ensures.made policy net u h c.args.self.now.routes (midway policy rules net u h trigger All cause c.args.self.now c.apply.new.self was near tt fits stands)
     (as_offered (making rules net u h k) c.deref-4.ensures.value c.deref-5.ensures.value offers)).stands
 
 pub returns-clause-outgoing : goal.returns-clause-outgoing
@@ -45,5 +45,5 @@ returns-clause-outgoing g c = λ policy u h was near fits.
       chosen_before = c.in_ok-before.ensures.chosen policy u (reads h) was.routes;
       chosen_after = c.in_ok-after.ensures.chosen policy net u (k.read ∷ reads h) stands (subst (ArePlaced net) (sym c.deref.ensures.value) c.in_ok-before.ensures.placed);
     } in
-    (c.in_ok-finish.ensures policy net u h c.args.self.now.routes (midway policy rules net u h trigger All cause c.args.self.now c.apply.new.self was near tt fits stands)
+    (c.in_ok-finish.ensures.made policy net u h c.args.self.now.routes (midway policy rules net u h trigger All cause c.args.self.now c.apply.new.self was near tt fits stands)
     (as_offered (making rules net u h k) c.deref-4.ensures.value c.deref-5.ensures.value offers)).goes

@@ -16,7 +16,7 @@ returns-clause-log g c = λ policy net u h was near placed fits.
     let stands = c.in_ok-apply.ensures.ok policy net u (reads h) was.routes (accepted h (One p) cause was.fitting fits) in
     let offers = one_offered rules net u h trigger p cause c.in_ok-before.before c.in_ok-after.after c.in_ok-before.ensures.prefix c.in_ok-after.ensures.prefix fits
     (c.in_ok-before.ensures.chosen policy net u (reads h) was.routes placed) (c.in_ok-after.ensures.chosen policy net u (k.read ∷ reads h) stands placed) in
-    (c.in_ok-finish.ensures policy net u h c.args.self.now.routes (midway policy rules net u h trigger (One p) cause c.args.self.now c.apply.new.self was near placed fits stands)
+    (c.in_ok-finish.ensures.made policy net u h c.args.self.now.routes (midway policy rules net u h trigger (One p) cause c.args.self.now c.apply.new.self was near placed fits stands)
     (as_offered (making rules net u h k) c.from_ref.ensures.value c.from_ref-2.ensures.value offers)).stands
 
 pub returns-clause-outgoing : goal.returns-clause-outgoing
@@ -29,5 +29,5 @@ returns-clause-outgoing g c = λ policy net u h was near placed fits.
     let stands = c.in_ok-apply.ensures.ok policy net u (reads h) was.routes (accepted h (One p) cause was.fitting fits) in
     let offers = one_offered rules net u h trigger p cause c.in_ok-before.before c.in_ok-after.after c.in_ok-before.ensures.prefix c.in_ok-after.ensures.prefix fits
     (c.in_ok-before.ensures.chosen policy net u (reads h) was.routes placed) (c.in_ok-after.ensures.chosen policy net u (k.read ∷ reads h) stands placed) in
-    (c.in_ok-finish.ensures policy net u h c.args.self.now.routes (midway policy rules net u h trigger (One p) cause c.args.self.now c.apply.new.self was near placed fits stands)
+    (c.in_ok-finish.ensures.made policy net u h c.args.self.now.routes (midway policy rules net u h trigger (One p) cause c.args.self.now c.apply.new.self was near placed fits stands)
     (as_offered (making rules net u h k) c.from_ref.ensures.value c.from_ref-2.ensures.value offers)).goes

@@ -11,8 +11,8 @@ use Rattle.trigger_log.proofs.Entering.{entered, fits_now, took}
 use Rattle.trigger_log.proofs.QuietTurns.{told_still}
 use Rattle.trigger_log.proofs.log.NodeLog.enter_quietly.Goals as goal
 
-pub returns : goal.returns
-returns g c = λ policy net u h was near placed fits stays.
+pub returns-clause-log : goal.returns-clause-log
+returns-clause-log g c = λ policy net u h was near placed fits stays.
     let rules = g.P.Policy.rules policy in
     let trigger = c.args.trigger in
     let scope = c.args.scope in
@@ -27,5 +27,5 @@ returns g c = λ policy net u h was near placed fits stays.
     entered policy rules net u h trigger scope cause c.args.self.now c.keep.new.self
     n silence c.none-sent.result
     was fits (subst (λ r. RoutesStandFor policy net u r (k.read ∷ reads h)) (sym c.in_ok-keep.ensures.routes) stands) c.in_ok-keep.ensures.node
-    (ap (λ (s : MarkRows). s.near) c.in_ok-keep.ensures.sessions ∙ c.mark.ensures.near) c.in_ok-keep.ensures.count c.in_ok-keep.ensures.next c.in_ok-keep.ensures.entries c.none-sent.ensures (omega arith)
+    (ap (λ (s : MarkRows). s.near) c.in_ok-keep.ensures.sessions ∙ c.mark.ensures.near) c.in_ok-keep.ensures.next (c.in_ok-keep.ensures.kept policy net u h) c.none-sent.ensures (omega arith)
     (subst (λ (s : MarkRows). ToldTo (making rules net u h k) n s.rows silence silence) (sym c.in_ok-keep.ensures.sessions) told)

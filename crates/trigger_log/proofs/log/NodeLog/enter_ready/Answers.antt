@@ -31,7 +31,7 @@ returns-clause-log g c = λ policy u h was near fits.
       chosen_before = chosen_ready rules net u (reads h) c.args.nbr c.args.session c.in_ok-offers.offers.items chosen;
       chosen_after = chosen;
     } in
-    (c.in_ok-finish.ensures policy net u h c.args.self.now.routes (midway policy rules net u h trigger All cause c.args.self.now c.apply.new.self was near tt fits stands)
+    (c.in_ok-finish.ensures.made policy net u h c.args.self.now.routes (midway policy rules net u h trigger All cause c.args.self.now c.apply.new.self was near tt fits stands)
     (as_offered (making rules net u h k) c.deref.ensures.value c.deref-2.ensures.value offers)).stands
 
 pub returns-clause-outgoing : goal.returns-clause-outgoing
@@ -48,5 +48,5 @@ returns-clause-outgoing g c = λ policy u h was near fits.
       chosen_before = chosen_ready rules net u (reads h) c.args.nbr c.args.session c.in_ok-offers.offers.items chosen;
       chosen_after = chosen;
     } in
-    (c.in_ok-finish.ensures policy net u h c.args.self.now.routes (midway policy rules net u h trigger All cause c.args.self.now c.apply.new.self was near tt fits stands)
+    (c.in_ok-finish.ensures.made policy net u h c.args.self.now.routes (midway policy rules net u h trigger All cause c.args.self.now c.apply.new.self was near tt fits stands)
     (as_offered (making rules net u h k) c.deref.ensures.value c.deref-2.ensures.value offers)).goes

@@ -13,8 +13,8 @@ use Rattle.trigger_log.proofs.Rounds.{told_none}
 use Rattle.trigger_log.proofs.Entering.{entered, went_out, enters}
 use Rattle.trigger_log.proofs.log.NodeLog.finish.Goals as goal
 
-pub returns : goal.returns
-returns g c = λ policy net u h routes mid offers.
+pub returns-clause-made : goal.returns-clause-made
+returns-clause-made g c = λ policy net u h routes mid offers.
     let rules = g.P.Policy.rules policy in
     let trigger = c.args.trigger in
     let scope = c.args.scope in
@@ -35,7 +35,7 @@ returns g c = λ policy net u h routes mid offers.
       stands = entered policy rules net u h trigger scope cause (record log { routes = routes }) c.keep.new.self
           n said c.in_ok-sent.sent
           mid.was mid.fits (subst (λ r. RoutesStandFor policy net u r (k.read ∷ reads h)) (sym c.in_ok-keep.ensures.routes) mid.routes) c.in_ok-keep.ensures.node
-          (ap (λ (s : MarkRows). s.near) c.in_ok-keep.ensures.sessions ∙ (c.tell_all.ensures.near ∙ c.mark.ensures.near)) c.in_ok-keep.ensures.count c.in_ok-keep.ensures.next c.in_ok-keep.ensures.entries (c.in_ok-sent.ensures.items ∙ c.deref.ensures.value) whole
+          (ap (λ (s : MarkRows). s.near) c.in_ok-keep.ensures.sessions ∙ (c.tell_all.ensures.near ∙ c.mark.ensures.near)) c.in_ok-keep.ensures.next (c.in_ok-keep.ensures.kept policy net u h) (c.in_ok-sent.ensures.items ∙ c.deref.ensures.value) whole
           (subst (λ (s : MarkRows). ToldTo (making rules net u h k) n s.rows silence said) (sym c.in_ok-keep.ensures.sessions) told);
       goes = ap (λ (s : Said). map going_of s.outgoing.items) c.in_ok-keep.ensures.said
           ∙ went_out policy rules net u h trigger scope cause n c.tell_all.new.sessions.rows said whole told;

@@ -1,13 +1,11 @@
 use Rattle.std.proofs.Common.{◌∙◌, [], refl, sym, ap, subst, map}
-use Rattle.std.specs.List.{AllZip}
 use Rattle.trigger_log.specs.Sessions.{AreRows}
-use Rattle.trigger_log.specs.Standing.{Shows}
 use Rattle.trigger_log.proofs.Rows.{first}
 use Rattle.trigger_log.proofs.AllMarks.{rows_first}
 use Rattle.trigger_log.proofs.log.NodeLog.new.Goals as goal
 
-pub returns : goal.returns
-returns g c =
+pub returns-clause-stands : goal.returns-clause-stands
+returns-clause-stands g c =
     let rules = g.P.Policy.rules c.args.policy in
     let net = c.args.topology.now in
     let u = c.args.node in
@@ -16,8 +14,7 @@ returns g c =
       fitting = tt;
       node = refl;
       near = c.in_ok-new-2.ensures.near ∙ c.neighbours.ensures.neighbours;
-      count = refl;
       next = refl;
-      shown = subst (AllZip (Shows rules net u) []) (sym c.in_ok-with_capacity.ensures.items) tt;
+      kept = c.in_ok-new-3.ensures.stands;
       marks = subst (AreRows rules net u []) (sym (c.in_ok-new-2.ensures.rows ∙ ap (map first) c.neighbours.ensures.neighbours)) (rows_first rules net u);
     }

@@ -115,8 +115,8 @@ returns-in_err-self-clause-stopped g c =
     let now = nodes_given policy g.P.Policy.rules net past u i items c.turn.new.nodes.items rank turned.0 turned.1 (told_by c.in-Ok.idle c.turn.new.outputs) may.are_nodes at may.may_come turned.2 turned.4 (stay policy g.P.Policy.rules net past u i c.others_change_nothing_of_what_a_node_stands_for.ensures.given) turned.3 in
     let answers = subst (λ idle. Answers past s (told_by idle c.turn.new.outputs)) c.in_default.is (new_answers policy g.P.Policy.rules net past u i items c.turn.new.nodes.items rank turned.0 turned.1 (told_by c.in-Ok.idle c.turn.new.outputs) may.are_nodes at may.may_come turned.2 turned.4) in
     let new = new_stands policy g.P.Policy.rules net past u i items c.turn.new.nodes.items rank turned.0 turned.1 (told_by c.in-Ok.idle c.turn.new.outputs) may.are_nodes at may.may_come turned.2 turned.4 in
-    let before = c.next_trigger-before.ensures policy net u (log_of u past) (c.log.ensures policy net u past (node_at policy rules net past items may.are_nodes rank u c.index.result.now at c.index.ensures)) in
-    let after = c.next_trigger-after.ensures policy net u (log_of u (chronicle_of past s)) (c.log-2.ensures policy net u (chronicle_of past s) (node_at policy rules net (chronicle_of past s) c.turn.new.nodes.items now rank u c.index-2.result.now at c.index-2.ensures)) in
+    let before = c.next_trigger-before.ensures policy net u (log_of u past) (c.log.ensures.log policy net u past (node_at policy rules net past items may.are_nodes rank u c.index.result.now at c.index.ensures)) in
+    let after = c.next_trigger-after.ensures policy net u (log_of u (chronicle_of past s)) (c.log-2.ensures.log policy net u (chronicle_of past s) (node_at policy rules net (chronicle_of past s) c.turn.new.nodes.items now rank u c.index-2.result.now at c.index-2.ensures)) in
     let sum = total_given net past u (makes_local (input_of i)) s c.args.self.now.triggers c.next_trigger-before.result.count c.next_trigger-after.result.count may.are_nodes.valid c.requires.node
     (others_same policy g.P.Policy.rules net past u i) (logs policy g.P.Policy.rules net past u i) may.counted.total (ap (λ t. t.count) before) (ap (λ t. t.count) after) in
     let stopped = c.in_err-self.ensures.stopped in
@@ -141,8 +141,8 @@ returns-in_err-check_control-clause-stopped g c =
     let turned = c.in-Ok.ensures.turned in
     let now = nodes_given policy g.P.Policy.rules net past u i items c.turn.new.nodes.items rank turned.0 turned.1 (told_by c.in-Ok.idle c.turn.new.outputs) may.are_nodes at may.may_come turned.2 turned.4 (stay policy g.P.Policy.rules net past u i c.others_change_nothing_of_what_a_node_stands_for.ensures.given) turned.3 in
     let answers = subst (λ idle. Answers past s (told_by idle c.turn.new.outputs)) c.in_default.is (new_answers policy g.P.Policy.rules net past u i items c.turn.new.nodes.items rank turned.0 turned.1 (told_by c.in-Ok.idle c.turn.new.outputs) may.are_nodes at may.may_come turned.2 turned.4) in
-    let before = c.next_trigger-before.ensures policy net u (log_of u past) (c.log.ensures policy net u past (node_at policy rules net past items may.are_nodes rank u c.index.result.now at c.index.ensures)) in
-    let after = c.next_trigger-after.ensures policy net u (log_of u (chronicle_of past s)) (c.log-2.ensures policy net u (chronicle_of past s) (node_at policy rules net (chronicle_of past s) c.turn.new.nodes.items now rank u c.index-2.result.now at c.index-2.ensures)) in
+    let before = c.next_trigger-before.ensures policy net u (log_of u past) (c.log.ensures.log policy net u past (node_at policy rules net past items may.are_nodes rank u c.index.result.now at c.index.ensures)) in
+    let after = c.next_trigger-after.ensures policy net u (log_of u (chronicle_of past s)) (c.log-2.ensures.log policy net u (chronicle_of past s) (node_at policy rules net (chronicle_of past s) c.turn.new.nodes.items now rank u c.index-2.result.now at c.index-2.ensures)) in
     let sum = total_given net past u (makes_local (input_of i)) s c.args.self.now.triggers c.next_trigger-before.result.count c.next_trigger-after.result.count may.are_nodes.valid c.requires.node
     (others_same policy g.P.Policy.rules net past u i) (logs policy g.P.Policy.rules net past u i) may.counted.total (ap (λ t. t.count) before) (ap (λ t. t.count) after) in
     let counted = c.in_ok-self.ensures.ok in
@@ -172,8 +172,8 @@ returns-in_err-check_packets-clause-stopped g c =
     let turned = c.in-Ok.ensures.turned in
     let now = nodes_given policy g.P.Policy.rules net past u i items c.turn.new.nodes.items rank turned.0 turned.1 (told_by c.in-Ok.idle c.turn.new.outputs) may.are_nodes at may.may_come turned.2 turned.4 (stay policy g.P.Policy.rules net past u i c.others_change_nothing_of_what_a_node_stands_for.ensures.given) turned.3 in
     let answers = subst (λ idle. Answers past s (told_by idle c.turn.new.outputs)) c.in_default.is (new_answers policy g.P.Policy.rules net past u i items c.turn.new.nodes.items rank turned.0 turned.1 (told_by c.in-Ok.idle c.turn.new.outputs) may.are_nodes at may.may_come turned.2 turned.4) in
-    let before = c.next_trigger-before.ensures policy net u (log_of u past) (c.log.ensures policy net u past (node_at policy rules net past items may.are_nodes rank u c.index.result.now at c.index.ensures)) in
-    let after = c.next_trigger-after.ensures policy net u (log_of u (chronicle_of past s)) (c.log-2.ensures policy net u (chronicle_of past s) (node_at policy rules net (chronicle_of past s) c.turn.new.nodes.items now rank u c.index-2.result.now at c.index-2.ensures)) in
+    let before = c.next_trigger-before.ensures policy net u (log_of u past) (c.log.ensures.log policy net u past (node_at policy rules net past items may.are_nodes rank u c.index.result.now at c.index.ensures)) in
+    let after = c.next_trigger-after.ensures policy net u (log_of u (chronicle_of past s)) (c.log-2.ensures.log policy net u (chronicle_of past s) (node_at policy rules net (chronicle_of past s) c.turn.new.nodes.items now rank u c.index-2.result.now at c.index-2.ensures)) in
     let sum = total_given net past u (makes_local (input_of i)) s c.args.self.now.triggers c.next_trigger-before.result.count c.next_trigger-after.result.count may.are_nodes.valid c.requires.node
     (others_same policy g.P.Policy.rules net past u i) (logs policy g.P.Policy.rules net past u i) may.counted.total (ap (λ t. t.count) before) (ap (λ t. t.count) after) in
     let counted = c.in_ok-self.ensures.ok in
@@ -201,8 +201,8 @@ returns-clause-stands g c past counts may =
     let turned = c.in-Ok.ensures.turned in
     let now = nodes_given policy g.P.Policy.rules net past u i items c.turn.new.nodes.items rank turned.0 turned.1 (told_by c.in-Ok.idle c.turn.new.outputs) may.are_nodes at may.may_come turned.2 turned.4 (stay policy g.P.Policy.rules net past u i c.others_change_nothing_of_what_a_node_stands_for.ensures.given) turned.3 in
     let answers = subst (λ idle. Answers past s (told_by idle c.turn.new.outputs)) c.in_default.is (new_answers policy g.P.Policy.rules net past u i items c.turn.new.nodes.items rank turned.0 turned.1 (told_by c.in-Ok.idle c.turn.new.outputs) may.are_nodes at may.may_come turned.2 turned.4) in
-    let before = c.next_trigger-before.ensures policy net u (log_of u past) (c.log.ensures policy net u past (node_at policy rules net past items may.are_nodes rank u c.index.result.now at c.index.ensures)) in
-    let after = c.next_trigger-after.ensures policy net u (log_of u (chronicle_of past s)) (c.log-2.ensures policy net u (chronicle_of past s) (node_at policy rules net (chronicle_of past s) c.turn.new.nodes.items now rank u c.index-2.result.now at c.index-2.ensures)) in
+    let before = c.next_trigger-before.ensures policy net u (log_of u past) (c.log.ensures.log policy net u past (node_at policy rules net past items may.are_nodes rank u c.index.result.now at c.index.ensures)) in
+    let after = c.next_trigger-after.ensures policy net u (log_of u (chronicle_of past s)) (c.log-2.ensures.log policy net u (chronicle_of past s) (node_at policy rules net (chronicle_of past s) c.turn.new.nodes.items now rank u c.index-2.result.now at c.index-2.ensures)) in
     let sum = total_given net past u (makes_local (input_of i)) s c.args.self.now.triggers c.next_trigger-before.result.count c.next_trigger-after.result.count may.are_nodes.valid c.requires.node
     (others_same policy g.P.Policy.rules net past u i) (logs policy g.P.Policy.rules net past u i) may.counted.total (ap (λ t. t.count) before) (ap (λ t. t.count) after) in
     let counted = c.in_ok-self.ensures.ok in

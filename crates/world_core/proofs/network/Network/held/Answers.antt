@@ -33,4 +33,4 @@ returns g c past counts was near =
     let at = rw c.deref.ensures at c.in_ok-rank.ensures.some in
     let found = rw c.deref-2.ensures.value at c.in_ok-get.ensures.lookup in
     let here = node_at policy rules net past items was.are_nodes c.in_ok-rank.rank node c.in_ok-get.field-0.now at found.1 in
-    c.held.ensures policy net node (log_of node past) (c.log.ensures policy net node past here) (near_of net node c.args.nbr was.are_nodes.valid near)
+    c.held.ensures policy net node (log_of node past) (c.log.ensures.log policy net node past here) (near_of net node c.args.nbr was.are_nodes.valid near)

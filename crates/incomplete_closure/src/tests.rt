@@ -1,4 +1,0 @@
-//! Reports of three nodes, with their incomplete triggers worked out by hand.
-mod cases;
-mod reading;
-mod rounds;

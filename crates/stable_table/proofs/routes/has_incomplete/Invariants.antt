@@ -1,0 +1,8 @@
+use Rattle.std.proofs.Common.{◌≡◌, false, take}
+use Rattle.std.specs.List.{list_any}
+use Rattle.topology.specs.Triggers.{lists}
+use Rattle.trigger_log.specs.declared.entries.Entry.{Entry}
+use Rattle.stable_table.proofs.routes.has_incomplete.Given as goal
+
+abbrev pub invariant-loop-entry : goal.invariant-loop-entry
+invariant-loop-entry l = list_any (λ (e : Entry). lists l.incomplete e.trigger) (take l.entry-index l.entries) ≡ false

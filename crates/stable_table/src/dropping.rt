@@ -1,0 +1,60 @@
+//! How much of a log is needed no more once the table of an epoch is published.
+ghost use Rattle.std.specs.Prelude.{ℕ, suc, List, ◌≡◌, ◌≤◌, ◌++◌, length, IfOk, if◌then◌else◌};
+ghost use Rattle.topology.specs.Triggers.{lists};
+ghost use Rattle.trigger_log.specs.Dropping.{droppable};
+ghost use Rattle.trigger_log.specs.Entries.{Entry as Logged};
+ghost use Rattle.trigger_log.specs.Standing.{StandsFor, dropped_of};
+ghost use Rattle.stable_table.specs.Keeping.{complete_first};
+ghost use Rattle.stable_table.specs.Tables.{all_responded};
+
+use crate::incomplete::Incomplete;
+use crate::responders::Responders;
+use crate::tables::first_of;
+use incomplete_closure::Value;
+use path_vector::Policy;
+use std::alloc::Global;
+use topology::{NoMemory, Topology};
+use trigger_log::{Entry, NodeLog};
+
+// How many of the first entries list no incomplete trigger.
+fn complete_first(entries: &[Entry], incomplete: &Incomplete) -> usize
+    ensures { result ≡ complete_first incomplete.now entries.now }
+{
+    let mut count = 0;
+    for entry in entries {
+        if incomplete.has(entry.trigger) {
+            return count;
+        }
+        count += 1;
+    }
+    count
+}
+
+/// The place before which a node may drop the entries of its log, once it has published its table by this value, where the first
+/// `cut` entries are its cut of the epoch. Where all nodes responded, these are the longest first part of the cut of which
+/// each entry was dropped before or lists no incomplete trigger. Where not all responded, no entry goes that was not dropped before.
+/// Of a cut that is shorter than what was dropped nothing is promised.
+pub fn droppable_before<P: Policy + Copy>(
+    alloc: Global,
+    topology: &Topology,
+    log: &NodeLog<P>,
+    cut: u32,
+    value: &Value,
+) -> Result<u32, NoMemory>
+    ensures { IfOk result (λ place. (policy : P) (u : ℕ) (newer entries : List Logged) →
+        StandsFor policy (P.rules policy) topology.now u log.now (newer ++ entries) → cut ≡ length entries →
+        dropped_of log.now ≤ cut →
+        place ≡ suc (if all_responded value.now topology.now.nodes
+        then droppable (lists value.now.incomplete) (dropped_of log.now) entries else dropped_of log.now)) }
+{
+    let from = log.kept_from();
+    let responders = Responders::new(alloc, value)?;
+    if !responders.all_responded(topology.nodes()) {
+        return Ok(from);
+    }
+    let dropped = from.saturating_sub(1);
+    let left = cut.saturating_sub(dropped);
+    let incomplete = Incomplete::new(alloc, value.incomplete.as_slice())?;
+    let complete = complete_first(first_of(log.entries(), left), &incomplete);
+    Ok(from.saturating_add(complete.min(left as usize) as u32))
+}

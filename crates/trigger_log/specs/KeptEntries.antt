@@ -1,0 +1,29 @@
+-- What a log keeps of its entries: those behind the ones that it dropped, and the routes after these.
+use Rattle.std.specs.Prelude.{ℕ, suc, ◌≡◌, ◌≤◌, ◌-◌, List, ◌∷◌, length, drop}
+use Rattle.std.specs.List.{AllZip}
+use Rattle.topology.specs.Net.{Net}
+use Rattle.path_vector.specs.Rules.{Rules}
+use Rattle.path_vector.specs.History.{History, change}
+use Rattle.path_vector.specs.Standing.{StandsFor as RoutesStandFor}
+use Rattle.trigger_log.specs.declared.entries.Entry.{Entry as Shown}
+use Rattle.trigger_log.specs.declared.kept_entries.KeptEntries.{KeptEntries}
+use Rattle.trigger_log.specs.Dropping.{trimmed, base_of}
+use Rattle.trigger_log.specs.Entered.{all_entered, Shows}
+use Rattle.trigger_log.specs.Entries.{Entry, reads}
+
+-- the entry as routing reads it, behind those before it
+abbrev pub taken : History → Shown → History
+taken past shown = change shown.scope shown.cause ∷ past
+
+-- how many entries were dropped
+abbrev pub dropped_before : {P : Type 0} → KeptEntries P → ℕ
+dropped_before kept = kept.from - 1
+
+-- they are those of node u's log in this net, which has these entries: the entries behind the dropped ones, and the routes after
+-- the dropped ones
+pub record KeepsEntries {P : Type 0} (policy : P) (rules : Rules) (net : Net) (u : ℕ) (kept : KeptEntries P) (h : List Entry) : Type 0 where
+  pub counted : 1 ≤ kept.from
+  pub next : kept.next ≡ suc (length h)
+  pub within : dropped_before kept ≤ length h
+  pub routes : RoutesStandFor policy net u kept.base (reads (base_of (trimmed (dropped_before kept) h)))
+  pub shown : AllZip (Shows rules net u) (drop (dropped_before kept) (all_entered h)) kept.entries.items

@@ -1,0 +1,136 @@
+//! The entries that a log keeps, and the routes after those that it dropped.
+ghost use Rattle.std.specs.Prelude.{ℕ, suc, ◌≡◌, ◌≤◌, ◌-◌, [], ◌∷◌, ◌++◌, List, drop, fold, length, IfOk, OnOk, OnErr};
+ghost use Rattle.topology.specs.Net.{Net};
+ghost use Rattle.path_vector.specs.History.{History, change};
+ghost use Rattle.path_vector.specs.Parts.{Accepted};
+ghost use Rattle.path_vector.specs.Standing.{StandsFor as RoutesStandFor};
+ghost use Rattle.trigger_log.specs.Entries.{Entry as Logged};
+ghost use Rattle.trigger_log.specs.Fits.{Fits};
+ghost use Rattle.trigger_log.specs.KeptEntries.{KeepsEntries, taken};
+ghost use Rattle.trigger_log.specs.Entered.{Shows};
+
+use crate::counting::next_number;
+use crate::entries::Entry;
+use path_vector::{Policy, RouteState};
+use std::alloc::Global;
+use topology::{NoMemory, NodeId, Topology};
+
+// The room that a log is made with: as many entries as a node may make, so that a log that grows is not copied. Memory
+// that is not touched costs nothing.
+const ROOM: usize = 2048;
+
+/// The entries of a log from a place on, the oldest first, and the routes after the entries before that place, which the
+/// log has dropped. Places count from 1.
+#[derive(Drop)]
+pub struct KeptEntries<P: Policy + Copy> {
+    base: RouteState<P>,
+    // The place of the first entry that is kept, and that of the next one to come.
+    from: u32,
+    next: u32,
+    entries: Vec<Entry>,
+}
+
+// Moves the routes on by the entries.
+fn take_all<P: Policy + Copy>(routes: &mut RouteState<P>, entries: &[Entry]) -> Result<(), NoMemory>
+    ensures { OnOk result ((policy : P) (net : Net) (u : ℕ) (past : History) →
+        RoutesStandFor policy net u routes.old past → Accepted (fold taken past entries.now) →
+        RoutesStandFor policy net u routes.new (fold taken past entries.now)) }
+{
+    for entry in entries {
+        routes.apply(entry.scope, &entry.cause)?;
+    }
+    Ok(())
+}
+
+impl<P: Policy + Copy> KeptEntries<P> {
+    /// Of the node's log, which is empty.
+    pub(crate) fn new(
+        alloc: Global,
+        topology: &Topology,
+        node: NodeId,
+        policy: P,
+    ) -> Result<KeptEntries<P>, NoMemory>
+        ensures stands { IfOk result (λ kept. KeepsEntries policy (P.rules policy) topology.now node kept []) }
+        ensures from { IfOk result (λ kept. kept.from ≡ 1) }
+    {
+        Ok(KeptEntries {
+            base: RouteState::new(alloc, topology, node, policy)?,
+            from: 1,
+            next: 1,
+            entries: Vec::with_capacity(alloc, ROOM)?,
+        })
+    }
+
+    /// The routes after the entries that were dropped.
+    pub(crate) fn base(&self) -> &RouteState<P>
+        ensures { result.now ≡ self.now.base }
+    {
+        &self.base
+    }
+
+    /// The place of the first entry that is kept.
+    pub(crate) fn from(&self) -> u32
+        ensures { result ≡ self.now.from }
+    {
+        self.from
+    }
+
+    /// The place that the next entry gets.
+    pub(crate) fn next(&self) -> u32
+        ensures { result ≡ self.now.next }
+    {
+        self.next
+    }
+
+    /// How many entries there were, those that were dropped among them.
+    #[inline(always)]
+    pub(crate) fn count(&self) -> u32
+        ensures { result ≡ self.now.next - 1 }
+    {
+        self.next.saturating_sub(1)
+    }
+
+    /// The entries, the oldest first.
+    #[inline(always)]
+    pub(crate) fn as_slice(&self) -> &[Entry]
+        ensures { result.now ≡ self.now.entries.items }
+    {
+        &self.entries
+    }
+
+    /// Keeps one more entry.
+    #[inline(always)]
+    pub(crate) fn push(&mut self, entry: Entry) -> Result<(), NoMemory>
+        ensures kept { OnOk result ((policy : P) (net : Net) (u : ℕ) (h : List Logged) (k : Logged) →
+            KeepsEntries policy (P.rules policy) net u self.old h →
+            Shows (P.rules policy) net u (record { before = h; entry = k }) entry →
+            KeepsEntries policy (P.rules policy) net u self.new (k ∷ h)) }
+        ensures from { self.new.from ≡ self.old.from }
+    {
+        let next = next_number(self.next)?;
+        // Room first, and then nothing can fail: a push that may fail would copy the entry, to give it back.
+        self.entries.reserve(1)?;
+        self.entries.push_reserved(entry);
+        self.next = next;
+        Ok(())
+    }
+
+    /// Drops the entries before the place, which is at most one past the last one. After want of memory the routes may
+    /// be in the midst of them.
+    pub(crate) fn drop_before(&mut self, place: u32) -> Result<(), NoMemory>
+        ensures kept { OnOk result ((policy : P) (net : Net) (u : ℕ) (h : List Logged) →
+            KeepsEntries policy (P.rules policy) net u self.old h → Fits h →
+            self.old.from ≤ place → place ≤ suc (length h) →
+            KeepsEntries policy (P.rules policy) net u self.new h) }
+        ensures from { OnOk result (self.new.from ≡ place) }
+    {
+        let asked = place.saturating_sub(self.from) as usize;
+        let dropped = asked.min(self.entries.len());
+        let left = self.entries.len() - dropped;
+        take_all(&mut self.base, &self.entries[..dropped])?;
+        self.entries.rotate_left(dropped);
+        self.entries.truncate(left);
+        self.from = place;
+        Ok(())
+    }
+}

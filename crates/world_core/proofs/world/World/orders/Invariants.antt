@@ -1,0 +1,13 @@
+use Rattle.std.proofs.Common.{◌≡◌, take, map}
+use Rattle.path_vector.specs.Ranking.{order}
+use Rattle.trigger_log.specs.Entries.{reads}
+use Rattle.chronicle.specs.Logs.{log_of}
+use Rattle.chronicle.specs.Run.{run}
+use Rattle.world_core.proofs.world.World.orders.Given as goal
+
+-- so far the orders of the nodes in front
+abbrev pub invariant-loop-id : goal.invariant-loop-id
+invariant-loop-id g l = record {
+  so_far : l.orders.items
+      ≡ map (λ u. order (g.P.Policy.rules l.self.policy) l.self.net u (reads (log_of u (run (g.P.Policy.rules l.self.policy) l.self.net l.self.events))) l.prefix) (take l.id-index l.id-items);
+}
