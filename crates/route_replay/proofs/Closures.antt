@@ -7,15 +7,17 @@ use Rattle.std.proofs.lemmas.List.Kept.{IsStrictlyIncreasing-filter}
 use Rattle.topology.specs.Lists.{Among}
 use Rattle.topology.specs.Net.{Net}
 use Rattle.path_vector.specs.Rules.{Rules}
+use Rattle.trigger_log.specs.Dropping.{Trimmed, trimmed}
 use Rattle.trigger_log.specs.Entries.{Entry}
 use Rattle.incomplete_closure.specs.declared.reports.Report.{Report as TheReport}
 use Rattle.incomplete_closure.specs.Reports.{Report}
 use Rattle.incomplete_closure.specs.Seen.{report_seen, reports_seen}
 use Rattle.incomplete_closure.specs.Together.{OfOneEpoch, nodes_of}
-use Rattle.epoch_report.specs.Reporting.{report_of}
+use Rattle.epoch_report.specs.Trimming.{trimmed_report}
 use Rattle.chronicle.specs.Facts.{Chronicle}
 use Rattle.chronicle.specs.Epochs.{cut}
-use Rattle.rest_laws.specs.Rest.{reports}
+use Rattle.chronicle.specs.Drops.{dropped_then, reported_cut}
+use Rattle.agreement_laws.specs.Decided.{told_reports}
 
 -- ---- reports as definitions see them
 
@@ -36,37 +38,37 @@ module _ (rules : Rules) (net : Net) (past : Chronicle) (e : ℕ) where
   cuts u = is_some (cut u e past)
 
   -- the report of a node is of the node and of the epoch
-  of_node : (u : ℕ) (h : List Entry) → (report_of rules net u e h).node ≡ u
-  unfolding report_of
+  of_node : (u : ℕ) (h : Trimmed) → (trimmed_report rules net u e h).node ≡ u
+  unfolding trimmed_report
   of_node u h = refl
 
-  of_epoch : (u : ℕ) (h : List Entry) → (report_of rules net u e h).epoch ≡ e
-  unfolding report_of
+  of_epoch : (u : ℕ) (h : Trimmed) → (trimmed_report rules net u e h).epoch ≡ e
+  unfolding trimmed_report
   of_epoch u h = refl
 
   -- those that have a cut have a report
-  reporting : (nodes : List ℕ) → map (λ (r : Report). r.node) (reports rules net past e nodes) ≡ filter cuts nodes
+  reporting : (nodes : List ℕ) → map (λ (r : Report). r.node) (told_reports rules net past e nodes) ≡ filter cuts nodes
   reporting [] = refl
   reporting (u ∷ us) = by (cut u e past) (reporting us)
     where
-      by : (o : Option (List Entry)) → map (λ (r : Report). r.node) (reports rules net past e us) ≡ filter cuts us
-          → map (λ (r : Report). r.node) (cons_option (option_map (report_of rules net u e) o) (reports rules net past e us)) ≡ (if is_some o then u ∷ filter cuts us else filter cuts us)
+      by : (o : Option (List Entry)) → map (λ (r : Report). r.node) (told_reports rules net past e us) ≡ filter cuts us
+          → map (λ (r : Report). r.node) (cons_option (option_map (trimmed_report rules net u e) (option_map (trimmed (dropped_then net u e past)) o)) (told_reports rules net past e us)) ≡ (if is_some o then u ∷ filter cuts us else filter cuts us)
       by None old = old
-      by (Some h) old = ap (λ n. n ∷ map (λ (r : Report). r.node) (reports rules net past e us)) (of_node u h) ∙ ap (λ ns. u ∷ ns) old
+      by (Some h) old = ap (λ n. n ∷ map (λ (r : Report). r.node) (told_reports rules net past e us)) (of_node u (trimmed (dropped_then net u e past) h)) ∙ ap (λ ns. u ∷ ns) old
 
   -- each report is of the epoch
-  each_epoch : (nodes : List ℕ) (r : Report) → Among r (reports rules net past e nodes) → r.epoch ≡ e
+  each_epoch : (nodes : List ℕ) (r : Report) → Among r (told_reports rules net past e nodes) → r.epoch ≡ e
   each_epoch [] r m = absurd m
   each_epoch (u ∷ us) r m = by (cut u e past) (each_epoch us r) m
     where
-      by : (o : Option (List Entry)) → (Among r (reports rules net past e us) → r.epoch ≡ e)
-          → Among r (cons_option (option_map (report_of rules net u e) o) (reports rules net past e us)) → r.epoch ≡ e
+      by : (o : Option (List Entry)) → (Among r (told_reports rules net past e us) → r.epoch ≡ e)
+          → Among r (cons_option (option_map (trimmed_report rules net u e) (option_map (trimmed (dropped_then net u e past)) o)) (told_reports rules net past e us)) → r.epoch ≡ e
       by None old m = old m
-      by (Some h) old (inl q) = sym (ap (λ (x : Report). x.epoch) q) ∙ of_epoch u h
+      by (Some h) old (inl q) = sym (ap (λ (x : Report). x.epoch) q) ∙ of_epoch u (trimmed (dropped_then net u e past) h)
       by (Some h) old (inr m) = old m
 
   -- reports of nodes that ascend may be put together
-  pub together : (nodes : List ℕ) (list : List TheReport) → IsStrictlyIncreasing nodes → reports_seen list ≡ reports rules net past e nodes → OfOneEpoch list
+  pub together : (nodes : List ℕ) (list : List TheReport) → IsStrictlyIncreasing nodes → reports_seen list ≡ told_reports rules net past e nodes → OfOneEpoch list
   together nodes list ascend are = record {
     epoch = λ a b in_a in_b.
         each_epoch nodes (report_seen a) (subst (Among (report_seen a)) are (seen_among a list in_a))
@@ -75,11 +77,11 @@ module _ (rules : Rules) (net : Net) (past : Chronicle) (e : ℕ) where
   }
 
   -- one node more
-  pub reports_more : (nodes more : List ℕ) → reports rules net past e (nodes ++ more) ≡ reports rules net past e nodes ++ reports rules net past e more
+  pub reports_more : (nodes more : List ℕ) → told_reports rules net past e (nodes ++ more) ≡ told_reports rules net past e nodes ++ told_reports rules net past e more
   reports_more [] more = refl
-  reports_more (u ∷ us) more = by (option_map (report_of rules net u e) (cut u e past)) (reports_more us more)
+  reports_more (u ∷ us) more = by (option_map (trimmed_report rules net u e) (reported_cut net u e past)) (reports_more us more)
     where
-      by : (o : Option Report) → reports rules net past e (us ++ more) ≡ reports rules net past e us ++ reports rules net past e more
-          → cons_option o (reports rules net past e (us ++ more)) ≡ cons_option o (reports rules net past e us) ++ reports rules net past e more
+      by : (o : Option Report) → told_reports rules net past e (us ++ more) ≡ told_reports rules net past e us ++ told_reports rules net past e more
+          → cons_option o (told_reports rules net past e (us ++ more)) ≡ cons_option o (told_reports rules net past e us) ++ told_reports rules net past e more
       by None old = old
       by (Some r) old = ap (λ rs. r ∷ rs) old

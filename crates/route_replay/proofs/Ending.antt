@@ -34,9 +34,11 @@ use Rattle.route_replay.specs.declared.tasks.Task.{Task}
 use Rattle.route_replay.specs.declared.tasks.Task.TheVariants as task
 use Rattle.schedule_file.specs.declared.parser.TheConstants.{MAX_BYTES}
 use Rattle.route_replay.specs.Text.{Course, Leads, Stops, unless, with_event, then_on, drained, controlled, hopped, is_idle, course, text, stop, stop_by, task_of}
+use Rattle.route_replay.specs.Probed.{AreProbed}
 use Rattle.route_replay.specs.Running.{Runs}
 use Rattle.agreement_laws.specs.Agreed.{IsAgreed}
 use Rattle.walk_laws.specs.Walked.{IsWalked}
+use Rattle.world_core.specs.Sound.{IsSound}
 use Rattle.route_replay.specs.Replayed.{Replayed, Comes, IsLimit, StopsRun, behind, is_of_run, ends_replay}
 
 -- what a told source gave is what it told
@@ -72,6 +74,9 @@ ends_bad source source' sink bytes line kind read one short bad at_end quiet = r
   done = λ e. absurd (cc e);
   agreed = λ _ told t run. absurd (one.apart run.lines line kind (subst (λ b. Reads [] (words_by_line b) run.lines) (sym (read told t)) run.is_run.read) bad);
   walked = λ _ told t run. absurd (one.apart run.lines line kind (subst (λ b. Reads [] (words_by_line b) run.lines) (sym (read told t)) run.is_run.read) bad);
+  sound = λ _ told t run. absurd (one.apart run.lines line kind (subst (λ b. Reads [] (words_by_line b) run.lines) (sym (read told t)) run.is_run.read) bad);
+  sound_so_far = λ _ told t run. absurd (one.apart run.lines line kind (subst (λ b. Reads [] (words_by_line b) run.lines) (sym (read told t)) run.is_run.read) bad);
+  probed = λ written. absurd (written refl);
   front = λ told t. inl refl;
   silent = λ _. refl;
   bad_schedule = λ n k e told t.
@@ -199,6 +204,7 @@ task_of_run rules net events task.ShowControl = tt
 task_of_run rules net events (task.ShowTables epoch) = tt
 task_of_run rules net events (task.Hops packet times) = hopped_of_run rules net packet times events
 task_of_run rules net events (task.ShowWalk packet) = tt
+task_of_run rules net events (task.Probe node prefix) = tt
 
 either_of_run : (led : Course) (rest : List Event → Option Reached) → StopsOfRun led → ((events : List Event) → OfRun (rest events)) → OfRun (stop_by led rest)
 either_of_run (Leads events) rest h k = k events
@@ -251,7 +257,8 @@ none_some o x a b = absurd (cc (sym a ∙ b))
 
 module _ (source source' : SourceView) (sink sink' : SinkView) (bytes : List ℕ) (lines : List Line)
     (read : (told : List ℕ) → source.left ≡ Some told → bytes ≡ told) (one : OneReading bytes) (short : length bytes ≤ MAX_BYTES) (reads : Reads [] (words_by_line bytes) lines) (at_end : IsAtEnd source'.left) (quiet : source'.faults ≡ source.faults)
-    (is_agreed : IsAgreed gao_rexford (net_of lines) (behind lines)) (is_walked : IsWalked gao_rexford (net_of lines) (behind lines)) where
+    (is_agreed : IsAgreed gao_rexford (net_of lines) (behind lines)) (is_walked : IsWalked gao_rexford (net_of lines) (behind lines))
+    (is_sound : IsSound gao_rexford (net_of lines) (behind lines)) (are_probed : AreProbed gao_rexford (net_of lines) [] (directives_of lines)) where
   abbrev written : List ℕ
   written = text gao_rexford (net_of lines) [] (directives_of lines)
 
@@ -278,6 +285,18 @@ module _ (source source' : SourceView) (sink sink' : SinkView) (bytes : List ℕ
       let same = one.lines run.lines lines (subst (λ b. Reads [] (words_by_line b) run.lines) (sym (read told t)) run.is_run.read) reads in
       subst (λ ls. IsWalked gao_rexford (net_of ls) (behind ls)) (sym same) is_walked
 
+  -- and is sound
+  run_sound : (told : List ℕ) → source.left ≡ Some told → (run : Comes told) → IsSound gao_rexford (net_of run.lines) (behind run.lines)
+  run_sound told t run =
+      let same = one.lines run.lines lines (subst (λ b. Reads [] (words_by_line b) run.lines) (sym (read told t)) run.is_run.read) reads in
+      subst (λ ls. IsSound gao_rexford (net_of ls) (behind ls)) (sym same) is_sound
+
+  -- and its probes are
+  run_probed : (told : List ℕ) → source.left ≡ Some told → (run : Comes told) → AreProbed gao_rexford (net_of run.lines) [] (directives_of run.lines)
+  run_probed told t run =
+      let same = one.lines run.lines lines (subst (λ b. Reads [] (words_by_line b) run.lines) (sym (read told t)) run.is_run.read) reads in
+      subst (λ ls. AreProbed gao_rexford (net_of ls) [] (directives_of ls)) (sym same) are_probed
+
   -- whatever the file comes to, it is stopped so
   same_stop : (told : List ℕ) → source.left ≡ Some told → (run : Comes told) → run.stopped ≡ stopped
   same_stop told t run =
@@ -296,6 +315,9 @@ module _ (source source' : SourceView) (sink sink' : SinkView) (bytes : List ℕ
     done = λ e told t. (comes told t, runs.whole.1, runs.whole.0);
     agreed = λ _ told t run. run_agreed told t run;
     walked = λ _ told t run. run_walked told t run;
+    sound = λ _ told t run. run_sound told t run;
+    sound_so_far = λ _ told t run. run_sound told t run;
+    probed = λ _ told t run. run_probed told t run;
     front = λ told t. inr (comes told t, runs.front.0, runs.front.1, runs.front.2);
     silent = λ e. absurd (cc e);
     bad_schedule = λ n k e. absurd (cc e);
@@ -314,6 +336,9 @@ module _ (source source' : SourceView) (sink sink' : SinkView) (bytes : List ℕ
     done = λ e. absurd (cc e);
     agreed = λ e. absurd (cc e);
     walked = λ e. absurd (cc e);
+    sound = λ e. absurd (cc e);
+    sound_so_far = λ _ told t run. run_sound told t run;
+    probed = λ _ told t run. run_probed told t run;
     front = λ told t. inr (comes told t, runs.front.0, runs.front.1, runs.front.2);
     silent = λ e. absurd (cc e);
     bad_schedule = λ n k e. absurd (cc e);
@@ -332,6 +357,9 @@ module _ (source source' : SourceView) (sink sink' : SinkView) (bytes : List ℕ
     done = λ e. absurd (cc e);
     agreed = λ _ told t run. run_agreed told t run;
     walked = λ _ told t run. run_walked told t run;
+    sound = λ _ told t run. run_sound told t run;
+    sound_so_far = λ _ told t run. run_sound told t run;
+    probed = λ _ told t run. run_probed told t run;
     front = λ told t. inr (comes told t, runs.front.0, runs.front.1, runs.front.2);
     silent = λ e. absurd (cc e);
     bad_schedule = λ n k e. absurd (cc e);
@@ -353,6 +381,9 @@ module _ (source source' : SourceView) (sink sink' : SinkView) (bytes : List ℕ
         done = λ e. absurd (cc e);
         agreed = λ _ told t run. run_agreed told t run;
         walked = λ _ told t run. run_walked told t run;
+        sound = λ _ told t run. run_sound told t run;
+        sound_so_far = λ _ told t run. run_sound told t run;
+        probed = λ _ told t run. run_probed told t run;
         front = λ told t. inr (comes told t, runs.front.0, runs.front.1, runs.front.2);
         silent = λ e. absurd (true≢false (sym e ∙ ap not (of_run kind inside)));
         bad_schedule = λ n k e. absurd (cc e);

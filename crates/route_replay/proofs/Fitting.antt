@@ -12,7 +12,7 @@ use Rattle.topology.proofs.Tests.{and_both}
 use Rattle.schedule_file.specs.declared.lines.Directive.{Directive}
 use Rattle.schedule_file.specs.declared.lines.Instruction.{Instruction}
 use Rattle.schedule_file.specs.declared.lines.Instruction.TheVariants.{Origin, Single, Pair, Prefer, Propose, Drain, Control, ControlAll, Inject, Hop, HopTimes, Show, ShowEpoch, ShowWalk}
-use Rattle.schedule_file.specs.declared.table.OriginEvent.TheVariants.{Originate, Withdraw}
+use Rattle.schedule_file.specs.declared.table.OriginVerb.TheVariants.{Originate, Withdraw, Probe}
 use Rattle.schedule_file.specs.declared.table.NodeEvent.TheVariants.{Snap, Crash, Restart}
 use Rattle.schedule_file.specs.declared.table.PairEvent.TheVariants.{Deliver, Fail, Restore, Notice, Open}
 use Rattle.schedule_file.specs.declared.table.PlainView.TheVariants.{Rib, Log}
@@ -78,6 +78,7 @@ module _ (net : Net) where
   instruction_fits : (i : Instruction) → DirectsInRange i → directed_fault net i ≡ None → Fitting net (task_of (directive_of net i))
   instruction_fits (Origin Originate node p) r fine = origin_fits node p fine
   instruction_fits (Origin Withdraw node p) r fine = origin_fits node p fine
+  instruction_fits (Origin Probe node p) r fine = origin_fits node p fine
   instruction_fits (Single Snap node) r fine = node_named (has net.nodes node) fine
   instruction_fits (Single Crash node) r fine = node_named (has net.nodes node) fine
   instruction_fits (Single Restart node) r fine = node_named (has net.nodes node) fine

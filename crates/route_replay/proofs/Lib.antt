@@ -4,9 +4,9 @@ pub mod Counts
 pub mod Cuts
 pub mod Drafts
 pub mod Drains
-pub mod Ended
 pub mod Ending
 pub mod Fitting
+pub mod Probing
 pub mod Gathered
 pub mod Hops
 pub mod Listed

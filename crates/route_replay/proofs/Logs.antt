@@ -1,11 +1,11 @@
 -- One entry of a log after the other.
-use Rattle.std.proofs.Common.{◌≡◌, ℕ, zero, suc, Some, List, [], ◌∷◌, ◌++◌, length, refl, sym, ap, ◌∙◌, slice_get, length-append, arith, ◌⊎◌, inl, inr, ⊎_elim}
+use Rattle.std.proofs.Common.{◌≡◌, ℕ, zero, suc, Some, List, [], ◌∷◌, ◌++◌, ◌+◌, length, drop, refl, sym, ap, ◌∙◌, slice_get, length-append, arith, ◌⊎◌, inl, inr, ⊎_elim}
 use Rattle.topology.specs.Net.{Net}
 use Rattle.path_vector.specs.Rules.{Rules}
 use Rattle.path_vector.specs.History.{change}
 use Rattle.trigger_log.specs.declared.entries.Entry.{Entry as Shown}
 use Rattle.trigger_log.specs.Entries.{Entry}
-use Rattle.trigger_log.specs.Standing.{Entered, all_entered, Shows}
+use Rattle.trigger_log.specs.Entered.{Entered, all_entered, Shows}
 use Rattle.route_replay.specs.LogText.{line_of, entry_line}
 
 -- there is one for each entry
@@ -22,6 +22,13 @@ pushed_at (z ∷ xs) x (suc i) y e = ⊎_elim
     (λ before. inl before)
     (λ (last : (i ≡ length xs) × (y ≡ x)). inr (ap suc last.0, last.1))
     (pushed_at xs x i y e)
+
+-- what stands behind the first ones
+pub at_kept : {X : Type 0} (n i place : ℕ) (xs : List X) → place ≡ n + i → slice_get (drop n xs) i ≡ slice_get xs place
+at_kept zero i place xs is = let same : i ≡ place = omega (arith, is) in ap (slice_get xs) same
+at_kept (suc n) i place [] is = refl
+at_kept (suc n) i zero (x ∷ xs) is = absurd (omega (arith, is))
+at_kept (suc n) i (suc place) (x ∷ xs) is = at_kept n i place xs (omega (arith, is))
 
 -- as many entries are before it as its place says
 pub entries_before : (h : List Entry) (i : ℕ) (step : Entered) → slice_get (all_entered h) i ≡ Some step → length step.before ≡ i

@@ -1,13 +1,15 @@
 -- How many pieces the text of a node has, and what is found in a list.
-use Rattle.std.proofs.Common.{◌≡◌, ℕ, zero, suc, ◌<◌, Option, Some, None, List, [], ◌∷◌, length, refl, ap, ◌∙◌, slice_get, arith}
+use Rattle.std.proofs.Common.{◌≡◌, ℕ, zero, suc, ◌-◌, ◌<◌, Option, Some, None, List, [], ◌∷◌, length, refl, ap, ◌∙◌, slice_get, arith}
 use Rattle.std.specs.Prelude.{IsSome, IsNone}
-use Rattle.std.proofs.lemmas.List.{length-map}
+use Rattle.std.proofs.lemmas.List.{length-map, length-drop}
 use Rattle.std.proofs.lemmas.List.FromFn.{length-enumerate_from}
 use Rattle.topology.specs.Net.{Net, neighbours}
 use Rattle.path_vector.specs.Rules.{Rules}
 use Rattle.chronicle.specs.declared.events.Event.{Event}
 use Rattle.chronicle.specs.Control.{mailed}
 use Rattle.chronicle.specs.Facts.{Chronicle}
+use Rattle.chronicle.specs.Drops.{dropped}
+use Rattle.trigger_log.specs.Entered.{all_entered}
 use Rattle.chronicle.specs.Logs.{log_of}
 use Rattle.chronicle.specs.Publications.{Publication}
 use Rattle.chronicle.specs.Run.{run}
@@ -23,10 +25,10 @@ pub length-rib_lines : (rules : Rules) (net : Net) (past : Chronicle) (node : �
 unfolding rib_lines
 length-rib_lines rules net past node = length-map _ _ ∙ length-enumerate_from 0 net.prefixes
 
--- a line for each entry
-pub length-log_lines : (rules : Rules) (net : Net) (past : Chronicle) (node : ℕ) → length (log_lines rules net past node) ≡ length (log_of node past)
+-- a line for each entry that is kept
+pub length-log_lines : (rules : Rules) (net : Net) (past : Chronicle) (node : ℕ) → length (log_lines rules net past node) ≡ length (log_of node past) - dropped net node past
 unfolding log_lines
-length-log_lines rules net past node = length-map _ _ ∙ length-steps (log_of node past)
+length-log_lines rules net past node = length-map _ _ ∙ (length-drop (dropped net node past) (all_entered (log_of node past)) ∙ ap (λ n. n - dropped net node past) (length-steps (log_of node past)))
 
 -- that of the cut, and one of each neighbour
 pub length-cut_lines : (net : Net) (past : Chronicle) (e node : ℕ) → length (cut_lines net past e node) ≡ suc (length (neighbours net node))

@@ -12,6 +12,7 @@ use Rattle.path_vector.specs.GaoRexford.{gao_rexford}
 use Rattle.chronicle.specs.declared.events.Event.{Event}
 use Rattle.agreement_laws.specs.Agreed.{IsAgreed}
 use Rattle.walk_laws.specs.Walked.{IsWalked}
+use Rattle.world_core.specs.Sound.{IsSound}
 use Rattle.node_core.specs.NodeLimits.{Reached}
 use Rattle.schedule_file.specs.declared.lines.Directive.{Directive}
 use Rattle.schedule_file.specs.declared.lines.Numbered.{Numbered}
@@ -58,6 +59,7 @@ said_of rules old new lines done =
 pub record Known (number : ℕ) : Type 0 where
   pub agreed : IsAgreed gao_rexford (load_net number) (load_run number)
   pub walked : IsWalked gao_rexford (load_net number) (load_run number)
+  pub sound : IsSound gao_rexford (load_net number) (load_run number)
 
 no_piece : (n : ℕ) (piece : List ℕ) → piece ≡ [] → n < length piece → ⊥
 no_piece n piece e h = let none = ap (λ (l : List ℕ). length l) e in omega (arith, h, none)
@@ -80,6 +82,7 @@ module _ (number : ℕ) (sink sink' : SinkView) where
     done = λ e. (runs.whole.1, runs.whole.0);
     agreed = λ e. known.agreed;
     walked = λ e. known.walked;
+    sound = λ e. known.sound;
     limit = λ kind most e. absurd (cc e);
     write_fault = risen_as _ _ (λ e. absurd (cc e)) (λ e. absurd (cc e)) runs.cause;
     cut_off = λ e. absurd (cc e);
@@ -95,6 +98,7 @@ module _ (number : ℕ) (sink sink' : SinkView) where
     done = λ e. absurd (cc e);
     agreed = λ e. absurd (e refl);
     walked = λ e. absurd (e refl);
+    sound = λ e. absurd (e refl);
     limit = λ kind most e. absurd (cc e);
     write_fault = risen_as _ _ (λ e. absurd (cc e)) (λ e. absurd (cc e)) runs.cause;
     cut_off = λ e. absurd (cc e);
@@ -110,6 +114,7 @@ module _ (number : ℕ) (sink sink' : SinkView) where
     done = λ e. absurd (cc e);
     agreed = λ e. known.agreed;
     walked = λ e. known.walked;
+    sound = λ e. known.sound;
     limit = λ kind most e. absurd (cc e);
     write_fault = risen_as _ _ (λ e. refl) (λ e. refl) runs.cause;
     cut_off = λ e. runs.cut_off refl;
@@ -128,6 +133,7 @@ module _ (number : ℕ) (sink sink' : SinkView) where
         done = λ e. absurd (cc e);
         agreed = λ e. known.agreed;
         walked = λ e. known.walked;
+        sound = λ e. known.sound;
         limit = λ k n e.
             let a : kind ≡ k = cc in
             let b : most ≡ n = cc in

@@ -8,13 +8,13 @@ use Rattle.path_vector.specs.Rules.{Rules}
 use Rattle.incomplete_closure.specs.declared.values.Value.{Value}
 use Rattle.incomplete_closure.specs.Marking.{value_of}
 use Rattle.chronicle.specs.Facts.{Chronicle}
-use Rattle.rest_laws.specs.Rest.{reports}
+use Rattle.agreement_laws.specs.Decided.{told_reports}
 use Rattle.route_replay.specs.Lines.{ended}
 use Rattle.route_replay.specs.LogText.{trigger_text}
 
--- the value of the reports of all nodes that have a cut of the epoch
+-- the value of the reports of all nodes that have a cut of the epoch, as they were sent
 abbrev pub value_at : Rules → Net → Chronicle → ℕ → Value
-value_at rules net past e = value_of (reports rules net past e (ascending net.nodes))
+value_at rules net past e = value_of (told_reports rules net past e (ascending net.nodes))
 
 -- items, each after a comma
 abbrev pub further : {A : Type 0} → (A → List ℕ) → List A → List ℕ

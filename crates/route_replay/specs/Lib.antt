@@ -11,6 +11,8 @@ pub mod LoadText
 pub mod Loaded
 pub mod LogText
 pub mod Plain
+pub mod ProbeText
+pub mod Probed
 pub mod ReasonText
 pub mod Replayed
 pub mod RibText

@@ -13,6 +13,7 @@ use Rattle.path_vector.specs.GaoRexford.{gao_rexford}
 use Rattle.path_vector.specs.Rules.{Rules}
 use Rattle.agreement_laws.specs.Agreed.{IsAgreed}
 use Rattle.walk_laws.specs.Walked.{IsWalked}
+use Rattle.world_core.specs.Sound.{IsSound}
 use Rattle.node_core.specs.NodeLimits.{Reached}
 use Rattle.world_core.specs.View.{WorldView}
 use Rattle.world_core.specs.declared.outcomes.Stop.{Stop}
@@ -65,6 +66,8 @@ pub record Loaded (number : ℕ) (sink sink' : SinkView) (status : Status) : Typ
   pub agreed : status ≢ NoMemory → IsAgreed gao_rexford (load_net number) (load_run number)
   -- no packet visits a node twice on one epoch's stable tables, and none makes more transient moves than the hop limit
   pub walked : status ≢ NoMemory → IsWalked gao_rexford (load_net number) (load_run number)
+  -- and the run is sound: the cuts of an epoch fit together, and without their incomplete entries they are at rest
+  pub sound : status ≢ NoMemory → IsSound gao_rexford (load_net number) (load_run number)
   -- Limit: the count would pass its number, and nothing is written
   pub limit : (kind : LimitKind) (most : ℕ) → status ≡ Limit kind most
       → (load_stop number ≡ Some (record { kind = kind; number = most })) × Appends sink.held sink'.held []

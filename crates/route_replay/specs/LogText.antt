@@ -1,5 +1,5 @@
--- The text of logs: a line for each entry of each node.
-use Rattle.std.specs.Prelude.{ℕ, suc, Option, Some, None, List, [], ◌∷◌, ◌++◌, codes, length, map, slice_get}
+-- The text of logs: a line for each entry that a node keeps, with its place in the whole log.
+use Rattle.std.specs.Prelude.{ℕ, suc, Option, Some, None, List, [], ◌∷◌, ◌++◌, codes, length, drop, map, slice_get}
 use Rattle.std.specs.List.{flat_map}
 use Rattle.std.specs.Fmt.{decimal}
 use Rattle.topology.specs.declared.names.Trigger.{Trigger}
@@ -13,8 +13,9 @@ use Rattle.path_vector.specs.declared.causes.Cause.TheVariants.{Originate, Withd
 use Rattle.path_vector.specs.History.{Change}
 use Rattle.path_vector.specs.Rules.{Rules}
 use Rattle.trigger_log.specs.Sending.{sent_by}
-use Rattle.trigger_log.specs.Standing.{Entered, all_entered}
+use Rattle.trigger_log.specs.Entered.{Entered, all_entered}
 use Rattle.chronicle.specs.Facts.{Chronicle}
+use Rattle.chronicle.specs.Drops.{dropped}
 use Rattle.chronicle.specs.Logs.{log_of}
 use Rattle.schedule_file.specs.Spelling.{prefix_text}
 use Rattle.route_replay.specs.Lines.{ended}
@@ -83,6 +84,6 @@ unfoldable pub entry_line : Rules → Net → ℕ → Entered → List ℕ
 entry_line rules net node step =
     line_of net node (suc (length step.before)) step.entry.triggers step.entry.read (sent_by rules net node step.before step.entry)
 
--- the log of one node, the oldest entry first
+-- the log of one node without what it has dropped, the oldest entry first
 unfoldable pub log_lines : Rules → Net → Chronicle → ℕ → List (List ℕ)
-log_lines rules net past node = map (entry_line rules net node) (all_entered (log_of node past))
+log_lines rules net past node = map (entry_line rules net node) (drop (dropped net node past) (all_entered (log_of node past)))

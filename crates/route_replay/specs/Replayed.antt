@@ -1,5 +1,5 @@
 -- What a user is promised of a schedule that is replayed.
-use Rattle.std.specs.Prelude.{ℕ, Bool, true, false, not, MatchBool, ◌≡◌, ◌≤◌, ◌<◌, ◌⊎◌, Option, Some, None, List, [], length}
+use Rattle.std.specs.Prelude.{◌≢◌, ℕ, Bool, true, false, not, MatchBool, ◌≡◌, ◌≤◌, ◌<◌, ◌⊎◌, Option, Some, None, List, [], length}
 use Rattle.std.specs.Io.KnownBytes.{Appends, IsAtEnd}
 use Rattle.topology.specs.Lists.{Begins}
 use Rattle.topology.specs.declared.status.Status.{Status}
@@ -14,12 +14,14 @@ use Rattle.chronicle.specs.Facts.{Chronicle}
 use Rattle.chronicle.specs.Run.{run}
 use Rattle.agreement_laws.specs.Agreed.{IsAgreed}
 use Rattle.walk_laws.specs.Walked.{IsWalked}
+use Rattle.world_core.specs.Sound.{IsSound}
 use Rattle.node_core.specs.NodeLimits.{Reached}
 use Rattle.schedule_file.specs.declared.lines.Line.{Line}
 use Rattle.schedule_file.specs.Spelling.{words_by_line}
 use Rattle.schedule_file.specs.Grammar.{Reads, net_of, directives_of}
 use Rattle.schedule_file.specs.Refusals.{FirstBad}
 use Rattle.schedule_file.specs.declared.parser.TheConstants.{MAX_BYTES}
+use Rattle.route_replay.specs.Probed.{AreProbed}
 use Rattle.route_replay.specs.Text.{text, stop, events_of}
 
 -- what the lines of a file come to: the text of their run, up to the directive that a limit stops,
@@ -122,6 +124,16 @@ pub record Replayed (source source' : SourceView) (sink sink' : SinkView) (statu
   -- hop limit; after that many its next hop that is not idle ends it
   pub walked : ends_read status ≡ true → (bytes : List ℕ) → source.left ≡ Some bytes
       → (run : Comes bytes) → IsWalked gao_rexford (net_of run.lines) (behind run.lines)
+  -- and it is sound: the cuts of an epoch fit together, and without their incomplete entries they are at rest
+  pub sound : ends_read status ≡ true → (bytes : List ℕ) → source.left ≡ Some bytes
+      → (run : Comes bytes) → IsSound gao_rexford (net_of run.lines) (behind run.lines)
+  -- so it is, whatever the end, where anything was written
+  pub sound_so_far : sink'.held ≢ sink.held → (bytes : List ℕ) → source.left ≡ Some bytes
+      → (run : Comes bytes) → IsSound gao_rexford (net_of run.lines) (behind run.lines)
+  -- where anything was written, each probe in the text shows a walk that comes to its end: as delivered exactly where links
+  -- that are up at its turn connect its node with an owner, else as stuck
+  pub probed : sink'.held ≢ sink.held → (bytes : List ℕ) → source.left ≡ Some bytes
+      → (run : Comes bytes) → AreProbed gao_rexford (net_of run.lines) [] (directives_of run.lines)
   -- BadSchedule: the line is the first outside the grammar, and this is what is wrong with it
   pub bad_schedule : (line : ℕ) (kind : BadKind) → status ≡ BadSchedule line kind
       → (bytes : List ℕ) → source.left ≡ Some bytes → FirstBad bytes line kind

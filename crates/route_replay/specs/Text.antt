@@ -13,7 +13,7 @@ use Rattle.chronicle.specs.Walks.{ending}
 use Rattle.node_core.specs.NodeLimits.{Reached}
 use Rattle.world_core.specs.Limits.{limit_of}
 use Rattle.schedule_file.specs.declared.lines.Directive.{Directive}
-use Rattle.schedule_file.specs.declared.lines.Directive.TheVariants.{Originate, Withdraw, Prefer, Deliver, Fail, Restore, Notice, OpenSession, Snap, Propose, Control, Crash, Restart, Drain, ControlAll, ShowRib, ShowLog, ShowControl, ShowCut, ShowClosure, ShowTables, Inject, Hop, ShowWalk}
+use Rattle.schedule_file.specs.declared.lines.Directive.TheVariants.{Originate, Withdraw, Probe, Prefer, Deliver, Fail, Restore, Notice, OpenSession, Snap, Propose, Control, Crash, Restart, Drain, ControlAll, ShowRib, ShowLog, ShowControl, ShowCut, ShowClosure, ShowTables, Inject, Hop, ShowWalk}
 use Rattle.schedule_file.specs.declared.lines.Numbered.{Numbered}
 use Rattle.route_replay.specs.declared.tasks.Task.{Task}
 use Rattle.route_replay.specs.declared.tasks.Task.TheVariants as task
@@ -21,6 +21,7 @@ use Rattle.route_replay.specs.declared.views.View.TheVariants.{Rib, Log, Cut}
 use Rattle.route_replay.specs.ClosureText.{closure_text}
 use Rattle.route_replay.specs.ControlText.{control_text}
 use Rattle.route_replay.specs.Lines.{ended}
+use Rattle.route_replay.specs.ProbeText.{probe_text}
 use Rattle.route_replay.specs.ReasonText.{reason_words}
 use Rattle.route_replay.specs.TablesText.{tables_text}
 use Rattle.route_replay.specs.Views.{view_text}
@@ -94,6 +95,7 @@ hops_of k (Some times) = task.Hops k times
 abbrev pub task_of : Directive → Task
 task_of (Originate node prefix) = task.Event (event.Originate node prefix)
 task_of (Withdraw node prefix) = task.Event (event.Withdraw node prefix)
+task_of (Probe node prefix) = task.Probe node prefix
 task_of (Prefer node nbr value) = task.Event (event.Prefer node nbr value)
 task_of (Deliver from to) = task.Event (event.Deliver from to)
 task_of (Fail a b) = task.Event (event.Fail a b)
@@ -128,6 +130,7 @@ course rules net events task.ShowControl = Leads events
 course rules net events (task.ShowTables epoch) = Leads events
 course rules net events (task.Hops packet times) = hopped rules net packet times events
 course rules net events (task.ShowWalk packet) = Leads events
+course rules net events (task.Probe node prefix) = Leads events
 
 -- what is written for a task of this line: an event's idle line, or what is shown; deliveries and hops by the number
 -- write nothing
@@ -141,6 +144,7 @@ said_for rules net events line task.ShowControl = control_text rules net events
 said_for rules net events line (task.ShowTables epoch) = tables_text net (run rules net events) epoch
 said_for rules net events line (task.Hops packet times) = []
 said_for rules net events line (task.ShowWalk packet) = walk_text packet (run rules net events)
+said_for rules net events line (task.Probe node prefix) = probe_text rules net (run rules net events) node prefix
 
 -- the lines of a directive, read on the run at its turn
 abbrev pub said : Rules → Net → List Event → Numbered → List ℕ

@@ -8,7 +8,7 @@ ghost use Rattle.incomplete_closure.specs.Seen.{reports_seen};
 ghost use Rattle.incomplete_closure.specs.Together.{OfOneEpoch};
 ghost use Rattle.chronicle.specs.Facts.{Chronicle};
 ghost use Rattle.node_core.specs.Standing.{StandsFor};
-ghost use Rattle.rest_laws.specs.Rest.{reports};
+ghost use Rattle.agreement_laws.specs.Decided.{told_reports};
 ghost use Rattle.route_replay.specs.ClosureText.{closure_text, further, listed, value_text};
 ghost use Rattle.route_replay.specs.LogText.{trigger_text};
 ghost use Rattle.route_replay.specs.Views.{past_of};
@@ -33,7 +33,7 @@ fn add_report<P: Policy + Copy>(
     ensures { OnOk result ((policy : P) (net : Net) (u : ℕ) (past : Chronicle) →
         StandsFor policy (P.rules policy) net u node.now past →
         reports_seen (map rc_value list.new.items)
-        ≡ reports_seen (map rc_value list.old.items) ++ reports (P.rules policy) net past epoch (u ∷ [])) }
+        ≡ reports_seen (map rc_value list.old.items) ++ told_reports (P.rules policy) net past epoch (u ∷ [])) }
 {
     if let Some(report) = node.report(epoch) {
         list.push(report.clone()?)?;
@@ -49,7 +49,7 @@ fn reports_of<P: Policy + Copy>(
 ) -> Result<Vec<Rc<Report>>, NoMemory>
     ensures reports { let rules = P.rules world.now.policy in
         IfOk result (λ list. reports_seen (map rc_value list.items)
-        ≡ reports rules world.now.net (past_of rules world.now) epoch (ascending world.now.net.nodes)) }
+        ≡ told_reports rules world.now.net (past_of rules world.now) epoch (ascending world.now.net.nodes)) }
     ensures together { IfOk result (λ list. OfOneEpoch (map rc_value list.items)) }
 {
     let mut reports = Vec::new(alloc);

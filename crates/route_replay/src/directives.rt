@@ -1,6 +1,7 @@
 //! What each directive does and writes.
-ghost use Rattle.std.specs.Prelude.{◌≡◌, ◌++◌, None, is_some, IsTrue, IfOk, IfErr, OnOk};
+ghost use Rattle.std.specs.Prelude.{◌≡◌, ◌++◌, ◌&&◌, nat_lt, length, None, is_some, IsTrue, IfOk, IfErr, OnOk};
 ghost use Rattle.std.specs.String.{string_bytes};
+ghost use Rattle.topology.specs.Lists.{has};
 ghost use Rattle.chronicle.specs.declared.events.Event.TheVariants as Happens;
 ghost use Rattle.chronicle.specs.Facts.{Chronicle};
 ghost use Rattle.chronicle.specs.Walks.{ending};
@@ -10,6 +11,7 @@ ghost use Rattle.world_core.specs.Effects.{Tells};
 ghost use Rattle.world_core.specs.Fits.{fits};
 ghost use Rattle.route_replay.specs.ClosureText.{closure_text};
 ghost use Rattle.route_replay.specs.ControlText.{control_text};
+ghost use Rattle.route_replay.specs.ProbeText.{probe_text};
 ghost use Rattle.route_replay.specs.TablesText.{tables_text};
 ghost use Rattle.route_replay.specs.Text.{idle_line, task_of, said, step_text, course, controlled, drained, hopped, is_idle, with_event};
 ghost use Rattle.route_replay.specs.Views.{past_of, view_text};
@@ -21,6 +23,7 @@ use crate::control_text::all_mails;
 use crate::ends::RunEnd;
 use crate::numbers::push_number;
 use crate::page::Page;
+use crate::probe_text::probe_words;
 use crate::reason_text::reason_words;
 use crate::tables_text::{all_tables, published_in};
 use crate::tasks::{Task, task_of};
@@ -30,7 +33,7 @@ use path_vector::Policy;
 use route_io::Sink;
 use schedule_file::Numbered;
 use std::alloc::{AllocError, Global};
-use topology::{Epoch, NoMemory, Reason};
+use topology::{Epoch, NoMemory, NodeId, PrefixId, Reason};
 use world_core::{Event, Outcome, Stop, World};
 
 // Adds the line of an event that did nothing.
@@ -272,6 +275,24 @@ fn show_walk<P: Policy + Copy, O: Sink>(
     Ok(())
 }
 
+// Writes the walk that a packet of the prefix has from the node, if nothing happens any more.
+fn show_probe<P: Policy + Copy, O: Sink>(
+    alloc: Global,
+    world: &World<P>,
+    node: NodeId,
+    prefix: PrefixId,
+    sink: &mut O,
+) -> Result<(), RunEnd>
+    requires { IsTrue (has world.now.net.nodes node && nat_lt prefix (length world.now.net.prefixes)) }
+    ensures { Runs (O.seen sink.old) (O.seen sink.new)
+        (probe_text (P.rules world.now.policy) world.now.net (past_of (P.rules world.now.policy) world.now) node prefix) None result }
+{
+    let mut page = Page::new(alloc, sink);
+    probe_words(&mut page, alloc, world, node, prefix)?;
+    page.flush()?;
+    Ok(())
+}
+
 /// The world after a directive, whose lines are written.
 pub fn advance<P: Policy + Copy, O: Sink>(
     alloc: Global,
@@ -310,6 +331,10 @@ pub fn advance<P: Policy + Copy, O: Sink>(
         Task::Hops { packet, times } => Ok(hop(world, packet, times)?),
         Task::ShowWalk(packet) => {
             show_walk(alloc, &world, packet, sink)?;
+            Ok(world)
+        }
+        Task::Probe { node, prefix } => {
+            show_probe(alloc, &world, node, prefix, sink)?;
             Ok(world)
         }
     }

@@ -14,6 +14,7 @@ pub mod log_text;
 mod numbers;
 pub mod page;
 pub mod plain;
+pub mod probe_text;
 pub mod reason_text;
 pub mod rib_text;
 pub mod runner;

@@ -40,7 +40,8 @@ fn perform<P: Policy + Copy>(world: World<P>, task: &Task) -> Result<World<P>, S
         | Task::ShowClosure(_)
         | Task::ShowControl
         | Task::ShowTables(_)
-        | Task::ShowWalk(_) => Ok(world),
+        | Task::ShowWalk(_)
+        | Task::Probe { .. } => Ok(world),
     }
 }
 
@@ -104,8 +105,9 @@ pub fn load<O: Sink>(alloc: Global, number: u32, sink: &mut O) -> Status
     let Ok(made) = load_of(alloc, number) else {
         return Status::NoMemory;
     };
-    agreement_laws::laws::a_run_is_agreed();
+    drop_laws::laws::a_run_is_agreed();
     walk_laws::laws::a_run_is_walked();
+    world_core::laws::every_run_is_sound();
     // that a network is valid is said where its nodes are read
     let _nodes = made.topology.nodes();
     match run_load(alloc, made, sink) {

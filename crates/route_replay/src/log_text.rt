@@ -2,8 +2,13 @@
 ghost use Rattle.std.specs.Prelude.{ℕ, ◌≡◌, ◌<◌, ◌≤◌, ◌-◌, [], ◌∷◌, ◌++◌, codes, decimal, length, slice_get, IfSome, OnOk};
 ghost use Rattle.std.specs.List.{flat_map};
 ghost use Rattle.std.specs.String.{string_bytes};
+ghost use Rattle.topology.specs.Net.{Net};
 ghost use Rattle.path_vector.specs.History.{change};
 ghost use Rattle.path_vector.specs.declared.causes.Cause.TheVariants.{Recv};
+ghost use Rattle.chronicle.specs.Drops.{dropped};
+ghost use Rattle.chronicle.specs.Facts.{Chronicle};
+ghost use Rattle.chronicle.specs.Logs.{log_of};
+ghost use Rattle.node_core.specs.Standing.{StandsFor};
 ghost use Rattle.route_replay.specs.Views.{pieces_in, IsNodeOf};
 ghost use Rattle.route_replay.specs.LogText.{trigger_text, scope_text, received_path, received_nodes, further_nodes, session_text, cause_text, item_text, line_of};
 
@@ -17,7 +22,18 @@ use topology::{NodeId, Path, Scope, Sent, Session, Topology, Trigger};
 use trigger_log::Entry;
 use world_core::World;
 
-/// Adds the line of the entry with this number, from 1, of a node.
+/// How many entries a node keeps.
+pub(crate) fn kept_count<P: Policy + Copy>(node: &Node<P>) -> u32
+    ensures { (policy : P) (net : Net) (u : ℕ) (past : Chronicle) →
+        StandsFor policy (P.rules policy) net u node.now past →
+        result ≡ length (log_of u past) - dropped net u past }
+{
+    let log = node.log();
+    let dropped = log.kept_from().saturating_sub(1);
+    log.len().saturating_sub(dropped)
+}
+
+/// Adds the line of the entry with this number, from 1, of those that a node keeps. It names the place of the entry in the whole log.
 #[tactic(auto, unfolding(crate::specs::LogText::log_lines))]
 pub fn log_words<P: Policy + Copy>(
     out: &mut String,
@@ -33,8 +49,11 @@ pub fn log_words<P: Policy + Copy>(
         (slice_get (pieces_in (P.rules world.now.policy) world.now View.Log id) (number - 1))
         (λ words. string_bytes out.new ≡ string_bytes out.old ++ words)) }
 {
-    let entry = node.log().entry(number).unwrap();
-    entry_line(out, world.topology(), id, number, entry)
+    let log = node.log();
+    let dropped = log.kept_from().saturating_sub(1);
+    let place = dropped.saturating_add(number);
+    let entry = log.entry(place).unwrap();
+    entry_line(out, world.topology(), id, place, entry)
 }
 
 // The line of an entry.

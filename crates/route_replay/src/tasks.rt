@@ -4,7 +4,7 @@ ghost use Rattle.route_replay.specs.Text.{hops_of, task_of};
 
 use crate::views::View;
 use schedule_file::Directive;
-use topology::Epoch;
+use topology::{Epoch, NodeId, PrefixId};
 use world_core::Event;
 
 /// What a directive asks for.
@@ -26,6 +26,8 @@ pub enum Task {
     Hops { packet: u32, times: u32 },
     /// The walk of a packet.
     ShowWalk(u32),
+    /// The walk that a packet of the prefix has from the node, if nothing happens any more.
+    Probe { node: NodeId, prefix: PrefixId },
 }
 
 // One hop is an event of its own line.
@@ -97,5 +99,9 @@ pub fn task_of(directive: &Directive) -> Task
         }),
         Directive::Hop { packet, times } => hops_of(*packet, *times),
         Directive::ShowWalk(packet) => Task::ShowWalk(*packet),
+        Directive::Probe { node, prefix } => Task::Probe {
+            node: *node,
+            prefix: *prefix,
+        },
     }
 }

@@ -7,7 +7,7 @@ ghost use Rattle.route_replay.specs.Views.{pieces_in, node_text, past_of, view_t
 
 use crate::cut_text::cut_words;
 use crate::ends::RunEnd;
-use crate::log_text::log_words;
+use crate::log_text::{kept_count, log_words};
 use crate::page::Page;
 use crate::rib_text::rib_words;
 use node_core::Node;
@@ -22,7 +22,7 @@ use world_core::World;
 pub enum View {
     /// Its routes to all prefixes, in the order of the file.
     Rib,
-    /// Its log, the oldest entry first.
+    /// The entries that its log keeps, the oldest first.
     Log,
     /// Its cut of an epoch, and what it recorded after it of each neighbour, ascending.
     Cut(Epoch),
@@ -89,7 +89,7 @@ fn piece_count<P: Policy + Copy>(world: &World<P>, view: &View, id: NodeId, node
 {
     match view {
         View::Rib => u32::from(world.topology().prefix_count()),
-        View::Log => node.log().len(),
+        View::Log => kept_count(node),
         View::Cut(_) => world.topology().neighbours(id).len() as u32 + 1,
     }
 }

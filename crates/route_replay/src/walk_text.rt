@@ -37,7 +37,7 @@ fn visit_words(out: &mut String, visit: &Visit) -> Result<(), AllocError>
 }
 
 // How the walk ended, and the end of its line.
-fn end_words(out: &mut String, end: Option<End>) -> Result<(), AllocError>
+pub(crate) fn end_words(out: &mut String, end: Option<End>) -> Result<(), AllocError>
     ensures { OnOk result (string_bytes out.new ≡ string_bytes out.old ++ ended (codes " " ++ end_text end)) }
 {
     out.push_str(match end {

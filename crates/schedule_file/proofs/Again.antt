@@ -18,7 +18,7 @@ use Rattle.schedule_file.specs.declared.lines.Instruction.{Instruction}
 use Rattle.schedule_file.specs.declared.lines.Instruction.TheVariants.{Origin, Single, Pair, Prefer, Propose, Drain, Control, ControlAll, Inject, Hop, HopTimes, Show, ShowEpoch, ShowWalk}
 use Rattle.schedule_file.specs.declared.lines.Numbered.{Numbered}
 use Rattle.schedule_file.specs.declared.lines.Schedule.{Schedule}
-use Rattle.schedule_file.specs.declared.table.OriginEvent.TheVariants.{Originate, Withdraw}
+use Rattle.schedule_file.specs.declared.table.OriginVerb.TheVariants.{Originate, Withdraw, Probe}
 use Rattle.schedule_file.specs.declared.table.NodeEvent.TheVariants.{Snap, Crash, Restart}
 use Rattle.schedule_file.specs.declared.table.PairEvent.TheVariants.{Deliver, Fail, Restore, Notice, Open}
 use Rattle.schedule_file.specs.declared.table.PlainView.TheVariants as plain
@@ -72,6 +72,7 @@ prefix_found net node p e = ap (λ o. unwrap_or o (record { bits = 0; len = 0 })
 same_instruction : (net : Net) (i : Instruction) → directed_fault net i ≡ None → instruction_of net (directive_of net i) ≡ i
 same_instruction net (Origin Originate node p) e = ap (λ q. Origin Originate node q) (prefix_found net node p e)
 same_instruction net (Origin Withdraw node p) e = ap (λ q. Origin Withdraw node q) (prefix_found net node p e)
+same_instruction net (Origin Probe node p) e = ap (λ q. Origin Probe node q) (prefix_found net node p e)
 same_instruction net (Single Snap node) e = refl
 same_instruction net (Single Crash node) e = refl
 same_instruction net (Single Restart node) e = refl

@@ -8,7 +8,7 @@ use Rattle.topology.specs.declared.status.BadKind.TheVariants.{UnknownWord}
 use Rattle.schedule_file.specs.declared.table.Keyword.{Keyword}
 use Rattle.schedule_file.specs.declared.table.Part.{Part}
 use Rattle.schedule_file.specs.declared.table.Keyword.TheVariants.{Node, Link, Pref, Prefix, Hops, Transient, Begin, Origin, Single, Pair, Prefer, Propose, Drain, Control, Inject, Hop, Show}
-use Rattle.schedule_file.specs.declared.table.OriginEvent.TheVariants.{Originate}
+use Rattle.schedule_file.specs.declared.table.OriginVerb.TheVariants.{Originate}
 use Rattle.schedule_file.specs.declared.table.NodeEvent.TheVariants.{Snap, Crash, Restart}
 use Rattle.schedule_file.specs.declared.table.PairEvent.TheVariants.{Deliver}
 use Rattle.schedule_file.specs.declared.table.PlainView.TheVariants.{Rib}

@@ -27,7 +27,7 @@ use Rattle.schedule_file.specs.declared.lines.Instruction.{Instruction}
 use Rattle.schedule_file.specs.declared.lines.Instruction.TheVariants.{Origin, Single, Pair, Prefer, Propose, Drain, Control, ControlAll, Inject, Hop, HopTimes, Show, ShowEpoch, ShowWalk}
 use Rattle.schedule_file.specs.declared.table.Keyword.{Keyword}
 use Rattle.schedule_file.specs.declared.table.Keyword.TheVariants as keyword
-use Rattle.schedule_file.specs.declared.table.OriginEvent.TheVariants.{Originate}
+use Rattle.schedule_file.specs.declared.table.OriginVerb.TheVariants.{Originate}
 use Rattle.schedule_file.specs.declared.table.NodeEvent.TheVariants.{Snap}
 use Rattle.schedule_file.specs.declared.table.PairEvent.TheVariants.{Deliver}
 use Rattle.schedule_file.specs.declared.table.PlainView.{PlainView}

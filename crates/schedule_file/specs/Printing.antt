@@ -15,7 +15,7 @@ use Rattle.schedule_file.specs.declared.lines.Directive.{Directive}
 use Rattle.schedule_file.specs.declared.lines.Directive.TheVariants as directive
 use Rattle.schedule_file.specs.declared.lines.Numbered.{Numbered}
 use Rattle.schedule_file.specs.declared.lines.Schedule.{Schedule}
-use Rattle.schedule_file.specs.declared.table.OriginEvent.TheVariants.{Originate, Withdraw}
+use Rattle.schedule_file.specs.declared.table.OriginVerb.TheVariants.{Originate, Withdraw, Probe}
 use Rattle.schedule_file.specs.declared.table.NodeEvent.TheVariants.{Snap, Crash, Restart}
 use Rattle.schedule_file.specs.declared.table.PairEvent.TheVariants.{Deliver, Fail, Restore, Notice, Open}
 use Rattle.schedule_file.specs.declared.table.PlainView.TheVariants as plain
@@ -77,6 +77,7 @@ hop_instruction packet (Some times) = HopTimes packet times
 abbrev pub instruction_of : Net → Directive → Instruction
 instruction_of net (directive.Originate node place) = Origin Originate node (prefix_at net place)
 instruction_of net (directive.Withdraw node place) = Origin Withdraw node (prefix_at net place)
+instruction_of net (directive.Probe node place) = Origin Probe node (prefix_at net place)
 instruction_of net (directive.Prefer node nbr value) = Prefer node nbr value
 instruction_of net (directive.Deliver a b) = Pair Deliver a b
 instruction_of net (directive.Fail a b) = Pair Fail a b

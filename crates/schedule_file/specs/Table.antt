@@ -7,8 +7,8 @@ use Rattle.schedule_file.specs.declared.lines.Directive.{Directive}
 use Rattle.schedule_file.specs.declared.lines.Directive.TheVariants as directive
 use Rattle.schedule_file.specs.declared.table.Keyword.{Keyword}
 use Rattle.schedule_file.specs.declared.table.Keyword.TheVariants.{Node, Link, Pref, Prefix, Hops, Transient, Begin, Origin, Single, Pair, Prefer, Propose, Drain, Control, Inject, Hop, Show}
-use Rattle.schedule_file.specs.declared.table.OriginEvent.{OriginEvent}
-use Rattle.schedule_file.specs.declared.table.OriginEvent.TheVariants.{Originate, Withdraw}
+use Rattle.schedule_file.specs.declared.table.OriginVerb.{OriginVerb}
+use Rattle.schedule_file.specs.declared.table.OriginVerb.TheVariants.{Originate, Withdraw, Probe}
 use Rattle.schedule_file.specs.declared.table.NodeEvent.{NodeEvent}
 use Rattle.schedule_file.specs.declared.table.NodeEvent.TheVariants.{Snap, Crash, Restart}
 use Rattle.schedule_file.specs.declared.table.PairEvent.{PairEvent}
@@ -27,15 +27,17 @@ use Rattle.schedule_file.specs.declared.table.Shape.{Shape}
 use Rattle.schedule_file.specs.declared.table.TheConstants.{MAX_NODE, MAX_PREFERENCE, MAX_HOPS, MAX_TIMES, MAX_MESSAGE, MAX_PACKET, MAX_EPOCH}
 use Rattle.schedule_file.specs.Words.{has_word, word_at, spells_number, spells_prefix}
 
--- an event of a node and a prefix: its word
-abbrev pub origin_text : OriginEvent → List ℕ
+-- the verb of a node and a prefix: its word
+abbrev pub origin_text : OriginVerb → List ℕ
 origin_text Originate = codes "originate"
 origin_text Withdraw = codes "withdraw"
+origin_text Probe = codes "probe"
 
 -- and what it directs
-abbrev pub origin_directive : OriginEvent → ℕ → ℕ → Directive
+abbrev pub origin_directive : OriginVerb → ℕ → ℕ → Directive
 origin_directive Originate node prefix = directive.Originate node prefix
 origin_directive Withdraw node prefix = directive.Withdraw node prefix
+origin_directive Probe node prefix = directive.Probe node prefix
 
 -- an event of one node: its word
 abbrev pub node_text : NodeEvent → List ℕ
@@ -138,7 +140,7 @@ keyword_text Show = codes "show"
 abbrev pub keywords : List Keyword
 keywords =
     Node ∷ Link ∷ Pref ∷ Prefix ∷ Hops ∷ Transient ∷ Begin
-    ∷ Origin Originate ∷ Origin Withdraw
+    ∷ Origin Originate ∷ Origin Withdraw ∷ Origin Probe
     ∷ Single Snap ∷ Single Crash ∷ Single Restart
     ∷ Pair Deliver ∷ Pair Fail ∷ Pair Restore ∷ Pair Notice ∷ Pair Open
     ∷ Prefer ∷ Propose ∷ Drain ∷ Control ∷ Inject ∷ Hop ∷ Show ∷ []

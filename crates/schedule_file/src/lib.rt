@@ -62,6 +62,3 @@ pub mod words;
 pub use lines::{Declaration, Directive, Instruction, Line, Numbered, Schedule};
 pub use parser::{MAX_BYTES, ParseEnd, parse, parse_topology};
 pub use printing::print;
-
-#[cfg(test)]
-mod tests;

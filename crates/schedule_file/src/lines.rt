@@ -1,5 +1,5 @@
 //! What a schedule file holds.
-use crate::table::{EpochView, NodeEvent, OriginEvent, PairEvent, PlainView};
+use crate::table::{EpochView, NodeEvent, OriginVerb, PairEvent, PlainView};
 use topology::{Epoch, NodeId, Prefix, PrefixId, Relation, Scheme, Topology};
 
 /// A line of the file, by its words alone: names are not looked up.
@@ -50,9 +50,9 @@ pub enum Declaration {
 /// What a line says is to happen, by names that are not looked up.
 #[derive(Clone, Copy, Debug, PartialEq, Eq)]
 pub enum Instruction {
-    /// Something happens to a prefix at a node.
+    /// Something happens to a prefix at a node, or its packets are probed from there.
     Origin {
-        event: OriginEvent,
+        verb: OriginVerb,
         node: NodeId,
         prefix: Prefix,
     },
@@ -126,6 +126,11 @@ pub enum Directive {
         prefix: PrefixId,
     },
     Withdraw {
+        node: NodeId,
+        prefix: PrefixId,
+    },
+    /// The walk that a packet of the prefix has from the node, if nothing happens any more, is shown.
+    Probe {
         node: NodeId,
         prefix: PrefixId,
     },

@@ -158,11 +158,10 @@ pub fn look_up(topology: &Topology, instruction: &Instruction) -> Result<Directi
     ensures err { IfErr result (λ kind. directed_fault topology.now instruction.now ≡ Some kind) }
 {
     match *instruction {
-        Instruction::Origin {
-            event,
+        Instruction::Origin { verb, node, prefix } => Ok(verb.directive(
             node,
-            prefix,
-        } => Ok(event.directive(node, origin(topology, node, prefix)?)),
+            origin(topology, node, prefix)?,
+        )),
         Instruction::Single { event, node } => {
             check_node(topology, node)?;
             Ok(event.directive(node))

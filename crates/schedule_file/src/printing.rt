@@ -10,7 +10,7 @@ ghost use Rattle.schedule_file.specs.Printing.{line_text, node_line, link_line, 
 
 use crate::lines::{Declaration, Directive, Instruction, Line, Schedule};
 use crate::spelling::push_line;
-use crate::table::{EpochView, NodeEvent, OriginEvent, PairEvent, PlainView};
+use crate::table::{EpochView, NodeEvent, OriginVerb, PairEvent, PlainView};
 use std::alloc::{AllocError, Global};
 use topology::{Epoch, NoMemory, NodeId, Prefix, PrefixId, Topology};
 
@@ -24,12 +24,12 @@ fn prefix_at(topology: &Topology, place: PrefixId) -> Prefix
     }
 }
 
-// Something happens to the prefix at this place.
-fn origin(topology: &Topology, event: OriginEvent, node: NodeId, place: PrefixId) -> Instruction
-    ensures { result ≡ Instruction.Origin event node (prefix_at topology.now place) }
+// What a verb says of the prefix at this place.
+fn origin(topology: &Topology, verb: OriginVerb, node: NodeId, place: PrefixId) -> Instruction
+    ensures { result ≡ Instruction.Origin verb node (prefix_at topology.now place) }
 {
     Instruction::Origin {
-        event,
+        verb,
         node,
         prefix: prefix_at(topology, place),
     }
@@ -78,8 +78,9 @@ fn instruction_of(net: &Topology, directive: &Directive) -> Instruction
     ensures { result ≡ instruction_of net.now directive.now }
 {
     match *directive {
-        Directive::Originate { node, prefix } => origin(net, OriginEvent::Originate, node, prefix),
-        Directive::Withdraw { node, prefix } => origin(net, OriginEvent::Withdraw, node, prefix),
+        Directive::Originate { node, prefix } => origin(net, OriginVerb::Originate, node, prefix),
+        Directive::Withdraw { node, prefix } => origin(net, OriginVerb::Withdraw, node, prefix),
+        Directive::Probe { node, prefix } => origin(net, OriginVerb::Probe, node, prefix),
         Directive::Prefer { node, nbr, value } => Instruction::Prefer { node, nbr, value },
         Directive::Deliver { from, to } => pair(PairEvent::Deliver, from, to),
         Directive::Fail { a, b } => pair(PairEvent::Fail, a, b),

@@ -10,7 +10,7 @@ ghost use Rattle.schedule_file.specs.Refusals.{word_fault};
 ghost use Rattle.schedule_file.specs.Standing.{Holds, ReadsAs, HasForm};
 
 use crate::lines::{Declaration, Instruction, Line};
-use crate::table::{Keyword, NodeEvent, OriginEvent, PairEvent, Part, SchemeName, Shape, View};
+use crate::table::{Keyword, NodeEvent, OriginVerb, PairEvent, Part, SchemeName, Shape, View};
 use crate::words::{
     Words, epoch_of, hops_of, keyword_of, message_of, node_of, packet_of, prefix_of, relation_of,
     scheme_of, times_of, value_of, view_of,
@@ -133,17 +133,13 @@ fn transient_more_line(name: &[u8], more: &[u8]) -> Result<Line, BadKind>
     }
 }
 
-// The words of an event of a node and a prefix.
-fn origin_line(event: OriginEvent, node: &[u8], prefix: &[u8]) -> Result<Line, BadKind>
-    ensures { ReadsAs (keyword.Origin event) (node.now ∷ prefix.now ∷ []) result }
+// The words behind the verb of a node and a prefix.
+fn origin_line(verb: OriginVerb, node: &[u8], prefix: &[u8]) -> Result<Line, BadKind>
+    ensures { ReadsAs (keyword.Origin verb) (node.now ∷ prefix.now ∷ []) result }
 {
     let node = node_of(node)?;
     let prefix = prefix_of(prefix)?;
-    Ok(Line::Directs(Instruction::Origin {
-        event,
-        node,
-        prefix,
-    }))
+    Ok(Line::Directs(Instruction::Origin { verb, node, prefix }))
 }
 
 // The word of an event of one node.
@@ -284,7 +280,7 @@ fn line_of(keyword: Keyword, words: &Words<'_>) -> Result<Line, BadKind>
         Keyword::Transient if words.count == 3 => transient_more_line(words.second, words.third),
         Keyword::Transient => transient_line(words.second),
         Keyword::Begin => Ok(Line::Begin),
-        Keyword::Origin(event) => origin_line(event, words.second, words.third),
+        Keyword::Origin(verb) => origin_line(verb, words.second, words.third),
         Keyword::Single(event) => single_line(event, words.second),
         Keyword::Pair(event) => pair_line(event, words.second, words.third),
         Keyword::Prefer => prefer_line(words.second, words.third, words.fourth),

@@ -153,7 +153,7 @@ fn first_word(instruction: &Instruction) -> &'static str
     ensures { result.now ≡ keyword_text (directing instruction.now) }
 {
     match instruction {
-        Instruction::Origin { event, .. } => event.word(),
+        Instruction::Origin { verb, .. } => verb.word(),
         Instruction::Single { event, .. } => event.word(),
         Instruction::Pair { event, .. } => event.word(),
         Instruction::Prefer { .. } => "prefer",

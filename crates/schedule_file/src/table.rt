@@ -29,11 +29,12 @@ pub const MAX_PACKET: u32 = 4_294_967_295;
 /// The highest epoch. The lowest is 1.
 pub const MAX_EPOCH: u32 = 32;
 
-/// What happens to a prefix at a node.
+/// The first word of a line of a node and a prefix.
 #[derive(Clone, Copy, Debug, PartialEq, Eq)]
-pub enum OriginEvent {
+pub enum OriginVerb {
     Originate,
     Withdraw,
+    Probe,
 }
 
 /// What happens at a node.
@@ -98,7 +99,7 @@ pub enum Keyword {
     Hops,
     Transient,
     Begin,
-    Origin(OriginEvent),
+    Origin(OriginVerb),
     Single(NodeEvent),
     Pair(PairEvent),
     Prefer,
@@ -142,8 +143,9 @@ pub fn keyword_named(word: &[u8]) -> Option<Keyword>
         b"pref" => Some(Keyword::Pref),
         b"prefix" => Some(Keyword::Prefix),
         b"begin" => Some(Keyword::Begin),
-        b"originate" => Some(Keyword::Origin(OriginEvent::Originate)),
-        b"withdraw" => Some(Keyword::Origin(OriginEvent::Withdraw)),
+        b"originate" => Some(Keyword::Origin(OriginVerb::Originate)),
+        b"withdraw" => Some(Keyword::Origin(OriginVerb::Withdraw)),
+        b"probe" => Some(Keyword::Origin(OriginVerb::Probe)),
         b"snap" => Some(Keyword::Single(NodeEvent::Snap)),
         b"crash" => Some(Keyword::Single(NodeEvent::Crash)),
         b"restart" => Some(Keyword::Single(NodeEvent::Restart)),
@@ -277,14 +279,15 @@ impl Keyword {
     }
 }
 
-impl OriginEvent {
+impl OriginVerb {
     /// The word for it.
     pub fn word(self) -> &'static str
         ensures { result.now ≡ origin_text self }
     {
         match self {
-            OriginEvent::Originate => "originate",
-            OriginEvent::Withdraw => "withdraw",
+            OriginVerb::Originate => "originate",
+            OriginVerb::Withdraw => "withdraw",
+            OriginVerb::Probe => "probe",
         }
     }
 
@@ -293,8 +296,9 @@ impl OriginEvent {
         ensures { result ≡ origin_directive self node prefix }
     {
         match self {
-            OriginEvent::Originate => Directive::Originate { node, prefix },
-            OriginEvent::Withdraw => Directive::Withdraw { node, prefix },
+            OriginVerb::Originate => Directive::Originate { node, prefix },
+            OriginVerb::Withdraw => Directive::Withdraw { node, prefix },
+            OriginVerb::Probe => Directive::Probe { node, prefix },
         }
     }
 }

@@ -6,7 +6,7 @@ use Rattle.topology.specs.Lists.{has}
 use Rattle.topology.specs.Net.{Net}
 use Rattle.topology.proofs.Ascending.{has-ascending, increasing_ascending}
 use Rattle.topology.proofs.Sets.{has_at}
-use Rattle.rest_laws.specs.Rest.{reports}
+use Rattle.agreement_laws.specs.Decided.{told_reports}
 use Rattle.route_replay.specs.Views.{past_of}
 use Rattle.route_replay.proofs.Closures.{reports_more, together}
 use Rattle.route_replay.proofs.closure_text.reports_of.Goals as goal
@@ -35,9 +35,9 @@ loop-id-preserved g c =
     let more : take (i + 1) nodes ≡ take i nodes ++ n ∷ [] =
     take_more nodes i n c.loop-id-test.true ∙ ap (λ x. take i nodes ++ x ∷ []) (sym (get_or_read nodes i n c.loop-id-test.true c.id-item.is n)) in
     c.in_ok-add_report.ensures world.policy world.net n past c.node_of.ensures
-    ∙ (ap (λ rs. rs ++ reports rules world.net past e (n ∷ [])) c.loop-id.invariant
+    ∙ (ap (λ rs. rs ++ told_reports rules world.net past e (n ∷ [])) c.loop-id.invariant
     ∙ (sym (reports_more rules world.net past e (take i nodes) (n ∷ []))
-    ∙ ap (reports rules world.net past e) (sym more)))
+    ∙ ap (told_reports rules world.net past e) (sym more)))
 
 -- they may be put together
 pub returns-clause-together : goal.returns-clause-together
@@ -48,4 +48,4 @@ returns-clause-together g c =
     let all : take c.loop-id.id-index nodes ≡ nodes = take_all c.loop-id.id-index nodes (omega (arith, c.loop-id-test.false)) in
     together rules world.net (past_of rules world) c.args.epoch nodes (map rc_value c.loop-id.reports.items)
     (subst IsStrictlyIncreasing (sym c.nodes-id-items.ensures.nodes) (increasing_ascending c.topology.result.now.nodes c.nodes-id-items.ensures.valid.nodes_differ))
-    (c.loop-id.invariant ∙ ap (reports rules world.net (past_of rules world) c.args.epoch) all)
+    (c.loop-id.invariant ∙ ap (told_reports rules world.net (past_of rules world) c.args.epoch) all)

@@ -125,3 +125,19 @@ returns-in_ok-show_walk-in-ShowWalk-clause-runs g c =
     let world = c.args.world in
     task_runs (g.P.Policy.rules world.policy) world.net world.events c.args.numbered.now.line _ _ _ _ _ (sym c.task_of.ensures ∙ c.in-ShowWalk.is)
     (runs_answer _ _ _ _ c.in_ok-show_walk-in-ShowWalk.field-0 world c.in_ok-show_walk-in-ShowWalk.ensures)
+
+pub show_probe-requires : goal.show_probe-requires
+show_probe-requires g c = subst (Fitting c.args.world.net) (sym c.task_of.ensures ∙ c.in-Probe.is) c.requires
+
+pub returns-in_err-show_probe-in-Probe-clause-runs : goal.returns-in_err-show_probe-in-Probe-clause-runs
+returns-in_err-show_probe-in-Probe-clause-runs g c =
+    let world = c.args.world in
+    task_runs (g.P.Policy.rules world.policy) world.net world.events c.args.numbered.now.line _ _ _ _ _ (sym c.task_of.ensures ∙ c.in-Probe.is)
+    (handed_runs c.from_residual-in_err-show_probe-in-Probe.result _ _ _ _ _ c.from_residual-in_err-show_probe-in-Probe.ensures (λ why same.
+    runs_as _ _ _ _ why c.in_err-show_probe-in-Probe.field-0.0 c.in_err-show_probe-in-Probe.ensures same))
+
+pub returns-in_ok-show_probe-in-Probe-clause-runs : goal.returns-in_ok-show_probe-in-Probe-clause-runs
+returns-in_ok-show_probe-in-Probe-clause-runs g c =
+    let world = c.args.world in
+    task_runs (g.P.Policy.rules world.policy) world.net world.events c.args.numbered.now.line _ _ _ _ _ (sym c.task_of.ensures ∙ c.in-Probe.is)
+    (runs_answer _ _ _ _ c.in_ok-show_probe-in-Probe.field-0 world c.in_ok-show_probe-in-Probe.ensures)

@@ -19,7 +19,7 @@ unfolding load_run
 returns-in-Ok-run_load g c =
     let number = c.args.number in
     let valid = subst IsValid c.in-Ok.ensures.topology c.nodes-nodes.ensures.valid in
-    let known : Known number = record { agreed = c.a_run_is_agreed.ensures gao_rexford (load_net number) (load_events number) valid; walked = c.a_run_is_walked.ensures gao_rexford (load_net number) (load_events number) valid } in
+    let known : Known number = record { agreed = c.a_run_is_agreed.ensures gao_rexford (load_net number) (load_events number) valid; walked = c.a_run_is_walked.ensures gao_rexford (load_net number) (load_events number) valid; sound = c.every_run_is_sound.ensures gao_rexford (load_net number) (load_events number) valid } in
     ends_done number _ _ known (load_runs number _ _ _ _ (Ok c.in-Ok-run_load.field-0) c.in-Ok.ensures.topology c.in-Ok.ensures.directives c.in-Ok-run_load.ensures)
 
 pub returns-in-Err-NoMemory : goal.returns-in-Err-NoMemory
@@ -32,7 +32,7 @@ unfolding load_run
 returns-in-Err-WriteFault g c =
     let number = c.args.number in
     let valid = subst IsValid c.in-Ok.ensures.topology c.nodes-nodes.ensures.valid in
-    let known : Known number = record { agreed = c.a_run_is_agreed.ensures gao_rexford (load_net number) (load_events number) valid; walked = c.a_run_is_walked.ensures gao_rexford (load_net number) (load_events number) valid } in
+    let known : Known number = record { agreed = c.a_run_is_agreed.ensures gao_rexford (load_net number) (load_events number) valid; walked = c.a_run_is_walked.ensures gao_rexford (load_net number) (load_events number) valid; sound = c.every_run_is_sound.ensures gao_rexford (load_net number) (load_events number) valid } in
     ends_cut number _ _ known (load_runs number _ _ _ _ (Err WriteFault) c.in-Ok.ensures.topology c.in-Ok.ensures.directives (rw c.in-Err-WriteFault.field-0-is at c.in-Err-WriteFault.ensures))
 
 pub returns-in-Err-Limit : goal.returns-in-Err-Limit
@@ -40,6 +40,6 @@ unfolding load_run
 returns-in-Err-Limit g c =
     let number = c.args.number in
     let valid = subst IsValid c.in-Ok.ensures.topology c.nodes-nodes.ensures.valid in
-    let known : Known number = record { agreed = c.a_run_is_agreed.ensures gao_rexford (load_net number) (load_events number) valid; walked = c.a_run_is_walked.ensures gao_rexford (load_net number) (load_events number) valid } in
+    let known : Known number = record { agreed = c.a_run_is_agreed.ensures gao_rexford (load_net number) (load_events number) valid; walked = c.a_run_is_walked.ensures gao_rexford (load_net number) (load_events number) valid; sound = c.every_run_is_sound.ensures gao_rexford (load_net number) (load_events number) valid } in
     rw (c.in-Err-Limit.kind-is, c.in-Err-Limit.most-is)
     (ends_limit number _ _ c.in-Err-Limit.kind c.in-Err-Limit.most known (load_runs number _ _ _ _ (Err (Limit c.in-Err-Limit.kind c.in-Err-Limit.most)) c.in-Ok.ensures.topology c.in-Ok.ensures.directives (rw c.in-Err-Limit.field-0-is at c.in-Err-Limit.ensures)))

@@ -47,7 +47,7 @@ returns g c =
     ap (slice_get world.net.prefixes) (sym c.new-place.ensures)
     ∙ ap (λ (net : Net). slice_get net.prefixes c.new-place.result) (sym c.topology-topology.ensures)
     ∙ sym c.prefix.ensures ∙ c.unwrap-prefix.ensures in
-    let shows = c.best.ensures.best world.policy world.net node h (c.live.ensures world.policy world.net node entries (c.log.ensures world.policy world.net node past c.requires.node)) named in
+    let shows = c.best.ensures.best world.policy world.net node h (c.live.ensures world.policy world.net node entries (c.log.ensures.log world.policy world.net node past c.requires.node)) named in
     let line = λ (p : ℕ × Prefix). rib_line node p.1 (path_of node (best rules world.net node h p.0)) in
     let made = subst (λ n. OnOk c.route_line.result (string_bytes c.route_line.new.out ≡ string_bytes c.args.out.now ++ rib_line node prefix (path_of node (best rules world.net node h n)))) c.new-place.ensures
     (c.route_line.ensures (best rules world.net node h c.new-place.result) shows) in

@@ -6,4 +6,4 @@ pub returns-clause-length : goal.returns-clause-length
 returns-clause-length g c =
     let world = c.args.world.now in
     let past = past_of (g.P.Policy.rules world.policy) world in
-    c.len.ensures world.policy world.net c.args.id (log_of c.args.id past) (c.log.ensures world.policy world.net c.args.id past c.node_of.ensures)
+    c.len.ensures world.policy world.net c.args.id (log_of c.args.id past) (c.log.ensures.log world.policy world.net c.args.id past c.node_of.ensures)

@@ -1,6 +1,5 @@
 use Rattle.std.proofs.Common.{◌≡◌, ◌+◌, length, arith, sym, ap, ◌∙◌, subst}
 use Rattle.topology.specs.Net.{Net, neighbours}
-use Rattle.chronicle.specs.Logs.{log_of}
 use Rattle.route_replay.specs.declared.views.View.{View}
 use Rattle.route_replay.specs.Views.{pieces_in, past_of}
 use Rattle.route_replay.proofs.Shown.{length-rib_lines, length-log_lines, length-cut_lines}
@@ -19,9 +18,8 @@ returns-in-Log g c =
     let world = c.args.world.now in
     let rules = g.P.Policy.rules world.policy in
     let past = past_of rules world in
-    subst (λ (v : View). c.len.result ≡ length (pieces_in rules world v c.args.id)) (sym c.in-Log.is)
-    (c.len.ensures world.policy world.net c.args.id (log_of c.args.id past) (c.log.ensures world.policy world.net c.args.id past c.requires)
-    ∙ sym (length-log_lines rules world.net past c.args.id))
+    subst (λ (v : View). c.kept_count.result ≡ length (pieces_in rules world v c.args.id)) (sym c.in-Log.is)
+    (c.kept_count.ensures world.policy world.net c.args.id past c.requires ∙ sym (length-log_lines rules world.net past c.args.id))
 
 pub returns-in-Cut : goal.returns-in-Cut
 returns-in-Cut g c =
