@@ -11,9 +11,6 @@ ghost use Rattle.backup_routes.specs.Backups.{is_open, qualifies, backup_for};
 use epoch_packet::has_visited;
 use topology::{NodeId, Path, Topology};
 
-#[cfg(test)]
-mod tests;
-
 // Whether one of the nodes counts as visited.
 fn any_visited(topology: &Topology, visited: u64, nodes: &[NodeId]) -> bool
     ensures { result ≡ list_any (visits topology.now visited) nodes.now }

@@ -3,14 +3,11 @@
 #![tactic(auto)]
 
 mod exit;
-mod forms;
-mod notes;
-mod run;
-#[cfg(test)]
-mod tests;
 
 use exit::exit_of;
 use route_io::{StdSink, StdSource, TcpLink};
+use routing_commands::notes::tell;
+use routing_commands::run::run;
 use std::process::ExitCode;
 use std::{env, io};
 use topology::Status;
@@ -35,14 +32,14 @@ fn main(rt: HostRuntime) -> ExitCode {
     let mut notes = StdSink::new(rt.stderr());
     let status = match words_of(&rt) {
         Err(status) => {
-            notes::tell(&mut notes, &status);
+            tell(&mut notes, &status);
             status
         }
         Ok(words) => {
             let mut source = StdSource::new(rt.stdin());
             let mut sink = StdSink::new(rt.stdout());
             let mut link = TcpLink::new(&rt);
-            run::run(
+            run(
                 rt.alloc(),
                 &words,
                 &mut source,

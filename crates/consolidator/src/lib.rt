@@ -13,6 +13,3 @@ pub use held_reports::HeldReports;
 pub use messages::{Mail, Mails, Message, Reply};
 #[doc(hidden)]
 pub use parts::Part;
-
-#[cfg(test)]
-mod tests;

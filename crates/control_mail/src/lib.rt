@@ -19,6 +19,3 @@ pub use inbox::Inbox;
 pub use inboxes::Inboxes;
 pub use kept::Kept;
 pub use mails::Mails;
-
-#[cfg(test)]
-mod tests;

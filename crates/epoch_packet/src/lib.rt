@@ -16,6 +16,3 @@ pub use packets::{Packet, stamp};
 pub use stable::{StableStep, stable_hop};
 pub use visited::{has_visited, with_visited};
 pub use walks::{End, Mode, Visit};
-
-#[cfg(test)]
-mod tests;

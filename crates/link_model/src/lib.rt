@@ -18,6 +18,3 @@ pub use ends::{Ends, MOST_WAYS};
 pub use links::Links;
 pub use topology::LinkState;
 pub use way_set::WaySet;
-
-#[cfg(test)]
-mod tests;

@@ -11,6 +11,3 @@ pub mod snapshots;
 
 pub use recording::Recording;
 pub use snapshots::Snapshots;
-
-#[cfg(test)]
-mod tests;

@@ -5,8 +5,6 @@
 pub mod acceptor;
 pub mod laws;
 pub mod proposer;
-#[cfg(test)]
-mod tests;
 
 pub use acceptor::{Acceptor, Prepared, Took};
 pub use proposer::{Phase, Proposer, Tally};

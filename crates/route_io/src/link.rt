@@ -97,6 +97,3 @@ pub trait Link {
         Ok(())
     }
 }
-
-#[cfg(test)]
-mod tests;

@@ -91,6 +91,3 @@ impl Sink for PlainSink {
         Ok(taken)
     }
 }
-
-#[cfg(test)]
-mod tests;

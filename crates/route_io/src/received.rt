@@ -148,6 +148,3 @@ fn read_at<L: Link>(link: &mut L, bytes: &mut [u8], at: usize) -> Result<usize, 
 {
     link.read(&mut bytes[at..])
 }
-
-#[cfg(test)]
-mod tests;

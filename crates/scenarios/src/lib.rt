@@ -1,5 +1,5 @@
-//! Whole files and whole runs, with what must come of them: tests alone, over every library. What is
-//! expected was worked out from the rules of the format and of the run, never from the program.
+//! What takes code to be asked: runs up to each limit, whose files are too long to be kept, a run without rest, and calls of
+//! single libraries. Tests alone. Whole files with the text that must come of them stand in `cases`.
 #![tactic(auto)]
 
 #[cfg(test)]

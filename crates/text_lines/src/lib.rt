@@ -10,6 +10,3 @@ pub mod words;
 pub use lines::{Line, Lines};
 pub use numbers::read_number;
 pub use words::{Token, Tokens};
-
-#[cfg(test)]
-mod tests;

@@ -20,6 +20,3 @@ pub use detours::detour;
 pub use hops::transient_hop;
 pub use moves::Move;
 pub use view::View;
-
-#[cfg(test)]
-mod tests;

@@ -54,6 +54,3 @@ pub use frames::{Decoded, Frame, FrameRef};
 pub use owned::to_owned;
 pub use paths::Paths;
 pub use topology::FrameKind;
-
-#[cfg(test)]
-mod tests;

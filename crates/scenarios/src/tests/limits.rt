@@ -1,5 +1,5 @@
 //! Runs up to a limit, and one event beyond it.
-use super::runs::outcome;
+use super::outcome;
 use std::alloc::Global;
 use std::process::Abort;
 use std::test::Fail;
@@ -134,7 +134,9 @@ fn gives_as_many_triggers_as_the_limit_says(rt: HostRuntime) -> Result<(), Fail>
 
 #[test]
 fn takes_as_many_events_as_the_limit_says(rt: HostRuntime) -> Result<(), Fail> {
-    let front = "node 1\nnode 2\nlink 1 2 any\nbegin\nrestore 1 2\n";
+    // an idle event counts, and a probe is none
+    let front =
+        "node 1\nnode 2\nlink 1 2 any\nprefix 10.0.0.0/8\nbegin\nprobe 1 10.0.0.0/8\nrestore 1 2\n";
     let lines = ("fail 1 2\n", "restore 1 2\n");
     let events = Status::Limit(LimitKind::Events, 1_000_000);
     let cases = [(999_999, "", Status::Done), (999_999, "fail 1 2\n", events)];
@@ -144,7 +146,7 @@ fn takes_as_many_events_as_the_limit_says(rt: HostRuntime) -> Result<(), Fail> {
         front,
         lines,
         &cases,
-        "5: idle already up\n",
+        "probe 1 10.0.0.0/8: 1 2 1 stuck\n7: idle already up\n",
     )
 }
 
@@ -172,4 +174,35 @@ fn sends_as_many_control_messages_as_the_limit_says(rt: HostRuntime) -> Result<(
     let epochs = Status::Limit(LimitKind::Epochs, 32);
     let cases = [(16_352, "", Status::Done), (16_352, "snap 1\n", epochs)];
     check_busy(&rt, alloc, front.as_str(), propose, &cases, "")
+}
+
+// One node, and as many packets.
+fn many_packets(alloc: Global, packets: u32) -> Result<String, Fail> {
+    let mut file = String::from_str(alloc, "node 1\nprefix 10.0.0.0/8\nbegin\n")?;
+    for packet in 1..=packets {
+        write!(file, "inject {packet} 1 10.0.0.0/8\n")?;
+    }
+    Ok(file)
+}
+
+#[test]
+fn takes_as_many_packets_as_the_limit_says(rt: HostRuntime) -> Result<(), Fail> {
+    let alloc = rt.alloc();
+    for (packets, last, status, text) in [
+        (4096, "", Status::Done, ""),
+        (
+            4096,
+            "inject 1 1 10.0.0.0/8\n",
+            Status::Done,
+            "4100: idle packet known\n",
+        ),
+        (4097, "", Status::Limit(LimitKind::Packets, 4096), ""),
+    ] {
+        let mut file = many_packets(alloc, packets)?;
+        file.push_str(last)?;
+        let (answer, written) = outcome(alloc, file.as_str())?;
+        assert_eq!(rt; answer, status, "{packets}");
+        assert_eq!(rt; written.as_str(), text, "{packets}");
+    }
+    Ok(())
 }

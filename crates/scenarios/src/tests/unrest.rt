@@ -1,5 +1,5 @@
 //! Routes that never come to rest.
-use super::runs::outcome;
+use super::outcome;
 use std::alloc::Global;
 use std::process::Abort;
 use std::test::Fail;

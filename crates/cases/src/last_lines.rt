@@ -1,0 +1,74 @@
+//! Tables of lines, each of which stands last in turn: what is wrong with it, a colon, and the line.
+use crate::outcome::{Outcome, end_line, outcome_of};
+use anyhow::Result;
+use std::alloc::{AllocError, Global};
+
+// How many lines the front has.
+fn lines_in(front: &[u8]) -> usize {
+    front.iter().filter(|byte| **byte == b'\n').count()
+}
+
+// The front with this line behind it.
+fn followed(alloc: Global, front: &[u8], line: &str) -> Result<Vec<u8>, AllocError> {
+    let mut file = Vec::from_slice(alloc, front)?;
+    file.extend_from_slice(line.as_bytes())?;
+    file.push(b'\n')?;
+    Ok(file)
+}
+
+// How a run must end whose last line has this number and this fault, or is good.
+fn wanted_end(alloc: Global, number: usize, fault: &str) -> Result<String, AllocError> {
+    if fault == "good" {
+        return end_line(alloc, 0, "");
+    }
+    let note = format!(in alloc; "bad schedule: line {number}: {fault}\n")?;
+    end_line(alloc, 4, note.as_str())
+}
+
+// What is wrong with what came. A run that reaches the last line may write what it will.
+fn fault_of(
+    alloc: Global,
+    line: &str,
+    wanted: &str,
+    came: &Outcome,
+) -> Result<Option<String>, AllocError> {
+    let end = came.end.as_str();
+    if end != wanted {
+        let (wanted, end) = (wanted.trim_ascii_end(), end.trim_ascii_end());
+        return Ok(Some(format!(in alloc; "{line}: wanted: {wanted}, came: {end}")?));
+    }
+    if end != "0\n" && !came.text.is_empty() {
+        return Ok(Some(format!(in alloc; "{line}: something is written")?));
+    }
+    Ok(None)
+}
+
+// What is wrong with what comes of this row.
+fn row_fault(alloc: Global, words: &[String], front: &[u8], row: &str) -> Result<Option<String>> {
+    let Some((fault, line)) = row.split_once(": ") else {
+        return Ok(Some(format!(in alloc; "no row: {row}")?));
+    };
+    let number = lines_in(front).saturating_add(1);
+    let wanted = wanted_end(alloc, number, fault)?;
+    let file = followed(alloc, front, line)?;
+    let came = outcome_of(alloc, words, file, Vec::new(alloc))?;
+    Ok(fault_of(alloc, line, wanted.as_str(), &came)?)
+}
+
+/// What is wrong with what comes of the first row that fails. Empty rows and rows that begin with `#` are none.
+pub fn first_fault(
+    alloc: Global,
+    words: &[String],
+    front: &[u8],
+    rows: &str,
+) -> Result<Option<String>> {
+    for row in rows.lines() {
+        if row.is_empty() || row.starts_with("#") {
+            continue;
+        }
+        if let Some(fault) = row_fault(alloc, words, front, row)? {
+            return Ok(Some(fault));
+        }
+    }
+    Ok(None)
+}

@@ -1,0 +1,47 @@
+//! What must come of a case.
+use crate::files::{text_of, text_or};
+use crate::outcome::Outcome;
+use crate::spelled::bytes_spelled;
+use anyhow::Result;
+use std::rt::Files;
+
+/// What must come of a case.
+#[derive(Drop)]
+pub enum Wanted {
+    /// Just this.
+    Whole(Outcome),
+    /// This end, and a text with these lines.
+    Lines(Part),
+}
+
+/// What is known of a run whose text nobody wrote down.
+#[derive(Drop)]
+pub struct Part {
+    /// How the run must end.
+    pub end: String,
+    /// Lines that must stand in the text, in this order.
+    pub lines: String,
+    /// How many lines the text must have, where it is known.
+    pub count: Option<usize>,
+}
+
+// How many lines the text of the case must have, where a file says it.
+fn count_of<R: Files + AllocGlobal>(rt: &R, name: &str) -> Result<Option<usize>> {
+    let Some(text) = text_of(rt, name, "count")? else {
+        return Ok(None);
+    };
+    Ok(Some(text.as_str().trim_ascii().parse::<usize>()?))
+}
+
+/// What the files of the case say.
+pub fn wanted_of<R: Files + AllocGlobal>(rt: &R, name: &str) -> Result<Wanted> {
+    let end = text_or(rt, name, "end", "0\n")?;
+    if let Some(lines) = text_of(rt, name, "has")? {
+        let count = count_of(rt, name)?;
+        return Ok(Wanted::Lines(Part { end, lines, count }));
+    }
+    let text = text_or(rt, name, "text", "")?;
+    let answers = text_or(rt, name, "answers", "")?;
+    let answers = bytes_spelled(rt.alloc(), answers.as_str())?;
+    Ok(Wanted::Whole(Outcome { end, text, answers }))
+}

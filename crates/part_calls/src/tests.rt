@@ -1,0 +1,17 @@
+//! A file or a folder for each library. What it tests says the first line of each.
+mod backups;
+mod ballots;
+mod closures;
+mod consolidators;
+mod entering;
+mod links;
+mod logs;
+mod mails;
+mod making;
+mod moves;
+mod packets;
+mod reports;
+mod routes;
+mod snapshots;
+mod still_walks;
+mod tables;

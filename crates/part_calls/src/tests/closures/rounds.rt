@@ -1,0 +1,123 @@
+//! The incomplete triggers by rounds over all items and rows, until one adds none. It knows nothing of the
+//! worklist.
+
+use incomplete_closure::{Report, Row, SessionRow, missing};
+use std::alloc::Global;
+use std::collections::BTreeSet;
+use std::rc::Rc;
+use std::test::Fail;
+use topology::{NodeId, Scope, Sent, Session, Trigger};
+
+type Marks = BTreeSet<Trigger>;
+
+// The row of the session with the neighbour: the first, where rows repeat.
+fn session_of(report: &Report, nbr: NodeId, session: Session) -> Option<SessionRow> {
+    for row in report.sessions.as_slice() {
+        if row.nbr == nbr && row.session == session {
+            return Some(*row);
+        }
+    }
+    None
+}
+
+// Whether the session has no `Down`, or one with a marked trigger.
+fn is_due(marks: &Marks, row: Option<SessionRow>) -> bool {
+    let Some(row) = row else {
+        return true;
+    };
+    let down: Option<Trigger> = row.down;
+    match down {
+        Some(down) => marks.contains(&down),
+        None => true,
+    }
+}
+
+// Marks the trigger of an item that the other report misses, where that is due.
+fn mark_item(
+    marks: &mut Marks,
+    from: &Report,
+    to: &Report,
+    trigger: Trigger,
+    item: &Sent,
+) -> Result<(), Fail> {
+    if missing(from, to, *item) && is_due(marks, session_of(to, from.node, item.session)) {
+        marks.insert(trigger)?;
+    }
+    Ok(())
+}
+
+fn mark_items_of(marks: &mut Marks, from: &Report, to: &Report, row: &Row) -> Result<(), Fail> {
+    let sent = row.sent.laid_out();
+    for item in sent.as_slice() {
+        mark_item(marks, from, to, row.trigger, item)?;
+    }
+    Ok(())
+}
+
+fn mark_items(marks: &mut Marks, from: &Report, to: &Report) -> Result<(), Fail> {
+    for row in from.rows.as_slice() {
+        mark_items_of(marks, from, to, row)?;
+    }
+    Ok(())
+}
+
+fn mark_all_items(marks: &mut Marks, from: &Report, reports: &[Rc<Report>]) -> Result<(), Fail> {
+    for to in reports {
+        mark_items(marks, from, to)?;
+    }
+    Ok(())
+}
+
+fn shares(a: &Scope, b: &Scope) -> bool {
+    match a {
+        Scope::All => true,
+        Scope::One(p) => match b {
+            Scope::All => true,
+            Scope::One(q) => *p == *q,
+        },
+    }
+}
+
+// Marks the triggers of rows behind a marked row that share a prefix with it.
+fn mark_rows(marks: &mut Marks, report: &Report) -> Result<(), Fail> {
+    let rows = report.rows.as_slice();
+    for place in 0..rows.len() {
+        if marks.contains(&rows[place].trigger) {
+            for later in (place + 1)..rows.len() {
+                if shares(&rows[place].scope, &rows[later].scope) {
+                    marks.insert(rows[later].trigger)?;
+                }
+            }
+        }
+    }
+    Ok(())
+}
+
+fn mark_round(marks: &mut Marks, reports: &[Rc<Report>]) -> Result<(), Fail> {
+    for from in reports {
+        mark_all_items(marks, from, reports)?;
+        mark_rows(marks, from)?;
+    }
+    Ok(())
+}
+
+fn count_rows(reports: &[Rc<Report>]) -> usize {
+    let mut count: usize = 0;
+    for report in reports {
+        count = count.saturating_add(report.rows.as_slice().len());
+    }
+    count
+}
+
+/// The incomplete triggers of the reports, ascending. Each round but the last marks the trigger of a row.
+pub(super) fn rounds(alloc: Global, reports: &[Rc<Report>]) -> Result<Vec<Trigger>, Fail> {
+    let mut marks = BTreeSet::new(alloc);
+    for _round in 0..count_rows(reports).saturating_add(1) {
+        let before = marks.len();
+        mark_round(&mut marks, reports)?;
+        if marks.len() == before {
+            break;
+        }
+    }
+    Ok(marks.iter().copied().collect(alloc)?)
+}

@@ -1,0 +1,41 @@
+//! Logs of nodes, and entries in them.
+use path_vector::{Cause, Policy};
+use std::alloc::Global;
+use std::test::Fail;
+use topology::{NodeId, Scope, Topology, Trigger};
+use trigger_log::{NodeLog, Outgoing};
+
+/// The log of a node at its start.
+pub(super) fn log_of<P: Policy + Copy>(
+    alloc: Global,
+    net: &Topology,
+    node: u16,
+    policy: P,
+) -> Result<Box<NodeLog<P>>, Fail> {
+    let log = NodeLog::new(alloc, net, NodeId::new(node), policy)?;
+    Ok(Box::new(alloc, log)?)
+}
+
+/// The log with one entry more, and what goes out.
+pub(super) fn appended<P: Policy + Copy>(
+    alloc: Global,
+    net: &Topology,
+    log: Box<NodeLog<P>>,
+    trigger: Trigger,
+    scope: Scope,
+    cause: Cause,
+) -> Result<(Box<NodeLog<P>>, Vec<Outgoing>), Fail> {
+    let (log, outgoing) = Box::into_inner(log).append(net, trigger, scope, cause)?;
+    Ok((Box::new(alloc, log)?, outgoing))
+}
+
+/// The log without the entries before this place.
+pub(super) fn shorter<P: Policy + Copy>(
+    alloc: Global,
+    net: &Topology,
+    log: Box<NodeLog<P>>,
+    place: u32,
+) -> Result<Box<NodeLog<P>>, Fail> {
+    let log = Box::into_inner(log).drop_before(net, place)?;
+    Ok(Box::new(alloc, log)?)
+}

@@ -1,0 +1,207 @@
+//! Calls of `trigger_log`: what a node enters, and what each entry sends.
+use super::entering::{appended, log_of, shorter};
+use super::making::{Items, are_items, network, path_of, trigger};
+use path_vector::{Cause, GaoRexford, Policy, ShortestAll};
+use std::alloc::Global;
+use std::process::Abort;
+use std::test::Fail;
+use topology::{NodeId, PrefixId, Relation, Scope, Session, Topology, Trigger};
+use trigger_log::NodeLog;
+
+// What happens at node 2: it hears of the first prefix from a neighbour in a session, for a trigger
+// with this counter of the neighbour, begins to originate the second one, or a session ends, is
+// opened, is opened at the other end too.
+#[derive(Clone, Copy)]
+enum Act {
+    Hear(u16, u32, u32),
+    Begin,
+    Close(u16, u32),
+    Open(u16, u32),
+    Greet(u16, u32),
+}
+
+// Node 2 has the peers 1 and 3 and the customer 4. Each act with what it sends, where peers are
+// told nothing of peers, and where all are told everything. Number by number, by hand.
+const ACTS: [(Act, Items, Items); 9] = [
+    // the path of a peer: to the customer alone, or to all
+    (
+        Act::Hear(1, 1, 1),
+        &[(4, 1, 1)],
+        &[(1, 1, 1), (3, 1, 1), (4, 1, 1)],
+    ),
+    // the own second prefix: to all
+    (
+        Act::Begin,
+        &[(1, 1, 1), (3, 1, 1), (4, 1, 2)],
+        &[(1, 1, 2), (3, 1, 2), (4, 1, 2)],
+    ),
+    // the session ends with a close, and the path of the peer is withdrawn from whoever knew it
+    (
+        Act::Close(1, 1),
+        &[(1, 1, 2), (4, 1, 3)],
+        &[(1, 1, 3), (3, 1, 3), (4, 1, 3)],
+    ),
+    (Act::Open(1, 2), &[], &[]),
+    // the own prefix, numbered anew
+    (Act::Greet(1, 2), &[(1, 2, 1)], &[(1, 2, 1)]),
+    (
+        Act::Hear(1, 2, 2),
+        &[(4, 1, 4)],
+        &[(1, 2, 2), (3, 1, 4), (4, 1, 4)],
+    ),
+    (
+        Act::Close(1, 2),
+        &[(1, 2, 2), (4, 1, 5)],
+        &[(1, 2, 3), (3, 1, 5), (4, 1, 5)],
+    ),
+    (Act::Open(1, 3), &[], &[]),
+    // nobody else had opened it: no close
+    (Act::Close(1, 3), &[], &[]),
+];
+
+fn star(alloc: Global) -> Result<Box<Topology>, Fail> {
+    let links = [
+        (2, 1, Relation::Peer),
+        (2, 3, Relation::Peer),
+        (2, 4, Relation::Customer),
+    ];
+    network(alloc, &[1, 2, 3, 4], &links, 2)
+}
+
+// A path that is heard has its neighbour alone, which is the origin.
+fn cause_of(alloc: Global, act: Act) -> Result<(Scope, Cause), Fail> {
+    let (from, session) = match act {
+        Act::Begin => return Ok((Scope::One(PrefixId::new(1)), Cause::Originate)),
+        Act::Hear(from, session, _) => (from, session),
+        Act::Close(from, session) => (from, session),
+        Act::Open(from, session) => (from, session),
+        Act::Greet(from, session) => (from, session),
+    };
+    let nbr = NodeId::new(from);
+    let session = Session::new(session);
+    let cause = match act {
+        Act::Close(_, _) => Cause::Down { nbr, session },
+        Act::Open(_, _) => Cause::Up { nbr, session },
+        Act::Greet(_, _) => Cause::Ready { nbr, session },
+        _ => {
+            let path = path_of(alloc, &[from])?;
+            let cause = Cause::Recv {
+                from: nbr,
+                session,
+                seq: 1,
+                path,
+            };
+            return Ok((Scope::One(PrefixId::new(0)), cause));
+        }
+    };
+    Ok((Scope::All, cause))
+}
+
+// An update brings its trigger, any other entry gets the next one.
+fn trigger_of<P: Policy + Copy>(log: &NodeLog<P>, act: Act) -> Trigger {
+    match act {
+        Act::Hear(from, _, count) => trigger(from, count),
+        _ => log.next_trigger(),
+    }
+}
+
+// The last entry has this trigger and lists these items.
+fn is_last<P: Policy + Copy>(rt: &impl Abort, log: &NodeLog<P>, trigger: Trigger, items: Items) {
+    match log.entry(log.len()) {
+        None => assert!(rt; false),
+        Some(entry) => {
+            assert!(rt; entry.trigger == trigger);
+            are_items(rt, &entry.sent, items);
+        }
+    }
+}
+
+// The act fits, and its entry lists these items; each item but a close goes out.
+fn enter<P: Policy + Copy>(
+    rt: &impl Abort,
+    alloc: Global,
+    net: &Topology,
+    log: Box<NodeLog<P>>,
+    act: Act,
+    items: Items,
+) -> Result<Box<NodeLog<P>>, Fail> {
+    let (scope, cause) = cause_of(alloc, act)?;
+    assert!(rt; log.fits(scope, &cause));
+    let trigger = trigger_of(&log, act);
+    let (log, outgoing) = appended(alloc, net, log, trigger, scope, cause)?;
+    assert!(rt; outgoing.len() <= items.len() && items.len() <= outgoing.len() + 1);
+    is_last(rt, &log, trigger, items);
+    Ok(log)
+}
+
+// What is counted of the sessions at the end.
+fn counts<P: Policy + Copy>(rt: &impl Abort, log: &NodeLog<P>, sent: u32) {
+    let nbr = NodeId::new(1);
+    assert!(rt; log.sent_count(nbr, Session::new(2)) == sent);
+    assert!(rt; log.received(nbr, Session::new(2)) == 1);
+    assert!(rt; log.held(nbr).is_none());
+    assert!(rt; log.ready(NodeId::new(4)));
+    assert!(rt; log.sessions().len() == 5);
+    assert!(rt; log.kept_from() == 1);
+    assert!(rt; log.live().owns(PrefixId::new(1)));
+    assert!(rt; log.next_trigger() == trigger(2, 8));
+}
+
+// The first two entries go: the others keep their places, and the routes after those two are the base.
+fn drops(rt: &impl Abort, log: &NodeLog<GaoRexford>) {
+    let nbr = NodeId::new(1);
+    let heard = PrefixId::new(0);
+    assert!(rt; log.kept_from() == 3);
+    assert!(rt; log.len() == 9);
+    assert!(rt; log.entries().len() == 7);
+    assert!(rt; log.entry(2).is_none());
+    assert!(rt; log.entry(3).is_some());
+    assert!(rt; log.base().owns(PrefixId::new(1)));
+    assert!(rt; log.base().candidate(heard, nbr).is_some());
+    assert!(rt; log.live().candidate(heard, nbr).is_none());
+}
+
+fn plays<P: Policy + Copy>(
+    rt: &impl Abort,
+    alloc: Global,
+    net: &Topology,
+    start: Box<NodeLog<P>>,
+    to_all: bool,
+) -> Result<Box<NodeLog<P>>, Fail> {
+    let mut log = start;
+    for (act, few, all) in &ACTS {
+        let items = if to_all { *all } else { *few };
+        log = enter(rt, alloc, net, log, *act, items)?;
+    }
+    Ok(log)
+}
+
+// Behind all acts, where peers are told nothing of peers.
+fn plays_to_few(rt: &impl Abort, alloc: Global, net: &Topology) -> Result<(), Fail> {
+    let log = log_of(alloc, net, 2, GaoRexford)?;
+    let log = plays(rt, alloc, net, log, false)?;
+    counts(rt, &log, 2);
+    let log = shorter(alloc, net, log, 3)?;
+    drops(rt, &log);
+    Ok(())
+}
+
+// Behind all acts, where all are told everything.
+fn plays_to_all(rt: &impl Abort, alloc: Global, net: &Topology) -> Result<(), Fail> {
+    let log = log_of(alloc, net, 2, ShortestAll)?;
+    let log = plays(rt, alloc, net, log, true)?;
+    counts(rt, &log, 3);
+    Ok(())
+}
+
+#[test]
+fn sessions_end_and_open_again(rt: HostRuntime) -> Result<(), Fail> {
+    let net = star(rt.alloc())?;
+    plays_to_few(&rt, rt.alloc(), &net)
+}
+
+#[test]
+fn everything_is_told_to_all(rt: HostRuntime) -> Result<(), Fail> {
+    let net = star(rt.alloc())?;
+    plays_to_all(&rt, rt.alloc(), &net)
+}

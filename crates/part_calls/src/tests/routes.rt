@@ -1,0 +1,84 @@
+//! Calls of `path_vector`: which route a node takes, and what it tells of it.
+use super::making::{network, path_of};
+use path_vector::{Best, Cause, Chosen, GaoRexford, Policy, RouteState};
+use std::alloc::Global;
+use std::process::Abort;
+use std::test::Fail;
+use topology::{NodeId, PrefixId, Relation, Scope, Session, Topology};
+
+mod histories;
+mod paths_told_again;
+
+// The state of a node at its start.
+fn state_of<P: Policy + Copy>(
+    alloc: Global,
+    net: &Topology,
+    node: u16,
+    policy: P,
+) -> Result<Box<RouteState<P>>, Fail> {
+    let state = RouteState::new(alloc, net, NodeId::new(node), policy)?;
+    Ok(Box::new(alloc, state)?)
+}
+
+// Nodes 1, 2 and 3 with a link each: 2 and 3 are customers of 1, and peers of each other. The state of node 2.
+fn of_two(alloc: Global) -> Result<Box<RouteState<GaoRexford>>, Fail> {
+    let links = [
+        (1, 2, Relation::Customer),
+        (1, 3, Relation::Customer),
+        (2, 3, Relation::Peer),
+    ];
+    let net = network(alloc, &[1, 2, 3], &links, 1)?;
+    state_of(alloc, &net, 2, GaoRexford)
+}
+
+// Takes an update of the first session.
+fn hear(
+    state: &mut RouteState<GaoRexford>,
+    alloc: Global,
+    from: u16,
+    nodes: &[u16],
+) -> Result<(), Fail> {
+    let cause = Cause::Recv {
+        from: NodeId::new(from),
+        session: Session::new(1),
+        seq: 1,
+        path: path_of(alloc, nodes)?,
+    };
+    state.apply(Scope::One(PrefixId::new(0)), &cause)?;
+    Ok(())
+}
+
+// Node 2 goes to 3 by 3, and tells 1 nothing of its peer.
+fn goes_by_its_peer(rt: &impl Abort, state: &RouteState<GaoRexford>, chosen: &Chosen) {
+    match state.best(PrefixId::new(0)) {
+        Best::Via(nbr, rest) => {
+            assert!(rt; nbr == NodeId::new(3));
+            assert!(rt; rest == [NodeId::new(3)].as_slice());
+        }
+        _ => assert!(rt; false),
+    }
+    assert!(rt; state.offered_path(chosen, NodeId::new(1)).is_none());
+    assert!(rt; state.held(NodeId::new(1)) == Some(Session::new(1)));
+}
+
+// A copy tries the peer first.
+fn tries_its_peer_first(rt: &impl Abort, state: &RouteState<GaoRexford>) -> Result<(), Fail> {
+    let again = state.copy()?;
+    let order = again.order(PrefixId::new(0))?;
+    assert!(rt; order.as_slice() == [NodeId::new(3), NodeId::new(1)].as_slice());
+    Ok(())
+}
+
+fn run(rt: &impl Abort, alloc: Global, state: &mut RouteState<GaoRexford>) -> Result<(), Fail> {
+    hear(state, alloc, 1, &[1, 3])?;
+    hear(state, alloc, 3, &[3])?;
+    let chosen = state.chosen(PrefixId::new(0))?;
+    goes_by_its_peer(rt, state, &chosen);
+    tries_its_peer_first(rt, state)
+}
+
+#[test]
+fn each_call_answers_where_there_is_memory(rt: HostRuntime) -> Result<(), Fail> {
+    let mut state = of_two(rt.alloc())?;
+    run(&rt, rt.alloc(), &mut state)
+}

@@ -1,0 +1,63 @@
+-- How the program ends, by its words.
+use Rattle.std.proofs.Common.{ℕ, ◌≡◌, List, true≢false, sym, ap, ◌∙◌, subst, refl}
+use Rattle.std.specs.Borrow.{Bor}
+use Rattle.topology.specs.declared.status.Status.{Status}
+use Rattle.topology.specs.declared.status.Status.TheVariants.{Usage}
+use Rattle.route_io.specs.Views.{SourceView, SinkView, LinkView}
+use Rattle.route_node.specs.Attended.{Attended, endpoint, ends_attending}
+use Rattle.route_replay.specs.Loaded.{Loaded, ends_load}
+use Rattle.route_replay.specs.Replayed.{Replayed, ends_replay}
+use Rattle.routing_commands.specs.declared.forms.Form.TheVariants.{Replay, Load, Node}
+use Rattle.routing_commands.specs.Forms.{HasNoForm, IsForm}
+use Rattle.routing_commands.specs.Headline.{Headline, Sides, sides}
+use Rattle.routing_commands.proofs.Formed.{replay_or_load, replay_or_node, load_or_node, same_number, same_id, same_address}
+
+pub of_none : (words : List (List ℕ)) (old : Sides) → HasNoForm words → Headline words old old Usage
+of_none words old none = record {
+  usage = (λ _. none, λ _. refl);
+  formed = λ other. absurd (other refl);
+  untouched = λ _. refl;
+  replayed = λ is. absurd (none Replay is);
+  loaded = λ number is. absurd (none (Load number) is);
+  attended = λ id address is. absurd (none (Node id address) is);
+}
+
+pub of_replay : (words : List (List ℕ)) (source source' : SourceView) (sink sink' : SinkView) (link : LinkView) (status : Status) → IsForm words Replay → Replayed source source' sink sink' status
+    → Headline words (sides source sink link) (sides source' sink' link) status
+of_replay words source source' sink sink' link status is replayed = record {
+  usage = (λ e. absurd (true≢false (sym replayed.formed ∙ ap ends_replay e)), λ none. absurd (none Replay is));
+  formed = λ _. (Replay, is);
+  untouched = λ none. absurd (none Replay is);
+  replayed = λ _. (replayed, refl);
+  loaded = λ number other. absurd (replay_or_load words number is other);
+  attended = λ id address other. absurd (replay_or_node words id address is other);
+}
+
+never_usage : (number : ℕ) (sink sink' : SinkView) (status : Status) → Loaded number sink sink' status → status ≡ Usage → ⊥
+never_usage number sink sink' status loaded e = true≢false (sym loaded.formed ∙ ap ends_load e)
+
+pub of_load : (words : List (List ℕ)) (number : ℕ) (source : SourceView) (sink sink' : SinkView) (link : LinkView) (status : Status) → IsForm words (Load number) → Loaded number sink sink' status
+    → Headline words (sides source sink link) (sides source sink' link) status
+of_load words number source sink sink' link status is loaded = record {
+  usage = (λ e. absurd (never_usage number sink sink' status loaded e), λ none. absurd (none (Load number) is));
+  formed = λ _. (Load number, is);
+  untouched = λ none. absurd (none (Load number) is);
+  replayed = λ other. absurd (replay_or_load words number other is);
+  loaded = λ m other. (subst (λ n. Loaded n sink sink' status) (same_number words number m is other) loaded, refl, refl);
+  attended = λ id address other. absurd (load_or_node words number id address is other);
+}
+
+pub of_node : (words : List (List ℕ)) (id : ℕ) (address : Bor (List ℕ)) (source source' : SourceView) (sink : SinkView) (link link' : LinkView) (status : Status) → IsForm words (Node id address)
+    → Attended (endpoint id address.now) source source' link link' status → Headline words (sides source sink link) (sides source' sink link') status
+of_node words id address source source' sink link link' status is attended = record {
+  usage = (λ e. absurd (true≢false (sym attended.formed ∙ ap ends_attending e)), λ none. absurd (none (Node id address) is));
+  formed = λ _. (Node id address, is);
+  untouched = λ none. absurd (none (Node id address) is);
+  replayed = λ other. absurd (replay_or_node words id address other is);
+  loaded = λ number other. absurd (load_or_node words number id address other is);
+  attended = λ other place it. (
+    subst (λ n. Attended (endpoint n place.now) source source' link link' status) (same_id words id other address place is it)
+        (subst (λ a. Attended (endpoint id a) source source' link link' status) (same_address words id other address place is it) attended),
+    refl,
+  );
+}

@@ -1,0 +1,14 @@
+use Rattle.routing_commands.proofs.Ending.{of_none, of_replay, of_load, of_node}
+use Rattle.routing_commands.proofs.run.outcome.Goals as goal
+
+pub returns-in_default-clause-headline : goal.returns-in_default-clause-headline
+returns-in_default-clause-headline g c = of_none _ _ (rw c.in_default.is at c.form_of.ensures.none)
+
+pub returns-in-Replay-clause-headline : goal.returns-in-Replay-clause-headline
+returns-in-Replay-clause-headline g c = of_replay _ _ _ _ _ _ _ (rw c.in-Replay.is at c.in-Some.ensures.some) c.replay.ensures
+
+pub returns-in-Load-clause-headline : goal.returns-in-Load-clause-headline
+returns-in-Load-clause-headline g c = of_load _ _ _ _ _ _ _ (rw c.in-Load.is at c.in-Some.ensures.some) c.load.ensures
+
+pub returns-in-Node-clause-headline : goal.returns-in-Node-clause-headline
+returns-in-Node-clause-headline g c = of_node _ _ _ _ _ _ _ _ _ (rw c.in-Node.is at c.in-Some.ensures.some) c.attend.ensures

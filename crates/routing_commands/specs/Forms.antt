@@ -1,0 +1,27 @@
+-- The forms of the words of the program.
+use Rattle.std.specs.Prelude.{ℕ, ◌≡◌, ◌≤◌, List, [], ◌∷◌, codes}
+use Rattle.std.specs.Fmt.{decimal}
+use Rattle.routing_commands.specs.declared.forms.TheConstants.{MAX_LOAD, MAX_NODE}
+use Rattle.routing_commands.specs.declared.forms.Form.{Form}
+use Rattle.routing_commands.specs.declared.forms.Form.TheVariants.{Replay, Load, Node}
+
+-- the words of a form
+abbrev pub form_words : Form → List (List ℕ)
+form_words Replay = codes "replay" ∷ []
+form_words (Load number) = codes "load" ∷ decimal number ∷ []
+form_words (Node id address) = codes "node" ∷ decimal id ∷ address.now ∷ []
+
+-- its number is within its range
+abbrev pub InRange : Form → Type 0
+InRange Replay = Unit {0}
+InRange (Load number) = number ≤ MAX_LOAD
+InRange (Node id address) = (1 ≤ id) × (id ≤ MAX_NODE)
+
+-- the words are those of the form
+pub record IsForm (words : List (List ℕ)) (form : Form) : Type 0 where
+  pub spelled : words ≡ form_words form
+  pub in_range : InRange form
+
+-- the words are those of none of the forms
+abbrev pub HasNoForm : List (List ℕ) → Type 0
+HasNoForm words = (form : Form) → IsForm words form → ⊥

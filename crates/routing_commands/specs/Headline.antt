@@ -1,0 +1,40 @@
+-- What a user is promised of a run of the program.
+use Rattle.std.specs.Prelude.{ℕ, ◌≡◌, ◌≢◌, ◌↔◌, List}
+use Rattle.std.specs.Borrow.{Bor}
+use Rattle.topology.specs.declared.status.Status.{Status}
+use Rattle.topology.specs.declared.status.Status.TheVariants.{Usage}
+use Rattle.route_io.specs.Views.{SourceView, SinkView, LinkView}
+use Rattle.route_node.specs.Attended.{Attended, endpoint}
+use Rattle.route_replay.specs.Loaded.{Loaded}
+use Rattle.route_replay.specs.Replayed.{Replayed}
+use Rattle.routing_commands.specs.declared.forms.Form.{Form}
+use Rattle.routing_commands.specs.declared.forms.Form.TheVariants.{Replay, Load, Node}
+use Rattle.routing_commands.specs.Forms.{HasNoForm, IsForm}
+
+-- where the program reads, where it writes, and the link to a peer
+pub record Sides : Type 0 where
+  pub source : SourceView
+  pub sink : SinkView
+  pub link : LinkView
+
+-- the three together
+abbrev pub sides : SourceView → SinkView → LinkView → Sides
+sides source sink link = record { source = source; sink = sink; link = link }
+
+-- how the program ends with these words, on its sides as they were and as they are then
+pub record Headline (words : List (List ℕ)) (old new : Sides) (status : Status) : Type 0 where
+  -- the words are none of the forms, exactly where the answer is Usage
+  pub usage : (status ≡ Usage) ↔ HasNoForm words
+  -- any other answer is that of a form
+  pub formed : status ≢ Usage → (form : Form) × IsForm words form
+  -- and nothing is read or written without one
+  pub untouched : HasNoForm words → new ≡ old
+  -- the word replay: the schedule that the source holds is replayed, and the link is left as it was
+  pub replayed : IsForm words Replay → Replayed old.source new.source old.sink new.sink status × (new.link ≡ old.link)
+  -- the word load and a number: the load of that number is run, and the source and the link are left as they were
+  pub loaded : (number : ℕ) → IsForm words (Load number)
+      → Loaded number old.sink new.sink status × (new.source ≡ old.source) × (new.link ≡ old.link)
+  -- the word node, a number and an address: the address is dialled, the node of the network that the source holds answers
+  -- the frames of the link, and the sink is left as it was
+  pub attended : (id : ℕ) (address : Bor (List ℕ)) → IsForm words (Node id address)
+      → Attended (endpoint id address.now) old.source new.source old.link new.link status × (new.sink ≡ old.sink)

@@ -1,0 +1,65 @@
+//! The top call.
+ghost use Rattle.std.specs.Prelude.{◌≡◌, map};
+ghost use Rattle.std.specs.String.{string_bytes};
+ghost use Rattle.routing_commands.specs.Headline.{Headline, sides};
+ghost use Rattle.routing_commands.specs.Notes.{Noted};
+
+use crate::forms::{Form, form_of};
+use crate::notes::tell;
+use route_io::{Link, Sink, Source};
+use route_node::attend;
+use route_replay::{load, replay};
+use std::alloc::Global;
+use topology::Status;
+
+// Does what the words say. Words of no form leave the three sides as they were.
+fn outcome<I: Source, O: Sink, L: Link>(
+    alloc: Global,
+    words: &[String],
+    source: &mut I,
+    sink: &mut O,
+    link: &mut L,
+) -> Status
+    ensures headline { Headline (map (λ word. string_bytes word) words.now)
+        (sides (I.seen source.old) (O.seen sink.old) (L.seen link.old))
+        (sides (I.seen source.new) (O.seen sink.new) (L.seen link.new)) result }
+    ensures untouched { result ≡ Status.Usage → (source.new ≡ source.old) × (sink.new ≡ sink.old) × (link.new ≡ link.old) }
+{
+    let Some(form) = form_of(words) else {
+        return Status::Usage;
+    };
+    match form {
+        Form::Replay => replay(alloc, source, sink),
+        Form::Load(number) => load(alloc, number, sink),
+        Form::Node(id, address) => attend(alloc, id, address, source, link),
+    }
+}
+
+/// Does what the words say. The words are those after the program's name; `replay` reads a
+/// schedule from the source, runs it, and writes its text to the sink; `load` with a number makes a
+/// network and its schedule, runs it, and writes counts of the run; `node` with a number and an
+/// address reads a network from the source, dials the address, and answers the frames that come over
+/// the link as that node. The notes get one line where the run ended before its time; a fault of
+/// theirs changes nothing. What a user may rely on stands in `specs/Headline.antt`, `specs/Notes.antt`,
+/// in `route_replay/specs/Replayed.antt` and `Loaded.antt`, and in `route_node/specs/Attended.antt`.
+pub fn run<I: Source, O: Sink, E: Sink, L: Link>(
+    alloc: Global,
+    words: &[String],
+    source: &mut I,
+    sink: &mut O,
+    notes: &mut E,
+    link: &mut L,
+) -> Status
+    ensures headline { Headline (map (λ word. string_bytes word) words.now)
+        (sides (I.seen source.old) (O.seen sink.old) (L.seen link.old))
+        (sides (I.seen source.new) (O.seen sink.new) (L.seen link.new)) result }
+    // Words of no form leave the source, the sink and the link as they were.
+    ensures untouched { result ≡ Status.Usage → (source.new ≡ source.old) × (sink.new ≡ sink.old) × (link.new ≡ link.old) }
+    ensures noted { Noted (E.seen notes.old) (E.seen notes.new) result }
+    // A run that is done leaves the notes as they were.
+    ensures silent { result ≡ Status.Done → notes.new ≡ notes.old }
+{
+    let status = outcome(alloc, words, source, sink, link);
+    tell(notes, &status);
+    status
+}

@@ -1,0 +1,9 @@
+//! One file for each crate whose calls are tested.
+mod audits;
+mod ends;
+mod files;
+mod frames;
+mod journals;
+mod leaders;
+mod lines;
+mod outside;
