@@ -3,7 +3,7 @@
 
     bench/bench.py [PROGRAM] [--runs N] [--keep FOLDER]
 
-PROGRAM is the built program, by default crates/consensus_routing/out/consensus_routing.
+PROGRAM is the built program, by default out/proved/consensus_routing (PROVED=1 ./consensus_routing builds it).
 For each schedule it prints the events, the seconds of the fastest of N runs (reading the file and
 writing the text among them), the events a second and the peak memory, as /usr/bin/time tells it. The schedules are made from fixed seeds, so that each run measures the same.
 """
@@ -18,7 +18,7 @@ import tempfile
 import time
 
 HERE = os.path.dirname(os.path.abspath(__file__))
-BUILT = os.path.join(HERE, "..", "crates", "consensus_routing", "out", "consensus_routing")
+BUILT = os.path.join(HERE, "..", "out", "proved", "consensus_routing")
 
 
 def tiers(count, providers, rng):
@@ -104,6 +104,12 @@ def epoch_tables():
     return epoch_cuts() + ["ctl all 1000000", "propose 1 1", "ctl all 1000000", "show tables 1"]
 
 
+def thirty_two_epochs():
+    """A cold start, and 32 epochs one after the other in which nothing else happens: cuts, a ballot and the tables of all nodes."""
+    epoch = ["snap 1", "drain 1000000", "ctl all 1000000", "propose 1 {}", "ctl all 1000000"]
+    return cold_start()[:-1] + [line.format(number) for number in range(1, 33) for line in epoch] + ["show tables 32"]
+
+
 def packets():
     """The tables of an epoch; then twenty links fail, and 4,096 packets go to their ends, on the tables and off them."""
     lines = epoch_cuts() + ["ctl all 1000000", "propose 1 1", "ctl all 1000000"]
@@ -124,6 +130,7 @@ SCHEDULES = [
     epoch_cuts,
     epoch_closure,
     epoch_tables,
+    thirty_two_epochs,
     packets,
 ]
 
@@ -157,7 +164,9 @@ def events_of(program, lines):
     if "drain" not in words:
         return by_hand
     quiet = [line for line in lines if not line.startswith("show")]
-    log = run(program, text_of(quiet + ["show log"]), wanted=True)[2]
+    # where no control message comes nothing is published, so logs have the same entries and none is dropped
+    unpublished = [line for line in quiet if line.split()[0] not in ("propose", "ctl")]
+    log = run(program, text_of(unpublished + ["show log"]), wanted=True)[2]
     taken = sum(b" recv " in line or b" ready " in line for line in log.splitlines())
     markers = 2 * words.count("snap") * sum(line.startswith("link") for line in lines)
     control = run(program, text_of(quiet + ["show ctl"]), wanted=True)[2] if "ctl" in words else b""

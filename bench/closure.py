@@ -3,7 +3,7 @@
 
     bench/closure.py [PROGRAM] [--callgrind]
 
-PROGRAM is the built program, by default crates/consensus_routing/out/consensus_routing. It runs as a node over a
+PROGRAM is the built program, by default out/proved/consensus_routing (PROVED=1 ./consensus_routing builds it). It runs as a node over a
 link: it gets 64 reports, is asked to propose, and computes their value. In each report some rows of a trigger that
 nothing blocks stand before links of one chain, which runs through all reports from the last link of a report to its
 first: a closure in rounds would go over all rows once for each link. The table has, for so many rows and links in a
@@ -21,7 +21,7 @@ import time
 from struct import pack
 
 HERE = os.path.dirname(os.path.abspath(__file__))
-BUILT = os.path.join(HERE, "..", "crates", "consensus_routing", "out", "consensus_routing")
+BUILT = os.path.join(HERE, "..", "out", "proved", "consensus_routing")
 NODES = 64
 SIZES = [(2048, 256), (2048, 128), (2048, 64), (2048, 1), (1024, 256), (1024, 64), (512, 64)]
 
