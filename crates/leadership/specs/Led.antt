@@ -3,10 +3,10 @@ use Rattle.std.specs.Prelude.{ℕ, Bool, true, false, not, MatchBool, ◌≡◌,
 use Rattle.std.specs.Io.KnownBytes.{Appends, IsAtEnd}
 use Rattle.topology.specs.Lists.{ascending, Begins}
 use Rattle.topology.specs.declared.status.Status.{Status}
-use Rattle.topology.specs.declared.status.Status.TheVariants.{Done, Usage, NoMemory, BadSchedule, Limit, ReadFault, WriteFault, LinkFault, BadFrame, NoSuchNode}
+use Rattle.topology.specs.declared.status.Status.TheVariants.{Done, Usage, NoMemory, BadSchedule, Limit, ReadFault, WriteFault, LinkFault, BadFrame, NoSuchNode, DiskFault, BadJournal, BadTables, Inconsistent}
 use Rattle.topology.specs.declared.status.BadKind.{BadKind}
 use Rattle.topology.specs.declared.status.LimitKind.{LimitKind}
-use Rattle.topology.specs.declared.status.LimitKind.TheVariants.{Bytes, Events, Epochs, Triggers, Entries, Updates, Control, Packets, Frames}
+use Rattle.topology.specs.declared.status.LimitKind.TheVariants.{Bytes, Events, Epochs, Triggers, Entries, Updates, Control, Packets, Frames, Marks, Journal}
 use Rattle.route_io.specs.Causes.{RoseIf, AppendsFront}
 use Rattle.route_io.specs.Views.{SourceView, SinkView}
 use Rattle.schedule_file.specs.declared.parser.TheConstants.{MAX_BYTES}
@@ -43,6 +43,8 @@ is_of_run Updates = true
 is_of_run Control = true
 is_of_run Packets = true
 is_of_run Frames = true
+is_of_run Marks = true
+is_of_run Journal = true
 
 -- the counts of a script and of its run that have a limit
 abbrev pub is_counted : LimitKind → Bool
@@ -55,6 +57,8 @@ is_counted Updates = false
 is_counted Control = true
 is_counted Packets = false
 is_counted Frames = false
+is_counted Marks = false
+is_counted Journal = false
 
 -- the statuses with which it may end
 abbrev pub ends_lead : Status → Bool
@@ -68,6 +72,10 @@ ends_lead WriteFault = true
 ends_lead LinkFault = false
 ends_lead (BadFrame offset fault) = false
 ends_lead (NoSuchNode node) = false
+ends_lead DiskFault = false
+ends_lead (BadJournal offset fault) = false
+ends_lead (BadTables line) = false
+ends_lead (Inconsistent line kind) = false
 
 -- the statuses before which nothing is run
 abbrev pub ends_early : Status → Bool
@@ -81,6 +89,10 @@ ends_early WriteFault = false
 ends_early LinkFault = true
 ends_early (BadFrame offset fault) = true
 ends_early (NoSuchNode node) = true
+ends_early DiskFault = true
+ends_early (BadJournal offset fault) = true
+ends_early (BadTables line) = true
+ends_early (Inconsistent line kind) = true
 
 -- the statuses before which the script was read to its end
 abbrev pub ends_read : Status → Bool
@@ -94,6 +106,10 @@ ends_read WriteFault = true
 ends_read LinkFault = false
 ends_read (BadFrame offset fault) = false
 ends_read (NoSuchNode node) = false
+ends_read DiskFault = false
+ends_read (BadJournal offset fault) = false
+ends_read (BadTables line) = false
+ends_read (Inconsistent line kind) = false
 
 -- the run would take that count above its number, and the text of the directives before was written
 abbrev pub StopsRun : List ℕ → LimitKind × ℕ → Option (List ℕ) → Option (List ℕ) → Type 0

@@ -7,7 +7,7 @@ use Rattle.std.proofs.lemmas.List.{length-append, length-drop}
 use Rattle.topology.specs.declared.frame_faults.FrameFault.{FrameFault}
 use Rattle.topology.specs.declared.status.LimitKind.TheVariants as kind
 use Rattle.topology.specs.declared.status.Status.{Status}
-use Rattle.topology.specs.declared.status.Status.TheVariants.{Done, Usage, NoMemory, BadSchedule, Limit, ReadFault, WriteFault, LinkFault, BadFrame, NoSuchNode}
+use Rattle.topology.specs.declared.status.Status.TheVariants.{Done, Usage, NoMemory, BadSchedule, Limit, ReadFault, WriteFault, LinkFault, BadFrame, NoSuchNode, DiskFault, BadJournal, BadTables, Inconsistent}
 use Rattle.topology.specs.Lists.{Begins}
 use Rattle.route_io.specs.Causes.{Rose}
 use Rattle.route_io.specs.Links.{IsSure, LacksRoom, room_behind}
@@ -98,6 +98,10 @@ module _ {P : Type 0} (rules : Rules) (at : Setting P) (frames : List Frame) (pr
   served_at_frame WriteFault e = absurd e
   served_at_frame LinkFault e = absurd e
   served_at_frame (NoSuchNode node) e = absurd e
+  served_at_frame DiskFault e = absurd e
+  served_at_frame (BadJournal offset fault) e = absurd e
+  served_at_frame (BadTables line) e = absurd e
+  served_at_frame (Inconsistent line kind) e = absurd e
 
   -- ---- the node handled what the frame brought
 

@@ -3,7 +3,7 @@ use Rattle.std.proofs.Common.{ℕ, suc, ◌≡◌, ◌≤◌, ◌<◌, inl, inr,
 use Rattle.std.specs.Prelude.{is_some}
 use Rattle.std.specs.Io.KnownBytes.{IsAtEnd}
 use Rattle.topology.specs.declared.status.Status.{Status}
-use Rattle.topology.specs.declared.status.Status.TheVariants.{Done, Usage, NoMemory, BadSchedule, Limit, ReadFault, WriteFault, LinkFault, BadFrame, NoSuchNode}
+use Rattle.topology.specs.declared.status.Status.TheVariants.{Done, Usage, NoMemory, BadSchedule, Limit, ReadFault, WriteFault, LinkFault, BadFrame, NoSuchNode, DiskFault, BadJournal, BadTables, Inconsistent}
 use Rattle.topology.specs.declared.status.BadKind.{BadKind}
 use Rattle.topology.specs.declared.status.LimitKind.TheVariants as kind
 use Rattle.topology.specs.Lists.{has}
@@ -275,12 +275,26 @@ module _ (here : Endpoint) (source source' : SourceView) (net : Net) (gives : Gi
         may_end Usage f = f
         may_end NoMemory f = refl
         may_end (BadSchedule line bad) f = refl
-        may_end (Limit what number) f = refl
+        may_end (Limit kind.Bytes number) f = refl
+        may_end (Limit kind.Events number) f = refl
+        may_end (Limit kind.Epochs number) f = refl
+        may_end (Limit kind.Triggers number) f = refl
+        may_end (Limit kind.Entries number) f = refl
+        may_end (Limit kind.Updates number) f = refl
+        may_end (Limit kind.Control number) f = refl
+        may_end (Limit kind.Packets number) f = refl
+        may_end (Limit kind.Frames number) f = refl
+        may_end (Limit kind.Marks number) f = f
+        may_end (Limit kind.Journal number) f = f
         may_end ReadFault f = refl
         may_end WriteFault f = f
         may_end LinkFault f = refl
         may_end (BadFrame at fault) f = refl
         may_end (NoSuchNode node) f = refl
+        may_end DiskFault f = f
+        may_end (BadJournal at fault) f = f
+        may_end (BadTables line) f = f
+        may_end (Inconsistent line bad) f = f
 
         not_over : (s : Status) → ends_undialled s ≡ true → ends_serving s ≡ true → ⊥
         not_over Done e f = cc e
@@ -296,11 +310,17 @@ module _ (here : Endpoint) (source source' : SourceView) (net : Net) (gives : Gi
         not_over (Limit kind.Control number) e f = cc e
         not_over (Limit kind.Packets number) e f = cc e
         not_over (Limit kind.Frames number) e f = cc e
+        not_over (Limit kind.Marks number) e f = cc f
+        not_over (Limit kind.Journal number) e f = cc f
         not_over ReadFault e f = cc f
         not_over WriteFault e f = cc f
         not_over LinkFault e f = cc e
         not_over (BadFrame at fault) e f = cc e
         not_over (NoSuchNode node) e f = cc f
+        not_over DiskFault e f = cc f
+        not_over (BadJournal at fault) e f = cc f
+        not_over (BadTables line) e f = cc f
+        not_over (Inconsistent line bad) e f = cc f
 
 -- ---- over plain memory
 

@@ -8,7 +8,7 @@ use Rattle.topology.specs.declared.frame_faults.FrameFault.{FrameFault}
 use Rattle.topology.specs.declared.frame_faults.FrameKind.{FrameKind}
 use Rattle.topology.specs.declared.frame_faults.FrameKind.TheVariants as fault
 use Rattle.topology.specs.declared.status.Status.{Status}
-use Rattle.topology.specs.declared.status.Status.TheVariants.{Done, Usage, NoMemory, BadSchedule, Limit, ReadFault, WriteFault, LinkFault, BadFrame, NoSuchNode}
+use Rattle.topology.specs.declared.status.Status.TheVariants.{Done, Usage, NoMemory, BadSchedule, Limit, ReadFault, WriteFault, LinkFault, BadFrame, NoSuchNode, DiskFault, BadJournal, BadTables, Inconsistent}
 use Rattle.topology.specs.Words.{fault_of}
 use Rattle.route_io.specs.Views.{LinkView}
 use Rattle.path_vector.specs.Rules.{Rules}
@@ -123,3 +123,7 @@ module _ {P : Type 0} (rules : Rules) (at : Setting P) (frames : List Frame) (pr
   served_refused f n holds WriteFault e = absurd e
   served_refused f n holds LinkFault e = absurd e
   served_refused f n holds (NoSuchNode node) e = absurd e
+  served_refused f n holds DiskFault e = absurd e
+  served_refused f n holds (BadJournal offset fault) e = absurd e
+  served_refused f n holds (BadTables line) e = absurd e
+  served_refused f n holds (Inconsistent line kind) e = absurd e

@@ -2,7 +2,7 @@
 use Rattle.std.specs.Prelude.{ℕ, Bool, true, false, ◌≡◌, ◌≤◌, ◌<◌, ◌⊎◌, Some, option_map, List, ◌∷◌, length}
 use Rattle.std.specs.Io.KnownBytes.{IsAtEnd}
 use Rattle.topology.specs.declared.status.Status.{Status}
-use Rattle.topology.specs.declared.status.Status.TheVariants.{Done, Usage, NoMemory, BadSchedule, Limit, ReadFault, WriteFault, LinkFault, BadFrame, NoSuchNode}
+use Rattle.topology.specs.declared.status.Status.TheVariants.{Done, Usage, NoMemory, BadSchedule, Limit, ReadFault, WriteFault, LinkFault, BadFrame, NoSuchNode, DiskFault, BadJournal, BadTables, Inconsistent}
 use Rattle.topology.specs.declared.status.BadKind.{BadKind}
 use Rattle.topology.specs.declared.status.LimitKind.TheVariants as kind
 use Rattle.topology.specs.Lists.{has}
@@ -53,12 +53,18 @@ ends_attending Done = true
 ends_attending Usage = false
 ends_attending NoMemory = true
 ends_attending (BadSchedule line bad) = true
-ends_attending (Limit what number) = true
+ends_attending (Limit kind.Marks number) = false
+ends_attending (Limit kind.Journal number) = false
+ends_attending (Limit other number) = true
 ends_attending ReadFault = true
 ends_attending WriteFault = false
 ends_attending LinkFault = true
 ends_attending (BadFrame offset fault) = true
 ends_attending (NoSuchNode node) = true
+ends_attending DiskFault = false
+ends_attending (BadJournal offset fault) = false
+ends_attending (BadTables line) = false
+ends_attending (Inconsistent line kind) = false
 
 -- the statuses with which it ends before the address is dialled
 abbrev pub ends_undialled : Status → Bool
@@ -73,6 +79,10 @@ ends_undialled WriteFault = true
 ends_undialled LinkFault = false
 ends_undialled (BadFrame offset fault) = false
 ends_undialled (NoSuchNode node) = true
+ends_undialled DiskFault = true
+ends_undialled (BadJournal offset fault) = true
+ends_undialled (BadTables line) = true
+ends_undialled (Inconsistent line kind) = true
 
 -- the statuses with which it ends over the link
 abbrev pub ends_over : Status → Bool
@@ -87,6 +97,10 @@ ends_over WriteFault = false
 ends_over LinkFault = false
 ends_over (BadFrame offset fault) = true
 ends_over (NoSuchNode node) = false
+ends_over DiskFault = false
+ends_over (BadJournal offset fault) = false
+ends_over (BadTables line) = false
+ends_over (Inconsistent line kind) = false
 
 -- the statuses with which it ends once the address was dialled
 abbrev pub ends_dialled : Status → Bool
@@ -101,6 +115,10 @@ ends_dialled WriteFault = false
 ends_dialled LinkFault = true
 ends_dialled (BadFrame offset fault) = true
 ends_dialled (NoSuchNode node) = false
+ends_dialled DiskFault = false
+ends_dialled (BadJournal offset fault) = false
+ends_dialled (BadTables line) = false
+ends_dialled (Inconsistent line kind) = false
 
 -- the statuses before which the file was read to its end
 abbrev pub ends_read : Status → Bool
@@ -115,6 +133,10 @@ ends_read WriteFault = false
 ends_read LinkFault = true
 ends_read (BadFrame offset fault) = true
 ends_read (NoSuchNode node) = true
+ends_read DiskFault = false
+ends_read (BadJournal offset fault) = false
+ends_read (BadTables line) = false
+ends_read (Inconsistent line kind) = false
 
 -- how the node here ends, on a source and a link as they were and as they are then
 pub record Attended (here : Endpoint) (source source' : SourceView) (link link' : LinkView) (status : Status) : Type 0 where

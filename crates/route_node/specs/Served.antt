@@ -3,7 +3,7 @@ use Rattle.std.specs.Prelude.{ℕ, Bool, true, false, ◌≡◌, ◌<◌, ◌⊎
 use Rattle.std.specs.List.{list_all}
 use Rattle.std.specs.Io.KnownBytes.{Appends, IsAtEnd}
 use Rattle.topology.specs.declared.status.Status.{Status}
-use Rattle.topology.specs.declared.status.Status.TheVariants.{Done, Usage, NoMemory, BadSchedule, Limit, ReadFault, WriteFault, LinkFault, BadFrame, NoSuchNode}
+use Rattle.topology.specs.declared.status.Status.TheVariants.{Done, Usage, NoMemory, BadSchedule, Limit, ReadFault, WriteFault, LinkFault, BadFrame, NoSuchNode, DiskFault, BadJournal, BadTables, Inconsistent}
 use Rattle.topology.specs.declared.status.LimitKind.{LimitKind}
 use Rattle.topology.specs.declared.status.LimitKind.TheVariants as count
 use Rattle.topology.specs.declared.frame_faults.FrameFault.{FrameFault}
@@ -26,12 +26,18 @@ ends_serving Usage = false
 ends_serving NoMemory = true
 ends_serving (BadSchedule line kind) = false
 ends_serving (Limit count.Bytes number) = false
+ends_serving (Limit count.Marks number) = false
+ends_serving (Limit count.Journal number) = false
 ends_serving (Limit kind number) = true
 ends_serving ReadFault = false
 ends_serving WriteFault = false
 ends_serving LinkFault = true
 ends_serving (BadFrame offset fault) = true
 ends_serving (NoSuchNode node) = false
+ends_serving DiskFault = false
+ends_serving (BadJournal offset fault) = false
+ends_serving (BadTables line) = false
+ends_serving (Inconsistent line kind) = false
 
 -- the status of a stream that ends so at this offset
 abbrev pub status_of : ℕ → Ending → Status

@@ -3,7 +3,7 @@ use Rattle.std.specs.Prelude.{ℕ, List, ◌++◌, codes}
 use Rattle.std.specs.Fmt.{decimal}
 use Rattle.topology.specs.declared.ballots.Ballot.{Ballot}
 use Rattle.topology.specs.declared.status.Reason.{Reason}
-use Rattle.topology.specs.declared.status.Reason.TheVariants.{Crashed, AlreadyOrigin, NotOrigin, LinkDown, EmptyChannel, WrongSession, AlreadyDown, AlreadyUp, NotOpen, StillUp, AlreadyOpen, WrongSeq, OldSession, NotConsolidator, Decided, NoReport, NoSuchMessage, Duplicate, Promised, StaleBallot, NoRound, NotCrashed, PacketKnown, NoSuchPacket, PacketEnded}
+use Rattle.topology.specs.declared.status.Reason.TheVariants.{Crashed, AlreadyOrigin, NotOrigin, LinkDown, EmptyChannel, WrongSession, AlreadyDown, AlreadyUp, NotOpen, StillUp, AlreadyOpen, WrongSeq, OldSession, NotConsolidator, Decided, NoReport, NoSuchMessage, Duplicate, Promised, StaleBallot, NoRound, NotCrashed, PacketKnown, NoSuchPacket, PacketEnded, NothingPending}
 
 -- a ballot
 abbrev pub ballot_text : Ballot → List ℕ
@@ -36,3 +36,4 @@ reason_words NotCrashed = codes "not crashed"
 reason_words PacketKnown = codes "packet known"
 reason_words NoSuchPacket = codes "no such packet"
 reason_words PacketEnded = codes "packet ended"
+reason_words NothingPending = codes "nothing pending"

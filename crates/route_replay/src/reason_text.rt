@@ -49,5 +49,6 @@ pub fn reason_words(out: &mut String, reason: Reason) -> Result<(), AllocError>
         Reason::PacketKnown => out.push_str("packet known"),
         Reason::NoSuchPacket => out.push_str("no such packet"),
         Reason::PacketEnded => out.push_str("packet ended"),
+        Reason::NothingPending => out.push_str("nothing pending"),
     }
 }

@@ -8,9 +8,8 @@ use Rattle.route_io.specs.Causes.{RoseIf, AppendsFront}
 use Rattle.route_io.specs.Views.{SourceView, SinkView}
 use Rattle.route_io.proofs.Bytes.{stays_quiet}
 use Rattle.schedule_file.specs.declared.parser.TheConstants.{MAX_BYTES}
-use Rattle.table_audit.specs.declared.ends.AuditEnd.{AuditEnd}
-use Rattle.table_audit.specs.declared.ends.AuditEnd.TheVariants.{Done, NoMemory, Limit, ReadFault, WriteFault, BadTables, Inconsistent}
-use Rattle.table_audit.specs.declared.kinds.AuditKind.{AuditKind}
+use Rattle.topology.specs.declared.status.AuditKind.{AuditKind}
+use Rattle.topology.specs.declared.status.Status.TheVariants.{Done, WriteFault, BadTables, Inconsistent}
 use Rattle.table_audit.specs.declared.checking.Verdict.{Verdict}
 use Rattle.table_audit.specs.declared.checking.Verdict.TheVariants.{Consistent}
 use Rattle.table_audit.specs.declared.rows.AuditRow.{AuditRow}
@@ -60,6 +59,7 @@ module _ (source source' : SourceView) (bytes : List ℕ) (read : (told : List �
   -- a line is misspelled
   pub ends_misspelled : (sink : SinkView) (line : ℕ) → first_misspelled bytes ≡ Some line → Audited source source' sink sink (BadTables line)
   ends_misspelled sink line bad = record {
+    formed = refl;
     done = λ e. absurd (cc e);
     loop_free = λ e. absurd (cc e);
     bad_tables = λ n e told t. subst (λ b. first_misspelled b ≡ Some n) (read told t) (bad ∙ ap (λ (x : ℕ). Some x) (line_part line n e));
@@ -85,6 +85,7 @@ module _ (source source' : SourceView) (bytes : List ℕ) (read : (told : List �
       let told_bad : (told : List ℕ) → source.left ≡ Some told → bad_row told ≡ Some (line, kind) = λ told t. subst (λ b. bad_row b ≡ Some (line, kind)) (read told t) bad in
       let told_spelled : (told : List ℕ) → source.left ≡ Some told → first_misspelled told ≡ None = λ told t. subst (λ b. first_misspelled b ≡ None) (read told t) spelled in
       record {
+        formed = refl;
         done = λ e. absurd (cc e);
         loop_free = λ e. absurd (cc e);
         bad_tables = λ n e. absurd (cc e);
@@ -119,6 +120,7 @@ module _ (source source' : SourceView) (bytes : List ℕ) (read : (told : List �
     pub ends_done : ((epoch : ℕ) (prefix : Prefix) (nodes : List ℕ) → Follows (rows_of bytes) epoch prefix nodes → differ nodes ≡ true)
         → Appends sink.held sink'.held consistent_line → sink'.faults ≡ sink.faults → Audited source source' sink sink' Done
     ends_done free whole still = record {
+      formed = refl;
       done = λ e told t. (fine told t, whole);
       loop_free = λ e told t epoch prefix nodes follows. free epoch prefix nodes (subst (λ b. Follows (rows_of b) epoch prefix nodes) (sym (read told t)) follows);
       bad_tables = λ n e. absurd (cc e);
@@ -141,6 +143,7 @@ module _ (source source' : SourceView) (bytes : List ℕ) (read : (told : List �
     pub ends_cut_off : AppendsFront sink.held sink'.held consistent_line → RoseIf (WriteFault ≡ WriteFault) sink.faults sink'.faults
         → Audited source source' sink sink' WriteFault
     ends_cut_off cut rose = record {
+      formed = refl;
       done = λ e. absurd (cc e);
       loop_free = λ e. absurd (cc e);
       bad_tables = λ n e. absurd (cc e);

@@ -4,7 +4,7 @@ use Rattle.std.specs.Prelude.{codes}
 use Rattle.std.specs.Fmt.{digits}
 use Rattle.text_lines.specs.Lines.{left_of}
 use Rattle.text_lines.specs.Words.{words_of}
-use Rattle.table_audit.specs.declared.kinds.AuditKind.TheVariants.{NotSimple, DoesNotContinue}
+use Rattle.topology.specs.declared.status.AuditKind.TheVariants.{NotSimple, DoesNotContinue}
 use Rattle.table_audit.specs.Rows.{first_bad}
 use Rattle.schedule_file.specs.Spelling.{prefix_text}
 use Rattle.schedule_file.specs.Words.{spells_number, spells_prefix}

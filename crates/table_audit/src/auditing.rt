@@ -2,39 +2,38 @@
 ghost use Rattle.table_audit.specs.Audited.{Audited};
 
 use crate::checking::{Verdict, check_rows};
-use crate::ends::AuditEnd;
 use crate::laws::no_node_is_visited_twice;
 use crate::reading::{RowsEnd, read_rows};
 use route_io::{ReadEnd, Sink, Source, read_all, write_all};
 use schedule_file::MAX_BYTES;
 use std::alloc::Global;
-use topology::LimitKind;
+use topology::{LimitKind, Status};
 
 /// Reads a text from the source, and writes that its rows are consistent where none is bad. What a
 /// user may rely on stands in `specs/Audited.antt`.
-pub fn audit<I: Source, O: Sink>(alloc: Global, source: &mut I, sink: &mut O) -> AuditEnd
+pub fn audit<I: Source, O: Sink>(alloc: Global, source: &mut I, sink: &mut O) -> Status
     ensures { Audited (I.seen source.old) (I.seen source.new) (O.seen sink.old) (O.seen sink.new) result }
 {
     no_node_is_visited_twice();
     let bytes = match read_all(alloc, source, MAX_BYTES as usize) {
         Ok(bytes) => bytes,
-        Err(ReadEnd::NoMemory) => return AuditEnd::NoMemory,
-        Err(ReadEnd::Fault) => return AuditEnd::ReadFault,
-        Err(ReadEnd::TooLong) => return AuditEnd::Limit(LimitKind::Bytes, MAX_BYTES),
+        Err(ReadEnd::NoMemory) => return Status::NoMemory,
+        Err(ReadEnd::Fault) => return Status::ReadFault,
+        Err(ReadEnd::TooLong) => return Status::Limit(LimitKind::Bytes, MAX_BYTES),
     };
     let rows = match read_rows(alloc, &bytes) {
         Ok(rows) => rows,
-        Err(RowsEnd::NoMemory) => return AuditEnd::NoMemory,
-        Err(RowsEnd::Misspelled(line)) => return AuditEnd::BadTables(line),
+        Err(RowsEnd::NoMemory) => return Status::NoMemory,
+        Err(RowsEnd::Misspelled(line)) => return Status::BadTables(line),
     };
     let Ok(verdict) = check_rows(alloc, &rows) else {
-        return AuditEnd::NoMemory;
+        return Status::NoMemory;
     };
     match verdict {
-        Verdict::Bad { line, kind } => AuditEnd::Inconsistent(line, kind),
+        Verdict::Bad { line, kind } => Status::Inconsistent(line, kind),
         Verdict::Consistent => match write_all(sink, b"consistent\n") {
-            Ok(()) => AuditEnd::Done,
-            Err(_) => AuditEnd::WriteFault,
+            Ok(()) => Status::Done,
+            Err(_) => Status::WriteFault,
         },
     }
 }

@@ -7,11 +7,10 @@ ghost use Rattle.table_audit.specs.Verdicts.{verdict_of};
 ghost use Rattle.table_audit.specs.Index.{IsIndexOf, place_of_key};
 
 use crate::index::{Index, Key, key_of};
-use crate::kinds::AuditKind;
 use crate::rows::AuditRow;
 use std::alloc::Global;
 use std::collections::BTreeSet;
-use topology::{NoMemory, NodeId};
+use topology::{AuditKind, NoMemory, NodeId};
 
 /// What the audit says of rows.
 #[derive(Clone, Copy, Debug, PartialEq, Eq)]

@@ -15,9 +15,7 @@
 
 pub mod auditing;
 pub mod checking;
-pub mod ends;
 mod index;
-pub mod kinds;
 pub mod laws;
 mod lines;
 pub mod reading;
@@ -25,7 +23,5 @@ pub mod rows;
 
 pub use auditing::audit;
 pub use checking::{Verdict, check_rows};
-pub use ends::AuditEnd;
-pub use kinds::AuditKind;
 pub use reading::{RowsEnd, read_rows};
 pub use rows::{AuditRow, RowNodes};

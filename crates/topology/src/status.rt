@@ -56,6 +56,8 @@ pub enum Reason {
     NoSuchPacket,
     /// The walk of the packet has ended.
     PacketEnded,
+    /// Nothing is held back for the neighbour. No event gives this reason yet.
+    NothingPending,
 }
 
 /// A count that has a limit.
@@ -79,6 +81,10 @@ pub enum LimitKind {
     Packets,
     /// The frames that a node took over its link.
     Frames,
+    /// The triggers that the lists of one node name. No run counts them yet.
+    Marks,
+    /// The bytes of a journal. No run writes one yet.
+    Journal,
 }
 
 impl LimitKind {
@@ -98,6 +104,8 @@ impl LimitKind {
             LimitKind::Control => "control",
             LimitKind::Packets => "packets",
             LimitKind::Frames => "frames",
+            LimitKind::Marks => "marks",
+            LimitKind::Journal => "journal",
         }
     }
 }
@@ -158,6 +166,32 @@ impl BadKind {
     }
 }
 
+/// What is wrong with a row of printed tables.
+#[derive(Clone, Copy, Debug, PartialEq, Eq)]
+pub enum AuditKind {
+    /// Its path repeats a node, or does not begin with its node.
+    NotSimple,
+    /// An earlier row of its node, epoch and prefix has another path.
+    Changed,
+    /// The row of the second node of its path has another path than what is left of it.
+    DoesNotContinue,
+}
+
+impl AuditKind {
+    ghost use Rattle.topology.specs.Words.{audit_words};
+
+    /// The words for it in the line that says how a run ended.
+    pub fn words(self) -> &'static str
+        ensures { result.now ≡ audit_words self }
+    {
+        match self {
+            AuditKind::NotSimple => "not simple",
+            AuditKind::Changed => "changed",
+            AuditKind::DoesNotContinue => "does not continue",
+        }
+    }
+}
+
 /// How a run ended.
 #[derive(Clone, Copy, Debug, PartialEq, Eq)]
 pub enum Status {
@@ -181,6 +215,14 @@ pub enum Status {
     BadFrame(u64, FrameFault),
     /// The network has no node with this number.
     NoSuchNode(NodeId),
+    /// The disk failed. No command uses one yet.
+    DiskFault,
+    /// The record that begins at this offset of a journal is refused. No command reads one yet.
+    BadJournal(u64, FrameFault),
+    /// The first line that begins like one of a table and is none, counted from 1.
+    BadTables(u32),
+    /// The line of the first bad row of printed tables, counted from 1, and what is wrong with it.
+    Inconsistent(u32, AuditKind),
 }
 
 impl Status {
@@ -201,6 +243,10 @@ impl Status {
             Status::LinkFault => 8,
             Status::BadFrame(_, _) => 9,
             Status::NoSuchNode(_) => 10,
+            Status::DiskFault => 11,
+            Status::BadJournal(_, _) => 12,
+            Status::BadTables(_) => 13,
+            Status::Inconsistent(_, _) => 14,
         }
     }
 }

@@ -3,7 +3,7 @@ use Rattle.std.proofs.Common.{ℕ, suc, Bool, true, false, ◌&&◌, ◌==◌, �
 use Rattle.std.specs.Prelude.{not, nat_le, if◌then◌else◌}
 use Rattle.std.proofs.lemmas.Bool.Decides.{nat_tests}
 use Rattle.topology.specs.declared.status.LimitKind.{LimitKind}
-use Rattle.topology.specs.declared.status.LimitKind.TheVariants.{Bytes, Events, Epochs, Triggers, Entries, Updates, Control, Packets, Frames}
+use Rattle.topology.specs.declared.status.LimitKind.TheVariants.{Bytes, Events, Epochs, Triggers, Entries, Updates, Control, Packets, Frames, Marks, Journal}
 use Rattle.topology.specs.Lists.{has}
 use Rattle.topology.specs.Net.{Net, IsValid}
 use Rattle.path_vector.specs.Rules.{Rules}
@@ -100,6 +100,8 @@ limit_is true large triggers entries updates control packets full Updates number
 limit_is true large triggers entries updates control packets full Control number e more same = absurd (cc (kinds_are Epochs Control MOST_EPOCHS number e))
 limit_is true large triggers entries updates control packets full Packets number e more same = absurd (cc (kinds_are Epochs Packets MOST_EPOCHS number e))
 limit_is true large triggers entries updates control packets full Frames number e more same = absurd (cc (kinds_are Epochs Frames MOST_EPOCHS number e))
+limit_is true large triggers entries updates control packets full Marks number e more same = absurd (cc (kinds_are Epochs Marks MOST_EPOCHS number e))
+limit_is true large triggers entries updates control packets full Journal number e more same = absurd (cc (kinds_are Epochs Journal MOST_EPOCHS number e))
 limit_is false true triggers entries updates control packets full kind number e more same =
     subst (λ t. StopsAt (first_above false t entries updates control packets) (if not (is_epochs kind) && full then stop.Limit Triggers MOST_TRIGGERS else stop.Limit kind number)) (sym (more refl))
     (at_triggers (not (is_epochs kind) && full) kind number e)
@@ -112,6 +114,8 @@ limit_is false false triggers entries updates control packets full Updates numbe
 limit_is false false triggers entries updates control packets full Control number e more same = triggers_first triggers full (same refl refl) (behind_triggers entries updates control packets) Control number (before_control entries updates control packets Control number e)
 limit_is false false triggers entries updates control packets full Packets number e more same = triggers_first triggers full (same refl refl) (behind_triggers entries updates control packets) Packets number (before_control entries updates control packets Packets number e)
 limit_is false false triggers entries updates control packets full Frames number e more same = triggers_first triggers full (same refl refl) (behind_triggers entries updates control packets) Frames number (before_control entries updates control packets Frames number e)
+limit_is false false triggers entries updates control packets full Marks number e more same = triggers_first triggers full (same refl refl) (behind_triggers entries updates control packets) Marks number (before_control entries updates control packets Marks number e)
+limit_is false false triggers entries updates control packets full Journal number e more same = triggers_first triggers full (same refl refl) (behind_triggers entries updates control packets) Journal number (before_control entries updates control packets Journal number e)
 
 -- ---- the triggers
 

@@ -2,7 +2,7 @@
 use Rattle.std.specs.Prelude.{ℕ, ◌≡◌, Bool, true, false, not, ◌&&◌, Option, Some, None, List, nat_lt, nat_le, length, if◌then◌else◌}
 use Rattle.std.specs.List.{list_any, sum_by}
 use Rattle.topology.specs.declared.status.LimitKind.{LimitKind}
-use Rattle.topology.specs.declared.status.LimitKind.TheVariants.{Bytes, Events, Epochs, Triggers, Entries, Updates, Control, Packets, Frames}
+use Rattle.topology.specs.declared.status.LimitKind.TheVariants.{Bytes, Events, Epochs, Triggers, Entries, Updates, Control, Packets, Frames, Marks, Journal}
 use Rattle.topology.specs.Net.{Net}
 use Rattle.path_vector.specs.Rules.{Rules}
 use Rattle.trigger_log.specs.Entries.{locals}
@@ -110,6 +110,8 @@ is_epochs Updates = false
 is_epochs Control = false
 is_epochs Packets = false
 is_epochs Frames = false
+is_epochs Marks = false
+is_epochs Journal = false
 
 -- the stop of the run where one of its nodes stops: the triggers of all nodes come before its entries
 abbrev pub run_stop : ℕ → Bool → NodeStop → Stop

@@ -3,7 +3,8 @@ use super::ends::{sink_of, source_of};
 use std::alloc::Global;
 use std::process::Abort;
 use std::test::Fail;
-use table_audit::{AuditEnd, AuditKind, Verdict, audit, check_rows, read_rows};
+use table_audit::{Verdict, audit, check_rows, read_rows};
+use topology::{AuditKind, Status};
 
 // Rows in the lines 3, 5 and 6.
 const CONTINUED: &str = "\
@@ -56,7 +57,7 @@ fn ends(
     rt: &impl Abort,
     alloc: Global,
     text: &str,
-    wanted: AuditEnd,
+    wanted: Status,
     written: &str,
 ) -> Result<(), Fail> {
     let mut source = source_of(alloc, text)?;
@@ -74,7 +75,7 @@ fn a_consistent_text_is_answered_with_one_line(rt: HostRuntime) -> Result<(), Fa
         "7: idle empty channel\ntable 4 1: unpublished\n",
         "",
     ] {
-        ends(&rt, rt.alloc(), text, AuditEnd::Done, "consistent\n")?;
+        ends(&rt, rt.alloc(), text, Status::Done, "consistent\n")?;
     }
     Ok(())
 }
@@ -84,17 +85,17 @@ fn another_text_is_refused_by_its_first_line(rt: HostRuntime) -> Result<(), Fail
     for (text, wanted) in [
         (
             "table 1 1 10.0.0.0/8: 1 2 3\ntable 2 1 10.0.0.0/8: none\n",
-            AuditEnd::Inconsistent(1, AuditKind::DoesNotContinue),
+            Status::Inconsistent(1, AuditKind::DoesNotContinue),
         ),
         (
             "table 3 1 10.0.0.0/8: 3 2 3\n",
-            AuditEnd::Inconsistent(1, AuditKind::NotSimple),
+            Status::Inconsistent(1, AuditKind::NotSimple),
         ),
-        ("table 3 1\n", AuditEnd::BadTables(1)),
+        ("table 3 1\n", Status::BadTables(1)),
         // A misspelled line comes before any bad row.
         (
             "table 3 1 10.0.0.0/8: 3 2 3\ntable 3 1 10.0.0.0/8:\n",
-            AuditEnd::BadTables(2),
+            Status::BadTables(2),
         ),
     ] {
         ends(&rt, rt.alloc(), text, wanted, "")?;
