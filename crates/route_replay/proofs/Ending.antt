@@ -36,9 +36,7 @@ use Rattle.schedule_file.specs.declared.parser.TheConstants.{MAX_BYTES}
 use Rattle.route_replay.specs.Text.{Course, Leads, Stops, unless, with_event, then_on, drained, controlled, hopped, is_idle, course, text, stop, stop_by, task_of}
 use Rattle.route_replay.specs.Probed.{AreProbed}
 use Rattle.route_replay.specs.Running.{Runs}
-use Rattle.agreement_laws.specs.Agreed.{IsAgreed}
-use Rattle.walk_laws.specs.Walked.{IsWalked}
-use Rattle.world_core.specs.Sound.{IsSound}
+use Rattle.world_core.specs.Throughout.{HoldsThroughout}
 use Rattle.route_replay.specs.Replayed.{Replayed, Comes, IsLimit, StopsRun, behind, is_of_run, ends_replay}
 
 -- what a told source gave is what it told
@@ -72,10 +70,8 @@ pub ends_bad : (source source' : SourceView) (sink : SinkView) (bytes : List ℕ
 ends_bad source source' sink bytes line kind read one short bad at_end quiet = record {
   formed = refl;
   done = λ e. absurd (cc e);
-  agreed = λ _ told t run. absurd (one.apart run.lines line kind (subst (λ b. Reads [] (words_by_line b) run.lines) (sym (read told t)) run.is_run.read) bad);
-  walked = λ _ told t run. absurd (one.apart run.lines line kind (subst (λ b. Reads [] (words_by_line b) run.lines) (sym (read told t)) run.is_run.read) bad);
-  sound = λ _ told t run. absurd (one.apart run.lines line kind (subst (λ b. Reads [] (words_by_line b) run.lines) (sym (read told t)) run.is_run.read) bad);
-  sound_so_far = λ _ told t run. absurd (one.apart run.lines line kind (subst (λ b. Reads [] (words_by_line b) run.lines) (sym (read told t)) run.is_run.read) bad);
+  throughout = λ _ told t run. absurd (one.apart run.lines line kind (subst (λ b. Reads [] (words_by_line b) run.lines) (sym (read told t)) run.is_run.read) bad);
+  so_far = λ _ told t run. absurd (one.apart run.lines line kind (subst (λ b. Reads [] (words_by_line b) run.lines) (sym (read told t)) run.is_run.read) bad);
   probed = λ written. absurd (written refl);
   front = λ told t. inl refl;
   silent = λ _. refl;
@@ -102,7 +98,7 @@ status_of (Err end.NoMemory) = NoMemory
 status_of (Err end.WriteFault) = WriteFault
 status_of (Err (end.Limit kind number)) = Limit kind number
 
--- the limits that stop a run are neither that of the bytes nor that of the frames
+-- the limits that stop a run: not those of the bytes, of the frames, of lists and of a journal
 abbrev stops_runs : LimitKind → Bool
 stops_runs count.Bytes = false
 stops_runs count.Events = true
@@ -113,6 +109,8 @@ stops_runs count.Updates = true
 stops_runs count.Control = true
 stops_runs count.Packets = true
 stops_runs count.Frames = false
+stops_runs count.Marks = false
+stops_runs count.Journal = false
 
 abbrev OfRun : Option Reached → Type 0
 OfRun None = Unit {0}
@@ -229,6 +227,8 @@ of_run count.Updates e = refl
 of_run count.Control e = refl
 of_run count.Packets e = refl
 of_run count.Frames e = refl
+of_run count.Marks e = refl
+of_run count.Journal e = refl
 
 may_end : (kind : LimitKind) (number : ℕ) → stops_runs kind ≡ true → ends_replay (Limit kind number) ≡ true
 may_end count.Bytes number e = refl
@@ -240,6 +240,8 @@ may_end count.Updates number e = refl
 may_end count.Control number e = refl
 may_end count.Packets number e = refl
 may_end count.Frames number e = e
+may_end count.Marks number e = e
+may_end count.Journal number e = e
 
 is_limit : (bytes : List ℕ) (kind : LimitKind) (number : ℕ) (held held' : Option (List ℕ)) → stops_runs kind ≡ true
     → StopsRun bytes (record { kind = kind; number = number }) held held' → IsLimit bytes kind number held held'
@@ -257,8 +259,7 @@ none_some o x a b = absurd (cc (sym a ∙ b))
 
 module _ (source source' : SourceView) (sink sink' : SinkView) (bytes : List ℕ) (lines : List Line)
     (read : (told : List ℕ) → source.left ≡ Some told → bytes ≡ told) (one : OneReading bytes) (short : length bytes ≤ MAX_BYTES) (reads : Reads [] (words_by_line bytes) lines) (at_end : IsAtEnd source'.left) (quiet : source'.faults ≡ source.faults)
-    (is_agreed : IsAgreed gao_rexford (net_of lines) (behind lines)) (is_walked : IsWalked gao_rexford (net_of lines) (behind lines))
-    (is_sound : IsSound gao_rexford (net_of lines) (behind lines)) (are_probed : AreProbed gao_rexford (net_of lines) [] (directives_of lines)) where
+    (throughout : HoldsThroughout gao_rexford (net_of lines) (behind lines)) (are_probed : AreProbed gao_rexford (net_of lines) [] (directives_of lines)) where
   abbrev written : List ℕ
   written = text gao_rexford (net_of lines) [] (directives_of lines)
 
@@ -273,23 +274,11 @@ module _ (source source' : SourceView) (sink sink' : SinkView) (bytes : List ℕ
     is_run = record { read = subst (λ b. Reads [] (words_by_line b) lines) (read told t) reads; text = refl; stop = refl };
   }
 
-  -- whatever the file comes to, its run is agreed
-  run_agreed : (told : List ℕ) → source.left ≡ Some told → (run : Comes told) → IsAgreed gao_rexford (net_of run.lines) (behind run.lines)
-  run_agreed told t run =
+  -- whatever the file comes to, its run holds throughout
+  run_throughout : (told : List ℕ) → source.left ≡ Some told → (run : Comes told) → HoldsThroughout gao_rexford (net_of run.lines) (behind run.lines)
+  run_throughout told t run =
       let same = one.lines run.lines lines (subst (λ b. Reads [] (words_by_line b) run.lines) (sym (read told t)) run.is_run.read) reads in
-      subst (λ ls. IsAgreed gao_rexford (net_of ls) (behind ls)) (sym same) is_agreed
-
-  -- and is walked so
-  run_walked : (told : List ℕ) → source.left ≡ Some told → (run : Comes told) → IsWalked gao_rexford (net_of run.lines) (behind run.lines)
-  run_walked told t run =
-      let same = one.lines run.lines lines (subst (λ b. Reads [] (words_by_line b) run.lines) (sym (read told t)) run.is_run.read) reads in
-      subst (λ ls. IsWalked gao_rexford (net_of ls) (behind ls)) (sym same) is_walked
-
-  -- and is sound
-  run_sound : (told : List ℕ) → source.left ≡ Some told → (run : Comes told) → IsSound gao_rexford (net_of run.lines) (behind run.lines)
-  run_sound told t run =
-      let same = one.lines run.lines lines (subst (λ b. Reads [] (words_by_line b) run.lines) (sym (read told t)) run.is_run.read) reads in
-      subst (λ ls. IsSound gao_rexford (net_of ls) (behind ls)) (sym same) is_sound
+      subst (λ ls. HoldsThroughout gao_rexford (net_of ls) (behind ls)) (sym same) throughout
 
   -- and its probes are
   run_probed : (told : List ℕ) → source.left ≡ Some told → (run : Comes told) → AreProbed gao_rexford (net_of run.lines) [] (directives_of run.lines)
@@ -313,10 +302,8 @@ module _ (source source' : SourceView) (sink sink' : SinkView) (bytes : List ℕ
   ends_run (Ok _) runs = record {
     formed = refl;
     done = λ e told t. (comes told t, runs.whole.1, runs.whole.0);
-    agreed = λ _ told t run. run_agreed told t run;
-    walked = λ _ told t run. run_walked told t run;
-    sound = λ _ told t run. run_sound told t run;
-    sound_so_far = λ _ told t run. run_sound told t run;
+    throughout = λ _ told t run. run_throughout told t run;
+    so_far = λ _ told t run. run_throughout told t run;
     probed = λ _ told t run. run_probed told t run;
     front = λ told t. inr (comes told t, runs.front.0, runs.front.1, runs.front.2);
     silent = λ e. absurd (cc e);
@@ -334,10 +321,8 @@ module _ (source source' : SourceView) (sink sink' : SinkView) (bytes : List ℕ
   ends_run (Err end.NoMemory) runs = record {
     formed = refl;
     done = λ e. absurd (cc e);
-    agreed = λ e. absurd (cc e);
-    walked = λ e. absurd (cc e);
-    sound = λ e. absurd (cc e);
-    sound_so_far = λ _ told t run. run_sound told t run;
+    throughout = λ e. absurd (cc e);
+    so_far = λ _ told t run. run_throughout told t run;
     probed = λ _ told t run. run_probed told t run;
     front = λ told t. inr (comes told t, runs.front.0, runs.front.1, runs.front.2);
     silent = λ e. absurd (cc e);
@@ -355,10 +340,8 @@ module _ (source source' : SourceView) (sink sink' : SinkView) (bytes : List ℕ
   ends_run (Err end.WriteFault) runs = record {
     formed = refl;
     done = λ e. absurd (cc e);
-    agreed = λ _ told t run. run_agreed told t run;
-    walked = λ _ told t run. run_walked told t run;
-    sound = λ _ told t run. run_sound told t run;
-    sound_so_far = λ _ told t run. run_sound told t run;
+    throughout = λ _ told t run. run_throughout told t run;
+    so_far = λ _ told t run. run_throughout told t run;
     probed = λ _ told t run. run_probed told t run;
     front = λ told t. inr (comes told t, runs.front.0, runs.front.1, runs.front.2);
     silent = λ e. absurd (cc e);
@@ -379,10 +362,8 @@ module _ (source source' : SourceView) (sink sink' : SinkView) (bytes : List ℕ
       record {
         formed = may_end kind number inside;
         done = λ e. absurd (cc e);
-        agreed = λ _ told t run. run_agreed told t run;
-        walked = λ _ told t run. run_walked told t run;
-        sound = λ _ told t run. run_sound told t run;
-        sound_so_far = λ _ told t run. run_sound told t run;
+        throughout = λ _ told t run. run_throughout told t run;
+        so_far = λ _ told t run. run_throughout told t run;
         probed = λ _ told t run. run_probed told t run;
         front = λ told t. inr (comes told t, runs.front.0, runs.front.1, runs.front.2);
         silent = λ e. absurd (true≢false (sym e ∙ ap not (of_run kind inside)));

@@ -1,5 +1,5 @@
 -- What each end of a load gives of the promise.
-use Rattle.std.proofs.Common.{◌≡◌, ℕ, ◌<◌, inl, inr, Option, Some, None, List, [], length, Result, Ok, Err, refl, sym, ap, ◌∙◌, subst, arith}
+use Rattle.std.proofs.Common.{◌≡◌, ◌≢◌, ℕ, ◌<◌, inl, inr, Option, Some, None, List, [], length, Result, Ok, Err, refl, sym, ap, ◌∙◌, subst, arith}
 use Rattle.std.specs.Io.KnownBytes.{Appends}
 use Rattle.route_io.specs.Causes.{AppendsFront}
 use Rattle.route_io.specs.Views.{SinkView}
@@ -10,9 +10,7 @@ use Rattle.topology.specs.declared.status.LimitKind.{LimitKind}
 use Rattle.path_vector.specs.Rules.{Rules}
 use Rattle.path_vector.specs.GaoRexford.{gao_rexford}
 use Rattle.chronicle.specs.declared.events.Event.{Event}
-use Rattle.agreement_laws.specs.Agreed.{IsAgreed}
-use Rattle.walk_laws.specs.Walked.{IsWalked}
-use Rattle.world_core.specs.Sound.{IsSound}
+use Rattle.world_core.specs.Throughout.{HoldsThroughout}
 use Rattle.node_core.specs.NodeLimits.{Reached}
 use Rattle.schedule_file.specs.declared.lines.Directive.{Directive}
 use Rattle.schedule_file.specs.declared.lines.Numbered.{Numbered}
@@ -24,7 +22,7 @@ use Rattle.route_replay.specs.declared.ends.RunEnd.{RunEnd}
 use Rattle.route_replay.specs.declared.ends.RunEnd.TheVariants as end
 use Rattle.route_replay.specs.LoadNetwork.{load_net}
 use Rattle.route_replay.specs.LoadSchedule.{load_directives, load_lines, unnumbered}
-use Rattle.route_replay.specs.LoadText.{counted, load_run, load_stop, load_text, summary, unless_stopped}
+use Rattle.route_replay.specs.LoadText.{counted, load_events, load_stop, load_text, summary, unless_stopped}
 use Rattle.route_replay.specs.Loaded.{Loaded, Performs, StopsLoad}
 use Rattle.route_replay.specs.Running.{Runs}
 use Rattle.route_replay.specs.Text.{events_of, stop}
@@ -57,9 +55,7 @@ said_of rules old new lines done =
 
 -- what is known of the run of a load
 pub record Known (number : ℕ) : Type 0 where
-  pub agreed : IsAgreed gao_rexford (load_net number) (load_run number)
-  pub walked : IsWalked gao_rexford (load_net number) (load_run number)
-  pub sound : IsSound gao_rexford (load_net number) (load_run number)
+  pub throughout : HoldsThroughout gao_rexford (load_net number) (load_events number)
 
 no_piece : (n : ℕ) (piece : List ℕ) → piece ≡ [] → n < length piece → ⊥
 no_piece n piece e h = let none = ap (λ (l : List ℕ). length l) e in omega (arith, h, none)
@@ -80,9 +76,8 @@ module _ (number : ℕ) (sink sink' : SinkView) where
   ends_done known runs = record {
     formed = refl;
     done = λ e. (runs.whole.1, runs.whole.0);
-    agreed = λ e. known.agreed;
-    walked = λ e. known.walked;
-    sound = λ e. known.sound;
+    throughout = λ e. known.throughout;
+    so_far = λ e. known.throughout;
     limit = λ kind most e. absurd (cc e);
     write_fault = risen_as _ _ (λ e. absurd (cc e)) (λ e. absurd (cc e)) runs.cause;
     cut_off = λ e. absurd (cc e);
@@ -92,13 +87,12 @@ module _ (number : ℕ) (sink sink' : SinkView) where
     same_room = runs.same_room;
   }
 
-  pub ends_short : Runs {T = Unit {0}} sink sink' (load_text number) (load_stop number) (Err end.NoMemory) → Loaded number sink sink' NoMemory
-  ends_short runs = record {
+  pub ends_short : (sink'.held ≢ sink.held → HoldsThroughout gao_rexford (load_net number) (load_events number)) → Runs {T = Unit {0}} sink sink' (load_text number) (load_stop number) (Err end.NoMemory) → Loaded number sink sink' NoMemory
+  ends_short so_far runs = record {
     formed = refl;
     done = λ e. absurd (cc e);
-    agreed = λ e. absurd (e refl);
-    walked = λ e. absurd (e refl);
-    sound = λ e. absurd (e refl);
+    throughout = λ e. absurd (e refl);
+    so_far = so_far;
     limit = λ kind most e. absurd (cc e);
     write_fault = risen_as _ _ (λ e. absurd (cc e)) (λ e. absurd (cc e)) runs.cause;
     cut_off = λ e. absurd (cc e);
@@ -112,9 +106,8 @@ module _ (number : ℕ) (sink sink' : SinkView) where
   ends_cut known runs = record {
     formed = refl;
     done = λ e. absurd (cc e);
-    agreed = λ e. known.agreed;
-    walked = λ e. known.walked;
-    sound = λ e. known.sound;
+    throughout = λ e. known.throughout;
+    so_far = λ e. known.throughout;
     limit = λ kind most e. absurd (cc e);
     write_fault = risen_as _ _ (λ e. refl) (λ e. refl) runs.cause;
     cut_off = λ e. runs.cut_off refl;
@@ -131,9 +124,8 @@ module _ (number : ℕ) (sink sink' : SinkView) where
       record {
         formed = refl;
         done = λ e. absurd (cc e);
-        agreed = λ e. known.agreed;
-        walked = λ e. known.walked;
-        sound = λ e. known.sound;
+        throughout = λ e. known.throughout;
+        so_far = λ e. known.throughout;
         limit = λ k n e.
             let a : kind ≡ k = cc in
             let b : most ≡ n = cc in
@@ -153,7 +145,7 @@ module _ (number : ℕ) (sink sink' : SinkView) where
 
 -- nothing was made
 pub ends_unmade : (number : ℕ) (sink : SinkView) → Loaded number sink sink NoMemory
-ends_unmade number sink = ends_short number sink sink (runs_none sink (load_text number) (load_stop number) end.NoMemory (λ e. cc e) (λ kind most e. absurd (cc e)))
+ends_unmade number sink = ends_short number sink sink (λ other. absurd (other refl)) (runs_none sink (load_text number) (load_stop number) end.NoMemory (λ e. cc e) (λ kind most e. absurd (cc e)))
 
 -- a stop at a limit, as it is read
 pub halted_at : {P : Type 0} (rules : Rules) (world : WorldView P) (lines : List Numbered) (why : Stop) → StopsLoad rules world lines why

@@ -83,10 +83,6 @@ load_events number = events_of gao_rexford (load_net number) [] (load_lines numb
 unfoldable pub load_stop : ℕ → Option Reached
 load_stop number = stop gao_rexford (load_net number) [] (load_lines number)
 
--- its run
-unfoldable pub load_run : ℕ → Chronicle
-load_run number = run gao_rexford (load_net number) (load_events number)
-
 -- what is written of lines: the counts of their run, and nothing where a limit stops them
 abbrev pub unless_stopped : Option Reached → List ℕ → List ℕ
 unless_stopped None text = text

@@ -5,15 +5,13 @@ use Rattle.std.specs.Io.KnownBytes.{Appends}
 use Rattle.topology.specs.Lists.{Begins}
 use Rattle.topology.specs.Net.{Net}
 use Rattle.topology.specs.declared.status.Status.{Status}
-use Rattle.topology.specs.declared.status.Status.TheVariants.{Done, Usage, NoMemory, BadSchedule, Limit, ReadFault, WriteFault, LinkFault, BadFrame, NoSuchNode}
+use Rattle.topology.specs.declared.status.Status.TheVariants.{Done, Usage, NoMemory, BadSchedule, Limit, ReadFault, WriteFault, LinkFault, BadFrame, NoSuchNode, DiskFault, BadJournal, BadTables, Inconsistent}
 use Rattle.topology.specs.declared.status.LimitKind.{LimitKind}
 use Rattle.route_io.specs.Causes.{RoseIf, AppendsFront}
 use Rattle.route_io.specs.Views.{SinkView}
 use Rattle.path_vector.specs.GaoRexford.{gao_rexford}
 use Rattle.path_vector.specs.Rules.{Rules}
-use Rattle.agreement_laws.specs.Agreed.{IsAgreed}
-use Rattle.walk_laws.specs.Walked.{IsWalked}
-use Rattle.world_core.specs.Sound.{IsSound}
+use Rattle.world_core.specs.Throughout.{HoldsThroughout}
 use Rattle.node_core.specs.NodeLimits.{Reached}
 use Rattle.world_core.specs.View.{WorldView}
 use Rattle.world_core.specs.declared.outcomes.Stop.{Stop}
@@ -21,7 +19,7 @@ use Rattle.world_core.specs.declared.outcomes.Stop.TheVariants as stop
 use Rattle.schedule_file.specs.declared.lines.Directive.{Directive}
 use Rattle.schedule_file.specs.declared.lines.Numbered.{Numbered}
 use Rattle.route_replay.specs.LoadNetwork.{load_net}
-use Rattle.route_replay.specs.LoadText.{load_run, load_stop, load_text}
+use Rattle.route_replay.specs.LoadText.{load_events, load_stop, load_text}
 use Rattle.route_replay.specs.Running.{Fitting}
 use Rattle.route_replay.specs.Text.{events_of, stop, task_of}
 
@@ -54,6 +52,10 @@ ends_load WriteFault = true
 ends_load LinkFault = false
 ends_load (BadFrame offset fault) = false
 ends_load (NoSuchNode node) = false
+ends_load DiskFault = false
+ends_load (BadJournal offset fault) = false
+ends_load (BadTables line) = false
+ends_load (Inconsistent line kind) = false
 
 -- how a load ends, on a sink as it was and as it is then
 pub record Loaded (number : ℕ) (sink sink' : SinkView) (status : Status) : Type 0 where
@@ -61,13 +63,10 @@ pub record Loaded (number : ℕ) (sink sink' : SinkView) (status : Status) : Typ
   pub formed : ends_load status ≡ true
   -- Done: no limit stopped the run, and the whole text was written
   pub done : status ≡ Done → (load_stop number ≡ None) × Appends sink.held sink'.held (load_text number)
-  -- unless memory ran out: in the run all tables of one epoch come from one chosen value, and every published path continues as the next
-  -- node's published path of that epoch, if it has one
-  pub agreed : status ≢ NoMemory → IsAgreed gao_rexford (load_net number) (load_run number)
-  -- no packet visits a node twice on one epoch's stable tables, and none makes more transient moves than the hop limit
-  pub walked : status ≢ NoMemory → IsWalked gao_rexford (load_net number) (load_run number)
-  -- and the run is sound: the cuts of an epoch fit together, and without their incomplete entries they are at rest
-  pub sound : status ≢ NoMemory → IsSound gao_rexford (load_net number) (load_run number)
+  -- unless memory ran out: at each moment of the run the network is sound, as in a replay
+  pub throughout : status ≢ NoMemory → HoldsThroughout gao_rexford (load_net number) (load_events number)
+  -- so it is, whatever the end, where anything was written
+  pub so_far : sink'.held ≢ sink.held → HoldsThroughout gao_rexford (load_net number) (load_events number)
   -- Limit: the count would pass its number, and nothing is written
   pub limit : (kind : LimitKind) (most : ℕ) → status ≡ Limit kind most
       → (load_stop number ≡ Some (record { kind = kind; number = most })) × Appends sink.held sink'.held []

@@ -3,18 +3,15 @@ use Rattle.std.specs.Prelude.{◌≢◌, ℕ, Bool, true, false, not, MatchBool,
 use Rattle.std.specs.Io.KnownBytes.{Appends, IsAtEnd}
 use Rattle.topology.specs.Lists.{Begins}
 use Rattle.topology.specs.declared.status.Status.{Status}
-use Rattle.topology.specs.declared.status.Status.TheVariants.{Done, Usage, NoMemory, BadSchedule, Limit, ReadFault, WriteFault, LinkFault, BadFrame, NoSuchNode}
+use Rattle.topology.specs.declared.status.Status.TheVariants.{Done, Usage, NoMemory, BadSchedule, Limit, ReadFault, WriteFault, LinkFault, BadFrame, NoSuchNode, DiskFault, BadJournal, BadTables, Inconsistent}
 use Rattle.topology.specs.declared.status.BadKind.{BadKind}
 use Rattle.topology.specs.declared.status.LimitKind.{LimitKind}
-use Rattle.topology.specs.declared.status.LimitKind.TheVariants.{Bytes, Events, Epochs, Triggers, Entries, Updates, Control, Packets, Frames}
+use Rattle.topology.specs.declared.status.LimitKind.TheVariants.{Bytes, Events, Epochs, Triggers, Entries, Updates, Control, Packets, Frames, Marks, Journal}
 use Rattle.route_io.specs.Causes.{RoseIf, AppendsFront}
 use Rattle.route_io.specs.Views.{SourceView, SinkView}
 use Rattle.path_vector.specs.GaoRexford.{gao_rexford}
-use Rattle.chronicle.specs.Facts.{Chronicle}
-use Rattle.chronicle.specs.Run.{run}
-use Rattle.agreement_laws.specs.Agreed.{IsAgreed}
-use Rattle.walk_laws.specs.Walked.{IsWalked}
-use Rattle.world_core.specs.Sound.{IsSound}
+use Rattle.chronicle.specs.declared.events.Event.{Event}
+use Rattle.world_core.specs.Throughout.{HoldsThroughout}
 use Rattle.node_core.specs.NodeLimits.{Reached}
 use Rattle.schedule_file.specs.declared.lines.Line.{Line}
 use Rattle.schedule_file.specs.Spelling.{words_by_line}
@@ -38,9 +35,9 @@ pub record Comes (bytes : List ℕ) : Type 0 where
   pub stopped : Option Reached
   pub is_run : IsRun bytes lines written stopped
 
--- the run behind the text of the lines: that of all their events, up to the directive that a limit stops
-abbrev pub behind : List Line → Chronicle
-behind lines = run gao_rexford (net_of lines) (events_of gao_rexford (net_of lines) [] (directives_of lines))
+-- the run behind the text of the lines: all their events, up to the directive that a limit stops
+abbrev pub behind : List Line → List Event
+behind lines = events_of gao_rexford (net_of lines) [] (directives_of lines)
 
 -- nothing was written, or a front of the text of the file
 abbrev pub WroteFront : List ℕ → Option (List ℕ) → Option (List ℕ) → Type 0
@@ -58,6 +55,8 @@ is_of_run Updates = true
 is_of_run Control = true
 is_of_run Packets = true
 is_of_run Frames = true
+is_of_run Marks = true
+is_of_run Journal = true
 
 -- the statuses with which a replay may end
 abbrev pub ends_replay : Status → Bool
@@ -66,12 +65,18 @@ ends_replay Usage = false
 ends_replay NoMemory = true
 ends_replay (BadSchedule line kind) = true
 ends_replay (Limit Frames number) = false
+ends_replay (Limit Marks number) = false
+ends_replay (Limit Journal number) = false
 ends_replay (Limit kind number) = true
 ends_replay ReadFault = true
 ends_replay WriteFault = true
 ends_replay LinkFault = false
 ends_replay (BadFrame offset fault) = false
 ends_replay (NoSuchNode node) = false
+ends_replay DiskFault = false
+ends_replay (BadJournal offset fault) = false
+ends_replay (BadTables line) = false
+ends_replay (Inconsistent line kind) = false
 
 -- the statuses before which nothing is run
 abbrev pub ends_early : Status → Bool
@@ -85,6 +90,10 @@ ends_early WriteFault = false
 ends_early LinkFault = true
 ends_early (BadFrame offset fault) = true
 ends_early (NoSuchNode node) = true
+ends_early DiskFault = true
+ends_early (BadJournal offset fault) = true
+ends_early (BadTables line) = true
+ends_early (Inconsistent line kind) = true
 
 -- the statuses before which the file was read to its end
 abbrev pub ends_read : Status → Bool
@@ -98,6 +107,10 @@ ends_read WriteFault = true
 ends_read LinkFault = false
 ends_read (BadFrame offset fault) = false
 ends_read (NoSuchNode node) = false
+ends_read DiskFault = false
+ends_read (BadJournal offset fault) = false
+ends_read (BadTables line) = false
+ends_read (Inconsistent line kind) = false
 
 -- the run would take that count above its number, and the text of the directives before was written
 abbrev pub StopsRun : List ℕ → Reached → Option (List ℕ) → Option (List ℕ) → Type 0
@@ -116,20 +129,16 @@ pub record Replayed (source source' : SourceView) (sink sink' : SinkView) (statu
   -- Done: no limit stopped the run of the file, and its whole text was written
   pub done : status ≡ Done → (bytes : List ℕ) → source.left ≡ Some bytes
       → (run : Comes bytes) × (run.stopped ≡ None) × Appends sink.held sink'.held run.written
-  -- in the run behind the text all tables of one epoch come from one chosen value, and every published path continues
-  -- as the next node's published path of that epoch, if it has one
-  pub agreed : ends_read status ≡ true → (bytes : List ℕ) → source.left ≡ Some bytes
-      → (run : Comes bytes) → IsAgreed gao_rexford (net_of run.lines) (behind run.lines)
-  -- in that run no packet visits a node twice on one epoch's stable tables, and none makes more transient moves than the
-  -- hop limit; after that many its next hop that is not idle ends it
-  pub walked : ends_read status ≡ true → (bytes : List ℕ) → source.left ≡ Some bytes
-      → (run : Comes bytes) → IsWalked gao_rexford (net_of run.lines) (behind run.lines)
-  -- and it is sound: the cuts of an epoch fit together, and without their incomplete entries they are at rest
-  pub sound : ends_read status ≡ true → (bytes : List ℕ) → source.left ≡ Some bytes
-      → (run : Comes bytes) → IsSound gao_rexford (net_of run.lines) (behind run.lines)
+  -- at each moment of the run behind the text the network is sound: the cuts of an epoch fit together, and without their
+  -- incomplete entries they are at rest; all tables of one epoch come from one chosen value, and every published path continues
+  -- as the next node's published path of that epoch, if it has one; no packet visits a node twice on one epoch's stable tables,
+  -- and none makes more transient moves than the hop limit; and each table is published in the step that completes what it is
+  -- made of
+  pub throughout : ends_read status ≡ true → (bytes : List ℕ) → source.left ≡ Some bytes
+      → (run : Comes bytes) → HoldsThroughout gao_rexford (net_of run.lines) (behind run.lines)
   -- so it is, whatever the end, where anything was written
-  pub sound_so_far : sink'.held ≢ sink.held → (bytes : List ℕ) → source.left ≡ Some bytes
-      → (run : Comes bytes) → IsSound gao_rexford (net_of run.lines) (behind run.lines)
+  pub so_far : sink'.held ≢ sink.held → (bytes : List ℕ) → source.left ≡ Some bytes
+      → (run : Comes bytes) → HoldsThroughout gao_rexford (net_of run.lines) (behind run.lines)
   -- where anything was written, each probe in the text shows a walk that comes to its end: as delivered exactly where links
   -- that are up at its turn connect its node with an owner, else as stuck
   pub probed : sink'.held ≢ sink.held → (bytes : List ℕ) → source.left ≡ Some bytes

@@ -105,9 +105,7 @@ pub fn load<O: Sink>(alloc: Global, number: u32, sink: &mut O) -> Status
     let Ok(made) = load_of(alloc, number) else {
         return Status::NoMemory;
     };
-    drop_laws::laws::a_run_is_agreed();
-    walk_laws::laws::a_run_is_walked();
-    world_core::laws::every_run_is_sound();
+    world_core::laws::a_run_holds_throughout();
     // that a network is valid is said where its nodes are read
     let _nodes = made.topology.nodes();
     match run_load(alloc, made, sink) {

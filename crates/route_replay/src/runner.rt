@@ -67,9 +67,7 @@ pub fn replay<I: Source, O: Sink>(alloc: Global, source: &mut I, sink: &mut O) -
         Err(ParseEnd::NoMemory) => return Status::NoMemory,
         Err(ParseEnd::Bad { line, kind }) => return Status::BadSchedule(line, kind),
     };
-    drop_laws::laws::a_run_is_agreed();
-    walk_laws::laws::a_run_is_walked();
-    world_core::laws::every_run_is_sound();
+    world_core::laws::a_run_holds_throughout();
     delivery_laws::laws::a_walk_over_it_delivers();
     // that a network is valid is said where its nodes are read
     let _nodes = schedule.topology.nodes();

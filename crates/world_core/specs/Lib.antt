@@ -17,4 +17,5 @@ pub mod Refreshing
 pub mod Sound
 pub mod Holding
 pub mod Stepping
+pub mod Throughout
 pub mod StillLinks

@@ -11,6 +11,7 @@ ghost use Rattle.world_core.specs.Happening.{IsRegular, ValuesAreSmall};
 ghost use Rattle.world_core.specs.Limits.{limit_of};
 ghost use Rattle.world_core.specs.Sound.{IsNoStray, IsSound};
 ghost use Rattle.world_core.specs.Stepping.{IsStep};
+ghost use Rattle.world_core.specs.Throughout.{HoldsThroughout};
 
 use agreement_laws::laws as of_agreement;
 use cut_laws::laws;
@@ -38,6 +39,15 @@ pub fn every_run_is_sound()
     of_drops::a_run_is_agreed();
     of_walks::a_run_is_walked();
     of_delivery::deflection_delivers();
+}
+
+/// So it is at each moment of a run; and tables are published in the steps that complete what they are made of, and in no
+/// others.
+pub fn a_run_holds_throughout()
+    ensures { (rules : Rules) (net : Net) (events : List Event) → IsValid net → HoldsThroughout rules net events }
+{
+    every_run_is_sound();
+    of_agreement::a_table_is_published_in_time();
 }
 
 /// What one more event may rest on, while there are fewer than there may be: what stands in front of a way is what its

@@ -24,6 +24,7 @@ ghost use Rattle.world_core.specs.View.{delivered};
 ghost use Rattle.world_core.specs.Walks.{walk_of};
 
 use crate::bounds::HIGHEST_MESSAGE;
+use crate::laws::every_run_is_sound;
 use crate::network::Network;
 use crate::outcomes::{Outcome, Stop};
 use crate::publications::Publication;
@@ -83,8 +84,12 @@ fn proposes(topology: &Topology, node: NodeId, epoch: Epoch) -> bool
 impl<P: Policy + Copy> World<P> {
     /// The world in which nothing has happened.
     pub fn new(alloc: Global, topology: Rc<Topology>, policy: P) -> Result<World<P>, NoMemory>
-        ensures { IfOk result (λ world. world ≡ record { policy = policy; net = topology.value; events = [] }) }
+        ensures world { IfOk result (λ world. world ≡ record { policy = policy; net = topology.value; events = [] }) }
+        ensures run { OnOk result (IsSound (P.rules policy) topology.value (run (P.rules policy) topology.value [])) }
     {
+        every_run_is_sound();
+        // that a network is valid is said where its nodes are read
+        let _nodes = topology.nodes();
         let network = Network::new(alloc, topology, policy)?;
         let open_ways = network.links.all(alloc)?;
         let state = WorldState {

@@ -32,47 +32,39 @@ pub returns-in-Ok-run_schedule : goal.returns-in-Ok-run_schedule
 returns-in-Ok-run_schedule g c =
     let bytes = c.in-Ok.bytes.items in
     let file : IsFile bytes c.in-Ok-parse.schedule = rw c.deref.ensures.value at c.in-Ok-parse.ensures.ok in
-    let agreed = c.a_run_is_agreed.ensures gao_rexford (net_of file.0) (events_of gao_rexford (net_of file.0) [] (directives_of file.0)) (subst IsValid file.2 c.nodes-nodes.ensures.valid) in
-    let walked = c.a_run_is_walked.ensures gao_rexford (net_of file.0) (events_of gao_rexford (net_of file.0) [] (directives_of file.0)) (subst IsValid file.2 c.nodes-nodes.ensures.valid) in
-    let sound = c.every_run_is_sound.ensures gao_rexford (net_of file.0) (events_of gao_rexford (net_of file.0) [] (directives_of file.0)) (subst IsValid file.2 c.nodes-nodes.ensures.valid) in
+    let throughout = c.a_run_holds_throughout.ensures gao_rexford (net_of file.0) (events_of gao_rexford (net_of file.0) [] (directives_of file.0)) (subst IsValid file.2 c.nodes-nodes.ensures.valid) in
     let each : EachDelivers gao_rexford (net_of file.0) = λ past p u. c.a_walk_over_it_delivers.ensures gao_rexford (net_of file.0) past p u (subst IsValid file.2 c.nodes-nodes.ensures.valid) in
     let probed = are_probed gao_rexford (net_of file.0) each (directives_of file.0) [] (fits_as c.in-Ok-parse.schedule (net_of file.0) (directives_of file.0) file.2 file.3 c.in-Ok-parse.ensures.follow) in
     let runs = rw (file.2, file.3) at c.in-Ok-run_schedule.ensures in
-    ends_run _ _ _ _ bytes file.0 (known _ bytes c.in-Ok.ensures.ok) (one_reading_of bytes) c.in-Ok.ensures.within file.1 c.in-Ok.ensures.end (c.in-Ok.ensures.cause.quiet (λ e. cc e)) agreed walked sound probed (Ok c.in-Ok-run_schedule.field-0) runs
+    ends_run _ _ _ _ bytes file.0 (known _ bytes c.in-Ok.ensures.ok) (one_reading_of bytes) c.in-Ok.ensures.within file.1 c.in-Ok.ensures.end (c.in-Ok.ensures.cause.quiet (λ e. cc e)) throughout probed (Ok c.in-Ok-run_schedule.field-0) runs
 
 pub returns-in-Err-NoMemory-run_schedule : goal.returns-in-Err-NoMemory-run_schedule
 returns-in-Err-NoMemory-run_schedule g c =
     let bytes = c.in-Ok.bytes.items in
     let file : IsFile bytes c.in-Ok-parse.schedule = rw c.deref.ensures.value at c.in-Ok-parse.ensures.ok in
-    let agreed = c.a_run_is_agreed.ensures gao_rexford (net_of file.0) (events_of gao_rexford (net_of file.0) [] (directives_of file.0)) (subst IsValid file.2 c.nodes-nodes.ensures.valid) in
-    let walked = c.a_run_is_walked.ensures gao_rexford (net_of file.0) (events_of gao_rexford (net_of file.0) [] (directives_of file.0)) (subst IsValid file.2 c.nodes-nodes.ensures.valid) in
-    let sound = c.every_run_is_sound.ensures gao_rexford (net_of file.0) (events_of gao_rexford (net_of file.0) [] (directives_of file.0)) (subst IsValid file.2 c.nodes-nodes.ensures.valid) in
+    let throughout = c.a_run_holds_throughout.ensures gao_rexford (net_of file.0) (events_of gao_rexford (net_of file.0) [] (directives_of file.0)) (subst IsValid file.2 c.nodes-nodes.ensures.valid) in
     let each : EachDelivers gao_rexford (net_of file.0) = λ past p u. c.a_walk_over_it_delivers.ensures gao_rexford (net_of file.0) past p u (subst IsValid file.2 c.nodes-nodes.ensures.valid) in
     let probed = are_probed gao_rexford (net_of file.0) each (directives_of file.0) [] (fits_as c.in-Ok-parse.schedule (net_of file.0) (directives_of file.0) file.2 file.3 c.in-Ok-parse.ensures.follow) in
     let runs = rw (file.2, file.3, c.in-Err-NoMemory-run_schedule.field-0-is) at c.in-Err-NoMemory-run_schedule.ensures in
-    ends_run _ _ _ _ bytes file.0 (known _ bytes c.in-Ok.ensures.ok) (one_reading_of bytes) c.in-Ok.ensures.within file.1 c.in-Ok.ensures.end (c.in-Ok.ensures.cause.quiet (λ e. cc e)) agreed walked sound probed (Err NoMemory) runs
+    ends_run _ _ _ _ bytes file.0 (known _ bytes c.in-Ok.ensures.ok) (one_reading_of bytes) c.in-Ok.ensures.within file.1 c.in-Ok.ensures.end (c.in-Ok.ensures.cause.quiet (λ e. cc e)) throughout probed (Err NoMemory) runs
 
 pub returns-in-Err-WriteFault : goal.returns-in-Err-WriteFault
 returns-in-Err-WriteFault g c =
     let bytes = c.in-Ok.bytes.items in
     let file : IsFile bytes c.in-Ok-parse.schedule = rw c.deref.ensures.value at c.in-Ok-parse.ensures.ok in
-    let agreed = c.a_run_is_agreed.ensures gao_rexford (net_of file.0) (events_of gao_rexford (net_of file.0) [] (directives_of file.0)) (subst IsValid file.2 c.nodes-nodes.ensures.valid) in
-    let walked = c.a_run_is_walked.ensures gao_rexford (net_of file.0) (events_of gao_rexford (net_of file.0) [] (directives_of file.0)) (subst IsValid file.2 c.nodes-nodes.ensures.valid) in
-    let sound = c.every_run_is_sound.ensures gao_rexford (net_of file.0) (events_of gao_rexford (net_of file.0) [] (directives_of file.0)) (subst IsValid file.2 c.nodes-nodes.ensures.valid) in
+    let throughout = c.a_run_holds_throughout.ensures gao_rexford (net_of file.0) (events_of gao_rexford (net_of file.0) [] (directives_of file.0)) (subst IsValid file.2 c.nodes-nodes.ensures.valid) in
     let each : EachDelivers gao_rexford (net_of file.0) = λ past p u. c.a_walk_over_it_delivers.ensures gao_rexford (net_of file.0) past p u (subst IsValid file.2 c.nodes-nodes.ensures.valid) in
     let probed = are_probed gao_rexford (net_of file.0) each (directives_of file.0) [] (fits_as c.in-Ok-parse.schedule (net_of file.0) (directives_of file.0) file.2 file.3 c.in-Ok-parse.ensures.follow) in
     let runs = rw (file.2, file.3, c.in-Err-WriteFault.field-0-is) at c.in-Err-WriteFault.ensures in
-    ends_run _ _ _ _ bytes file.0 (known _ bytes c.in-Ok.ensures.ok) (one_reading_of bytes) c.in-Ok.ensures.within file.1 c.in-Ok.ensures.end (c.in-Ok.ensures.cause.quiet (λ e. cc e)) agreed walked sound probed (Err WriteFault) runs
+    ends_run _ _ _ _ bytes file.0 (known _ bytes c.in-Ok.ensures.ok) (one_reading_of bytes) c.in-Ok.ensures.within file.1 c.in-Ok.ensures.end (c.in-Ok.ensures.cause.quiet (λ e. cc e)) throughout probed (Err WriteFault) runs
 
 pub returns : goal.returns
 returns g c =
     let bytes = c.in-Ok.bytes.items in
     let file : IsFile bytes c.in-Ok-parse.schedule = rw c.deref.ensures.value at c.in-Ok-parse.ensures.ok in
-    let agreed = c.a_run_is_agreed.ensures gao_rexford (net_of file.0) (events_of gao_rexford (net_of file.0) [] (directives_of file.0)) (subst IsValid file.2 c.nodes-nodes.ensures.valid) in
-    let walked = c.a_run_is_walked.ensures gao_rexford (net_of file.0) (events_of gao_rexford (net_of file.0) [] (directives_of file.0)) (subst IsValid file.2 c.nodes-nodes.ensures.valid) in
-    let sound = c.every_run_is_sound.ensures gao_rexford (net_of file.0) (events_of gao_rexford (net_of file.0) [] (directives_of file.0)) (subst IsValid file.2 c.nodes-nodes.ensures.valid) in
+    let throughout = c.a_run_holds_throughout.ensures gao_rexford (net_of file.0) (events_of gao_rexford (net_of file.0) [] (directives_of file.0)) (subst IsValid file.2 c.nodes-nodes.ensures.valid) in
     let each : EachDelivers gao_rexford (net_of file.0) = λ past p u. c.a_walk_over_it_delivers.ensures gao_rexford (net_of file.0) past p u (subst IsValid file.2 c.nodes-nodes.ensures.valid) in
     let probed = are_probed gao_rexford (net_of file.0) each (directives_of file.0) [] (fits_as c.in-Ok-parse.schedule (net_of file.0) (directives_of file.0) file.2 file.3 c.in-Ok-parse.ensures.follow) in
     let runs = rw (file.2, file.3, c.in-Err-Limit.field-0-is) at c.in-Err-Limit.ensures in
     rw (c.in-Err-Limit.kind-is, c.in-Err-Limit.number-is)
-    (ends_run _ _ _ _ bytes file.0 (known _ bytes c.in-Ok.ensures.ok) (one_reading_of bytes) c.in-Ok.ensures.within file.1 c.in-Ok.ensures.end (c.in-Ok.ensures.cause.quiet (λ e. cc e)) agreed walked sound probed (Err (Limit c.in-Err-Limit.kind c.in-Err-Limit.number)) runs)
+    (ends_run _ _ _ _ bytes file.0 (known _ bytes c.in-Ok.ensures.ok) (one_reading_of bytes) c.in-Ok.ensures.within file.1 c.in-Ok.ensures.end (c.in-Ok.ensures.cause.quiet (λ e. cc e)) throughout probed (Err (Limit c.in-Err-Limit.kind c.in-Err-Limit.number)) runs)
