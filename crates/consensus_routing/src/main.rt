@@ -3,11 +3,13 @@
 #![tactic(auto)]
 
 mod exit;
+mod standard_files;
 
 use exit::exit_of;
 use route_io::{StdSink, StdSource, TcpLink};
 use routing_commands::notes::tell;
 use routing_commands::run::run;
+use standard_files::keep_standard_files;
 use std::process::ExitCode;
 use std::{env, io};
 use topology::Status;
@@ -29,6 +31,7 @@ fn words_of(rt: &HostRuntime) -> Result<Vec<String>, Status> {
 }
 
 fn main(rt: HostRuntime) -> ExitCode {
+    let _standard_files = keep_standard_files(&rt);
     let mut notes = StdSink::new(rt.stderr());
     let status = match words_of(&rt) {
         Err(status) => {
@@ -39,14 +42,16 @@ fn main(rt: HostRuntime) -> ExitCode {
             let mut source = StdSource::new(rt.stdin());
             let mut sink = StdSink::new(rt.stdout());
             let mut link = TcpLink::new(&rt);
-            run(
+            let status = run(
                 rt.alloc(),
                 &words,
                 &mut source,
                 &mut sink,
                 &mut notes,
                 &mut link,
-            )
+            );
+            link.close();
+            status
         }
     };
     exit_of(&status)

@@ -13,7 +13,15 @@ use crate::outside::Failed;
 use crate::standard::write_through;
 use std::io;
 use std::io::Read;
-use std::net::{Net, OpenStream, TcpStream};
+use std::net::{Net, OpenStream, Shutdown, TcpStream};
+use std::time::Duration;
+
+// How many bytes of a piece are read at once when a link is closed, how many pieces, and how long each is waited for.
+const PIECE: usize = 16_384;
+
+const PIECES: usize = 64;
+
+const PAUSE_MILLIS: u64 = 250;
 
 /// A peer over TCP. Each error that the system answers is counted, and so is a read or a write
 /// before a dial has reached the peer, and a write that takes nothing of a piece.
@@ -33,6 +41,26 @@ impl<'a, R: Net> TcpLink<'a, R> {
             net,
             stream: None,
             faults: 0,
+        }
+    }
+
+    /// Closes the connection so that the peer gets all that was written. It ends the own side first, and then reads and
+    /// forgets what the peer still sends, up to a megabyte, until the peer closes or is silent for a quarter of a second.
+    /// A system that closes a connection with bytes unread resets it, and a peer that is reset loses what it has not read.
+    pub fn close(self) {
+        let Some(mut stream) = self.stream else {
+            return;
+        };
+        let pause = Some(Duration::from_millis(PAUSE_MILLIS));
+        if stream.shutdown(Shutdown::Write).is_err() || stream.set_read_timeout(pause).is_err() {
+            return;
+        }
+        let mut piece = [0u8; PIECE];
+        for _ in 0..PIECES {
+            match stream.read(&mut piece) {
+                Ok(0) | Err(_) => return,
+                Ok(_) => {}
+            }
         }
     }
 
@@ -143,6 +171,23 @@ mod tests {
         drop(peer);
         assert_eq!(rt; link.read(&mut came), Ok(0), "the peer has closed");
         assert_eq!(rt; link.faults, 3);
+        Ok(())
+    }
+    // What the peer had sent and nobody read does not cost it the answers.
+    #[test]
+    fn a_link_that_is_closed_loses_no_answer(rt: HostRuntime) -> Result<(), Fail> {
+        let listener = TcpListener::bind(&rt, SocketAddr::from((Ipv4Addr::LOCALHOST, 0)))?;
+        let address = format!(in rt.alloc(); "{}", listener.local_addr()?)?;
+        let mut link = TcpLink::new(&rt);
+        assert_eq!(rt; link.dial(address.as_str()), Ok(()));
+        let (mut peer, _) = listener.accept()?;
+        peer.write_all(&[0u8; 40_000])?;
+        assert_eq!(rt; link.write_all(b"answer"), Ok(()));
+        link.close();
+        let mut came = [0u8; 6];
+        peer.read_exact(&mut came)?;
+        assert_eq!(rt; came, *b"answer");
+        assert_eq!(rt; peer.read(&mut came)?, 0);
         Ok(())
     }
 }
