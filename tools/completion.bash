@@ -2,7 +2,7 @@
 
 _consensus_routing() {
     local word=${COMP_WORDS[COMP_CWORD]}
-    [ "$COMP_CWORD" -ne 1 ] || COMPREPLY=($(compgen -W "replay load node" -- "$word"))
+    [ "$COMP_CWORD" -ne 1 ] || COMPREPLY=($(compgen -W "replay load node audit lead" -- "$word"))
 }
 
 _routing() {

@@ -12,7 +12,8 @@ echo "{kind} $*"
 NEAR = """#!/bin/sh
 echo near >> "$CALLS"
 [ -z "$NEAR_FAILS" ] || exit 1
-printf '#!/bin/sh\\necho "unproved $*"\\n' > "$1"
+[ -z "$NEAR_SLEEPS" ] || sleep "$NEAR_SLEEPS"
+printf '#!/bin/sh\\necho "unproved $*"\\n[ "$1" != strange ] || { echo "usage: .." >&2; exit 2; }\\n' > "$1"
 chmod +x "$1"
 """
 RT = """#!/bin/sh
@@ -128,12 +129,26 @@ class Command(Scratch):
         self.assertIn("error: not proved", ran.stderr)
         self.assertEqual(os.listdir(str(self.top / "out" / "proved")), ["build.log"])
 
-    def test_words_of_no_form_build_nothing(self):
-        for words in ([], ["replay", "now"], ["load"], ["hello"]):
+    def test_all_words_go_to_the_program(self):
+        self.command("replay")
+        for words in ([], ["audit"], ["lead"], ["replay", "now"], ["a word", "", "*"]):
             ran = self.command(*words)
-            self.assertEqual(ran.returncode, 2)
-            self.assertTrue(ran.stderr.startswith("usage: consensus_routing replay"))
-        self.assertEqual(self.made(), [])
+            self.assertEqual((ran.returncode, ran.stdout, ran.stderr), (0, " ".join(["unproved", *words]) + ("" if words else " ") + "\n", ""))
+
+    def test_the_line_and_the_status_are_those_of_the_program(self):
+        ran = self.command("strange")
+        self.assertEqual((ran.returncode, ran.stdout, ran.stderr.splitlines()[-1]), (2, "unproved strange\n", "usage: .."))
+
+    def test_two_calls_of_a_pipe_build_once(self):
+        if not shutil.which("flock"):
+            self.skipTest("no flock (Debian: util-linux)")
+        path = f"{self.folder / 'bin'}:{os.environ.get('PATH', '')}"
+        env = {**os.environ, "PATH": path, "CALLS": str(self.calls), "NEAR_SLEEPS": "1"}
+        command = str(self.top / "consensus_routing")
+        words = ["sh", "-c", f'"{command}" replay | "{command}" audit']
+        ran = subprocess.run(words, env=env, stdin=subprocess.DEVNULL, stdout=subprocess.PIPE, stderr=subprocess.DEVNULL, check=False)
+        self.assertEqual((ran.returncode, ran.stdout), (0, b"unproved audit\n"))
+        self.assertEqual(self.made(), ["near"])
 
 
 if __name__ == "__main__":

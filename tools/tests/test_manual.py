@@ -10,12 +10,33 @@ from routing_tools.main import COMMANDS, parser
 from support import TOP
 
 PAGES = [TOP / "docs" / "consensus_routing.1", TOP / "docs" / "routing.1"]
+NOTES = TOP / "crates" / "routing_commands" / "src" / "notes.rt"
+USAGE = re.search(r'"(usage: [^"]*)"', NOTES.read_text(encoding="utf-8")).group(1)
+FORMS = [form.split()[0] for form in USAGE.partition("consensus_routing ")[2].split(" | ")]
 
 
 def options():
     """The options of each command."""
     chosen = next(it for it in parser()._actions if isinstance(it, argparse._SubParsersAction))
     return {name: {word for action in below._actions for word in action.option_strings} - {"-h", "--help"} for name, below in chosen.choices.items()}
+
+
+class Usage(unittest.TestCase):
+    """Pages that tell the forms of the program's words tell those of its usage line."""
+
+    def test_pages_and_cases_have_the_line(self):
+        for name in ("SCHEDULES.md", "FRAMES.md"):
+            page = (TOP / "docs" / name).read_text(encoding="utf-8")
+            self.assertEqual({line.replace("\\|", "|") for line in re.findall(r"`(usage: [^`]*)`", page)}, {USAGE}, name)
+        for path in (TOP / "crates" / "cases" / "data").rglob("*.end"):
+            end = path.read_text(encoding="utf-8")
+            if end.startswith("2"):
+                self.assertEqual(end, f"2 {USAGE}\n", path.name)
+
+    def test_the_manual_and_the_completion_have_the_forms(self):
+        synopsis = re.findall(r"^\.B consensus_routing (\w+)$", PAGES[0].read_text(), re.M)
+        self.assertEqual(synopsis, FORMS)
+        self.assertIn(f'compgen -W "{" ".join(FORMS)}"', (TOP / "tools" / "completion.bash").read_text())
 
 
 class Manual(unittest.TestCase):

@@ -27,6 +27,26 @@ class Examples(WithProgram):
         for path in examples():
             self.assertEqual(self.program.replay(path.read_text()).text, path.with_suffix(".text").read_text(), path.name)
 
+    def ran(self, word, text):
+        """The status, the output and the line on standard error of the program with this word, on this text."""
+        ran = subprocess.run([self.program.path, word], input=text.encode(), stdout=subprocess.PIPE, stderr=subprocess.PIPE, check=False)
+        return ran.returncode, ran.stdout.decode(), ran.stderr.decode()
+
+    def test_the_script_has_its_text(self):
+        script = EXAMPLES / "leader.script"
+        self.assertEqual(self.ran("lead", script.read_text()), (0, script.with_suffix(".text").read_text(), ""))
+
+    def test_live_routes_are_no_tables(self):
+        told = self.ran("audit", (EXAMPLES / "live_routes.tables").read_text())
+        self.assertEqual(told, (14, "", "inconsistent: line 3: does not continue\n"))
+
+    def test_printed_tables_are_consistent(self):
+        """What `replay` writes goes to `audit`, for the examples and all cases that show tables."""
+        shown = [path for path in (TOP / "crates" / "cases" / "data").rglob("*.schedule") if "show tables" in path.read_text(errors="replace")]
+        self.assertGreater(len(shown), 20)
+        for path in shown:
+            self.assertEqual(self.ran("audit", self.ran("replay", path.read_text())[1]), (0, "consistent\n", ""), path.name)
+
     def test_schedules_and_texts_do_not_differ(self):
         for path in examples():
             code, out, _ = self.command("diff", path, path.with_suffix(".text"))

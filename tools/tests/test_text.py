@@ -11,8 +11,8 @@ from support import EXAMPLES, Scratch, command, examples
 
 class Texts(Scratch):
     def test_every_line_of_the_examples_is_known(self):
-        for path in EXAMPLES.glob("*.text"):
-            for line in path.read_text().splitlines():
+        for path in examples():
+            for line in path.with_suffix(".text").read_text().splitlines():
                 self.assertNotEqual(record(line)["kind"], "other", f"{path.name}: {line}")
 
     def test_fields(self):

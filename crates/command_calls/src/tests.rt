@@ -8,7 +8,7 @@ use routing_commands::notes::tell;
 use routing_commands::run::run;
 use std::alloc::Global;
 use std::test::Fail;
-use topology::{BadKind, FrameFault, LimitKind, NodeId, Status};
+use topology::{AuditKind, BadKind, FrameFault, LimitKind, NodeId, Status};
 
 // A route goes out along three nodes, and is taken back.
 const FILE: &str = "\
@@ -44,7 +44,8 @@ rib 2 10.0.0.0/8: 2 1
 rib 3 10.0.0.0/8: 3 2 1
 ";
 
-const USAGE_NOTE: &str = "usage: consensus_routing replay | load NUMBER | node ID ADDRESS\n";
+const USAGE_NOTE: &str =
+    "usage: consensus_routing replay | load NUMBER | node ID ADDRESS | audit | lead\n";
 
 fn words_of(alloc: Global, words: &[&str]) -> Result<Vec<String>, Fail> {
     let mut given = Vec::new(alloc);
@@ -238,6 +239,19 @@ fn notes_why_a_run_ended(rt: HostRuntime) -> Result<(), Fail> {
         (
             Status::NoSuchNode(NodeId::new(65_535)),
             "no such node: 65535\n",
+        ),
+        (Status::DiskFault, "disk fault\n"),
+        (
+            Status::BadJournal(18_446_744_073_709_551_615, FrameFault::Length),
+            "bad journal: offset 18446744073709551615: length\n",
+        ),
+        (
+            Status::BadTables(4_294_967_295),
+            "bad tables: line 4294967295\n",
+        ),
+        (
+            Status::Inconsistent(4_294_967_295, AuditKind::DoesNotContinue),
+            "inconsistent: line 4294967295: does not continue\n",
         ),
     ];
     for (status, note) in cases {

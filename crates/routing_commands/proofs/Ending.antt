@@ -3,14 +3,16 @@ use Rattle.std.proofs.Common.{ℕ, ◌≡◌, List, true≢false, sym, ap, ◌�
 use Rattle.std.specs.Borrow.{Bor}
 use Rattle.topology.specs.declared.status.Status.{Status}
 use Rattle.topology.specs.declared.status.Status.TheVariants.{Usage}
+use Rattle.leadership.specs.Led.{Led, ends_lead}
 use Rattle.route_io.specs.Views.{SourceView, SinkView, LinkView}
 use Rattle.route_node.specs.Attended.{Attended, endpoint, ends_attending}
 use Rattle.route_replay.specs.Loaded.{Loaded, ends_load}
 use Rattle.route_replay.specs.Replayed.{Replayed, ends_replay}
-use Rattle.routing_commands.specs.declared.forms.Form.TheVariants.{Replay, Load, Node}
+use Rattle.table_audit.specs.Audited.{Audited, ends_audit}
+use Rattle.routing_commands.specs.declared.forms.Form.TheVariants.{Replay, Load, Node, Audit, Lead}
 use Rattle.routing_commands.specs.Forms.{HasNoForm, IsForm}
 use Rattle.routing_commands.specs.Headline.{Headline, Sides, sides}
-use Rattle.routing_commands.proofs.Formed.{replay_or_load, replay_or_node, load_or_node, same_number, same_id, same_address}
+use Rattle.routing_commands.proofs.Formed.{apart, same_number, same_id, same_address}
 
 pub of_none : (words : List (List ℕ)) (old : Sides) → HasNoForm words → Headline words old old Usage
 of_none words old none = record {
@@ -20,6 +22,8 @@ of_none words old none = record {
   replayed = λ is. absurd (none Replay is);
   loaded = λ number is. absurd (none (Load number) is);
   attended = λ id address is. absurd (none (Node id address) is);
+  audited = λ is. absurd (none Audit is);
+  led = λ is. absurd (none Lead is);
 }
 
 pub of_replay : (words : List (List ℕ)) (source source' : SourceView) (sink sink' : SinkView) (link : LinkView) (status : Status) → IsForm words Replay → Replayed source source' sink sink' status
@@ -29,8 +33,10 @@ of_replay words source source' sink sink' link status is replayed = record {
   formed = λ _. (Replay, is);
   untouched = λ none. absurd (none Replay is);
   replayed = λ _. (replayed, refl);
-  loaded = λ number other. absurd (replay_or_load words number is other);
-  attended = λ id address other. absurd (replay_or_node words id address is other);
+  loaded = λ number other. apart words Replay (Load number) refl is other;
+  attended = λ id address other. apart words Replay (Node id address) refl is other;
+  audited = λ other. apart words Replay Audit refl is other;
+  led = λ other. apart words Replay Lead refl is other;
 }
 
 never_usage : (number : ℕ) (sink sink' : SinkView) (status : Status) → Loaded number sink sink' status → status ≡ Usage → ⊥
@@ -42,9 +48,11 @@ of_load words number source sink sink' link status is loaded = record {
   usage = (λ e. absurd (never_usage number sink sink' status loaded e), λ none. absurd (none (Load number) is));
   formed = λ _. (Load number, is);
   untouched = λ none. absurd (none (Load number) is);
-  replayed = λ other. absurd (replay_or_load words number other is);
+  replayed = λ other. apart words (Load number) Replay refl is other;
   loaded = λ m other. (subst (λ n. Loaded n sink sink' status) (same_number words number m is other) loaded, refl, refl);
-  attended = λ id address other. absurd (load_or_node words number id address is other);
+  attended = λ id address other. apart words (Load number) (Node id address) refl is other;
+  audited = λ other. apart words (Load number) Audit refl is other;
+  led = λ other. apart words (Load number) Lead refl is other;
 }
 
 pub of_node : (words : List (List ℕ)) (id : ℕ) (address : Bor (List ℕ)) (source source' : SourceView) (sink : SinkView) (link link' : LinkView) (status : Status) → IsForm words (Node id address)
@@ -53,11 +61,39 @@ of_node words id address source source' sink link link' status is attended = rec
   usage = (λ e. absurd (true≢false (sym attended.formed ∙ ap ends_attending e)), λ none. absurd (none (Node id address) is));
   formed = λ _. (Node id address, is);
   untouched = λ none. absurd (none (Node id address) is);
-  replayed = λ other. absurd (replay_or_node words id address other is);
-  loaded = λ number other. absurd (load_or_node words number id address other is);
+  replayed = λ other. apart words (Node id address) Replay refl is other;
+  loaded = λ number other. apart words (Node id address) (Load number) refl is other;
   attended = λ other place it. (
     subst (λ n. Attended (endpoint n place.now) source source' link link' status) (same_id words id other address place is it)
         (subst (λ a. Attended (endpoint id a) source source' link link' status) (same_address words id other address place is it) attended),
     refl,
   );
+  audited = λ other. apart words (Node id address) Audit refl is other;
+  led = λ other. apart words (Node id address) Lead refl is other;
+}
+
+pub of_audit : (words : List (List ℕ)) (source source' : SourceView) (sink sink' : SinkView) (link : LinkView) (status : Status) → IsForm words Audit → Audited source source' sink sink' status
+    → Headline words (sides source sink link) (sides source' sink' link) status
+of_audit words source source' sink sink' link status is audited = record {
+  usage = (λ e. absurd (true≢false (sym audited.formed ∙ ap ends_audit e)), λ none. absurd (none Audit is));
+  formed = λ _. (Audit, is);
+  untouched = λ none. absurd (none Audit is);
+  replayed = λ other. apart words Audit Replay refl is other;
+  loaded = λ number other. apart words Audit (Load number) refl is other;
+  attended = λ id address other. apart words Audit (Node id address) refl is other;
+  audited = λ _. (audited, refl);
+  led = λ other. apart words Audit Lead refl is other;
+}
+
+pub of_lead : (words : List (List ℕ)) (source source' : SourceView) (sink sink' : SinkView) (link : LinkView) (status : Status) → IsForm words Lead → Led source source' sink sink' status
+    → Headline words (sides source sink link) (sides source' sink' link) status
+of_lead words source source' sink sink' link status is led = record {
+  usage = (λ e. absurd (true≢false (sym led.formed ∙ ap ends_lead e)), λ none. absurd (none Lead is));
+  formed = λ _. (Lead, is);
+  untouched = λ none. absurd (none Lead is);
+  replayed = λ other. apart words Lead Replay refl is other;
+  loaded = λ number other. apart words Lead (Load number) refl is other;
+  attended = λ id address other. apart words Lead (Node id address) refl is other;
+  audited = λ other. apart words Lead Audit refl is other;
+  led = λ _. (led, refl);
 }

@@ -1,11 +1,13 @@
 -- Words that are of a form, and words of none.
-use Rattle.std.proofs.Common.{◌≡◌, ◌≢◌, ℕ, suc, ◌<◌, ◌≤◌, String, Global, List, [], ◌∷◌, length, get_or, map, codes, decimal, refl, sym, ap, ◌∙◌, arith}
+use Rattle.std.proofs.Common.{◌≡◌, ◌≢◌, ℕ, suc, ◌<◌, ◌≤◌, ◌+◌, ◌*◌, ◌==◌, false, true≢false, String, Global, List, [], ◌∷◌, length, get_or, map, codes, decimal, refl, sym, ap, subst, ◌∙◌, arith}
 use Rattle.std.proofs.lemmas.Fmt.{decimal_injective}
 use Rattle.std.specs.Borrow.{Bor}
 use Rattle.std.specs.String.{string_bytes}
-use Rattle.routing_commands.specs.declared.forms.Form.TheVariants.{Replay, Load, Node}
+use Rattle.topology.proofs.Tests.{same_refl}
+use Rattle.routing_commands.specs.declared.forms.Form.{Form}
+use Rattle.routing_commands.specs.declared.forms.Form.TheVariants.{Replay, Load, Node, Audit, Lead}
 use Rattle.routing_commands.specs.declared.forms.TheConstants.{MAX_LOAD, MAX_NODE}
-use Rattle.routing_commands.specs.Forms.{HasNoForm, IsForm}
+use Rattle.routing_commands.specs.Forms.{HasNoForm, IsForm, form_words}
 
 -- one word, two and three
 pub one_word : (words : List (String Global)) (word : String Global) → word ≡ get_or words 0 word → 1 ≤ length words → length words < 2
@@ -39,39 +41,85 @@ next_of a b c d xs ys e = cc
 last_of : (a b c d e f : List ℕ) → ◌≡◌ {A = List (List ℕ)} (a ∷ c ∷ e ∷ []) (b ∷ d ∷ f ∷ []) → e ≡ f
 last_of a b c d e f same = cc
 
-counts : (xs ys : List (List ℕ)) → xs ≡ ys → length xs ≡ length ys
-counts xs ys e = ap (λ (l : List (List ℕ)). length l) e
+-- how many words a form has
+abbrev size_of : Form → ℕ
+size_of Replay = 1
+size_of (Load number) = 2
+size_of (Node id address) = 3
+size_of Audit = 1
+size_of Lead = 1
 
-pub not_replay : (word : List ℕ) → (word ≡ codes "replay" → ⊥) → HasNoForm (word ∷ [])
-not_replay word other Replay is = other (head_of word (codes "replay") [] [] is.spelled)
-not_replay word other (Load n) is = let sizes = counts (word ∷ []) (codes "load" ∷ decimal n ∷ []) is.spelled in absurd (omega (arith, sizes))
-not_replay word other (Node n a) is = let sizes = counts (word ∷ []) (codes "node" ∷ decimal n ∷ a.now ∷ []) is.spelled in absurd (omega (arith, sizes))
+sized : (words : List (List ℕ)) (form : Form) → IsForm words form → length words ≡ size_of form
+sized words Replay is = ap (λ (l : List (List ℕ)). length l) is.spelled
+sized words (Load number) is = ap (λ (l : List (List ℕ)). length l) is.spelled
+sized words (Node id address) is = ap (λ (l : List (List ℕ)). length l) is.spelled
+sized words Audit is = ap (λ (l : List (List ℕ)). length l) is.spelled
+sized words Lead is = ap (λ (l : List (List ℕ)). length l) is.spelled
+
+-- words are of no form that has another number of them
+no_size : {P : Type 0} (words : List (List ℕ)) (form : Form) → length words ≢ size_of form → IsForm words form → P
+no_size words form other is = absurd (other (sized words form is))
+
+one_and_two : ◌≢◌ {A = ℕ} 1 2
+one_and_two e = omega (arith, e)
+
+one_and_three : ◌≢◌ {A = ℕ} 1 3
+one_and_three e = omega (arith, e)
+
+two_and_one : ◌≢◌ {A = ℕ} 2 1
+two_and_one e = omega (arith, e)
+
+two_and_three : ◌≢◌ {A = ℕ} 2 3
+two_and_three e = omega (arith, e)
+
+three_and_one : ◌≢◌ {A = ℕ} 3 1
+three_and_one e = omega (arith, e)
+
+three_and_two : ◌≢◌ {A = ℕ} 3 2
+three_and_two e = omega (arith, e)
+
+pub not_plain : (word : List ℕ) → (word ≡ codes "replay" → ⊥) → (word ≡ codes "audit" → ⊥) → (word ≡ codes "lead" → ⊥) → HasNoForm (word ∷ [])
+not_plain word replay audit lead Replay is = replay (head_of word (codes "replay") [] [] is.spelled)
+not_plain word replay audit lead Audit is = audit (head_of word (codes "audit") [] [] is.spelled)
+not_plain word replay audit lead Lead is = lead (head_of word (codes "lead") [] [] is.spelled)
+not_plain word replay audit lead (Load n) is = no_size (word ∷ []) (Load n) one_and_two is
+not_plain word replay audit lead (Node n a) is = no_size (word ∷ []) (Node n a) one_and_three is
 
 pub not_load : (word number : List ℕ) → (word ≡ codes "load" → ⊥) → HasNoForm (word ∷ number ∷ [])
-not_load word number other Replay is = let sizes = counts (word ∷ number ∷ []) (codes "replay" ∷ []) is.spelled in absurd (omega (arith, sizes))
+not_load word number other Replay is = no_size (word ∷ number ∷ []) Replay two_and_one is
+not_load word number other Audit is = no_size (word ∷ number ∷ []) Audit two_and_one is
+not_load word number other Lead is = no_size (word ∷ number ∷ []) Lead two_and_one is
 not_load word number other (Load n) is = other (head_of word (codes "load") (number ∷ []) (decimal n ∷ []) is.spelled)
-not_load word number other (Node n a) is = let sizes = counts (word ∷ number ∷ []) (codes "node" ∷ decimal n ∷ a.now ∷ []) is.spelled in absurd (omega (arith, sizes))
+not_load word number other (Node n a) is = no_size (word ∷ number ∷ []) (Node n a) two_and_three is
 
 pub not_node : (word number address : List ℕ) → (word ≡ codes "node" → ⊥) → HasNoForm (word ∷ number ∷ address ∷ [])
-not_node word number address other Replay is = let sizes = counts (word ∷ number ∷ address ∷ []) (codes "replay" ∷ []) is.spelled in absurd (omega (arith, sizes))
-not_node word number address other (Load n) is = let sizes = counts (word ∷ number ∷ address ∷ []) (codes "load" ∷ decimal n ∷ []) is.spelled in absurd (omega (arith, sizes))
+not_node word number address other Replay is = no_size (word ∷ number ∷ address ∷ []) Replay three_and_one is
+not_node word number address other Audit is = no_size (word ∷ number ∷ address ∷ []) Audit three_and_one is
+not_node word number address other Lead is = no_size (word ∷ number ∷ address ∷ []) Lead three_and_one is
+not_node word number address other (Load n) is = no_size (word ∷ number ∷ address ∷ []) (Load n) three_and_two is
 not_node word number address other (Node n a) is = other (head_of word (codes "node") (number ∷ address ∷ []) (decimal n ∷ a.now ∷ []) is.spelled)
 
 pub no_number : (word number : List ℕ) → ((n : ℕ) → n ≤ MAX_LOAD → number ≢ decimal n) → HasNoForm (word ∷ number ∷ [])
-no_number word number none Replay is = let sizes = counts (word ∷ number ∷ []) (codes "replay" ∷ []) is.spelled in absurd (omega (arith, sizes))
+no_number word number none Replay is = no_size (word ∷ number ∷ []) Replay two_and_one is
+no_number word number none Audit is = no_size (word ∷ number ∷ []) Audit two_and_one is
+no_number word number none Lead is = no_size (word ∷ number ∷ []) Lead two_and_one is
 no_number word number none (Load n) is = none n is.in_range (next_of word (codes "load") number (decimal n) [] [] is.spelled)
-no_number word number none (Node n a) is = let sizes = counts (word ∷ number ∷ []) (codes "node" ∷ decimal n ∷ a.now ∷ []) is.spelled in absurd (omega (arith, sizes))
+no_number word number none (Node n a) is = no_size (word ∷ number ∷ []) (Node n a) two_and_three is
 
 pub no_node : (word number address : List ℕ) → ((n : ℕ) → 1 ≤ n → n ≤ MAX_NODE → number ≢ decimal n) → HasNoForm (word ∷ number ∷ address ∷ [])
-no_node word number address none Replay is = let sizes = counts (word ∷ number ∷ address ∷ []) (codes "replay" ∷ []) is.spelled in absurd (omega (arith, sizes))
-no_node word number address none (Load n) is = let sizes = counts (word ∷ number ∷ address ∷ []) (codes "load" ∷ decimal n ∷ []) is.spelled in absurd (omega (arith, sizes))
+no_node word number address none Replay is = no_size (word ∷ number ∷ address ∷ []) Replay three_and_one is
+no_node word number address none Audit is = no_size (word ∷ number ∷ address ∷ []) Audit three_and_one is
+no_node word number address none Lead is = no_size (word ∷ number ∷ address ∷ []) Lead three_and_one is
+no_node word number address none (Load n) is = no_size (word ∷ number ∷ address ∷ []) (Load n) three_and_two is
 no_node word number address none (Node n a) is = none n is.in_range.0 is.in_range.1 (next_of word (codes "node") number (decimal n) (address ∷ []) (a.now ∷ []) is.spelled)
 
 -- as many words as no form has
 pub no_count : (words : List (List ℕ)) → length words ≢ 1 → length words ≢ 2 → length words ≢ 3 → HasNoForm words
-no_count words one two three Replay is = one (ap (λ (l : List (List ℕ)). length l) is.spelled)
-no_count words one two three (Load n) is = two (ap (λ (l : List (List ℕ)). length l) is.spelled)
-no_count words one two three (Node n a) is = three (ap (λ (l : List (List ℕ)). length l) is.spelled)
+no_count words one two three Replay is = one (sized words Replay is)
+no_count words one two three Audit is = one (sized words Audit is)
+no_count words one two three Lead is = one (sized words Lead is)
+no_count words one two three (Load n) is = two (sized words (Load n) is)
+no_count words one two three (Node n a) is = three (sized words (Node n a) is)
 
 pub is_load : (word number : List ℕ) (n : ℕ) → word ≡ codes "load" → number ≡ decimal n → n ≤ MAX_LOAD → IsForm (word ∷ number ∷ []) (Load n)
 is_load word number n first second small = record { spelled = rw (first, second) refl; in_range = small }
@@ -83,15 +131,36 @@ pub sizes : (words : List (String Global)) → length (map (λ w. string_bytes w
 sizes [] = refl
 sizes (x ∷ words) = ap suc (sizes words)
 
--- words are of one form at most
-pub replay_or_load : (words : List (List ℕ)) (number : ℕ) → IsForm words Replay → IsForm words (Load number) → ⊥
-replay_or_load words number is other = let sizes = counts (codes "replay" ∷ []) (codes "load" ∷ decimal number ∷ []) (sym is.spelled ∙ other.spelled) in absurd (omega (arith, sizes))
+-- words are of one form at most: how many they are and the letter with which they begin tell which
+abbrev letter : List ℕ → ℕ
+letter [] = 0
+letter (c ∷ word) = c
 
-pub replay_or_node : (words : List (List ℕ)) (id : ℕ) (address : Bor (List ℕ)) → IsForm words Replay → IsForm words (Node id address) → ⊥
-replay_or_node words id address is other = let sizes = counts (codes "replay" ∷ []) (codes "node" ∷ decimal id ∷ address.now ∷ []) (sym is.spelled ∙ other.spelled) in absurd (omega (arith, sizes))
+abbrev sign : List (List ℕ) → ℕ
+sign [] = 0
+sign (word ∷ words) = letter word + 256 * length words
 
-pub load_or_node : (words : List (List ℕ)) (number id : ℕ) (address : Bor (List ℕ)) → IsForm words (Load number) → IsForm words (Node id address) → ⊥
-load_or_node words number id address is other = let sizes = counts (codes "load" ∷ decimal number ∷ []) (codes "node" ∷ decimal id ∷ address.now ∷ []) (sym is.spelled ∙ other.spelled) in absurd (omega (arith, sizes))
+abbrev pub sign_of : Form → ℕ
+sign_of Replay = 114
+sign_of (Load number) = 364
+sign_of (Node id address) = 622
+sign_of Audit = 97
+sign_of Lead = 108
+
+signed : (form : Form) → sign (form_words form) ≡ sign_of form
+signed Replay = refl
+signed (Load number) = refl
+signed (Node id address) = refl
+signed Audit = refl
+signed Lead = refl
+
+pub one_form : (words : List (List ℕ)) (f g : Form) → IsForm words f → IsForm words g → sign_of f ≡ sign_of g
+one_form words f g is other = sym (signed f) ∙ (ap sign (sym is.spelled ∙ other.spelled) ∙ signed g)
+
+-- so words of one form are of no other
+pub apart : {P : Type 0} (words : List (List ℕ)) (f g : Form) → (sign_of f == sign_of g) ≡ false → IsForm words f → IsForm words g → P
+apart words f g other is also =
+    absurd (true≢false (sym (same_refl (sign_of g)) ∙ subst (λ n. (n == sign_of g) ≡ false) (one_form words f g is also) other))
 
 pub same_number : (words : List (List ℕ)) (m n : ℕ) → IsForm words (Load m) → IsForm words (Load n) → m ≡ n
 same_number words m n is other =

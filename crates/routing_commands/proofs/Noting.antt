@@ -2,7 +2,7 @@
 use Rattle.std.proofs.Common.{ℕ, ◌≡◌, ◌≢◌, Result, Ok, Err, OnOk, OnErr, inl, inr, List, [], ◌∷◌, ◌++◌, refl, ◌∙◌, subst}
 use Rattle.std.specs.Io.KnownBytes.{Appends}
 use Rattle.topology.specs.declared.status.Status.{Status}
-use Rattle.topology.specs.declared.status.Status.TheVariants.{Done, Usage, NoMemory, BadSchedule, Limit, ReadFault, WriteFault, LinkFault, BadFrame, NoSuchNode}
+use Rattle.topology.specs.declared.status.Status.TheVariants.{Done, Usage, NoMemory, BadSchedule, Limit, ReadFault, WriteFault, LinkFault, BadFrame, NoSuchNode, DiskFault, BadJournal, BadTables, Inconsistent}
 use Rattle.route_io.specs.Causes.{HasCause, AppendsFront}
 use Rattle.route_io.specs.Views.{SinkView}
 use Rattle.routing_commands.specs.Notes.{Noted, note_words, note_line}
@@ -18,6 +18,10 @@ has_line WriteFault not_done = refl
 has_line LinkFault not_done = refl
 has_line (BadFrame offset fault) not_done = refl
 has_line (NoSuchNode node) not_done = refl
+has_line DiskFault not_done = refl
+has_line (BadJournal offset fault) not_done = refl
+has_line (BadTables line) not_done = refl
+has_line (Inconsistent line kind) not_done = refl
 
 -- the line was written, or a front of it
 pub noted_by : {T E : Type 0} (notes notes' : SinkView) (status : Status) (line : List ℕ) (result : Result T E) → status ≢ Done → line ≡ note_words status ++ 10 ∷ []

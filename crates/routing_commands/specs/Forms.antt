@@ -3,19 +3,23 @@ use Rattle.std.specs.Prelude.{ℕ, ◌≡◌, ◌≤◌, List, [], ◌∷◌, co
 use Rattle.std.specs.Fmt.{decimal}
 use Rattle.routing_commands.specs.declared.forms.TheConstants.{MAX_LOAD, MAX_NODE}
 use Rattle.routing_commands.specs.declared.forms.Form.{Form}
-use Rattle.routing_commands.specs.declared.forms.Form.TheVariants.{Replay, Load, Node}
+use Rattle.routing_commands.specs.declared.forms.Form.TheVariants.{Replay, Load, Node, Audit, Lead}
 
 -- the words of a form
 abbrev pub form_words : Form → List (List ℕ)
 form_words Replay = codes "replay" ∷ []
 form_words (Load number) = codes "load" ∷ decimal number ∷ []
 form_words (Node id address) = codes "node" ∷ decimal id ∷ address.now ∷ []
+form_words Audit = codes "audit" ∷ []
+form_words Lead = codes "lead" ∷ []
 
 -- its number is within its range
 abbrev pub InRange : Form → Type 0
 InRange Replay = Unit {0}
 InRange (Load number) = number ≤ MAX_LOAD
 InRange (Node id address) = (1 ≤ id) × (id ≤ MAX_NODE)
+InRange Audit = Unit {0}
+InRange Lead = Unit {0}
 
 -- the words are those of the form
 pub record IsForm (words : List (List ℕ)) (form : Form) : Type 0 where

@@ -3,12 +3,14 @@ use Rattle.std.specs.Prelude.{ℕ, ◌≡◌, ◌≢◌, ◌↔◌, List}
 use Rattle.std.specs.Borrow.{Bor}
 use Rattle.topology.specs.declared.status.Status.{Status}
 use Rattle.topology.specs.declared.status.Status.TheVariants.{Usage}
+use Rattle.leadership.specs.Led.{Led}
 use Rattle.route_io.specs.Views.{SourceView, SinkView, LinkView}
 use Rattle.route_node.specs.Attended.{Attended, endpoint}
 use Rattle.route_replay.specs.Loaded.{Loaded}
 use Rattle.route_replay.specs.Replayed.{Replayed}
+use Rattle.table_audit.specs.Audited.{Audited}
 use Rattle.routing_commands.specs.declared.forms.Form.{Form}
-use Rattle.routing_commands.specs.declared.forms.Form.TheVariants.{Replay, Load, Node}
+use Rattle.routing_commands.specs.declared.forms.Form.TheVariants.{Replay, Load, Node, Audit, Lead}
 use Rattle.routing_commands.specs.Forms.{HasNoForm, IsForm}
 
 -- where the program reads, where it writes, and the link to a peer
@@ -38,3 +40,7 @@ pub record Headline (words : List (List ℕ)) (old new : Sides) (status : Status
   -- the frames of the link, and the sink is left as it was
   pub attended : (id : ℕ) (address : Bor (List ℕ)) → IsForm words (Node id address)
       → Attended (endpoint id address.now) old.source new.source old.link new.link status × (new.sink ≡ old.sink)
+  -- the word audit: the printed tables that the source holds are audited, and the link is left as it was
+  pub audited : IsForm words Audit → Audited old.source new.source old.sink new.sink status × (new.link ≡ old.link)
+  -- the word lead: the script of members that the source holds is run, and the link is left as it was
+  pub led : IsForm words Lead → Led old.source new.source old.sink new.sink status × (new.link ≡ old.link)

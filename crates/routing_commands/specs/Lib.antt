@@ -1,3 +1,4 @@
 pub mod Forms
 pub mod Headline
+pub mod Limits
 pub mod Notes

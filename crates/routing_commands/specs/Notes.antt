@@ -3,10 +3,10 @@ use Rattle.std.specs.Prelude.{ℕ, ◌≡◌, ◌≤◌, ◌⊎◌, List, [], �
 use Rattle.std.specs.Fmt.{decimal}
 use Rattle.std.specs.Io.KnownBytes.{Appends}
 use Rattle.topology.specs.declared.status.Status.{Status}
-use Rattle.topology.specs.declared.status.Status.TheVariants.{Done, Usage, NoMemory, BadSchedule, Limit, ReadFault, WriteFault, LinkFault, BadFrame, NoSuchNode}
+use Rattle.topology.specs.declared.status.Status.TheVariants.{Done, Usage, NoMemory, BadSchedule, Limit, ReadFault, WriteFault, LinkFault, BadFrame, NoSuchNode, DiskFault, BadJournal, BadTables, Inconsistent}
 use Rattle.topology.specs.declared.frame_faults.FrameFault.{FrameFault}
 use Rattle.topology.specs.declared.frame_faults.FrameFault.TheVariants.{Sequence}
-use Rattle.topology.specs.Words.{bad_words, fault_words, limit_words}
+use Rattle.topology.specs.Words.{audit_words, bad_words, fault_words, limit_words}
 use Rattle.route_io.specs.Causes.{Rose, AppendsFront}
 use Rattle.route_io.specs.Views.{SinkView}
 
@@ -18,7 +18,7 @@ fault_numbers other = []
 -- the words of the line, without its end
 abbrev pub note_words : Status → List ℕ
 note_words Done = []
-note_words Usage = codes "usage: consensus_routing replay | load NUMBER | node ID ADDRESS"
+note_words Usage = codes "usage: consensus_routing replay | load NUMBER | node ID ADDRESS | audit | lead"
 note_words NoMemory = codes "no memory"
 note_words (BadSchedule line kind) = codes "bad schedule: line " ++ decimal line ++ codes ": " ++ bad_words kind
 note_words (Limit kind number) = codes "limit: " ++ limit_words kind ++ codes " " ++ decimal number
@@ -27,6 +27,10 @@ note_words WriteFault = codes "write fault"
 note_words LinkFault = codes "link fault"
 note_words (BadFrame offset fault) = codes "bad frame: offset " ++ decimal offset ++ codes ": " ++ fault_words fault ++ fault_numbers fault
 note_words (NoSuchNode node) = codes "no such node: " ++ decimal node
+note_words DiskFault = codes "disk fault"
+note_words (BadJournal offset fault) = codes "bad journal: offset " ++ decimal offset ++ codes ": " ++ fault_words fault ++ fault_numbers fault
+note_words (BadTables line) = codes "bad tables: line " ++ decimal line
+note_words (Inconsistent line kind) = codes "inconsistent: line " ++ decimal line ++ codes ": " ++ audit_words kind
 
 -- a line and its end, where there are words
 abbrev pub line_of : List ℕ → List ℕ

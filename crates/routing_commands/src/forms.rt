@@ -22,6 +22,10 @@ pub enum Form<'a> {
     Load(u32),
     /// The node with this number, over a link to this address.
     Node(NodeId, &'a str),
+    /// The audit of the printed tables that the source holds.
+    Audit,
+    /// The script of members that the source holds.
+    Lead,
 }
 
 /// What the words ask for. None exactly where they are of no form.
@@ -45,6 +49,12 @@ fn plain_form<'a>(word: &str) -> Option<Form<'a>>
 {
     if word == "replay" {
         return Some(Form::Replay);
+    }
+    if word == "audit" {
+        return Some(Form::Audit);
+    }
+    if word == "lead" {
+        return Some(Form::Lead);
     }
     None
 }

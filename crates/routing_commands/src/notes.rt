@@ -5,7 +5,7 @@ ghost use Rattle.routing_commands.specs.Notes.{Noted, fault_numbers, note_words}
 use arrayvec::ArrayString;
 use itoa::Buffer;
 use route_io::{Sink, write_all};
-use topology::{BadKind, FrameFault, LimitKind, NodeId, Status};
+use topology::{AuditKind, BadKind, FrameFault, LimitKind, NodeId, Status};
 
 /// More than the bytes of the longest line.
 const ROOM: usize = 128;
@@ -65,6 +65,44 @@ fn bad_frame(text: &mut ArrayString<ROOM>, offset: u64, fault: FrameFault)
     numbers_of(text, fault);
 }
 
+// Where the record of a journal begins that is refused, and why it is.
+fn bad_journal(text: &mut ArrayString<ROOM>, offset: u64, fault: FrameFault)
+    requires { text.old.bytes ≡ [] }
+    ensures words { text.new.bytes ≡ note_words (Status.BadJournal offset fault) }
+    ensures short { length text.new.bytes ≤ 127 }
+{
+    let mut number = Buffer::new();
+    text.push_str("bad journal: offset ");
+    text.push_str(number.format(offset));
+    text.push_str(": ");
+    text.push_str(fault.words());
+    numbers_of(text, fault);
+}
+
+// The line that begins like one of a table and is none.
+fn bad_tables(text: &mut ArrayString<ROOM>, line: u32)
+    requires { text.old.bytes ≡ [] }
+    ensures words { text.new.bytes ≡ note_words (Status.BadTables line) }
+    ensures short { length text.new.bytes ≤ 127 }
+{
+    let mut number = Buffer::new();
+    text.push_str("bad tables: line ");
+    text.push_str(number.format(line));
+}
+
+// The line of the first bad row, and what is wrong with it.
+fn inconsistent(text: &mut ArrayString<ROOM>, line: u32, kind: AuditKind)
+    requires { text.old.bytes ≡ [] }
+    ensures words { text.new.bytes ≡ note_words (Status.Inconsistent line kind) }
+    ensures short { length text.new.bytes ≤ 127 }
+{
+    let mut number = Buffer::new();
+    text.push_str("inconsistent: line ");
+    text.push_str(number.format(line));
+    text.push_str(": ");
+    text.push_str(kind.words());
+}
+
 // The node that the network has not.
 fn no_such_node(text: &mut ArrayString<ROOM>, node: NodeId)
     requires { text.old.bytes ≡ [] }
@@ -85,7 +123,9 @@ fn words_of(status: &Status) -> ArrayString<ROOM>
     match status {
         Status::Done => {}
         Status::Usage => {
-            text.push_str("usage: consensus_routing replay | load NUMBER | node ID ADDRESS");
+            text.push_str(
+                "usage: consensus_routing replay | load NUMBER | node ID ADDRESS | audit | lead",
+            );
         }
         Status::NoMemory => text.push_str("no memory"),
         Status::BadSchedule(line, kind) => bad_schedule(&mut text, *line, *kind),
@@ -95,6 +135,10 @@ fn words_of(status: &Status) -> ArrayString<ROOM>
         Status::LinkFault => text.push_str("link fault"),
         Status::BadFrame(offset, fault) => bad_frame(&mut text, *offset, *fault),
         Status::NoSuchNode(node) => no_such_node(&mut text, *node),
+        Status::DiskFault => text.push_str("disk fault"),
+        Status::BadJournal(offset, fault) => bad_journal(&mut text, *offset, *fault),
+        Status::BadTables(line) => bad_tables(&mut text, *line),
+        Status::Inconsistent(line, kind) => inconsistent(&mut text, *line, *kind),
     }
     text
 }

@@ -2,14 +2,17 @@
 ghost use Rattle.std.specs.Prelude.{◌≡◌, map};
 ghost use Rattle.std.specs.String.{string_bytes};
 ghost use Rattle.routing_commands.specs.Headline.{Headline, sides};
+ghost use Rattle.routing_commands.specs.Limits.{LimitsAre};
 ghost use Rattle.routing_commands.specs.Notes.{Noted};
 
 use crate::forms::{Form, form_of};
 use crate::notes::tell;
+use leadership::lead;
 use route_io::{Link, Sink, Source};
 use route_node::attend;
 use route_replay::{load, replay};
 use std::alloc::Global;
+use table_audit::audit;
 use topology::Status;
 
 // Does what the words say. Words of no form leave the three sides as they were.
@@ -32,6 +35,8 @@ fn outcome<I: Source, O: Sink, L: Link>(
         Form::Replay => replay(alloc, source, sink),
         Form::Load(number) => load(alloc, number, sink),
         Form::Node(id, address) => attend(alloc, id, address, source, link),
+        Form::Audit => audit(alloc, source, sink),
+        Form::Lead => lead(alloc, source, sink),
     }
 }
 
@@ -39,9 +44,12 @@ fn outcome<I: Source, O: Sink, L: Link>(
 /// schedule from the source, runs it, and writes its text to the sink; `load` with a number makes a
 /// network and its schedule, runs it, and writes counts of the run; `node` with a number and an
 /// address reads a network from the source, dials the address, and answers the frames that come over
-/// the link as that node. The notes get one line where the run ended before its time; a fault of
-/// theirs changes nothing. What a user may rely on stands in `specs/Headline.antt`, `specs/Notes.antt`,
-/// in `route_replay/specs/Replayed.antt` and `Loaded.antt`, and in `route_node/specs/Attended.antt`.
+/// the link as that node; `audit` reads printed tables from the source, and writes one line where they
+/// are consistent; `lead` reads a script of members from the source, runs it, and writes its text. The
+/// notes get one line where the run ended before its time; a fault of theirs changes nothing. What a
+/// user may rely on stands in `specs/Headline.antt` and `specs/Notes.antt`, and command by command in
+/// `route_replay/specs/Replayed.antt` and `Loaded.antt`, `route_node/specs/Attended.antt`,
+/// `table_audit/specs/Audited.antt` and `leadership/specs/Led.antt`.
 pub fn run<I: Source, O: Sink, E: Sink, L: Link>(
     alloc: Global,
     words: &[String],
@@ -56,6 +64,8 @@ pub fn run<I: Source, O: Sink, E: Sink, L: Link>(
     // Words of no form leave the source, the sink and the link as they were.
     ensures untouched { result ≡ Status.Usage → (source.new ≡ source.old) × (sink.new ≡ sink.old) × (link.new ≡ link.old) }
     ensures noted { Noted (E.seen notes.old) (E.seen notes.new) result }
+    // Limits and ranges have the numbers that are written there, whatever came.
+    ensures limits { LimitsAre }
     // A run that is done leaves the notes as they were.
     ensures silent { result ≡ Status.Done → notes.new ≡ notes.old }
 {

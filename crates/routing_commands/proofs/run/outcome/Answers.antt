@@ -1,4 +1,4 @@
-use Rattle.routing_commands.proofs.Ending.{of_none, of_replay, of_load, of_node}
+use Rattle.routing_commands.proofs.Ending.{of_none, of_replay, of_load, of_node, of_audit, of_lead}
 use Rattle.routing_commands.proofs.run.outcome.Goals as goal
 
 pub returns-in_default-clause-headline : goal.returns-in_default-clause-headline
@@ -12,3 +12,9 @@ returns-in-Load-clause-headline g c = of_load _ _ _ _ _ _ _ (rw c.in-Load.is at 
 
 pub returns-in-Node-clause-headline : goal.returns-in-Node-clause-headline
 returns-in-Node-clause-headline g c = of_node _ _ _ _ _ _ _ _ _ (rw c.in-Node.is at c.in-Some.ensures.some) c.attend.ensures
+
+pub returns-in-Audit-clause-headline : goal.returns-in-Audit-clause-headline
+returns-in-Audit-clause-headline g c = of_audit _ _ _ _ _ _ _ (rw c.in-Audit.is at c.in-Some.ensures.some) c.audit.ensures
+
+pub returns-in-Lead-clause-headline : goal.returns-in-Lead-clause-headline
+returns-in-Lead-clause-headline g c = of_lead _ _ _ _ _ _ _ (rw c.in-Lead.is at c.in-Some.ensures.some) c.lead.ensures
