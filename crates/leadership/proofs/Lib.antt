@@ -14,7 +14,10 @@ pub mod Hearing
 pub mod Stepping
 pub mod Worked
 pub mod Choosing
+pub mod Settling
+pub mod Fronts
 pub mod Knowing
+pub mod Watching
 pub mod Obeying
 pub mod Greatest
 pub mod Rounding

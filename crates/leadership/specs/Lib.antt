@@ -10,8 +10,10 @@ pub mod Greatest
 pub mod Agreed
 pub mod Led
 pub mod Fits
+pub mod Fronts
 pub mod Waiting
 pub mod Votes
+pub mod Choices
 pub mod Scripts
 pub mod Text
 pub mod View
@@ -21,6 +23,7 @@ pub mod Replies
 pub mod Deliveries
 pub mod Network
 pub mod Mails
+pub mod Counted
 pub mod Sites
 pub mod Lists
 pub mod Parsing

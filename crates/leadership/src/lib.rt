@@ -22,14 +22,17 @@
 #![tactic(auto)]
 
 pub mod bounds;
+mod choices;
 mod directives;
 pub mod ends;
 pub mod events;
+pub mod heard;
 pub mod hearings;
 pub mod laws;
 pub mod leads;
 mod lists;
 pub mod mails;
+mod marks;
 pub mod messages;
 mod network;
 pub mod parser;

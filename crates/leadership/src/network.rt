@@ -274,7 +274,7 @@ impl Network {
             node,
             &self.members,
             &ballot,
-            &self.sites[place].heard,
+            self.sites[place].heard.as_slice(),
         ) {
             Ok(()) => Ok(()),
             Err(stop) => Err(stop),
