@@ -7,12 +7,13 @@ use Rattle.std.proofs.lemmas.Option.{same_Some}
 use Rattle.std.proofs.lemmas.List.Sums.{sum_by-cons, sum_by_push}
 use Rattle.topology.specs.Lists.{has, put_ascending}
 use Rattle.topology.specs.Paths.{differ}
-use Rattle.topology.specs.Net.{Net, joins, linked, prefers, neighbours, same_prefix, has_prefix, IsValid, Leads}
-use Rattle.topology.specs.Building.{with_node, with_link, with_pref, with_prefix, with_hops, with_scheme, put_preference, node_refusal, link_refusal, pref_refusal, scheme_refusal}
+use Rattle.topology.specs.Net.{Net, joins, linked, prefers, neighbours, same_prefix, has_prefix, is_hold, IsValid, Leads}
+use Rattle.topology.specs.Building.{with_node, with_link, with_pref, with_prefix, with_hold, with_hops, with_scheme, put_preference, put_hold, node_refusal, link_refusal, pref_refusal, scheme_refusal}
 use Rattle.topology.specs.Tables.{Keeps}
 use Rattle.topology.specs.declared.building.BuildError.TheVariants.{DuplicateNode, UnknownNode, DuplicateLink, SelfLink, TooMany, NoLink}
 use Rattle.topology.specs.declared.links.Link.{Link}
 use Rattle.topology.specs.declared.links.Pref.{Pref}
+use Rattle.topology.specs.declared.links.Hold.{Hold}
 use Rattle.topology.specs.declared.names.Scheme.{Scheme}
 use Rattle.topology.specs.declared.names.Scheme.TheVariants.{Deflect, Detour, Backup}
 use Rattle.topology.specs.declared.prefixes.Prefix.{Prefix}
@@ -116,6 +117,8 @@ valid-node net id consolidator v fits new few few_consolidators = record {
   one_link_a_pair = v.one_link_a_pair;
   preferences_fit = each_weaker _ _ (λ p f. record { linked_with = f.linked_with; small = f.small }) net.preferences v.preferences_fit;
   one_preference_each = v.one_preference_each;
+  holds_fit = each_weaker _ _ (λ h f. record { linked_with = f.linked_with }) net.holds v.holds_fit;
+  one_hold_each = v.one_hold_each;
   prefixes_differ = v.prefixes_differ;
   few_hops = v.few_hops;
   scheme_fits = still_leads net.nodes id net.scheme v.scheme_fits;
@@ -171,6 +174,8 @@ valid-link net link v from to apart new few = record {
   one_link_a_pair = λ x y. one_more (joins x y) (joins link.a link.b) net.links link new (λ e other. same_pair x y link other e) (v.one_link_a_pair x y);
   preferences_fit = each_weaker _ _ (λ p f. record { linked_with = linked-link net link p.a p.b ∙ or_first (linked net p.a p.b) (joins p.a p.b link) f.linked_with; small = f.small }) net.preferences v.preferences_fit;
   one_preference_each = v.one_preference_each;
+  holds_fit = each_weaker _ _ (λ h f. record { linked_with = linked-link net link h.a h.b ∙ or_first (linked net h.a h.b) (joins h.a h.b link) f.linked_with }) net.holds v.holds_fit;
+  one_hold_each = v.one_hold_each;
   prefixes_differ = v.prefixes_differ;
   few_hops = v.few_hops;
   scheme_fits = v.scheme_fits;
@@ -276,6 +281,58 @@ keeps-pref net lists pref k small free = record {
         (record { linked_with = may_add_pref net pref.a pref.b free; small = small })
         (each_weaker _ _ (λ p f. record { linked_with = f.linked_with; small = f.small }) net.preferences k.valid.preferences_fit);
     one_preference_each = λ u v. count_put u v pref net.preferences (k.valid.one_preference_each u v);
+    holds_fit = each_weaker _ _ (λ h f. record { linked_with = f.linked_with }) net.holds k.valid.holds_fit;
+    one_hold_each = k.valid.one_hold_each;
+    prefixes_differ = k.valid.prefixes_differ;
+    few_hops = k.valid.few_hops;
+    scheme_fits = k.valid.scheme_fits;
+    few_nodes = k.valid.few_nodes;
+    few_links = k.valid.few_links;
+    few_prefixes = k.valid.few_prefixes;
+    few_consolidators = k.valid.few_consolidators;
+  };
+  near = k.near;
+}
+
+-- a hold
+
+each-put_hold : (P : Hold → Type 0) (hold : Hold) (holds : List Hold) → P hold → AllByRecursion P holds → AllByRecursion P (put_hold hold holds)
+each-put_hold P hold holds h hs =
+    elim (list_any (is_hold hold.a hold.b) holds) as (λ t. AllByRecursion P (if t then holds else holds ++ hold ∷ [])) [
+      | true ↦ hs
+      | false ↦ each-append P holds hold hs h
+    ]
+
+same_hold : (u w : ℕ) (hold other : Hold) → is_hold u w hold ≡ true → is_hold u w other ≡ is_hold hold.a hold.b other
+same_hold u w hold other e =
+    let from = same_is hold.a u (and_left (hold.a == u) (hold.b == w) e) in
+    let to = same_is hold.b w (and_right (hold.a == u) (hold.b == w) e) in
+    rw (from, to)
+
+count_put_hold : (u w : ℕ) (hold : Hold) (holds : List Hold) → count_by (is_hold u w) holds ≤ 1 → count_by (is_hold u w) (put_hold hold holds) ≤ 1
+count_put_hold u w hold holds few =
+    (elim (list_any (is_hold hold.a hold.b) holds) as (λ t. list_any (is_hold hold.a hold.b) holds ≡ t → count_by (is_hold u w) (if t then holds else holds ++ hold ∷ []) ≤ 1) [
+      | true ↦ λ e. few
+      | false ↦ λ e. one_more (is_hold u w) (is_hold hold.a hold.b) holds hold e (λ is other. same_hold u w hold other is) few
+    ]) refl
+
+pub keeps-hold : (net : Net) (lists : List (List ℕ)) (hold : Hold) → Keeps net lists → pref_refusal net hold.a hold.b ≡ None → Keeps (with_hold net hold) lists
+unfolding neighbours
+keeps-hold net lists hold k free = record {
+  valid = record {
+    nodes_differ = k.valid.nodes_differ;
+    numbers = k.valid.numbers;
+    consolidators_differ = k.valid.consolidators_differ;
+    consolidators_are_nodes = k.valid.consolidators_are_nodes;
+    links_join = k.valid.links_join;
+    one_link_a_pair = k.valid.one_link_a_pair;
+    preferences_fit = each_weaker _ _ (λ p f. record { linked_with = f.linked_with; small = f.small }) net.preferences k.valid.preferences_fit;
+    one_preference_each = k.valid.one_preference_each;
+    holds_fit =
+        each-put_hold _ hold net.holds
+        (record { linked_with = may_add_pref net hold.a hold.b free })
+        (each_weaker _ _ (λ h f. record { linked_with = f.linked_with }) net.holds k.valid.holds_fit);
+    one_hold_each = λ u w. count_put_hold u w hold net.holds (k.valid.one_hold_each u w);
     prefixes_differ = k.valid.prefixes_differ;
     few_hops = k.valid.few_hops;
     scheme_fits = k.valid.scheme_fits;
@@ -313,6 +370,8 @@ valid-prefix net p v new few = record {
   one_link_a_pair = v.one_link_a_pair;
   preferences_fit = each_weaker _ _ (λ p f. record { linked_with = f.linked_with; small = f.small }) net.preferences v.preferences_fit;
   one_preference_each = v.one_preference_each;
+  holds_fit = each_weaker _ _ (λ h f. record { linked_with = f.linked_with }) net.holds v.holds_fit;
+  one_hold_each = v.one_hold_each;
   prefixes_differ = λ q. one_more (same_prefix q) (same_prefix p) net.prefixes p new (λ e r. same_one p q r e) (v.prefixes_differ q);
   few_hops = v.few_hops;
   scheme_fits = v.scheme_fits;
@@ -341,6 +400,8 @@ valid-hops net hops v few = record {
   one_link_a_pair = v.one_link_a_pair;
   preferences_fit = each_weaker _ _ (λ p f. record { linked_with = f.linked_with; small = f.small }) net.preferences v.preferences_fit;
   one_preference_each = v.one_preference_each;
+  holds_fit = each_weaker _ _ (λ h f. record { linked_with = f.linked_with }) net.holds v.holds_fit;
+  one_hold_each = v.one_hold_each;
   prefixes_differ = v.prefixes_differ;
   few_hops = few;
   scheme_fits = v.scheme_fits;
@@ -376,6 +437,8 @@ valid-scheme net scheme v fits = record {
   one_link_a_pair = v.one_link_a_pair;
   preferences_fit = each_weaker _ _ (λ p f. record { linked_with = f.linked_with; small = f.small }) net.preferences v.preferences_fit;
   one_preference_each = v.one_preference_each;
+  holds_fit = each_weaker _ _ (λ h f. record { linked_with = f.linked_with }) net.holds v.holds_fit;
+  one_hold_each = v.one_hold_each;
   prefixes_differ = v.prefixes_differ;
   few_hops = v.few_hops;
   scheme_fits = fits;

@@ -1,9 +1,11 @@
 -- What each call of a topology adds, and when it refuses.
 use Rattle.std.specs.Prelude.{ℕ, Bool, not, ◌&&◌, ◌==◌, nat_le, List, [], ◌∷◌, ◌++◌, length, Option, Some, None, Result, IsErrOf, IsOkUnless, if◌then◌else◌}
+use Rattle.std.specs.List.{list_any}
 use Rattle.topology.specs.Lists.{has}
-use Rattle.topology.specs.Net.{Net, linked, prefers, has_prefix}
+use Rattle.topology.specs.Net.{Net, linked, prefers, has_prefix, is_hold}
 use Rattle.topology.specs.declared.links.Link.{Link}
 use Rattle.topology.specs.declared.links.Pref.{Pref}
+use Rattle.topology.specs.declared.links.Hold.{Hold}
 use Rattle.topology.specs.declared.names.Scheme.{Scheme}
 use Rattle.topology.specs.declared.names.Scheme.TheVariants.{Deflect, Detour, Backup}
 use Rattle.topology.specs.declared.prefixes.Prefix.{Prefix}
@@ -12,7 +14,7 @@ use Rattle.topology.specs.declared.building.BuildError.TheVariants.{DuplicateNod
 
 -- nothing was added: packets make 128 moves at most off the tables, and deflect
 abbrev pub nothing : Net
-nothing = record { nodes = []; consolidators = []; links = []; preferences = []; prefixes = []; hops = 128; scheme = Deflect }
+nothing = record { nodes = []; consolidators = []; links = []; preferences = []; prefixes = []; holds = []; hops = 128; scheme = Deflect }
 
 -- the node at the end of the nodes, and of the consolidators where it is one
 abbrev pub with_node : Net → ℕ → Bool → Net
@@ -34,6 +36,13 @@ put_preference pref (p ∷ ps) = if prefers pref.a pref.b p then pref ∷ ps els
 
 abbrev pub with_pref : Net → Pref → Net
 with_pref net pref = record net { preferences = put_preference pref net.preferences }
+
+-- the hold at the end, unless there is one of the same two
+abbrev pub put_hold : Hold → List Hold → List Hold
+put_hold hold holds = if list_any (is_hold hold.a hold.b) holds then holds else holds ++ hold ∷ []
+
+abbrev pub with_hold : Net → Hold → Net
+with_hold net hold = record net { holds = put_hold hold net.holds }
 
 abbrev pub with_hops : Net → ℕ → Net
 with_hops net hops = record net { hops = hops }
@@ -59,7 +68,7 @@ link_refusal net a b =
     else if nat_le 512 (length net.links) then Some TooMany
     else None
 
--- why a preference is not added: the first that holds
+-- why a preference is not added, and why a hold is not: the first that holds
 abbrev pub pref_refusal : Net → ℕ → ℕ → Option BuildError
 pref_refusal net a b =
     if not (has net.nodes a) then Some (UnknownNode a)

@@ -1,17 +1,34 @@
 -- The items that an entry sent, as they are kept.
-use Rattle.std.specs.Prelude.{List, [], ◌∷◌}
+use Rattle.std.specs.Prelude.{◌≡◌, ◌≤◌, ◌<◌, ◌^◌, List, [], ◌∷◌, length}
+use Rattle.std.specs.List.{AllByRecursion}
+use Rattle.topology.specs.declared.names.Trigger.{Trigger}
 use Rattle.topology.specs.declared.items.Sent.{Sent}
-use Rattle.topology.specs.declared.items.Kept.{Kept}
-use Rattle.topology.specs.declared.items.Kept.TheVariants.{Nothing, One, Two, Many}
-use Rattle.topology.specs.declared.items.Laid.{Laid}
-use Rattle.topology.specs.declared.items.Laid.TheVariants.{One as LaidOne, Two as LaidTwo, Lent}
+use Rattle.topology.specs.declared.sent_items.Kept.{Kept}
+use Rattle.topology.specs.declared.sent_items.Kept.TheVariants.{Nothing, One, Two, Many}
+use Rattle.topology.specs.declared.sent_items.Laid.{Laid}
+use Rattle.topology.specs.declared.sent_items.Laid.TheVariants.{One as LaidOne, Two as LaidTwo, Lent}
 
 -- the items, wherever they stand
 abbrev pub listed_sent : Kept → List Sent
 listed_sent Nothing = []
-listed_sent (One item) = item ∷ []
+listed_sent (One items) = items
 listed_sent (Two items) = items
 listed_sent (Many items) = items.value.items
+
+-- the item lists this trigger and no other, and its session and its number are numbers of two bytes
+abbrev pub IsSmall : Trigger → Sent → Type 0
+IsSmall t item = (item.triggers ≡ t ∷ []) × (item.session < 2 ^ 16) × (item.seq < 2 ^ 16)
+
+-- at most two items, each of which is so
+abbrev pub AreAlike : Trigger → List Sent → Type 0
+AreAlike t items = (length items ≤ 2) × AllByRecursion (IsSmall t) items
+
+-- what is shared could not stand in place
+abbrev pub IsUnlike : Kept → Type 0
+IsUnlike Nothing = Unit {0}
+IsUnlike (One items) = Unit {0}
+IsUnlike (Two items) = Unit {0}
+IsUnlike (Many items) = (t : Trigger) → AreAlike t items.value.items → ⊥
 
 -- the items, laid out or lent
 abbrev pub laid_items : Laid → List Sent

@@ -1,8 +1,11 @@
-//! What holds of every network. A call of a law brings what it says into the caller's proof.
-ghost use Rattle.std.specs.Prelude.{◌≡◌, ◌≢◌, ℕ, List, false, length, option_map, is_some, IsTrue};
+//! What holds of every network, and of lists of triggers. A call of a law brings what it says into the caller's proof.
+ghost use Rattle.std.specs.Prelude.{◌≡◌, ◌≢◌, ◌||◌, ◌⊎◌, ℕ, Bool, List, false, length, option_map, is_some, IsTrue};
+ghost use Rattle.std.specs.List.{list_any};
 ghost use Rattle.std.specs.List.Sorted.{IsStrictlyIncreasing};
-ghost use Rattle.topology.specs.Lists.{ascending, has};
+ghost use Rattle.topology.specs.declared.names.Trigger.{Trigger};
+ghost use Rattle.topology.specs.Lists.{Among, ascending, has};
 ghost use Rattle.topology.specs.Paths.{differ};
+ghost use Rattle.topology.specs.Triggers.{Ascend, union};
 ghost use Rattle.topology.specs.Net.{Net, IsValid, linked, neighbours, relation, converse};
 
 /// The ascending list has the same numbers, and where they differ each is above the one before.
@@ -30,4 +33,18 @@ pub fn relations_are_converse()
     ensures linked { (net : Net) (u v : ℕ) → is_some (relation net u v) ≡ linked net u v }
     ensures converse { (net : Net) (u v : ℕ) → u ≢ v
         → relation net v u ≡ option_map converse (relation net u v) }
+{}
+
+/// A union has the members of both lists, ascends where the second list does, and is the only such list: it is
+/// the same however it was made.
+#[tactic(auto, using(crate::proofs::Unions::in_union, crate::proofs::Unions::of_union, crate::proofs::Unions::any_union, crate::proofs::Unions::union_ascends))]
+pub fn a_union_has_the_triggers_of_both()
+    ensures into { (t : Trigger) (ts us : List Trigger) → Among t ts ⊎ Among t us → Among t (union ts us) }
+    ensures out_of { (t : Trigger) (ts us : List Trigger) → Among t (union ts us) → Among t ts ⊎ Among t us }
+    ensures passes { (test : Trigger → Bool) (ts us : List Trigger) →
+        list_any test (union ts us) ≡ (list_any test ts || list_any test us) }
+    ensures ascends { (ts us : List Trigger) → Ascend us → Ascend (union ts us) }
+    ensures only { (ts us xs : List Trigger) → Ascend us → Ascend xs →
+        ((x : Trigger) → Among x xs → Among x ts ⊎ Among x us) →
+        ((x : Trigger) → Among x ts ⊎ Among x us → Among x xs) → xs ≡ union ts us }
 {}

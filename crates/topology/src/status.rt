@@ -56,7 +56,7 @@ pub enum Reason {
     NoSuchPacket,
     /// The walk of the packet has ended.
     PacketEnded,
-    /// Nothing is held back for the neighbour. No event gives this reason yet.
+    /// Nothing is held back from the neighbour.
     NothingPending,
 }
 
@@ -81,7 +81,8 @@ pub enum LimitKind {
     Packets,
     /// The frames that a node took over its link.
     Frames,
-    /// The triggers that the lists of one node name. No run counts them yet.
+    /// The triggers that one node lists in its entries, in the items that these sent and in what it holds back, counted once
+    /// for each list.
     Marks,
     /// The bytes of a journal. No run writes one yet.
     Journal,

@@ -1,13 +1,13 @@
 //! A network: its nodes, links and prefixes, in the order in which they were added.
 ghost use Rattle.std.specs.Prelude.{◌≡◌, ◌^◌, ◌<◌, ◌≤◌, ◌↔◌, false, None, Some, IfErr, IfOk, OnOk, OnErr, IfSome, IsNone, find, length, slice_get, option_map};
 ghost use Rattle.topology.specs.Lists.{ascending, has, put_ascending};
-ghost use Rattle.topology.specs.Net.{neighbours, relation, file_preference, prefers, has_prefix, IsValid, IsPrefix, Leads};
-ghost use Rattle.topology.specs.Building.{nothing, with_node, with_link, with_pref, with_prefix, with_hops, with_scheme, node_refusal, link_refusal, pref_refusal, prefix_refusal, scheme_refusal, AnswersBy};
+ghost use Rattle.topology.specs.Net.{neighbours, relation, file_preference, prefers, has_prefix, holds_back, IsValid, IsPrefix, Leads};
+ghost use Rattle.topology.specs.Building.{nothing, with_node, with_link, with_pref, with_prefix, with_hold, with_hops, with_scheme, node_refusal, link_refusal, pref_refusal, prefix_refusal, scheme_refusal, AnswersBy};
 
 use crate::node_set::insert_ascending;
 use crate::{
-    BuildError, Link, LinkTable, NoMemory, NodeId, NodeSet, Pref, PrefTable, Prefix, PrefixId,
-    Relation, Scheme,
+    BuildError, Hold, HoldTable, Link, LinkTable, NoMemory, NodeId, NodeSet, Pref, PrefTable,
+    Prefix, PrefixId, Relation, Scheme,
 };
 use indexmap::IndexSet;
 use std::alloc::Global;
@@ -35,6 +35,7 @@ pub struct Topology {
     links: LinkTable,
     preferences: PrefTable,
     prefixes: IndexSet<Prefix>,
+    holds: HoldTable,
     hops: u16,
     scheme: Scheme,
     alloc: Global,
@@ -48,9 +49,9 @@ impl Model for Topology {
 
     ghost use Rattle.topology.specs.Tables.{Keeps};
 
-    ghost view = { λ t. record { nodes = t.nodes.nodes; consolidators = t.consolidators.nodes; links = t.links; preferences = t.preferences; prefixes = t.prefixes.keys; hops = t.hops; scheme = t.scheme } };
+    ghost view = { λ t. record { nodes = t.nodes.nodes; consolidators = t.consolidators.nodes; links = t.links; preferences = t.preferences; prefixes = t.prefixes.keys; holds = t.holds; hops = t.hops; scheme = t.scheme } };
 
-    ghost invariant = { λ t. Keeps (record { nodes = t.nodes.nodes; consolidators = t.consolidators.nodes; links = t.links; preferences = t.preferences; prefixes = t.prefixes.keys; hops = t.hops; scheme = t.scheme }) (map (λ near. near.items) t.neighbours.items) };
+    ghost invariant = { λ t. Keeps (record { nodes = t.nodes.nodes; consolidators = t.consolidators.nodes; links = t.links; preferences = t.preferences; prefixes = t.prefixes.keys; holds = t.holds; hops = t.hops; scheme = t.scheme }) (map (λ near. near.items) t.neighbours.items) };
 }
 
 // An equal list with one node more.
@@ -75,6 +76,7 @@ impl Topology {
             links: LinkTable::empty(alloc),
             preferences: PrefTable::empty(alloc),
             prefixes: IndexSet::new(alloc),
+            holds: HoldTable::empty(alloc),
             hops: DEFAULT_HOPS,
             scheme: Scheme::Deflect,
             alloc,
@@ -159,7 +161,7 @@ impl Topology {
         Ok(())
     }
 
-    // Whether a preference may be added.
+    // Whether a preference, or a hold, may be added.
     fn check_pref(&self, a: NodeId, b: NodeId) -> Result<(), BuildError>
         ensures ok { OnOk result (pref_refusal self.now a b ≡ None) }
         ensures err { IfErr result (λ e. pref_refusal self.now a b ≡ Some e) }
@@ -189,6 +191,17 @@ impl Topology {
     {
         self.check_pref(a, b)?;
         self.preferences.put(Pref { a, b, value })?;
+        Ok(())
+    }
+
+    /// Adds that `a` holds back what it would send to `b`, a neighbour. One that is there already changes nothing.
+    pub fn add_hold(&mut self, a: NodeId, b: NodeId) -> Result<(), BuildError>
+        ensures ok { OnOk result (self.new ≡ with_hold self.old (record { a = a; b = b })) }
+        ensures refused { AnswersBy result (pref_refusal self.old a b) }
+        ensures err { OnErr result (self.new ≡ self.old) }
+    {
+        self.check_pref(a, b)?;
+        self.holds.put(Hold { a, b })?;
         Ok(())
     }
 
@@ -322,6 +335,14 @@ impl Topology {
             Some(pref) => pref.value,
             None => DEFAULT_PREFERENCE,
         }
+    }
+
+    /// Whether `a` holds back what it would send to `b`.
+    #[tactic(auto, unfolding(crate::specs::Net::holds_back))]
+    pub fn holds(&self, a: NodeId, b: NodeId) -> bool
+        ensures { result ≡ holds_back self.now a b }
+    {
+        self.holds.has(a, b)
     }
 
     /// The consolidators, ascending.

@@ -1,0 +1,13 @@
+use Rattle.std.proofs.Common.{sym}
+use Rattle.topology.proofs.sent_items.SentItems.copy.Goals as goal
+
+pub returns-in_err-clone-in-Many-clause-few : goal.returns-in_err-clone-in-Many-clause-few
+returns-in_err-clone-in-Many-clause-few c = λ t alike.
+    let unlike = rw c.in-Many.is at c.self.invariant in
+    let items = rw c.in-Many.is at c.self.view_is in
+    absurd (unlike t (rw (sym items) at alike))
+
+pub invariant_of-result-in-Many : goal.invariant_of-result-in-Many
+invariant_of-result-in-Many c = λ t alike.
+    let unlike = rw c.in-Many.is at c.self.invariant in
+    unlike t (rw c.in_ok-clone-in-Many.ensures.cases at alike)

@@ -1,0 +1,180 @@
+//! One or two items that were sent for one trigger, without a list on the heap.
+ghost use Rattle.std.specs.Prelude.{◌≡◌, ◌≢◌, ◌≤◌, ◌^◌, ◌↔◌, ◌∷◌, [], IfSome, IsNone};
+ghost use Rattle.topology.specs.declared.items.Sent.{Sent as TheItem};
+ghost use Rattle.topology.specs.SentLists.{IsSmall};
+
+use crate::items::Sent;
+use crate::{NodeId, Session, Trigger, Triggers};
+use std::marker::Model;
+
+/// An item that lists one trigger.
+#[derive(Debug, Drop)]
+pub struct OneSent {
+    to: NodeId,
+    session: Session,
+    seq: u32,
+    trigger: Trigger,
+}
+
+/// Two items that list the same one trigger, in sessions and with numbers of two bytes. Their parts stand in pairs, so that
+/// nothing is left empty between them, and the trigger stands once.
+#[derive(Debug, Drop)]
+pub struct TwoSent {
+    to: (NodeId, NodeId),
+    session: (u16, u16),
+    seq: (u16, u16),
+    node: NodeId,
+    count: u32,
+}
+
+impl Model for OneSent {
+    ghost use Rattle.std.specs.Prelude.{List, [], ◌∷◌};
+    ghost use Rattle.topology.specs.declared.items.Sent.{Sent};
+
+    ghost Value = { List Sent };
+
+    ghost view = { λ t. record { to = t.to; session = t.session; seq = t.seq; triggers = t.trigger ∷ [] } ∷ [] };
+}
+
+impl Model for TwoSent {
+    ghost use Rattle.std.specs.Prelude.{List, [], ◌∷◌};
+    ghost use Rattle.topology.specs.declared.items.Sent.{Sent};
+
+    ghost Value = { List Sent };
+
+    ghost view = { λ t.
+        record { to = t.to.0; session = t.session.0; seq = t.seq.0; triggers = record { node = t.node; count = t.count } ∷ [] }
+        ∷ record { to = t.to.1; session = t.session.1; seq = t.seq.1; triggers = record { node = t.node; count = t.count } ∷ [] } ∷ [] };
+}
+
+// The trigger, where there is one and no other.
+fn only(triggers: &Triggers) -> Option<Trigger>
+    ensures some { IfSome result (λ trigger. triggers.now ≡ trigger ∷ []) }
+    ensures none { IsNone result → (t : Trigger) → triggers.now ≢ t ∷ [] }
+{
+    match triggers.as_slice() {
+        [] => None,
+        [trigger] => Some(*trigger),
+        [_, _, ..] => None,
+    }
+}
+
+// The trigger that both list, where each lists one and no other.
+fn only_of_both(one: &Triggers, other: &Triggers) -> Option<Trigger>
+    ensures one { IfSome result (λ trigger. one.now ≡ trigger ∷ []) }
+    ensures other { IfSome result (λ trigger. other.now ≡ trigger ∷ []) }
+    ensures none { IsNone result → (t : Trigger) → one.now ≡ t ∷ [] → other.now ≢ t ∷ [] }
+{
+    let trigger = only(one)?;
+    let second = only(other)?;
+    if trigger != second {
+        return None;
+    }
+    Some(trigger)
+}
+
+// The number, where it has two bytes.
+fn short(number: u32) -> Option<u16>
+    ensures some { IfSome result (λ short. short ≡ number) }
+    ensures none { IsNone result ↔ 2 ^ 16 ≤ number }
+{
+    u16::try_from(number).ok()
+}
+
+impl OneSent {
+    /// This item, if it lists one trigger.
+    pub fn of(item: &Sent) -> Option<OneSent>
+        ensures some { IfSome result (λ kept. kept ≡ item.now ∷ []) }
+        ensures none { IsNone result → (t : Trigger) → item.now.triggers ≢ t ∷ [] }
+    {
+        let trigger = only(&item.triggers)?;
+        Some(OneSent {
+            to: item.to,
+            session: item.session,
+            seq: item.seq,
+            trigger,
+        })
+    }
+
+    /// The same item again.
+    pub fn copy(&self) -> OneSent
+        ensures { result ≡ self.now }
+    {
+        OneSent {
+            to: self.to,
+            session: self.session,
+            seq: self.seq,
+            trigger: self.trigger,
+        }
+    }
+
+    pub fn to_array(&self) -> [Sent; 1]
+        ensures { result ≡ self.now }
+    {
+        [Sent {
+            to: self.to,
+            session: self.session,
+            seq: self.seq,
+            triggers: Triggers::one(self.trigger),
+        }]
+    }
+}
+
+impl TwoSent {
+    /// These items, if they list one and the same trigger, and their sessions and numbers have two bytes.
+    pub fn of(one: &Sent, other: &Sent) -> Option<TwoSent>
+        ensures some { IfSome result (λ kept. kept ≡ one.now ∷ other.now ∷ []) }
+        ensures none { IsNone result → (t : Trigger) → IsSmall t one.now → IsSmall t other.now → ⊥ }
+    {
+        let trigger = only_of_both(&one.triggers, &other.triggers)?;
+        let session = short(one.session.number())?;
+        let other_session = short(other.session.number())?;
+        let seq = short(one.seq)?;
+        let other_seq = short(other.seq)?;
+        Some(TwoSent {
+            to: (one.to, other.to),
+            session: (session, other_session),
+            seq: (seq, other_seq),
+            node: trigger.node,
+            count: trigger.count,
+        })
+    }
+
+    // An item to this neighbour, in this session and with this number, for the trigger that both list.
+    fn item(&self, to: NodeId, session: u16, seq: u16) -> Sent
+        ensures { (one other : TheItem) → self.now ≡ one ∷ other ∷ [] →
+            result ≡ record { to = to; session = session; seq = seq; triggers = one.triggers } }
+    {
+        let trigger = Trigger {
+            node: self.node,
+            count: self.count,
+        };
+        Sent {
+            to,
+            session: Session::new(session as u32),
+            seq: seq as u32,
+            triggers: Triggers::one(trigger),
+        }
+    }
+
+    /// The same items again.
+    pub fn copy(&self) -> TwoSent
+        ensures { result ≡ self.now }
+    {
+        TwoSent {
+            to: self.to,
+            session: self.session,
+            seq: self.seq,
+            node: self.node,
+            count: self.count,
+        }
+    }
+
+    pub fn to_array(&self) -> [Sent; 2]
+        ensures { result ≡ self.now }
+    {
+        let one = self.item(self.to.0, self.session.0, self.seq.0);
+        let other = self.item(self.to.1, self.session.1, self.seq.1);
+        [one, other]
+    }
+}
