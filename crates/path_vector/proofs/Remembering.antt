@@ -3,11 +3,11 @@ use Rattle.std.proofs.Common.{◌≡◌, ◌≢◌, ◌⊎◌, inl, inr, ℕ, su
 use Rattle.std.specs.Prelude.{if◌then◌else◌}
 use Rattle.std.proofs.lemmas.Bool.Decides.{nat_tests}
 use Rattle.topology.specs.declared.names.Scope.{Scope}
-use Rattle.topology.specs.declared.names.Scope.TheVariants.{One, All}
+use Rattle.topology.specs.declared.names.Scope.TheVariants.{One, All, Nothing}
 use Rattle.topology.specs.Lists.{has}
 use Rattle.topology.specs.Net.{Net, relation, file_preference}
 use Rattle.path_vector.specs.declared.causes.Cause.{Cause}
-use Rattle.path_vector.specs.declared.causes.Cause.TheVariants.{Originate, Withdraw, Recv, Down, Up, Ready, Prefer}
+use Rattle.path_vector.specs.declared.causes.Cause.TheVariants.{Originate, Withdraw, Recv, Down, Up, Ready, Prefer, Flush}
 use Rattle.path_vector.specs.declared.neighbours.Neighbour.{Neighbour}
 use Rattle.path_vector.specs.History.{History, HasScope, Accepts, change, concerns, held, held_by, highest, highest_by, preference, preference_by, heard, heard_by}
 use Rattle.path_vector.specs.Selection.{candidate, beyond, usable}
@@ -39,6 +39,7 @@ heard_more v s (Down w t) before top h old = old ((elim (w == v) as (λ b. cond 
 heard_more v s (Up w t) before top h old = old ((elim (w == v) as (λ b. cond b (max top t) top < s → top < s) [ true ↦ λ h. omega arith | false ↦ λ h. h ]) h)
 heard_more v s (Ready w t) before top h old = old ((elim (w == v) as (λ b. cond b (max top t) top < s → top < s) [ true ↦ λ h. omega arith | false ↦ λ h. h ]) h)
 heard_more v s (Prefer w x) before top h old = old h
+heard_more v s (Flush w) before top h old = old h
 
 pub less : (v s top : ℕ) (cause : Cause) → highest_by cause v top < s → top < s
 less v s top Originate h = h
@@ -48,6 +49,7 @@ less v s top (Down w t) h = (elim (w == v) as (λ b. cond b (max top t) top < s 
 less v s top (Up w t) h = (elim (w == v) as (λ b. cond b (max top t) top < s → top < s) [ true ↦ λ h. omega arith | false ↦ λ h. h ]) h
 less v s top (Ready w t) h = (elim (w == v) as (λ b. cond b (max top t) top < s → top < s) [ true ↦ λ h. omega arith | false ↦ λ h. h ]) h
 less v s top (Prefer w x) h = h
+less v s top (Flush w) h = h
 
 -- no entry lowers the highest session
 pub grows : (v top : ℕ) (cause : Cause) → top ≤ highest_by cause v top
@@ -74,6 +76,7 @@ other_held (Down v s) w before n = let off : (v == w) ≡ false = differ v w n i
 other_held (Up v s) w before n = let off : (v == w) ≡ false = differ v w n in rw off refl
 other_held (Ready v s) w before n = refl
 other_held (Prefer v x) w before n = refl
+other_held (Flush v) w before n = refl
 
 other_highest : (cause : Cause) (w : ℕ) (before : ℕ) → names cause ≢ Some w → highest_by cause w before ≡ before
 other_highest Originate w before n = refl
@@ -83,6 +86,7 @@ other_highest (Down v s) w before n = let off : (v == w) ≡ false = differ v w 
 other_highest (Up v s) w before n = let off : (v == w) ≡ false = differ v w n in rw off refl
 other_highest (Ready v s) w before n = let off : (v == w) ≡ false = differ v w n in rw off refl
 other_highest (Prefer v x) w before n = refl
+other_highest (Flush v) w before n = refl
 
 other_preference : (cause : Cause) (w : ℕ) (before : ℕ) → names cause ≢ Some w → preference_by cause w before ≡ before
 other_preference Originate w before n = refl
@@ -92,6 +96,7 @@ other_preference (Down v s) w before n = refl
 other_preference (Up v s) w before n = refl
 other_preference (Ready v s) w before n = refl
 other_preference (Prefer v x) w before n = let off : (v == w) ≡ false = differ v w n in rw off refl
+other_preference (Flush v) w before n = refl
 
 other_heard : (cause : Cause) (w s : ℕ) (before : Option (Option (List ℕ))) → names cause ≢ Some w → heard_by cause w s before ≡ before
 other_heard Originate w s before n = refl
@@ -101,6 +106,7 @@ other_heard (Down v t) w s before n = refl
 other_heard (Up v t) w s before n = refl
 other_heard (Ready v t) w s before n = refl
 other_heard (Prefer v x) w s before n = refl
+other_heard (Flush v) w s before n = refl
 
 same_cond : {A : Type 0} (b : Bool) (x y : A) → x ≡ y → cond b x y ≡ y
 same_cond true x y e = e
@@ -255,6 +261,7 @@ stays u past q v (Down w t) s e = absurd (cc e)
 stays u past q v (Up w t) s e = absurd (cc e)
 stays u past q v (Ready w t) s e = refl
 stays u past q v (Prefer w x) s e = refl
+stays u past q v (Flush w) s e = absurd s
 
 turned_candidate : (u : ℕ) (past : History) (q v : ℕ) (cause : Cause) → Accepts past All cause → names cause ≡ Some v
     → candidate u (change All cause ∷ past) q v ≡ (if ends cause then None else candidate u past q v)
@@ -265,6 +272,7 @@ turned_candidate u past q v (Down w t) a e = let same : w ≡ v = cc in rw same 
 turned_candidate u past q v (Up w t) a e = let same : w ≡ v = cc in rw same (begun u past q v t (rw same at a.opens))
 turned_candidate u past q v (Ready w t) a e = stays u past q v (Ready w t) tt refl
 turned_candidate u past q v (Prefer w x) a e = stays u past q v (Prefer w x) tt refl
+turned_candidate u past q v (Flush w) a e = absurd a.scoped
 
 either : {A : Type 0} (b : Bool) (x y : A) → Some (if b then x else y) ≡ (if b then Some x else Some y)
 either true x y = refl
@@ -291,6 +299,30 @@ hears_as net u past old new p cause v s seq path led is r n l h =
     let own : v ≡ old.id = cc (sym (ap names is) ∙ n) in
     let here : cause ≡ Recv old.id s seq path = is ∙ ap (λ w. Recv w s seq path) own in
     subst (λ k. Remembers net u (change (One p) k ∷ past) new) (sym here) (hears net u past old new p s seq path r (subst (λ x. Hears p s x old new) (l ∙ ap (led_by u) here) h))
+
+-- an entry that concerns no prefix
+
+flushed_candidate : (u : ℕ) (past : History) (q v w : ℕ) → candidate u (change Nothing (Flush w) ∷ past) q v ≡ candidate u past q v
+unfolding beyond
+flushed_candidate u past q v w = refl
+
+-- it leaves what is kept of each neighbour
+pub flushed : (net : Net) (u : ℕ) (past : History) (n : Neighbour) (cause : Cause) → HasScope Nothing cause → Remembers net u past n → Remembers net u (change Nothing cause ∷ past) n
+flushed net u past n Originate s r = absurd s
+flushed net u past n Withdraw s r = absurd s
+flushed net u past n (Recv v t seq path) s r = absurd s
+flushed net u past n (Down v t) s r = absurd s
+flushed net u past n (Up v t) s r = absurd s
+flushed net u past n (Ready v t) s r = absurd s
+flushed net u past n (Prefer v x) s r = absurd s
+flushed net u past n (Flush w) s r = record {
+  relates = r.relates;
+  holds = r.holds;
+  named = r.named;
+  prefers = r.prefers;
+  places = r.places;
+  told = λ p below. r.told p below ∙ ap (λ x. Some x) (sym (flushed_candidate u past p n.id w));
+}
 
 -- nothing was entered
 

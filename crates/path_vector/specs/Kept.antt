@@ -4,7 +4,7 @@ use Rattle.std.specs.List.{AllByRecursion}
 use Rattle.topology.specs.Lists.{has, Among}
 use Rattle.topology.specs.Net.{Net, IsValid, neighbours}
 use Rattle.path_vector.specs.declared.causes.Cause.{Cause}
-use Rattle.path_vector.specs.declared.causes.Cause.TheVariants.{Originate, Withdraw, Recv, Down, Up, Ready, Prefer}
+use Rattle.path_vector.specs.declared.causes.Cause.TheVariants.{Originate, Withdraw, Recv, Down, Up, Ready, Prefer, Flush}
 use Rattle.path_vector.specs.declared.neighbours.Neighbour.{Neighbour}
 use Rattle.path_vector.specs.declared.neighbours.Found.{Found}
 use Rattle.path_vector.specs.declared.neighbours.Rival.{Rival}
@@ -22,6 +22,7 @@ names (Down v s) = Some v
 names (Up v s) = Some v
 names (Ready v s) = Some v
 names (Prefer v x) = Some v
+names (Flush v) = Some v
 
 -- the neighbour that an entry is about, if any, is one of u
 abbrev pub IsOfNeighbour : Net → ℕ → Cause → Type 0
@@ -37,6 +38,7 @@ led_by u (Down v s) = None
 led_by u (Up v s) = None
 led_by u (Ready v s) = None
 led_by u (Prefer v x) = None
+led_by u (Flush v) = None
 
 -- the same is kept of the same neighbour
 pub record IsCopy (old new : Neighbour) : Type 0 where
@@ -71,6 +73,7 @@ ends (Down v s) = true
 ends (Up v s) = true
 ends (Ready v s) = false
 ends (Prefer v x) = false
+ends (Flush v) = false
 
 -- an entry that concerns all prefixes: the row is empty where a session begins or ends
 pub record Turns (cause : Cause) (old new : Neighbour) : Type 0 where

@@ -135,6 +135,7 @@ impl Neighbour {
                 }
             }
             Scope::All => self.turn(cause),
+            Scope::Nothing => {}
         }
     }
 
@@ -278,6 +279,7 @@ fn named(cause: &Cause) -> Option<NodeId>
         Cause::Up { nbr, .. } => Some(*nbr),
         Cause::Ready { nbr, .. } => Some(*nbr),
         Cause::Prefer { nbr, .. } => Some(*nbr),
+        Cause::Flush { nbr } => Some(*nbr),
     }
 }
 

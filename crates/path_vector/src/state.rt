@@ -386,15 +386,24 @@ fn shown<'a>(via: Option<NodeId>, path: &'a Path) -> Best<'a>
 fn has_scope(scope: Scope, cause: &Cause) -> bool
     ensures { IsTrue result ↔ HasScope scope cause.now }
 {
-    let one = match cause {
-        Cause::Originate => true,
-        Cause::Withdraw => true,
-        Cause::Recv { .. } => true,
-        _ => false,
-    };
     match scope {
-        Scope::One(_) => one,
-        Scope::All => !one,
+        Scope::One(_) => match cause {
+            Cause::Originate => true,
+            Cause::Withdraw => true,
+            Cause::Recv { .. } => true,
+            _ => false,
+        },
+        Scope::All => match cause {
+            Cause::Down { .. } => true,
+            Cause::Up { .. } => true,
+            Cause::Ready { .. } => true,
+            Cause::Prefer { .. } => true,
+            _ => false,
+        },
+        Scope::Nothing => match cause {
+            Cause::Flush { .. } => true,
+            _ => false,
+        },
     }
 }
 
