@@ -22,7 +22,7 @@ nothing_sent rules net u w = refl
 each_first : (rules : Rules) (net : Net) (u : ℕ) (near : List ℕ) → AllZip (AreMarks rules net u []) near (map first near)
 each_first rules net u [] = tt
 each_first rules net u (w ∷ near) =
-    ((record { nbr = refl; session = refl; is_opened = refl; sent = sym (nothing_sent rules net u w); received = refl; down = refl }, tt), each_first rules net u near)
+    ((record { nbr = refl; session = refl; is_opened = refl; sent = sym (nothing_sent rules net u w); received = refl; down = tt }, tt), each_first rules net u near)
 
 pub rows_first : (rules : Rules) (net : Net) (u : ℕ) → AreRows rules net u [] (map first (neighbours net u))
 rows_first rules net u = each_first rules net u (neighbours net u)

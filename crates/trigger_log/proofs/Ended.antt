@@ -161,9 +161,9 @@ filter_left t f off (p ∷ ps) =
       | false ↦ λ e. rw (off p e) (filter_left t f off ps)
     ]) refl
 
-module _ (rules : Rules) (ranking : IsRanking rules.before) (net : Net) (valid : IsValid net) (u : ℕ) (h : List Entry) (trigger : Trigger) (v s : ℕ) where
+module _ (rules : Rules) (ranking : IsRanking rules.before) (net : Net) (valid : IsValid net) (u : ℕ) (h : List Entry) (triggers : List Trigger) (v s : ℕ) where
   abbrev ended : Entry
-  ended = entry (trigger ∷ []) All (Down v s)
+  ended = entry triggers All (Down v s)
 
   same_told : (w p : ℕ) → goes_by rules net u (reads h) v p ≡ false → differs (making rules net u h ended) true w p ≡ false
   unfolding offered_route

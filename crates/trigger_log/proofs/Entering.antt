@@ -4,11 +4,11 @@ use Rattle.std.specs.Prelude.{if◌then◌else◌, is_some}
 use Rattle.std.proofs.lemmas.List.{take_all}
 use Rattle.topology.specs.declared.names.Trigger.{Trigger}
 use Rattle.topology.specs.declared.names.Scope.{Scope}
-use Rattle.topology.specs.declared.names.Scope.TheVariants.{One}
+use Rattle.topology.specs.declared.names.Scope.TheVariants.{One, Nothing}
 use Rattle.topology.specs.declared.items.Sent.{Sent}
 use Rattle.topology.specs.Net.{Net, neighbours}
 use Rattle.path_vector.specs.declared.causes.Cause.{Cause}
-use Rattle.path_vector.specs.declared.causes.Cause.TheVariants.{Originate, Withdraw, Recv, Down, Up, Ready, Prefer}
+use Rattle.path_vector.specs.declared.causes.Cause.TheVariants.{Originate, Withdraw, Recv, Down, Up, Ready, Prefer, Flush}
 use Rattle.path_vector.specs.Rules.{Rules}
 use Rattle.path_vector.specs.History.{Accepts, change, held, ready}
 use Rattle.path_vector.specs.Kept.{IsOfNeighbour}
@@ -24,7 +24,8 @@ use Rattle.trigger_log.specs.Entries.{Entry, entry, reads, is_local, locals}
 use Rattle.trigger_log.specs.Making.{Making, making}
 use Rattle.trigger_log.specs.Sending.{sent_by, sent_to}
 use Rattle.trigger_log.specs.Going.{going_of, going_by, going_in, spread, told}
-use Rattle.trigger_log.specs.Fits.{CauseFits, Fits}
+use Rattle.trigger_log.specs.Fits.{CauseFits, Fits, ListsFor}
+use Rattle.trigger_log.specs.HoldingBack.{HoldsBack}
 use Rattle.trigger_log.specs.Entered.{Shows}
 use Rattle.trigger_log.specs.KeptEntries.{KeepsEntries}
 use Rattle.trigger_log.specs.Standing.{StandsFor}
@@ -35,9 +36,9 @@ use Rattle.trigger_log.specs.Offered.{Covers, IsPlaced, asked, updates_over}
 use Rattle.trigger_log.proofs.Holding.{accepted}
 use Rattle.trigger_log.proofs.Rounds.{told_all}
 
-module _ {P : Type 0} (policy : P) (rules : Rules) (net : Net) (u : ℕ) (h : List Entry) (trigger : Trigger) (scope : Scope) (cause : Cause) where
+module _ {P : Type 0} (policy : P) (rules : Rules) (net : Net) (u : ℕ) (h : List Entry) (triggers : List Trigger) (scope : Scope) (cause : Cause) where
   abbrev made : Entry
-  made = entry (trigger ∷ []) scope cause
+  made = entry triggers scope cause
 
   -- what is listed, where all are told
   sent_all : (n : ℕ) (all : List Sent) → length (neighbours net u) ≤ n → all ≡ flat_map (sent_to rules net u h made) (take n (neighbours net u)) → all ≡ sent_by rules net u h made
@@ -52,20 +53,22 @@ module _ {P : Type 0} (policy : P) (rules : Rules) (net : Net) (u : ℕ) (h : Li
       was.out ∙ ap (flat_map (λ w. going_in w (told (making rules net u h made) w) (held (made.read ∷ reads h) w))) (take_all n (neighbours net u) whole)
 
   -- the log that keeps the entry is that of the entries with it
-  pub entered : (old new : NodeLog P) (n : ℕ) (said : Speech) (kept : List Sent) → StandsFor policy rules net u old h → CauseFits h scope cause
+  pub entered : (old new : NodeLog P) (n : ℕ) (said : Speech) (kept : List Sent) → StandsFor policy rules net u old h → CauseFits h scope cause → ListsFor scope triggers
       → RoutesStandFor policy net u new.routes (made.read ∷ reads h) → new.node ≡ old.node → new.sessions.near ≡ old.sessions.near
       → new.next_count ≡ (if is_local cause then suc old.next_count else old.next_count)
-      → ((k : Entry) → KeepsEntries policy rules net u old.kept h → Shows rules net u (record { before = h; entry = k }) (record { trigger = trigger; scope = scope; cause = cause; sent = kept }) → KeepsEntries policy rules net u new.kept (k ∷ h)) → kept ≡ said.sent
-      → length (neighbours net u) ≤ n → ToldTo (making rules net u h made) n new.sessions.rows silence said
+      → ((k : Entry) → KeepsEntries policy rules net u old.kept h → Shows rules net u (record { before = h; entry = k }) (record { triggers = triggers; scope = scope; cause = cause; sent = kept }) → KeepsEntries policy rules net u new.kept (k ∷ h)) → kept ≡ said.sent
+      → length (neighbours net u) ≤ n → ToldTo (making rules net u h made) n new.sessions.rows silence said → HoldsBack rules net u (made ∷ h) new.held_back
       → StandsFor policy rules net u new (made ∷ h)
-  entered old new n said kept was fits routes node near next entries same whole told = record {
+  entered old new n said kept was fits lists routes node near next entries same whole told held = record {
     routes = routes;
     fitting = (fits, was.fitting);
+    lists = (lists, was.lists);
     node = node ∙ was.node;
     near = near ∙ was.near;
     next = next ∙ (ap (λ m. if is_local cause then suc m else m) was.next ∙ either (is_local cause));
-    kept = entries made was.kept (record { trigger = refl; read = refl; sent = same ∙ sent_all n said.sent whole told.sent });
+    kept = entries made was.kept (record { triggers = refl; read = refl; sent = same ∙ sent_all n said.sent whole told.sent });
     marks = told_all rules net u h made (fits, was.fitting) n new.sessions.rows silence said whole told;
+    held = held;
   }
     where
       either : (b : Bool) → (if b then suc (suc (locals h)) else suc (locals h)) ≡ suc (if b then suc (locals h) else locals h)
@@ -84,12 +87,12 @@ module _ {P : Type 0} (policy : P) (rules : Rules) (net : Net) (u : ℕ) (h : Li
       (λ taken. taken (accepted h scope cause fits.1 fits.0))) taken
 
   -- the routes and the turn are those of the entry
-  pub enters : (routes : RouteState P) (turn : Turn) → Fits (made ∷ h) → RoutesStandFor policy net u routes (made.read ∷ reads h) → trigger ≡ turn.trigger.now → cause ≡ turn.cause.now
+  pub enters : (routes : RouteState P) (turn : Turn) → Fits (made ∷ h) → RoutesStandFor policy net u routes (made.read ∷ reads h) → triggers ≡ turn.triggers.now → cause ≡ turn.cause.now
       → IsPlaced net scope → AreOffers (making rules net u h made) turn.before.now turn.after.now → Enters policy (making rules net u h made) routes turn
   enters routes turn fits stands by of placed offers = record {
     stands = stands;
     fitting = fits;
-    lists = ap (λ t. t ∷ []) by;
+    lists = by;
     cause = of;
     placed = placed;
     covers = offers.covers;
@@ -98,13 +101,14 @@ module _ {P : Type 0} (policy : P) (rules : Rules) (net : Net) (u : ℕ) (h : Li
   }
 
   -- a log whose routes alone took the entry
-  pub midway : (log : NodeLog P) (taken : RouteState P) → StandsFor policy rules net u log h → IsOfNeighbour net u cause → IsPlaced net scope → CauseFits h scope cause
+  pub midway : (log : NodeLog P) (taken : RouteState P) → StandsFor policy rules net u log h → IsOfNeighbour net u cause → IsPlaced net scope → CauseFits h scope cause → ListsFor scope triggers
       → RoutesStandFor policy net u taken (made.read ∷ reads h) → IsMidway policy (making rules net u h made) log.routes (record log { routes = taken })
-  midway log taken was near placed fits stands = record {
+  midway log taken was near placed fits lists stands = record {
     was = was;
     near = near;
     placed = placed;
     fits = fits;
+    lists = lists;
     routes = stands;
   }
 
@@ -117,10 +121,30 @@ asked_one net h p (Down v s) fits = absurd fits
 asked_one net h p (Up v s) fits = absurd fits
 asked_one net h p (Ready v s) fits = absurd fits
 asked_one net h p (Prefer v x) fits = absurd fits
+asked_one net h p (Flush v) fits = absurd fits
+
+-- an entry of no prefix may change no routes
+pub asked_none : (net : Net) (cause : Cause) → asked net Nothing cause ≡ []
+asked_none net Originate = refl
+asked_none net Withdraw = refl
+asked_none net (Recv v s seq path) = refl
+asked_none net (Down v s) = refl
+asked_none net (Up v s) = refl
+asked_none net (Ready v s) = refl
+asked_none net (Prefer v x) = refl
+asked_none net (Flush v) = refl
 
 -- all that is asked for covers the entry
 pub all_covered : (m : Making) (prefixes : List ℕ) → prefixes ≡ asked m.net m.entry.read.scope m.entry.read.cause → Covers m prefixes
 all_covered m prefixes is w s e = ap (updates_over m (is_some (ready (reads m.before) w)) w) is
+
+-- an entry of no prefix has no offers
+pub none_offered : (m : Making) → m.entry.read.scope ≡ Nothing → AreOffers m [] []
+none_offered m is = record {
+  covers = all_covered m [] (sym (ap (λ s. asked m.net s m.entry.read.cause) is ∙ asked_none m.net m.entry.read.cause));
+  chosen_before = tt;
+  chosen_after = tt;
+}
 
 -- equal lists are offers too
 pub as_offered : (m : Making) {before after old new : List Offer} → old ≡ before → new ≡ after → AreOffers m before after → AreOffers m old new
@@ -128,11 +152,11 @@ as_offered m {before} {after} {old} {new} is_before is_after offers =
     subst (λ l. AreOffers m l new) (sym is_before) (subst (AreOffers m before) (sym is_after) offers)
 
 -- the offers of one prefix
-pub one_offered : (rules : Rules) (net : Net) (u : ℕ) (h : List Entry) (trigger : Trigger) (p : ℕ) (cause : Cause) (before after : Offer) → before.prefix ≡ p → after.prefix ≡ p → CauseFits h (One p) cause
+pub one_offered : (rules : Rules) (net : Net) (u : ℕ) (h : List Entry) (triggers : List Trigger) (p : ℕ) (cause : Cause) (before after : Offer) → before.prefix ≡ p → after.prefix ≡ p → CauseFits h (One p) cause
     → Copies net u before.chosen (best rules net u (reads h) p) → Copies net u after.chosen (best rules net u (change (One p) cause ∷ reads h) p)
-    → AreOffers (making rules net u h (entry (trigger ∷ []) (One p) cause)) (before ∷ []) (after ∷ [])
-one_offered rules net u h trigger p cause before after of_before of_after fits was is = record {
-  covers = all_covered (making rules net u h (entry (trigger ∷ []) (One p) cause)) (after.prefix ∷ []) (ap (λ q. q ∷ []) of_after ∙ sym (asked_one net h p cause fits));
+    → AreOffers (making rules net u h (entry triggers (One p) cause)) (before ∷ []) (after ∷ [])
+one_offered rules net u h triggers p cause before after of_before of_after fits was is = record {
+  covers = all_covered (making rules net u h (entry triggers (One p) cause)) (after.prefix ∷ []) (ap (λ q. q ∷ []) of_after ∙ sym (asked_one net h p cause fits));
   chosen_before = (subst (λ q. Copies net u before.chosen (best rules net u (reads h) q)) (sym of_before) was, tt);
   chosen_after = (subst (λ q. Copies net u after.chosen (best rules net u (change (One p) cause ∷ reads h) q)) (sym of_after) is, tt);
 }

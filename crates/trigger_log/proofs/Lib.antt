@@ -9,6 +9,7 @@ pub mod Listed
 pub mod InOrder
 pub mod Numbering
 mod Reopened
+pub mod RowOrder
 pub mod Rows
 pub mod Shifted
 pub mod Offering
@@ -28,3 +29,8 @@ pub mod Entering
 pub mod Due
 pub mod Reading
 pub mod Kept
+pub mod Gathering
+pub mod HeldRows
+pub mod Putting
+pub mod Collected
+pub mod Following

@@ -7,7 +7,7 @@ use Rattle.std.proofs.lemmas.List.{append-nil}
 use Rattle.topology.specs.declared.names.Trigger.{Trigger}
 use Rattle.topology.specs.declared.names.Scope.{Scope}
 use Rattle.path_vector.specs.declared.causes.Cause.{Cause}
-use Rattle.path_vector.specs.declared.causes.Cause.TheVariants.{Originate, Withdraw, Recv, Down, Up, Ready, Prefer}
+use Rattle.path_vector.specs.declared.causes.Cause.TheVariants.{Originate, Withdraw, Recv, Down, Up, Ready, Prefer, Flush}
 use Rattle.path_vector.specs.History.{held, last, last_by}
 use Rattle.trigger_log.specs.Entries.{Entry, reads, entry, closing}
 use Rattle.trigger_log.specs.Fits.{CauseFits, Fits}
@@ -37,6 +37,7 @@ moves h scope Withdraw w f = inl (refl, refl)
 moves h scope (Recv v t seq path) w f = inl (refl, refl)
 moves h scope (Ready v t) w f = inl (refl, refl)
 moves h scope (Prefer v x) w f = inl (refl, refl)
+moves h scope (Flush v) w f = inl (refl, refl)
 moves h scope (Down v t) w f =
     let same = held_is_last (reads h) v t (fits_down h scope v t f) in
     (elim (v == w) as (λ b. (v == w) ≡ b → ((◌≡◌ {A = List ℕ} [] []) × (cond b t (last (reads h) w) ≡ last (reads h) w)) ⊎ ((s : ℕ) × (◌≡◌ {A = List ℕ} [] (s ∷ [])) × (cond b t (last (reads h) w) ≡ s) × (last (reads h) w < s))) [
@@ -81,6 +82,7 @@ held_step triggers scope Withdraw h w f was = was
 held_step triggers scope (Recv v t seq path) h w f was = was
 held_step triggers scope (Ready v t) h w f was = was
 held_step triggers scope (Prefer v x) h w f was = was
+held_step triggers scope (Flush v) h w f was = was
 held_step triggers scope (Up v t) h w f was =
     (elim (v == w) as (λ b. (v == w) ≡ b → cond b (Some t) (held (reads h) w)
     ≡ (if is_none (closing h w (cond b t (last (reads h) w))) then Some (cond b t (last (reads h) w)) else None)) [

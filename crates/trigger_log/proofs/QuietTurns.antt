@@ -1,14 +1,14 @@
 -- An entry that changes no best route and turns no session says nothing.
-use Rattle.std.proofs.Common.{ℕ, ◌+◌, ◌<◌, Bool, true, false, not, Option, Some, None, List, [], ◌∷◌, ◌++◌, ◌≡◌, ◌≢◌, ◌↔◌, refl, sym, ◌∙◌, ap, subst, arith, length, map, filter, flat_map, take, slice_index_or, ⊎_elim}
+use Rattle.std.proofs.Common.{ℕ, ◌+◌, ◌<◌, Bool, true, false, not, Option, Some, None, List, [], ◌∷◌, ◌++◌, ◌≡◌, ◌≢◌, ◌↔◌, refl, sym, ◌∙◌, ap, subst, arith, length, map, filter, flat_map, take, slice_get, slice_index_or, ⊎_elim}
 use Rattle.std.specs.Prelude.{if◌then◌else◌, is_some, option_map}
 use Rattle.std.proofs.lemmas.Bool.{cases_eq}
 use Rattle.std.proofs.lemmas.List.{length-map}
 use Rattle.std.proofs.lemmas.Option.{same_Some, slice_get-map}
 use Rattle.topology.specs.declared.names.Scope.TheVariants.{All}
 use Rattle.topology.specs.Lists.{same_path}
-use Rattle.topology.specs.Net.{Net, neighbours, relation}
+use Rattle.topology.specs.Net.{Net, holds_back, neighbours, relation}
 use Rattle.path_vector.specs.declared.causes.Cause.{Cause}
-use Rattle.path_vector.specs.declared.causes.Cause.TheVariants.{Originate, Withdraw, Recv, Down, Up, Ready, Prefer}
+use Rattle.path_vector.specs.declared.causes.Cause.TheVariants.{Originate, Withdraw, Recv, Down, Up, Ready, Prefer, Flush}
 use Rattle.path_vector.specs.declared.state.Chosen.{Chosen}
 use Rattle.path_vector.specs.declared.state.RouteState.{RouteState}
 use Rattle.path_vector.specs.declared.policy.Learned.{Learned}
@@ -21,7 +21,7 @@ use Rattle.path_vector.proofs.Changes.{same_path_is, same_path_self}
 use Rattle.trigger_log.specs.declared.offers.Offer.{Offer}
 use Rattle.trigger_log.specs.declared.sessions.SessionMark.{SessionMark}
 use Rattle.trigger_log.specs.declared.telling.Turn.{Turn}
-use Rattle.trigger_log.specs.Entries.{Entry, Update, reads}
+use Rattle.trigger_log.specs.Entries.{Entry, Update, flushes, reads}
 use Rattle.trigger_log.specs.Making.{making}
 use Rattle.trigger_log.specs.Sending.{close_sent, news, sent_count, sent_to, update_of}
 use Rattle.trigger_log.specs.Going.{going_by, going_in, going_of, spread, told}
@@ -32,7 +32,8 @@ use Rattle.trigger_log.specs.Telling.{Speech}
 use Rattle.trigger_log.specs.Marked.{AreMarked, Enters, ToldTo, ends_with, readies}
 use Rattle.trigger_log.specs.Quiet.{IsQuiet, Stays, turns_session}
 use Rattle.trigger_log.proofs.Closings.{count_held, count_other}
-use Rattle.trigger_log.proofs.Speaking.{close_none, going_none, knew, not_closed, over_asked, unready_news, updates_none}
+use Rattle.trigger_log.proofs.Silence.{news_at_once, news_held, unready_news}
+use Rattle.trigger_log.proofs.Speaking.{close_none, going_none, knew, moved_to, not_closed, over_asked, updates_none}
 use Rattle.trigger_log.proofs.Flags.{flag_at, same_at}
 use Rattle.trigger_log.proofs.Rounds.{is_mark, some_at}
 use Rattle.trigger_log.proofs.Updating.{all_at, over_same}
@@ -63,6 +64,7 @@ not_ended (Down v s) w e = absurd (cc e)
 not_ended (Up v s) w e = refl
 not_ended (Ready v s) w e = refl
 not_ended (Prefer v x) w e = refl
+not_ended (Flush v) w e = absurd (cc e)
 
 not_readied : (cause : Cause) (w : ℕ) → turns_session cause ≡ false → readies cause w ≡ false
 not_readied Originate w e = refl
@@ -72,6 +74,17 @@ not_readied (Down v s) w e = refl
 not_readied (Up v s) w e = refl
 not_readied (Ready v s) w e = absurd (cc e)
 not_readied (Prefer v x) w e = refl
+not_readied (Flush v) w e = absurd (cc e)
+
+not_flushed : (cause : Cause) (w : ℕ) → turns_session cause ≡ false → flushes cause w ≡ false
+not_flushed Originate w e = refl
+not_flushed Withdraw w e = refl
+not_flushed (Recv v s seq path) w e = refl
+not_flushed (Down v s) w e = refl
+not_flushed (Up v s) w e = refl
+not_flushed (Ready v s) w e = refl
+not_flushed (Prefer v x) w e = refl
+not_flushed (Flush v) w e = absurd (cc e)
 
 -- ---- equal routes are offered alike
 
@@ -104,19 +117,25 @@ module _ (rules : Rules) (net : Net) (u : ℕ) (h : List Entry) (k : Entry) (w :
       → updates_over (making rules net u h k) true w (prefixes_of offers) ≡ []
   none_over offers before after = ap (map (update_of (making rules net u h k) w)) (none_differs offers before after)
 
--- a route whose flag is true is no news to whom knows what was offered
+-- a route whose flag is true is offered as before to whom knows what was offered
+pub stands_still : (rules : Rules) (net : Net) (u : ℕ) (h : List Entry) (k : Entry) (knows : Bool) (w : ℕ) (before after : List Offer) (flags : List Bool) (i : ℕ) (o : Offer) → knows ≡ true → slice_index_or flags i false ≡ true
+    → AreSame before after flags → i < length after → slice_get after i ≡ Some o → AreChosen rules net u (reads h) before → AreChosen rules net u (k.read ∷ reads h) after
+    → differs (making rules net u h k) knows w o.prefix ≡ false
+stands_still rules net u h k knows w before after flags i o known set all inside here was now =
+    let there = same_at before after flags i o all (flag_at before after flags i all inside set) here in
+    ap (λ t. differs (making rules net u h k) t w o.prefix) known
+    ∙ same_offered rules net u h k w o (all_at (λ (o : Offer). Copies net u o.chosen (best rules net u (reads h) o.prefix)) before i o was there)
+    (all_at (λ (o : Offer). Copies net u o.chosen (best rules net u (k.read ∷ reads h) o.prefix)) after i o now here)
+
+-- it is no news to whom knows what was offered
 pub stood : (rules : Rules) (net : Net) (u : ℕ) (h : List Entry) (k : Entry) (knows : Bool) (w : ℕ) (before after : List Offer) (flags : List Bool) (i : ℕ) → knows ≡ true → slice_index_or flags i false ≡ true
     → AreSame before after flags → i < length after → AreChosen rules net u (reads h) before → AreChosen rules net u (k.read ∷ reads h) after
     → updates_over (making rules net u h k) knows w (take (i + 1) (prefixes_of after)) ≡ updates_over (making rules net u h k) knows w (take i (prefixes_of after))
 stood rules net u h k knows w before after flags i known set all inside was now =
     let here = some_at after i inside in
     let o = here.0 in
-    let there = same_at before after flags i o all (flag_at before after flags i all inside set) here.1 in
-    let same : differs (making rules net u h k) knows w o.prefix ≡ false = ap (λ t. differs (making rules net u h k) t w o.prefix) known
-    ∙ same_offered rules net u h k w o (all_at (λ (o : Offer). Copies net u o.chosen (best rules net u (reads h) o.prefix)) before i o was there)
-    (all_at (λ (o : Offer). Copies net u o.chosen (best rules net u (k.read ∷ reads h) o.prefix)) after i o now here.1) in
     over_same rules net u h k knows w (prefixes_of after) i o.prefix (slice_get-map (λ (o : Offer). o.prefix) after i ∙ ap (option_map (λ (o : Offer). o.prefix)) here.1)
-    (omega (arith, length-map after (λ (o : Offer). o.prefix))) same
+    (omega (arith, length-map after (λ (o : Offer). o.prefix))) (stands_still rules net u h k knows w before after flags i o known set all inside here.1 was now)
 
 -- that a session is ready changes no best route
 pub best_ready : (rules : Rules) (net : Net) (u : ℕ) (h : History) (v s p : ℕ) → best rules net u (change All (Ready v s) ∷ h) p ≡ best rules net u h p
@@ -136,10 +155,15 @@ flat_none f (n ∷ ns) none = ap (λ l. l ++ flat_map f ns) (none n) ∙ flat_no
 -- ---- an entry that turns no session, and has no news for those that are ready
 
 module _ (rules : Rules) (net : Net) (u : ℕ) (h : List Entry) (k : Entry) (fitting : Fits (k ∷ h)) (turns_none : turns_session k.read.cause ≡ false)
-    (none_ready : (w s : ℕ) → ready (k.read ∷ reads h) w ≡ Some s → news rules net u h k w ≡ []) where
+    (none_ready : (w s : ℕ) → ready (k.read ∷ reads h) w ≡ Some s → moved_to (making rules net u h k) w ≡ []) where
+  -- where it changes no offer it sends nothing, since it is no flush
+  not_moved : (w : ℕ) → moved_to (making rules net u h k) w ≡ [] → (b : Bool) → holds_back net u w ≡ b → news rules net u h k w ≡ []
+  not_moved w none true e = news_held rules net u h k w e (not_flushed k.read.cause w turns_none)
+  not_moved w none false e = news_at_once rules net u h k w e ∙ none
+
   none_in : (w : ℕ) (a : Option ℕ) → ready (k.read ∷ reads h) w ≡ a → news rules net u h k w ≡ []
-  none_in w None e = unready_news rules net u h k w e
-  none_in w (Some s) e = none_ready w s e
+  none_in w None e = unready_news rules net u h k w fitting e
+  none_in w (Some s) e = not_moved w (none_ready w s e) (holds_back net u w) refl
 
   -- there is no news for any neighbour
   no_news : (w : ℕ) → news rules net u h k w ≡ []
@@ -200,7 +224,7 @@ module _ {P : Type 0} (policy : P) (rules : Rules) (net : Net) (u : ℕ) (h : Li
   turns_no_session : turns_session k.read.cause ≡ false
   turns_no_session = ap turns_session enters.cause ∙ quiet.0
 
-  same_news : (w s : ℕ) → ready (k.read ∷ reads h) w ≡ Some s → news rules net u h k w ≡ []
+  same_news : (w s : ℕ) → ready (k.read ∷ reads h) w ≡ Some s → moved_to (making rules net u h k) w ≡ []
   same_news w s e =
       let before : AreChosen rules net u (reads h) turn.after.now = subst (AreChosen rules net u (reads h)) quiet.1 enters.before in
       sym (over_asked rules net u h k w s enters.fitting e enters.placed)
@@ -222,7 +246,7 @@ module _ (rules : Rules) (net : Net) (u : ℕ) (h : List Entry) (k : Entry) (fit
       ap not (ap (same_path (offer rules net u (k.read ∷ reads h) stays.prefix w)) (sym (ap (λ (r : Route). path_of u (exported rules net u w r)) stays.still))
       ∙ same_path_self (offer rules net u (k.read ∷ reads h) stays.prefix w))
 
-  still_no_news : (w s : ℕ) → ready (k.read ∷ reads h) w ≡ Some s → news rules net u h k w ≡ []
+  pub still_no_news : (w s : ℕ) → ready (k.read ∷ reads h) w ≡ Some s → moved_to (making rules net u h k) w ≡ []
   still_no_news w s e =
       sym (over_asked rules net u h k w s fitting e placed)
       ∙ (ap (updates_over (making rules net u h k) (is_some (ready (reads h) w)) w) stays.covers

@@ -60,7 +60,7 @@ ready_shown h w n mark fits says =
 pub fresh_count : (rules : Rules) (net : Net) (u : ℕ) (h : List Entry) (w s : ℕ) → Fits h → has (ever h w) s ≡ false → sent_count rules net u h w s ≡ 0
 fresh_count rules net u h w s fits never =
     let none = fresh_outbox rules net u h w s fits never in
-    let open_still = fresh_close h w s fits never in
+    let open_still = fresh_close rules net u h w s fits never in
     rw (none, open_still) refl
 
 none_some : {A : Type 0} (o : Option A) → is_none o ≡ not (is_some o)
@@ -167,9 +167,6 @@ module _ (net : Net) (u : ℕ) (h : List Entry) (cause : Cause) (near : IsOfNeig
 
   pub fits_ready_not : (v s : ℕ) (holds : Bool) → cause ≡ Ready v s → IsTrue holds ↔ (held (reads h) v ≡ Some s) → holds ≡ false → IsTrue holds ↔ CauseFits h All cause
   fits_ready_not v s holds is of not_so = fits_as All (Ready v s) holds is (λ t. absurd (cc (t, not_so)), λ f. of.1 f.0)
-
-pub fits_scope : (h : List Entry) (cause : Cause) (scope same : Scope) (r : Bool) → scope ≡ same → IsTrue r ↔ CauseFits h same cause → IsTrue r ↔ CauseFits h scope cause
-fits_scope h cause scope same r is both = subst (λ x. IsTrue r ↔ CauseFits h x cause) (sym is) both
 
 -- what is kept where there is one
 kept_is : (b : Bool) (x t : ℕ) → Some t ≡ (if b then Some x else None) → x ≡ t

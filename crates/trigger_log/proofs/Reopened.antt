@@ -6,17 +6,19 @@ use Rattle.topology.specs.declared.names.Scheme.TheVariants.{Deflect}
 use Rattle.topology.specs.declared.names.Scope.TheVariants.{One, All}
 use Rattle.topology.specs.declared.names.Trigger.{Trigger}
 use Rattle.topology.specs.Lists.{ascending}
-use Rattle.topology.specs.Net.{Net, neighbours, relation, file_preference, places}
+use Rattle.topology.specs.Triggers.{union}
+use Rattle.topology.specs.Net.{Net, neighbours, relation, file_preference, places, holds_back}
 use Rattle.path_vector.specs.declared.causes.Cause.TheVariants.{Originate, Recv, Down, Up, Ready}
 use Rattle.path_vector.specs.GaoRexford.{gao_rexford}
 use Rattle.path_vector.specs.Selection.{beyond, choices, best}
 use Rattle.path_vector.specs.Offers.{offered_route, offered, changed}
 use Rattle.trigger_log.specs.Entries.{Entry, entry}
+use Rattle.trigger_log.specs.Pending.{gathered, all_pending}
 use Rattle.trigger_log.specs.Sending.{news, outbox, sent_by}
 
 -- opens all definitions
 unfoldable all : ℕ
-unfolding ascending neighbours relation file_preference places beyond choices best offered_route offered changed news outbox sent_by
+unfolding ascending neighbours relation file_preference places holds_back union beyond choices best offered_route offered changed gathered all_pending news outbox sent_by
 all = 0
 
 -- 1 - 2, with one prefix
@@ -27,6 +29,7 @@ pair = record {
   links = record { a = 1; b = 2; relation = Any } ∷ [];
   preferences = [];
   prefixes = record { bits = 167772160; len = 8 } ∷ [];
+  holds = [];
   hops = 128;
   scheme = Deflect;
 }
@@ -58,20 +61,20 @@ abbrev lists : ℕ → List Entry → List (List Sent)
 lists u [] = []
 lists u (k ∷ h) = lists u h ++ sent_by gao_rexford pair u h k ∷ []
 
-abbrev to : ℕ → ℕ → ℕ → Sent
-to w s n = record { to = w; session = s; seq = n }
+abbrev to : ℕ → ℕ → ℕ → List Trigger → Sent
+to w s n triggers = record { to = w; session = s; seq = n; triggers = triggers }
 
 -- an update, then the close behind it, nothing at the opening, and a new count in the new session
-listed_first : lists 1 first_end ≡ (to 2 1 1 ∷ []) ∷ (to 2 1 2 ∷ []) ∷ [] ∷ (to 2 2 1 ∷ []) ∷ [] ∷ []
+listed_first : lists 1 first_end ≡ (to 2 1 1 (of 1 1) ∷ []) ∷ (to 2 1 2 (of 1 2) ∷ []) ∷ [] ∷ (to 2 2 1 (of 1 4) ∷ []) ∷ [] ∷ []
 unfolding all
 listed_first = refl
 
 -- a close where nothing was said before it, and nothing to offer when the session is ready
-listed_second : lists 2 second_end ≡ (to 1 1 1 ∷ []) ∷ [] ∷ [] ∷ (to 1 2 1 ∷ []) ∷ []
+listed_second : lists 2 second_end ≡ (to 1 1 1 (of 2 1) ∷ []) ∷ [] ∷ [] ∷ (to 1 2 1 (of 1 4) ∷ []) ∷ []
 unfolding all
 listed_second = refl
 
 -- a session that was not ready ends without a close
-unready : lists 1 (entry (of 1 3) All (Down 2 2) ∷ entry (of 1 2) All (Up 2 2) ∷ entry (of 1 1) All (Down 2 1) ∷ []) ≡ (to 2 1 1 ∷ []) ∷ [] ∷ [] ∷ []
+unready : lists 1 (entry (of 1 3) All (Down 2 2) ∷ entry (of 1 2) All (Up 2 2) ∷ entry (of 1 1) All (Down 2 1) ∷ []) ≡ (to 2 1 1 (of 1 1) ∷ []) ∷ [] ∷ [] ∷ []
 unfolding all
 unready = refl

@@ -8,7 +8,7 @@ use Rattle.std.proofs.lemmas.List.Concat.{flat_map-append}
 use Rattle.std.proofs.lemmas.Option.{same_Some, get_or_from_slice_get, slice_get_within}
 use Rattle.topology.specs.Net.{Net, neighbours}
 use Rattle.path_vector.specs.declared.causes.Cause.{Cause}
-use Rattle.path_vector.specs.declared.causes.Cause.TheVariants.{Originate, Withdraw, Recv, Down, Up, Ready, Prefer}
+use Rattle.path_vector.specs.declared.causes.Cause.TheVariants.{Originate, Withdraw, Recv, Down, Up, Ready, Prefer, Flush}
 use Rattle.path_vector.specs.Rules.{Rules}
 use Rattle.path_vector.specs.History.{last, last_by, held}
 use Rattle.std.proofs.lemmas.Slice.Zip.{AllZip-long}
@@ -55,6 +55,7 @@ closed_is_last (Recv v t seq path) w s b e = absurd (cc e)
 closed_is_last (Up v t) w s b e = absurd (cc e)
 closed_is_last (Ready v t) w s b e = absurd (cc e)
 closed_is_last (Prefer v x) w s b e = absurd (cc e)
+closed_is_last (Flush v) w s b e = absurd (cc e)
 closed_is_last (Down v t) w s b e = grind (arith, nat_tests)
 
 module _ (rules : Rules) (net : Net) (u : ℕ) (h : List Entry) (k : Entry) (w : ℕ) (fits : Fits (k ∷ h)) where

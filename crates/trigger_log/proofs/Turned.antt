@@ -1,5 +1,6 @@
 -- What an entry changes in the marks of sessions.
-use Rattle.std.proofs.Common.{ℕ, suc, ◌+◌, ◌<◌, true, false, cond, ◌==◌, ◌&&◌, Option, Some, None, List, [], ◌∷◌, ◌++◌, ◌≡◌, refl, sym, ◌∙◌, ap, subst, arith, length, length-append, set, slice_get}
+use Rattle.std.proofs.Common.{ℕ, suc, ◌+◌, ◌<◌, true, false, cond, ◌==◌, ◌&&◌, Option, Some, None, List, [], ◌∷◌, ◌++◌, ◌≡◌, ◌≢◌, refl, sym, ◌∙◌, ap, subst, arith, length, length-append, set, slice_get}
+use Rattle.std.specs.Prelude.{if◌then◌else◌}
 use Rattle.std.specs.List.{AllZip}
 use Rattle.std.proofs.lemmas.Bool.Decides.{nat_tests}
 use Rattle.std.proofs.lemmas.List.{append-nil}
@@ -7,24 +8,24 @@ use Rattle.std.proofs.lemmas.Option.{same_Some}
 use Rattle.std.proofs.lemmas.Slice.Zip.{AllZip-long}
 use Rattle.topology.specs.declared.names.Trigger.{Trigger}
 use Rattle.topology.specs.declared.names.Scope.{Scope}
-use Rattle.topology.specs.declared.names.Scope.TheVariants.{One, All}
+use Rattle.topology.specs.declared.names.Scope.TheVariants.{One, All, Nothing}
 use Rattle.topology.specs.Lists.{has}
 use Rattle.topology.specs.Net.{Net, IsValid, neighbours}
 use Rattle.topology.proofs.Neighbours.{differ-neighbours}
 use Rattle.topology.proofs.Places.{has_placed}
 use Rattle.path_vector.specs.declared.causes.Cause.{Cause}
-use Rattle.path_vector.specs.declared.causes.Cause.TheVariants.{Originate, Withdraw, Recv, Down, Up, Ready, Prefer}
+use Rattle.path_vector.specs.declared.causes.Cause.TheVariants.{Originate, Withdraw, Recv, Down, Up, Ready, Prefer, Flush}
 use Rattle.path_vector.specs.Rules.{Rules}
 use Rattle.path_vector.specs.History.{last, opened, opened_by}
 use Rattle.path_vector.specs.Kept.{names}
 use Rattle.trigger_log.specs.declared.sessions.SessionMark.{SessionMark}
-use Rattle.trigger_log.specs.Entries.{Entry, reads, entry, inbox, received_by, closes, is_local}
+use Rattle.trigger_log.specs.Entries.{Entry, reads, entry, inbox, received_by, closes, closing}
 use Rattle.trigger_log.specs.Making.{making}
 use Rattle.trigger_log.specs.Sending.{sent_count}
-use Rattle.trigger_log.specs.Fits.{CauseFits, Fits}
-use Rattle.trigger_log.specs.Sessions.{ever, opens_by, Says, AreMarks, AreRows}
+use Rattle.trigger_log.specs.Fits.{CauseFits, Fits, ListsFor}
+use Rattle.trigger_log.specs.Sessions.{ever, opens_by, IsFirst, Says, AreMarks, AreRows}
 use Rattle.trigger_log.specs.Rows.{EndsWith}
-use Rattle.trigger_log.specs.Marked.{AreMarked, AreAllMarked}
+use Rattle.trigger_log.specs.Marked.{AreMarked, AreAllMarked, hears}
 use Rattle.trigger_log.proofs.Holding.{fits_recv, fits_down, fits_ready, held_is_last}
 use Rattle.trigger_log.proofs.Closings.{closing_above, closing_other, count_above}
 use Rattle.trigger_log.proofs.Fresh.{ever_above, fresh_inbox}
@@ -59,18 +60,21 @@ opened_spared scope (Recv v t seq path) h w s f other = refl
 opened_spared scope (Down v t) h w s f other = refl
 opened_spared scope (Up v t) h w s f other = refl
 opened_spared scope (Prefer v x) h w s f other = refl
+opened_spared scope (Flush v) h w s f other = refl
 opened_spared scope (Ready v t) h w s f other =
     let newest = held_is_last (reads h) v t (fits_ready h scope v t f).0 in
     rw (no_test v w t s (λ e g. other (some v w e) (sym g ∙ (newest ∙ ap (last (reads h)) e)))) refl
 
 received_spared : (triggers : List Trigger) (scope : Scope) (cause : Cause) (h : List Entry) (w s : ℕ) → CauseFits h scope cause → Spares h cause w s → received_by triggers scope cause w s ≡ []
 received_spared triggers All cause h w s f other = refl
+received_spared triggers Nothing cause h w s f other = refl
 received_spared triggers (One p) Originate h w s f other = refl
 received_spared triggers (One p) Withdraw h w s f other = refl
 received_spared triggers (One p) (Down v t) h w s f other = refl
 received_spared triggers (One p) (Up v t) h w s f other = refl
 received_spared triggers (One p) (Ready v t) h w s f other = refl
 received_spared triggers (One p) (Prefer v x) h w s f other = refl
+received_spared triggers (One p) (Flush v) h w s f other = refl
 received_spared triggers (One p) (Recv v t seq path) h w s f other =
     let newest = held_is_last (reads h) v t (fits_recv h (One p) v t seq path f) in
     rw (no_test v w t s (λ e g. other (some v w e) (sym g ∙ (newest ∙ ap (last (reads h)) e)))) refl
@@ -82,6 +86,7 @@ closes_spared scope (Recv v t seq path) h w s f other = refl
 closes_spared scope (Up v t) h w s f other = refl
 closes_spared scope (Ready v t) h w s f other = refl
 closes_spared scope (Prefer v x) h w s f other = refl
+closes_spared scope (Flush v) h w s f other = refl
 closes_spared scope (Down v t) h w s f other =
     let newest = held_is_last (reads h) v t (fits_down h scope v t f) in
     no_test v w t s (λ e g. other (some v w e) (sym g ∙ (newest ∙ ap (last (reads h)) e)))
@@ -94,7 +99,7 @@ says_same k h w s n mark same_opened none other was = record {
   is_opened = was.is_opened ∙ sym same_opened;
   sent = was.sent;
   received = was.received ∙ ap length (sym (ap (λ l. inbox h w s ++ l) none ∙ append-nil (inbox h w s)));
-  down = was.down ∙ sym (closing_other k h w s other);
+  down = subst (IsFirst mark.down) (sym (closing_other k h w s other)) was.down;
 }
 
 says_spared : (k : Entry) (h : List Entry) (w s n : ℕ) (mark : SessionMark) → Fits (k ∷ h) → Spares h k.read.cause w s → Says h w s n mark → Says (k ∷ h) w s n mark
@@ -117,15 +122,16 @@ recv_test scope h v t seq w path f e =
 received_one : (triggers : List Trigger) (scope : Scope) (h : List Entry) (v t seq w : ℕ) (path : Option (List ℕ)) → CauseFits h scope (Recv v t seq path) → v ≡ w
     → length (inbox h w (last (reads h) w) ++ received_by triggers scope (Recv v t seq path) w (last (reads h) w)) ≡ suc (length (inbox h w (last (reads h) w)))
 received_one triggers All h v t seq w path f e = absurd f
+received_one triggers Nothing h v t seq w path f e = absurd f
 received_one triggers (One p) h v t seq w path f e =
     rw (recv_test (One p) h v t seq w path f e) (simp length-append (omega arith))
 
-module _ (trigger : Trigger) (scope : Scope) (h : List Entry) (w n : ℕ) (mark : SessionMark) where
+module _ (triggers : List Trigger) (scope : Scope) (h : List Entry) (w n : ℕ) (mark : SessionMark) where
   abbrev newest : ℕ
   newest = last (reads h) w
 
   abbrev after : Cause → List Entry
-  after cause = entry (trigger ∷ []) scope cause ∷ h
+  after cause = entry triggers scope cause ∷ h
 
   abbrev heard : SessionMark
   heard = record mark { received = suc mark.received }
@@ -136,7 +142,7 @@ module _ (trigger : Trigger) (scope : Scope) (h : List Entry) (w n : ℕ) (mark 
     session = was.session;
     is_opened = was.is_opened;
     sent = was.sent;
-    received = ap suc was.received ∙ sym (received_one (trigger ∷ []) scope h v t seq w path f.0 e);
+    received = ap suc was.received ∙ sym (received_one triggers scope h v t seq w path f.0 e);
     down = was.down;
   }
 
@@ -145,8 +151,8 @@ module _ (trigger : Trigger) (scope : Scope) (h : List Entry) (w n : ℕ) (mark 
       subst (λ c. Fits (after c) → names c ≡ Some w → Says (after c) w newest n heard) (sym is)
       (λ f by. recv_says v t seq path f (named_is v w by) was) f by
 
-  down_says : (v t : ℕ) → Fits (after (Down v t)) → v ≡ w → Says h w newest n mark → Says (after (Down v t)) w newest n (record mark { down = Some trigger })
-  down_says v t f e was =
+  down_says : (v t : ℕ) → Fits (after (Down v t)) → ListsFor scope triggers → v ≡ w → Says h w newest n mark → Says (after (Down v t)) w newest n (record mark { down = slice_get triggers 0 })
+  down_says v t f lists e was =
       let test = both_hold v w t newest e (held_is_last (reads h) v t (fits_down h scope v t f.0) ∙ ap (last (reads h)) e) in
       record {
         nbr = was.nbr;
@@ -154,18 +160,28 @@ module _ (trigger : Trigger) (scope : Scope) (h : List Entry) (w n : ℕ) (mark 
         is_opened = was.is_opened;
         sent = was.sent;
         received = was.received ∙ ap length (sym (ap (λ l. inbox h w newest ++ l) (none scope) ∙ append-nil (inbox h w newest)));
-        down = rw test refl;
+        down = subst (λ b. IsFirst (slice_get triggers 0) (if b then Some triggers else closing h w newest)) (sym test) (first triggers (some scope f.0 lists));
       }
     where
-      none : (scope : Scope) → received_by (trigger ∷ []) scope (Down v t) w newest ≡ []
+      none : (scope : Scope) → received_by triggers scope (Down v t) w newest ≡ []
       none All = refl
       none (One p) = refl
+      none Nothing = refl
 
-  pub turned_down : (v t : ℕ) (cause : Cause) → cause ≡ Down v t → Fits (after cause) → names cause ≡ Some w → Says h w newest n mark
-      → Says (after cause) w newest n (record mark { down = Some trigger })
-  turned_down v t cause is f by was =
-      subst (λ c. Fits (after c) → names c ≡ Some w → Says (after c) w newest n (record mark { down = Some trigger })) (sym is)
-      (λ f by. down_says v t f (named_is v w by) was) f by
+      some : (scope : Scope) → CauseFits h scope (Down v t) → ListsFor scope triggers → triggers ≢ []
+      some All f lists = lists
+      some (One p) f lists = absurd f
+      some Nothing f lists = absurd f
+
+      first : (ts : List Trigger) → ts ≢ [] → IsFirst (slice_get ts 0) (Some ts)
+      first [] some = absurd (some refl)
+      first (u ∷ ts) some = refl
+
+  pub turned_down : (v t : ℕ) (cause : Cause) → cause ≡ Down v t → Fits (after cause) → ListsFor scope triggers → names cause ≡ Some w → Says h w newest n mark
+      → Says (after cause) w newest n (record mark { down = slice_get triggers 0 })
+  turned_down v t cause is f lists by was =
+      subst (λ c. Fits (after c) → names c ≡ Some w → Says (after c) w newest n (record mark { down = slice_get triggers 0 })) (sym is)
+      (λ f by. down_says v t f lists (named_is v w by) was) f by
 
   ready_says : (v t : ℕ) → Fits (after (Ready v t)) → v ≡ w → Says h w newest n mark → Says (after (Ready v t)) w newest n (record mark { opened = true })
   ready_says v t f e was =
@@ -179,9 +195,10 @@ module _ (trigger : Trigger) (scope : Scope) (h : List Entry) (w n : ℕ) (mark 
         down = was.down;
       }
     where
-      none : (scope : Scope) → received_by (trigger ∷ []) scope (Ready v t) w newest ≡ []
+      none : (scope : Scope) → received_by triggers scope (Ready v t) w newest ≡ []
       none All = refl
       none (One p) = refl
+      none Nothing = refl
 
   pub turned_ready : (v t : ℕ) (cause : Cause) → cause ≡ Ready v t → Fits (after cause) → names cause ≡ Some w → Says h w newest n mark
       → Says (after cause) w newest n (record mark { opened = true })
@@ -190,7 +207,7 @@ module _ (trigger : Trigger) (scope : Scope) (h : List Entry) (w n : ℕ) (mark 
       (λ f by. ready_says v t f (named_is v w by) was) f by
 
 -- an entry that came of no update
-pub made_here : (cause : Cause) → ((v t seq : ℕ) (path : Option (List ℕ)) → cause ≡ Recv v t seq path → ⊥) → is_local cause ≡ true
+pub made_here : (cause : Cause) → ((v t seq : ℕ) (path : Option (List ℕ)) → cause ≡ Recv v t seq path → ⊥) → hears cause ≡ false
 made_here Originate other = refl
 made_here Withdraw other = refl
 made_here (Recv v t seq path) other = absurd (other v t seq path refl)
@@ -198,6 +215,7 @@ made_here (Down v t) other = refl
 made_here (Up v t) other = refl
 made_here (Ready v t) other = refl
 made_here (Prefer v x) other = refl
+made_here (Flush v) other = refl
 
 -- a neighbour that the entry names has a place
 pub no_stranger : (net : Net) (u : ℕ) (cause : Cause) (v i : ℕ) → ((w : ℕ) → names cause ≡ Some w → has (neighbours net u) w ≡ false) → names cause ≡ Some v → slice_get (neighbours net u) i ≡ Some v → ⊥
@@ -225,6 +243,7 @@ module _ (rules : Rules) (net : Net) (u : ℕ) (h : List Entry) (k : Entry) (fit
   opens_none (Down v t) w other = refl
   opens_none (Ready v t) w other = refl
   opens_none (Prefer v x) w other = refl
+  opens_none (Flush v) w other = refl
   opens_none (Up v t) w other =
       (elim (v == w) as (λ b. (v == w) ≡ b → cond b (t ∷ []) [] ≡ []) [ true ↦ λ e. absurd (other (some v w (grind (arith, nat_tests)))) | false ↦ λ e. refl ]) refl
 
@@ -262,7 +281,7 @@ module _ (rules : Rules) (net : Net) (u : ℕ) (h : List Entry) (triggers : List
         is_opened = sym (opened_above h w s fits.1 above);
         sent = sym (count_above rules net u h w s fits.1 above);
         received = sym (ap length (append-nil (inbox h w s) ∙ fresh_inbox h w s fits.1 (ever_above h w s fits.1 above)));
-        down = sym (closing_above h w s fits.1 above);
+        down = subst (IsFirst None) (sym (closing_above h w s fits.1 above)) tt;
       }
 
   opened_row : (row : List SessionMark) → AreMarks rules net u h w row → AreMarked (making rules net u h opening) w (row ++ fresh ∷ [])
@@ -278,10 +297,10 @@ module _ (rules : Rules) (net : Net) (u : ℕ) (h : List Entry) (triggers : List
 
 module _ (rules : Rules) (net : Net) (u : ℕ) (h : List Entry) (rows : List (List SessionMark)) (valid : IsValid net) (were : AreRows rules net u h rows) where
   -- an entry that names no neighbour
-  pub marked_none : (trigger : Trigger) (scope : Scope) (cause : Cause) → Fits (entry (trigger ∷ []) scope cause ∷ h) → names cause ≡ None → AreAllMarked (making rules net u h (entry (trigger ∷ []) scope cause)) rows
-  marked_none trigger scope cause fits by =
-      zip_map (AreMarks rules net u h) (AreMarked (making rules net u h (entry (trigger ∷ []) scope cause)))
-      (λ w row was. other_row rules net u h (entry (trigger ∷ []) scope cause) fits w row (λ e. absurd (cc (by, e))) was) (neighbours net u) rows were
+  pub marked_none : (triggers : List Trigger) (scope : Scope) (cause : Cause) → Fits (entry triggers scope cause ∷ h) → names cause ≡ None → AreAllMarked (making rules net u h (entry triggers scope cause)) rows
+  marked_none triggers scope cause fits by =
+      zip_map (AreMarks rules net u h) (AreMarked (making rules net u h (entry triggers scope cause)))
+      (λ w row was. other_row rules net u h (entry triggers scope cause) fits w row (λ e. absurd (cc (by, e))) was) (neighbours net u) rows were
 
   set_row : (k : Entry) (fits : Fits (k ∷ h)) (v i : ℕ) (row : List SessionMark) → names k.read.cause ≡ Some v → slice_get (neighbours net u) i ≡ Some v → AreMarked (making rules net u h k) v row
       → AllZip (AreMarked (making rules net u h k)) (neighbours net u) (set rows i row)
@@ -297,20 +316,21 @@ module _ (rules : Rules) (net : Net) (u : ℕ) (h : List Entry) (rows : List (Li
   up_fits : (triggers : List Trigger) (scope : Scope) (v s : ℕ) → Fits (entry triggers scope (Up v s) ∷ h) → scope ≡ All
   up_fits triggers (One p) v s f = absurd f.0
   up_fits triggers All v s f = refl
+  up_fits triggers Nothing v s f = absurd f.0
 
-  pub marked_up : (trigger : Trigger) (scope : Scope) (cause : Cause) (v s i : ℕ) (new : List (List SessionMark)) → Fits (entry (trigger ∷ []) scope cause ∷ h) → cause ≡ Up v s → slice_get (neighbours net u) i ≡ Some v
+  pub marked_up : (triggers : List Trigger) (scope : Scope) (cause : Cause) (v s i : ℕ) (new : List (List SessionMark)) → Fits (entry triggers scope cause ∷ h) → cause ≡ Up v s → slice_get (neighbours net u) i ≡ Some v
       → ((row : List SessionMark) → slice_get rows i ≡ Some row → new ≡ set rows i (row ++ record { nbr = v; session = s; opened = false; sent = 0; received = 0; down = None } ∷ []))
-      → AreAllMarked (making rules net u h (entry (trigger ∷ []) scope cause)) new
-  marked_up trigger scope cause v s i new fits is at opened =
-      let is_all : scope ≡ All = up_fits (trigger ∷ []) scope v s (subst (λ c. Fits (entry (trigger ∷ []) scope c ∷ h)) is fits) in
-      let k = entry (trigger ∷ []) All (Up v s) in
-      let up : Fits (k ∷ h) = subst (λ x. Fits (entry (trigger ∷ []) x (Up v s) ∷ h)) is_all (subst (λ c. Fits (entry (trigger ∷ []) scope c ∷ h)) is fits) in
+      → AreAllMarked (making rules net u h (entry triggers scope cause)) new
+  marked_up triggers scope cause v s i new fits is at opened =
+      let is_all : scope ≡ All = up_fits triggers scope v s (subst (λ c. Fits (entry triggers scope c ∷ h)) is fits) in
+      let k = entry triggers All (Up v s) in
+      let up : Fits (k ∷ h) = subst (λ x. Fits (entry triggers x (Up v s) ∷ h)) is_all (subst (λ c. Fits (entry triggers scope c ∷ h)) is fits) in
       let found = row_of v i at in
-      let row = found.0 ++ fresh rules net u h (trigger ∷ []) v s up ∷ [] in
+      let row = found.0 ++ fresh rules net u h triggers v s up ∷ [] in
       let marked : AreAllMarked (making rules net u h k) new =
       subst (AllZip (AreMarked (making rules net u h k)) (neighbours net u)) (sym (opened found.0 found.1))
-      (set_row k up v i row refl at (opened_row rules net u h (trigger ∷ []) v s up found.0 found.2)) in
-      subst (λ x. AreAllMarked (making rules net u h (entry (trigger ∷ []) x cause)) new) (sym is_all) (subst (λ c. AreAllMarked (making rules net u h (entry (trigger ∷ []) All c)) new) (sym is) marked)
+      (set_row k up v i row refl at (opened_row rules net u h triggers v s up found.0 found.2)) in
+      subst (λ x. AreAllMarked (making rules net u h (entry triggers x cause)) new) (sym is_all) (subst (λ c. AreAllMarked (making rules net u h (entry triggers All c)) new) (sym is) marked)
 
   not_up : (cause : Cause) (w : ℕ) → ((v s : ℕ) → cause ≡ Up v s → ⊥) → opens_by cause w ≡ []
   not_up Originate w other = refl
@@ -319,6 +339,7 @@ module _ (rules : Rules) (net : Net) (u : ℕ) (h : List Entry) (rows : List (Li
   not_up (Down v t) w other = refl
   not_up (Ready v t) w other = refl
   not_up (Prefer v x) w other = refl
+  not_up (Flush v) w other = refl
   not_up (Up v t) w other = absurd (other v t refl)
 
   -- the last mark of the row of v is another
@@ -351,13 +372,13 @@ module _ (rules : Rules) (net : Net) (u : ℕ) (h : List Entry) (rows : List (Li
       let some : length (ever h w) ≡ length ends.older + 1 = ap length ends.is ∙ length-append ends.older (last (reads h) w ∷ []) in
       omega arith
 
-  pub marked_recv : (trigger : Trigger) (scope : Scope) (cause : Cause) (v t seq i w : ℕ) (path : Option (List ℕ)) (new : List (List SessionMark)) → Fits (entry (trigger ∷ []) scope cause ∷ h) → cause ≡ Recv v t seq path → names cause ≡ Some w
+  pub marked_recv : (triggers : List Trigger) (scope : Scope) (cause : Cause) (v t seq i w : ℕ) (path : Option (List ℕ)) (new : List (List SessionMark)) → Fits (entry triggers scope cause ∷ h) → cause ≡ Recv v t seq path → names cause ≡ Some w
       → slice_get (neighbours net u) i ≡ Some w
       → ((older : List SessionMark) (last : SessionMark) → slice_get rows i ≡ Some (older ++ last ∷ []) → new ≡ set rows i (older ++ record last { received = suc last.received } ∷ []))
-      → AreAllMarked (making rules net u h (entry (trigger ∷ []) scope cause)) new
-  marked_recv trigger scope cause v t seq i w path new fits is by at heard =
+      → AreAllMarked (making rules net u h (entry triggers scope cause)) new
+  marked_recv triggers scope cause v t seq i w path new fits is by at heard =
       let found = row_of w i at in
       let end = last_of found.0 (filled_row w found.0 fits.1 found.2) in
       let here = found.1 ∙ ap (λ r. Some r) end.1.1 in
-      marked_end (entry (trigger ∷ []) scope cause) w i end.1.0 end.0 (record end.0 { received = suc end.0.received }) new fits (λ x s e. absurd (cc (is, e))) by at here
-      (λ n was. turned_recv trigger scope h w n end.0 v t seq path cause is fits by was) (heard end.1.0 end.0 here)
+      marked_end (entry triggers scope cause) w i end.1.0 end.0 (record end.0 { received = suc end.0.received }) new fits (λ x s e. absurd (cc (is, e))) by at here
+      (λ n was. turned_recv triggers scope h w n end.0 v t seq path cause is fits by was) (heard end.1.0 end.0 here)

@@ -21,11 +21,11 @@ use Rattle.trigger_log.specs.Going.{Item, News, going_of, going_to, numbered}
 use Rattle.trigger_log.specs.Offered.{differs, updates_over, AreChosen, prefixes_of}
 use Rattle.trigger_log.specs.Telling.{Speech, TellsUpdates, update_going}
 
-sent_from-more : (w s n : ℕ) (xs : List Update) (x : Update) → sent_from w s n (xs ++ x ∷ []) ≡ sent_from w s n xs ++ record { to = w; session = s; seq = n + length xs } ∷ []
-sent_from-more w s n [] x = ap (λ m. record { to = w; session = s; seq = m } ∷ []) (omega arith)
+sent_from-more : (w s n : ℕ) (xs : List Update) (x : Update) → sent_from w s n (xs ++ x ∷ []) ≡ sent_from w s n xs ++ record { to = w; session = s; seq = n + length xs; triggers = x.triggers } ∷ []
+sent_from-more w s n [] x = ap (λ m. record { to = w; session = s; seq = m; triggers = x.triggers } ∷ []) (omega arith)
 sent_from-more w s n (y ∷ xs) x =
-    ap (λ l. record { to = w; session = s; seq = n } ∷ l)
-    (sent_from-more w s (suc n) xs x ∙ ap (λ m. sent_from w s (suc n) xs ++ record { to = w; session = s; seq = m } ∷ []) (omega arith))
+    ap (λ l. record { to = w; session = s; seq = n; triggers = y.triggers } ∷ l)
+    (sent_from-more w s (suc n) xs x ∙ ap (λ m. sent_from w s (suc n) xs ++ record { to = w; session = s; seq = m; triggers = x.triggers } ∷ []) (omega arith))
 
 numbered-more : (n : ℕ) (xs : List Update) (x : Update) → numbered n (xs ++ x ∷ []) ≡ numbered n xs ++ News (n + length xs) x ∷ []
 numbered-more n [] x = ap (λ m. News m x ∷ []) (omega arith)
@@ -33,7 +33,7 @@ numbered-more n (y ∷ xs) x =
     ap (λ l. News n y ∷ l) (numbered-more (suc n) xs x ∙ ap (λ m. numbered (suc n) xs ++ News m x ∷ []) (omega arith))
 
 pub tells_more : (listener : Listener) (xs : List Update) (x : Update) (first before after : Speech) (n m : ℕ)
-    → m ≡ suc n → after.sent ≡ before.sent ++ record { to = listener.nbr; session = listener.session; seq = m } ∷ []
+    → m ≡ suc n → after.sent ≡ before.sent ++ record { to = listener.nbr; session = listener.session; seq = m; triggers = x.triggers } ∷ []
     → map going_of after.out ≡ map going_of before.out ++ update_going listener m x ∷ []
     → TellsUpdates listener xs first before n → TellsUpdates listener (xs ++ x ∷ []) first after m
 tells_more listener xs x first before after n m next one going was =
@@ -45,9 +45,9 @@ tells_more listener xs x first before after n m next one going was =
     record {
       counts = omega (arith, length-append xs (x ∷ []));
       sent =
-          one ∙ (ap (λ l. l ++ record { to = w; session = s; seq = m } ∷ []) was.sent
-          ∙ (append_assoc first.sent (sent_from w s from xs) (record { to = w; session = s; seq = m } ∷ [])
-          ∙ ap (λ l. first.sent ++ l) (ap (λ n. sent_from w s from xs ++ record { to = w; session = s; seq = n } ∷ []) is ∙ sym (sent_from-more w s from xs x))));
+          one ∙ (ap (λ l. l ++ record { to = w; session = s; seq = m; triggers = x.triggers } ∷ []) was.sent
+          ∙ (append_assoc first.sent (sent_from w s from xs) (record { to = w; session = s; seq = m; triggers = x.triggers } ∷ [])
+          ∙ ap (λ l. first.sent ++ l) (ap (λ n. sent_from w s from xs ++ record { to = w; session = s; seq = n; triggers = x.triggers } ∷ []) is ∙ sym (sent_from-more w s from xs x))));
       out =
           going ∙ (ap (λ l. l ++ update_going listener m x ∷ []) was.out
           ∙ (append_assoc (map going_of first.out) (going_to w s (numbered from xs)) (update_going listener m x ∷ [])

@@ -17,8 +17,8 @@ abbrev pub all_entered : List Entry → List Entered
 all_entered [] = []
 all_entered (k ∷ h) = all_entered h ++ record { before = h; entry = k } ∷ []
 
--- the kept entry shows this one: its trigger, its scope and cause, and all that it sent
+-- the kept entry shows this one: its triggers, its scope and cause, and all that it sent
 pub record Shows (rules : Rules) (net : Net) (u : ℕ) (step : Entered) (shown : Shown) : Type 0 where
-  pub trigger : shown.trigger ∷ [] ≡ step.entry.triggers
+  pub triggers : shown.triggers ≡ step.entry.triggers
   pub read : change shown.scope shown.cause ≡ step.entry.read
   pub sent : shown.sent ≡ sent_by rules net u step.before step.entry

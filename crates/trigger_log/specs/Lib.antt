@@ -15,3 +15,7 @@ pub mod Marked
 pub mod Midway
 pub mod Quiet
 pub mod Due
+pub mod Pending
+pub mod HeldLists
+pub mod Putting
+pub mod HoldingBack

@@ -1,9 +1,11 @@
 -- The sessions of a node while it makes an entry: what the entry changes in them is marked, and then what it says is counted.
-use Rattle.std.specs.Prelude.{ℕ, ◌≡◌, ◌<◌, ◌≤◌, ◌==◌, Bool, false, Some, List, [], ◌∷◌, ◌++◌, length, map, flat_map, take, slice_get}
+use Rattle.std.specs.Prelude.{ℕ, suc, ◌≡◌, ◌<◌, ◌≤◌, ◌==◌, Bool, true, false, Some, List, ◌∷◌, ◌++◌, length, map, flat_map, take, slice_get}
 use Rattle.std.specs.List.{AllZip}
+use Rattle.topology.specs.declared.names.Trigger.{Trigger}
+use Rattle.topology.specs.declared.items.Sent.{Sent}
 use Rattle.topology.specs.Net.{neighbours}
 use Rattle.path_vector.specs.declared.causes.Cause.{Cause}
-use Rattle.path_vector.specs.declared.causes.Cause.TheVariants.{Down, Ready}
+use Rattle.path_vector.specs.declared.causes.Cause.TheVariants.{Recv, Down, Ready}
 use Rattle.path_vector.specs.History.{held}
 use Rattle.path_vector.specs.Standing.{StandsFor as RoutesStandFor}
 use Rattle.path_vector.specs.declared.state.RouteState.{RouteState}
@@ -28,6 +30,11 @@ abbrev pub readies : Cause → ℕ → Bool
 readies (Ready v s) w = v == w
 readies other w = false
 
+-- the cause is an update that was received
+abbrev pub hears : Cause → Bool
+hears (Recv v s seq path) = true
+hears other = false
+
 -- the marks of w after the entry, with the items that were sent before it
 abbrev pub AreMarked : Making → ℕ → List SessionMark → Type 0
 AreMarked m w marks =
@@ -38,11 +45,15 @@ AreMarked m w marks =
 abbrev pub AreAllMarked : Making → List (List SessionMark) → Type 0
 AreAllMarked m rows = AllZip (AreMarked m) (neighbours m.net m.node) rows
 
+-- the close of the session that this mark shows, for these triggers
+abbrev pub close_row : List Trigger → SessionMark → Sent
+close_row triggers mark = record { to = mark.nbr; session = mark.session; seq = suc mark.sent; triggers = triggers }
+
 -- the routes and the turn are those of the entry, which fits
 pub record Enters {P : Type 0} (policy : P) (m : Making) (routes : RouteState P) (turn : Turn) : Type 0 where
   pub stands : RoutesStandFor policy m.net m.node routes (m.entry.read ∷ reads m.before)
   pub fitting : Fits (m.entry ∷ m.before)
-  pub lists : m.entry.triggers ≡ turn.trigger.now ∷ []
+  pub lists : m.entry.triggers ≡ turn.triggers.now
   pub cause : m.entry.read.cause ≡ turn.cause.now
   pub placed : IsPlaced m.net m.entry.read.scope
   pub covers : Covers m (prefixes_of turn.after.now)

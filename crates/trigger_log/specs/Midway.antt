@@ -6,7 +6,7 @@ use Rattle.path_vector.specs.Standing.{StandsFor as RoutesStandFor}
 use Rattle.trigger_log.specs.declared.log.NodeLog.{NodeLog}
 use Rattle.trigger_log.specs.declared.offers.Offer.{Offer}
 use Rattle.trigger_log.specs.Entries.{reads}
-use Rattle.trigger_log.specs.Fits.{CauseFits}
+use Rattle.trigger_log.specs.Fits.{CauseFits, ListsFor}
 use Rattle.trigger_log.specs.Going.{going_of, going_by}
 use Rattle.trigger_log.specs.Making.{Making}
 use Rattle.trigger_log.specs.Offered.{AreChosen, Covers, IsPlaced, prefixes_of}
@@ -18,6 +18,7 @@ pub record IsMidway {P : Type 0} (policy : P) (m : Making) (before : RouteState 
   pub near : IsOfNeighbour m.net m.node m.entry.read.cause
   pub placed : IsPlaced m.net m.entry.read.scope
   pub fits : CauseFits m.before m.entry.read.scope m.entry.read.cause
+  pub lists : ListsFor m.entry.read.scope m.entry.triggers
   pub routes : RoutesStandFor policy m.net m.node log.routes (m.entry.read ∷ reads m.before)
 
 -- the best routes of the prefixes that the entry may change, before and after it

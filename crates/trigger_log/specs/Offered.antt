@@ -2,11 +2,11 @@
 use Rattle.std.specs.Prelude.{ℕ, ◌<◌, ◌≡◌, ◌↔◌, ◌==◌, Bool, false, IsTrue, not, Option, Some, None, List, [], ◌∷◌, is_some, length, map, filter, if◌then◌else◌}
 use Rattle.std.specs.List.{AllByRecursion}
 use Rattle.topology.specs.declared.names.Scope.{Scope}
-use Rattle.topology.specs.declared.names.Scope.TheVariants.{One, All}
+use Rattle.topology.specs.declared.names.Scope.TheVariants.{One, All, Nothing}
 use Rattle.topology.specs.Lists.{same_path}
 use Rattle.topology.specs.Net.{Net, places}
 use Rattle.path_vector.specs.declared.causes.Cause.{Cause}
-use Rattle.path_vector.specs.declared.causes.Cause.TheVariants.{Originate, Withdraw, Recv, Down, Up, Ready, Prefer}
+use Rattle.path_vector.specs.declared.causes.Cause.TheVariants.{Originate, Withdraw, Recv, Down, Up, Ready, Prefer, Flush}
 use Rattle.path_vector.specs.Rules.{Rules}
 use Rattle.path_vector.specs.History.{History, ready}
 use Rattle.path_vector.specs.Selection.{Route, Nowhere, Home, Via, best}
@@ -21,13 +21,15 @@ use Rattle.trigger_log.specs.Sending.{update_of}
 abbrev pub IsPlaced : Net → Scope → Type 0
 IsPlaced net (One p) = p < length net.prefixes
 IsPlaced net All = Unit {0}
+IsPlaced net Nothing = Unit {0}
 
 -- the places of the prefixes of the scope, in file order
 abbrev pub places_of : Net → Scope → List ℕ
 places_of net (One p) = p ∷ []
 places_of net All = places net
+places_of net Nothing = []
 
--- the prefixes whose routes an entry may change: none where it opens a session
+-- the prefixes whose routes an entry may change: none where it opens a session, or sends what is held back
 abbrev pub asked : Net → Scope → Cause → List ℕ
 asked net scope Originate = places_of net scope
 asked net scope Withdraw = places_of net scope
@@ -36,6 +38,7 @@ asked net scope (Down v s) = places_of net scope
 asked net scope (Up v s) = []
 asked net scope (Ready v s) = places_of net scope
 asked net scope (Prefer v x) = places_of net scope
+asked net scope (Flush v) = []
 
 -- the prefixes of these routes
 abbrev pub prefixes_of : List Offer → List ℕ

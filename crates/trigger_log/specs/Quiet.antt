@@ -2,14 +2,14 @@
 use Rattle.std.specs.Prelude.{ℕ, ◌≡◌, Bool, true, false, List, [], ◌∷◌}
 use Rattle.topology.specs.Net.{Net}
 use Rattle.path_vector.specs.declared.causes.Cause.{Cause}
-use Rattle.path_vector.specs.declared.causes.Cause.TheVariants.{Originate, Withdraw, Recv, Down, Up, Ready, Prefer}
+use Rattle.path_vector.specs.declared.causes.Cause.TheVariants.{Originate, Withdraw, Recv, Down, Up, Ready, Prefer, Flush}
 use Rattle.path_vector.specs.Rules.{Rules}
 use Rattle.path_vector.specs.Selection.{best}
 use Rattle.trigger_log.specs.declared.telling.Turn.{Turn}
 use Rattle.trigger_log.specs.Entries.{Entry, reads}
 use Rattle.trigger_log.specs.Offered.{asked}
 
--- the cause ends a session, or makes one ready
+-- the cause ends a session, makes one ready, or sends what is held back in one
 abbrev pub turns_session : Cause → Bool
 turns_session Originate = false
 turns_session Withdraw = false
@@ -18,6 +18,7 @@ turns_session (Down v s) = true
 turns_session (Up v s) = false
 turns_session (Ready v s) = true
 turns_session (Prefer v x) = false
+turns_session (Flush v) = true
 
 -- the entry turns no session, and the best routes after it are those before it
 abbrev pub IsQuiet : Turn → Type 0

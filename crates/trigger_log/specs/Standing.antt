@@ -5,7 +5,8 @@ use Rattle.path_vector.specs.Rules.{Rules}
 use Rattle.path_vector.specs.Standing.{StandsFor as RoutesStandFor}
 use Rattle.trigger_log.specs.declared.log.NodeLog.{NodeLog}
 use Rattle.trigger_log.specs.Entries.{Entry, reads, locals}
-use Rattle.trigger_log.specs.Fits.{Fits}
+use Rattle.trigger_log.specs.Fits.{AllList, Fits}
+use Rattle.trigger_log.specs.HoldingBack.{HoldsBack}
 use Rattle.trigger_log.specs.KeptEntries.{KeepsEntries, dropped_before}
 use Rattle.trigger_log.specs.Sessions.{AreRows}
 
@@ -18,8 +19,10 @@ pub record StandsFor {P : Type 0} (policy : P) (rules : Rules) (net : Net) (u : 
     (h : List Entry) : Type 0 where
   pub routes : RoutesStandFor policy net u log.routes (reads h)
   pub fitting : Fits h
+  pub lists : AllList h
   pub node : log.node ≡ u
   pub near : log.sessions.near ≡ neighbours net u
   pub next : log.next_count ≡ suc (locals h)
   pub kept : KeepsEntries policy rules net u log.kept h
   pub marks : AreRows rules net u h log.sessions.rows
+  pub held : HoldsBack rules net u h log.held_back

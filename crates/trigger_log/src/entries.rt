@@ -1,11 +1,11 @@
 //! Entries, as a log keeps them.
 use path_vector::Cause;
-use topology::{Scope, SentItems, Trigger};
+use topology::{Scope, SentItems, Triggers};
 
 /// One entry of a log.
 #[derive(Debug, Drop)]
 pub struct Entry {
-    pub trigger: Trigger,
+    pub triggers: Triggers,
     pub scope: Scope,
     pub cause: Cause,
     pub sent: SentItems,

@@ -4,14 +4,15 @@ ghost use Rattle.std.specs.List.{AllZip};
 ghost use Rattle.topology.specs.Lists.{has};
 ghost use Rattle.topology.specs.Net.{Net, neighbours};
 ghost use Rattle.path_vector.specs.History.{held, last, ready};
-ghost use Rattle.topology.specs.declared.names.Scope.TheVariants.{One, All};
+ghost use Rattle.topology.specs.declared.names.Scope.TheVariants.{One, All, Nothing};
 ghost use Rattle.path_vector.specs.declared.causes.Cause.TheVariants.{Down, Ready};
 ghost use Rattle.path_vector.specs.Kept.{IsOfNeighbour};
 ghost use Rattle.path_vector.specs.Standing.{StandsFor as RoutesStandFor};
 ghost use Rattle.trigger_log.specs.Entries.{Entry as Logged, entry, reads, inbox, is_local, is_session, next_trigger};
 ghost use Rattle.trigger_log.specs.Sending.{sent_count};
 ghost use Rattle.trigger_log.specs.Going.{going_of, going_by};
-ghost use Rattle.trigger_log.specs.Fits.{CauseFits};
+ghost use Rattle.trigger_log.specs.Fits.{CauseFits, ListsFor, MayFollow};
+ghost use Rattle.trigger_log.specs.Pending.{pending_rows};
 ghost use Rattle.trigger_log.specs.Due.{SendsWhatIsDue};
 ghost use Rattle.trigger_log.specs.Sessions.{ever, Says, AreAllMarks};
 ghost use Rattle.trigger_log.specs.Offered.{AreSame, IsPlaced, prefixes_of};
@@ -23,8 +24,10 @@ ghost use Rattle.trigger_log.specs.Standing.{StandsFor, dropped_of};
 ghost use Rattle.trigger_log.specs.Making.{making};
 ghost use Rattle.trigger_log.specs.Midway.{AreOffers, IsMade, IsMidway};
 
+use crate::collecting::hold_back;
 use crate::counting::next_number;
 use crate::entries::Entry;
+use crate::held_back::HeldBack;
 use crate::kept_entries::KeptEntries;
 use crate::marking::mark;
 use crate::offers::{Offer, Offers, offer_of, offers_again, offers_by, offers_for, offers_of};
@@ -36,17 +39,20 @@ use crate::turns::tell_all;
 use path_vector::{Cause, Policy, RouteState};
 use std::alloc::Global;
 use std::{mem, slice};
-use topology::{NoMemory, NodeId, PrefixId, Scope, SentItems, Session, Topology, Trigger};
+use topology::{
+    NoMemory, NodeId, Pending, PrefixId, Scope, SentItems, Session, Topology, Trigger, Triggers,
+};
 
 /// What a node entered, the oldest entry first, and what it needs to make the next one: its routes,
-/// its sessions, the number of its entries and the counter of its next trigger. A log may drop its first
-/// entries. It counts them all the same, each entry keeps its place, and the routes after the dropped ones are kept.
+/// its sessions, what it holds back, the number of its entries and the counter of its next trigger. A log may drop its
+/// first entries. It counts them all the same, each entry keeps its place, and the routes after the dropped ones are kept.
 #[derive(Drop)]
 pub struct NodeLog<P: Policy + Copy> {
     alloc: Global,
     node: NodeId,
     routes: RouteState<P>,
     sessions: Sessions,
+    held_back: HeldBack,
     kept: KeptEntries<P>,
     next_count: u32,
     // What an entry says, in lists that are used again for each: what is in them means nothing.
@@ -66,6 +72,7 @@ fn counted(count: u32, cause: &Cause) -> Result<u32, NoMemory>
 {
     match cause {
         Cause::Recv { .. } => Ok(count),
+        Cause::Flush { .. } => Ok(count),
         _ => Ok(next_number(count)?),
     }
 }
@@ -86,6 +93,7 @@ impl<P: Policy + Copy> NodeLog<P> {
             node,
             routes: RouteState::new(alloc, topology, node, policy)?,
             sessions: Sessions::new(alloc, topology.neighbours(node))?,
+            held_back: HeldBack::new(alloc, topology, node)?,
             kept: KeptEntries::new(alloc, topology, node, policy)?,
             next_count: 1,
             said: Said::new(alloc),
@@ -94,76 +102,77 @@ impl<P: Policy + Copy> NodeLog<P> {
 
     /// Whether an entry may follow the entries so far: an update is the next one of the held
     /// session, a `Down` ends the held session, an `Up` opens a higher one where none is held, a
-    /// `Ready` is the first of the held one, an `Originate` or `Withdraw` changes the origin. The
-    /// scope is that of the cause.
+    /// `Ready` is the first of the held one, an `Originate` or `Withdraw` changes the origin, a
+    /// `Flush` finds something held back. The scope is that of the cause.
     pub fn fits(&self, scope: Scope, cause: &Cause) -> bool
         ensures { (policy : P) (net : Net) (u : ℕ) (h : List Logged) →
             StandsFor policy (P.rules policy) net u self.now h → IsOfNeighbour net u cause.now →
-            IsPlaced net scope → IsTrue result ↔ CauseFits h scope cause.now }
+            IsPlaced net scope → IsTrue result ↔ MayFollow (P.rules policy) net u h scope cause.now }
     {
         match scope {
             Scope::One(prefix) => self.fits_one(prefix, cause),
             Scope::All => self.fits_all(cause),
+            Scope::Nothing => self.fits_nothing(cause),
         }
     }
 
-    /// The log with one more entry, and what goes out with it. It has to fit the entries before:
-    /// of a log with another entry nothing is promised.
+    /// The log with one more entry, and what goes out with it. It has to fit the entries before, and to list something but
+    /// where its scope is `Nothing`, where it lists nothing: of a log with another entry nothing is promised.
     pub fn append(
         self,
         topology: &Topology,
-        trigger: Trigger,
+        triggers: Triggers,
         scope: Scope,
         cause: Cause,
     ) -> Result<(NodeLog<P>, Vec<Outgoing>), NoMemory>
         ensures log { IfOk result (λ r. (policy : P) (u : ℕ) (h : List Logged) →
             StandsFor policy (P.rules policy) topology.now u self h → IsOfNeighbour topology.now u cause →
-            IsPlaced topology.now scope → CauseFits h scope cause →
-            StandsFor policy (P.rules policy) topology.now u r.0 (entry (trigger ∷ []) scope cause ∷ h)) }
+            IsPlaced topology.now scope → CauseFits h scope cause → ListsFor scope triggers →
+            StandsFor policy (P.rules policy) topology.now u r.0 (entry triggers scope cause ∷ h)) }
         ensures outgoing { IfOk result (λ r. (policy : P) (u : ℕ) (h : List Logged) →
             StandsFor policy (P.rules policy) topology.now u self h → IsOfNeighbour topology.now u cause →
-            IsPlaced topology.now scope → CauseFits h scope cause →
-            map going_of r.1.items ≡ going_by (P.rules policy) topology.now u h (entry (trigger ∷ []) scope cause)) }
+            IsPlaced topology.now scope → CauseFits h scope cause → ListsFor scope triggers →
+            map going_of r.1.items ≡ going_by (P.rules policy) topology.now u h (entry triggers scope cause)) }
         ensures due { IfOk result (λ r. (policy : P) (u : ℕ) (h : List Logged) →
             StandsFor policy (P.rules policy) topology.now u self h → IsOfNeighbour topology.now u cause →
-            IsPlaced topology.now scope → CauseFits h scope cause →
-            SendsWhatIsDue (P.rules policy) topology.now u h (entry (trigger ∷ []) scope cause) (map going_of r.1.items)) }
+            IsPlaced topology.now scope → CauseFits h scope cause → ListsFor scope triggers →
+            SendsWhatIsDue (P.rules policy) topology.now u h (entry triggers scope cause) (map going_of r.1.items)) }
         ensures dropped { IfOk result (λ r. dropped_of r.0 ≡ dropped_of self) }
     {
         let mut log = self;
         let mut outgoing = Vec::new(log.alloc);
-        log.enter(topology, trigger, scope, cause, &mut outgoing)?;
+        log.enter(topology, triggers, scope, cause, &mut outgoing)?;
         Ok((log, outgoing))
     }
 
     /// The same of a log behind a box. The log stays where it is: nothing of it is copied. What goes out stands in the
-    /// list, in the place of whatever was in it. The entry has to fit the entries before: of a log with another entry
+    /// list, in the place of whatever was in it. The entry has to fit and to list as there: of a log with another entry
     /// nothing is promised.
     pub fn append_boxed(
         log: Box<NodeLog<P>>,
         topology: &Topology,
-        trigger: Trigger,
+        triggers: Triggers,
         scope: Scope,
         cause: Cause,
         outgoing: &mut Vec<Outgoing>,
     ) -> Result<Box<NodeLog<P>>, NoMemory>
         ensures log { IfOk result (λ longer. (policy : P) (u : ℕ) (h : List Logged) →
             StandsFor policy (P.rules policy) topology.now u log.value h → IsOfNeighbour topology.now u cause →
-            IsPlaced topology.now scope → CauseFits h scope cause →
-            StandsFor policy (P.rules policy) topology.now u longer.value (entry (trigger ∷ []) scope cause ∷ h)) }
+            IsPlaced topology.now scope → CauseFits h scope cause → ListsFor scope triggers →
+            StandsFor policy (P.rules policy) topology.now u longer.value (entry triggers scope cause ∷ h)) }
         ensures outgoing { OnOk result ((policy : P) (u : ℕ) (h : List Logged) →
             StandsFor policy (P.rules policy) topology.now u log.value h → IsOfNeighbour topology.now u cause →
-            IsPlaced topology.now scope → CauseFits h scope cause →
-            map going_of outgoing.new.items ≡ going_by (P.rules policy) topology.now u h (entry (trigger ∷ []) scope cause)) }
+            IsPlaced topology.now scope → CauseFits h scope cause → ListsFor scope triggers →
+            map going_of outgoing.new.items ≡ going_by (P.rules policy) topology.now u h (entry triggers scope cause)) }
         ensures due { OnOk result ((policy : P) (u : ℕ) (h : List Logged) →
             StandsFor policy (P.rules policy) topology.now u log.value h → IsOfNeighbour topology.now u cause →
-            IsPlaced topology.now scope → CauseFits h scope cause →
-            SendsWhatIsDue (P.rules policy) topology.now u h (entry (trigger ∷ []) scope cause) (map going_of outgoing.new.items)) }
+            IsPlaced topology.now scope → CauseFits h scope cause → ListsFor scope triggers →
+            SendsWhatIsDue (P.rules policy) topology.now u h (entry triggers scope cause) (map going_of outgoing.new.items)) }
         ensures dropped { IfOk result (λ longer. dropped_of longer.value ≡ dropped_of log.value) }
         ensures err { OnErr result (outgoing.new ≡ outgoing.old) }
     {
         let mut longer = log;
-        longer.enter(topology, trigger, scope, cause, outgoing)?;
+        longer.enter(topology, triggers, scope, cause, outgoing)?;
         Ok(longer)
     }
 
@@ -338,33 +347,44 @@ impl<P: Policy + Copy> NodeLog<P> {
         self.sessions.marks()
     }
 
+    /// What is held back: a row for each neighbour and each prefix of which an update is held back from it, by neighbour,
+    /// ascending, then by prefix in file order. A row lists the triggers of the entries whose updates it holds, also of
+    /// entries that were dropped.
+    pub fn pending(&self) -> &[Pending]
+        ensures { (policy : P) (net : Net) (u : ℕ) (h : List Logged) →
+            StandsFor policy (P.rules policy) net u self.now h →
+            result.now ≡ pending_rows (P.rules policy) net u h }
+    {
+        self.held_back.rows()
+    }
+
     // The same in place. After want of memory the log may be in the midst of the entry.
     #[inline(always)]
     fn enter(
         &mut self,
         topology: &Topology,
-        trigger: Trigger,
+        triggers: Triggers,
         scope: Scope,
         cause: Cause,
         outgoing: &mut Vec<Outgoing>,
     ) -> Result<(), NoMemory>
         ensures log { OnOk result ((policy : P) (u : ℕ) (h : List Logged) →
             StandsFor policy (P.rules policy) topology.now u self.old h → IsOfNeighbour topology.now u cause →
-            IsPlaced topology.now scope → CauseFits h scope cause →
-            StandsFor policy (P.rules policy) topology.now u self.new (entry (trigger ∷ []) scope cause ∷ h)) }
+            IsPlaced topology.now scope → CauseFits h scope cause → ListsFor scope triggers →
+            StandsFor policy (P.rules policy) topology.now u self.new (entry triggers scope cause ∷ h)) }
         ensures outgoing { OnOk result ((policy : P) (u : ℕ) (h : List Logged) →
             StandsFor policy (P.rules policy) topology.now u self.old h → IsOfNeighbour topology.now u cause →
-            IsPlaced topology.now scope → CauseFits h scope cause →
-            map going_of outgoing.new.items ≡ going_by (P.rules policy) topology.now u h (entry (trigger ∷ []) scope cause)) }
+            IsPlaced topology.now scope → CauseFits h scope cause → ListsFor scope triggers →
+            map going_of outgoing.new.items ≡ going_by (P.rules policy) topology.now u h (entry triggers scope cause)) }
         ensures err { OnErr result (outgoing.new ≡ outgoing.old) }
         ensures dropped { OnOk result (dropped_of self.new ≡ dropped_of self.old) }
     {
         if stays(&self.routes, &scope, &cause) {
-            self.enter_quietly(trigger, scope, cause)?;
+            self.enter_quietly(triggers, scope, cause)?;
             forget(outgoing);
             return Ok(());
         }
-        self.enter_aloud(topology, trigger, scope, cause)?;
+        self.enter_aloud(topology, triggers, scope, cause)?;
         mem::swap(&mut self.said.outgoing, outgoing);
         Ok(())
     }
@@ -373,22 +393,22 @@ impl<P: Policy + Copy> NodeLog<P> {
     #[inline(always)]
     fn enter_quietly(
         &mut self,
-        trigger: Trigger,
+        triggers: Triggers,
         scope: Scope,
         cause: Cause,
     ) -> Result<(), NoMemory>
         ensures log { OnOk result ((policy : P) (net : Net) (u : ℕ) (h : List Logged) →
             StandsFor policy (P.rules policy) net u self.old h → IsOfNeighbour net u cause →
-            IsPlaced net scope → CauseFits h scope cause →
-            Stays (P.rules policy) net u h (entry (trigger ∷ []) scope cause) →
-            StandsFor policy (P.rules policy) net u self.new (entry (trigger ∷ []) scope cause ∷ h)) }
+            IsPlaced net scope → CauseFits h scope cause → ListsFor scope triggers →
+            Stays (P.rules policy) net u h (entry triggers scope cause) →
+            StandsFor policy (P.rules policy) net u self.new (entry triggers scope cause ∷ h)) }
         ensures dropped { OnOk result (dropped_of self.new ≡ dropped_of self.old) }
     {
         self.routes.apply(copied(&scope), &cause)?;
-        mark(&mut self.sessions, &trigger, &cause)?;
+        mark(&mut self.sessions, &triggers, &cause)?;
         let sent = SentItems::none();
         self.keep(Entry {
-            trigger,
+            triggers,
             scope,
             cause,
             sent,
@@ -401,23 +421,24 @@ impl<P: Policy + Copy> NodeLog<P> {
     fn enter_aloud(
         &mut self,
         topology: &Topology,
-        trigger: Trigger,
+        triggers: Triggers,
         scope: Scope,
         cause: Cause,
     ) -> Result<(), NoMemory>
         ensures log { OnOk result ((policy : P) (u : ℕ) (h : List Logged) →
             StandsFor policy (P.rules policy) topology.now u self.old h → IsOfNeighbour topology.now u cause →
-            IsPlaced topology.now scope → CauseFits h scope cause →
-            StandsFor policy (P.rules policy) topology.now u self.new (entry (trigger ∷ []) scope cause ∷ h)) }
+            IsPlaced topology.now scope → CauseFits h scope cause → ListsFor scope triggers →
+            StandsFor policy (P.rules policy) topology.now u self.new (entry triggers scope cause ∷ h)) }
         ensures outgoing { OnOk result ((policy : P) (u : ℕ) (h : List Logged) →
             StandsFor policy (P.rules policy) topology.now u self.old h → IsOfNeighbour topology.now u cause →
-            IsPlaced topology.now scope → CauseFits h scope cause →
-            map going_of self.new.said.outgoing.items ≡ going_by (P.rules policy) topology.now u h (entry (trigger ∷ []) scope cause)) }
+            IsPlaced topology.now scope → CauseFits h scope cause → ListsFor scope triggers →
+            map going_of self.new.said.outgoing.items ≡ going_by (P.rules policy) topology.now u h (entry triggers scope cause)) }
         ensures dropped { OnOk result (dropped_of self.new ≡ dropped_of self.old) }
     {
         match scope {
-            Scope::One(prefix) => Ok(self.enter_one(prefix, trigger, cause)?),
-            Scope::All => Ok(self.enter_all(topology, trigger, cause)?),
+            Scope::One(prefix) => Ok(self.enter_one(prefix, triggers, cause)?),
+            Scope::All => Ok(self.enter_all(topology, triggers, cause)?),
+            Scope::Nothing => Ok(self.enter_nothing(triggers, cause)?),
         }
     }
 
@@ -426,17 +447,17 @@ impl<P: Policy + Copy> NodeLog<P> {
     fn enter_one(
         &mut self,
         prefix: PrefixId,
-        trigger: Trigger,
+        triggers: Triggers,
         cause: Cause,
     ) -> Result<(), NoMemory>
         ensures log { OnOk result ((policy : P) (net : Net) (u : ℕ) (h : List Logged) →
             StandsFor policy (P.rules policy) net u self.old h → IsOfNeighbour net u cause →
-            prefix < length net.prefixes → CauseFits h (One prefix) cause →
-            StandsFor policy (P.rules policy) net u self.new (entry (trigger ∷ []) (One prefix) cause ∷ h)) }
+            prefix < length net.prefixes → CauseFits h (One prefix) cause → ListsFor (One prefix) triggers →
+            StandsFor policy (P.rules policy) net u self.new (entry triggers (One prefix) cause ∷ h)) }
         ensures outgoing { OnOk result ((policy : P) (net : Net) (u : ℕ) (h : List Logged) →
             StandsFor policy (P.rules policy) net u self.old h → IsOfNeighbour net u cause →
-            prefix < length net.prefixes → CauseFits h (One prefix) cause →
-            map going_of self.new.said.outgoing.items ≡ going_by (P.rules policy) net u h (entry (trigger ∷ []) (One prefix) cause)) }
+            prefix < length net.prefixes → CauseFits h (One prefix) cause → ListsFor (One prefix) triggers →
+            map going_of self.new.said.outgoing.items ≡ going_by (P.rules policy) net u h (entry triggers (One prefix) cause)) }
         ensures dropped { OnOk result (dropped_of self.new ≡ dropped_of self.old) }
     {
         let before = offer_of(&self.routes, prefix)?;
@@ -448,31 +469,31 @@ impl<P: Policy + Copy> NodeLog<P> {
             after: slice::from_ref(&after),
             same: slice::from_ref(&same),
         };
-        Ok(self.finish(trigger, Scope::One(prefix), cause, offers)?)
+        Ok(self.finish(triggers, Scope::One(prefix), cause, offers)?)
     }
 
     // An entry of all prefixes, of which each neighbour is told what changes for it.
     fn enter_all(
         &mut self,
         topology: &Topology,
-        trigger: Trigger,
+        triggers: Triggers,
         cause: Cause,
     ) -> Result<(), NoMemory>
         ensures log { OnOk result ((policy : P) (u : ℕ) (h : List Logged) →
             StandsFor policy (P.rules policy) topology.now u self.old h → IsOfNeighbour topology.now u cause →
-            CauseFits h All cause →
-            StandsFor policy (P.rules policy) topology.now u self.new (entry (trigger ∷ []) All cause ∷ h)) }
+            CauseFits h All cause → ListsFor All triggers →
+            StandsFor policy (P.rules policy) topology.now u self.new (entry triggers All cause ∷ h)) }
         ensures outgoing { OnOk result ((policy : P) (u : ℕ) (h : List Logged) →
             StandsFor policy (P.rules policy) topology.now u self.old h → IsOfNeighbour topology.now u cause →
-            CauseFits h All cause →
-            map going_of self.new.said.outgoing.items ≡ going_by (P.rules policy) topology.now u h (entry (trigger ∷ []) All cause)) }
+            CauseFits h All cause → ListsFor All triggers →
+            map going_of self.new.said.outgoing.items ≡ going_by (P.rules policy) topology.now u h (entry triggers All cause)) }
         ensures dropped { OnOk result (dropped_of self.new ≡ dropped_of self.old) }
     {
         if let Cause::Ready { nbr, session } = cause {
-            return Ok(self.enter_ready(topology, trigger, nbr, session)?);
+            return Ok(self.enter_ready(topology, triggers, nbr, session)?);
         }
         if let Cause::Down { nbr, session } = cause {
-            return Ok(self.enter_down(topology, trigger, nbr, session)?);
+            return Ok(self.enter_down(topology, triggers, nbr, session)?);
         }
         let before = offers_for(self.alloc, &self.routes, topology, &cause)?;
         self.routes.apply(Scope::All, &cause)?;
@@ -483,25 +504,25 @@ impl<P: Policy + Copy> NodeLog<P> {
             after: &after,
             same: &same,
         };
-        Ok(self.finish(trigger, Scope::All, cause, offers)?)
+        Ok(self.finish(triggers, Scope::All, cause, offers)?)
     }
 
     // A session is ready. That changes no best route: those after the entry are those before it, too.
     fn enter_ready(
         &mut self,
         topology: &Topology,
-        trigger: Trigger,
+        triggers: Triggers,
         nbr: NodeId,
         session: Session,
     ) -> Result<(), NoMemory>
         ensures log { OnOk result ((policy : P) (u : ℕ) (h : List Logged) →
             StandsFor policy (P.rules policy) topology.now u self.old h → IsOfNeighbour topology.now u (Ready nbr session) →
-            CauseFits h All (Ready nbr session) →
-            StandsFor policy (P.rules policy) topology.now u self.new (entry (trigger ∷ []) All (Ready nbr session) ∷ h)) }
+            CauseFits h All (Ready nbr session) → ListsFor All triggers →
+            StandsFor policy (P.rules policy) topology.now u self.new (entry triggers All (Ready nbr session) ∷ h)) }
         ensures outgoing { OnOk result ((policy : P) (u : ℕ) (h : List Logged) →
             StandsFor policy (P.rules policy) topology.now u self.old h → IsOfNeighbour topology.now u (Ready nbr session) →
-            CauseFits h All (Ready nbr session) →
-            map going_of self.new.said.outgoing.items ≡ going_by (P.rules policy) topology.now u h (entry (trigger ∷ []) All (Ready nbr session))) }
+            CauseFits h All (Ready nbr session) → ListsFor All triggers →
+            map going_of self.new.said.outgoing.items ≡ going_by (P.rules policy) topology.now u h (entry triggers All (Ready nbr session))) }
         ensures dropped { OnOk result (dropped_of self.new ≡ dropped_of self.old) }
     {
         let cause = Cause::Ready { nbr, session };
@@ -513,25 +534,25 @@ impl<P: Policy + Copy> NodeLog<P> {
             after: &offers,
             same: &same,
         };
-        Ok(self.finish(trigger, Scope::All, cause, offers)?)
+        Ok(self.finish(triggers, Scope::All, cause, offers)?)
     }
 
     // A session ends. That may change the best routes that went by its neighbour, and no other: only those are compared.
     fn enter_down(
         &mut self,
         topology: &Topology,
-        trigger: Trigger,
+        triggers: Triggers,
         nbr: NodeId,
         session: Session,
     ) -> Result<(), NoMemory>
         ensures log { OnOk result ((policy : P) (u : ℕ) (h : List Logged) →
             StandsFor policy (P.rules policy) topology.now u self.old h → IsOfNeighbour topology.now u (Down nbr session) →
-            CauseFits h All (Down nbr session) →
-            StandsFor policy (P.rules policy) topology.now u self.new (entry (trigger ∷ []) All (Down nbr session) ∷ h)) }
+            CauseFits h All (Down nbr session) → ListsFor All triggers →
+            StandsFor policy (P.rules policy) topology.now u self.new (entry triggers All (Down nbr session) ∷ h)) }
         ensures outgoing { OnOk result ((policy : P) (u : ℕ) (h : List Logged) →
             StandsFor policy (P.rules policy) topology.now u self.old h → IsOfNeighbour topology.now u (Down nbr session) →
-            CauseFits h All (Down nbr session) →
-            map going_of self.new.said.outgoing.items ≡ going_by (P.rules policy) topology.now u h (entry (trigger ∷ []) All (Down nbr session))) }
+            CauseFits h All (Down nbr session) → ListsFor All triggers →
+            map going_of self.new.said.outgoing.items ≡ going_by (P.rules policy) topology.now u h (entry triggers All (Down nbr session))) }
         ensures dropped { OnOk result (dropped_of self.new ≡ dropped_of self.old) }
     {
         let cause = Cause::Down { nbr, session };
@@ -544,14 +565,35 @@ impl<P: Policy + Copy> NodeLog<P> {
             after: &after,
             same: &same,
         };
-        Ok(self.finish(trigger, Scope::All, cause, offers)?)
+        Ok(self.finish(triggers, Scope::All, cause, offers)?)
+    }
+
+    // An entry that concerns no prefix: it changes no route.
+    fn enter_nothing(&mut self, triggers: Triggers, cause: Cause) -> Result<(), NoMemory>
+        ensures log { OnOk result ((policy : P) (net : Net) (u : ℕ) (h : List Logged) →
+            StandsFor policy (P.rules policy) net u self.old h → IsOfNeighbour net u cause →
+            CauseFits h Nothing cause → ListsFor Nothing triggers →
+            StandsFor policy (P.rules policy) net u self.new (entry triggers Nothing cause ∷ h)) }
+        ensures outgoing { OnOk result ((policy : P) (net : Net) (u : ℕ) (h : List Logged) →
+            StandsFor policy (P.rules policy) net u self.old h → IsOfNeighbour net u cause →
+            CauseFits h Nothing cause → ListsFor Nothing triggers →
+            map going_of self.new.said.outgoing.items ≡ going_by (P.rules policy) net u h (entry triggers Nothing cause)) }
+        ensures dropped { OnOk result (dropped_of self.new ≡ dropped_of self.old) }
+    {
+        self.routes.apply(Scope::Nothing, &cause)?;
+        let offers = Offers {
+            before: &[],
+            after: &[],
+            same: &[],
+        };
+        Ok(self.finish(triggers, Scope::Nothing, cause, offers)?)
     }
 
     // The rest of an entry that the routes took already: its sessions are marked, each neighbour is told, and it is kept.
     #[inline(always)]
     fn finish(
         &mut self,
-        trigger: Trigger,
+        triggers: Triggers,
         scope: Scope,
         cause: Cause,
         offers: Offers<'_>,
@@ -559,23 +601,30 @@ impl<P: Policy + Copy> NodeLog<P> {
         requires same_prefixes { prefixes_of offers.before.now ≡ prefixes_of offers.after.now }
         requires same { AreSame offers.before.now offers.after.now offers.same.now }
         ensures made { OnOk result ((policy : P) (net : Net) (u : ℕ) (h : List Logged) (routes : RouteState P) →
-            IsMidway policy (making (P.rules policy) net u h (entry (trigger ∷ []) scope cause)) routes self.old →
-            AreOffers (making (P.rules policy) net u h (entry (trigger ∷ []) scope cause)) offers.entry.before.now offers.entry.after.now →
-            IsMade policy (making (P.rules policy) net u h (entry (trigger ∷ []) scope cause)) self.new) }
+            IsMidway policy (making (P.rules policy) net u h (entry triggers scope cause)) routes self.old →
+            AreOffers (making (P.rules policy) net u h (entry triggers scope cause)) offers.entry.before.now offers.entry.after.now →
+            IsMade policy (making (P.rules policy) net u h (entry triggers scope cause)) self.new) }
         ensures dropped { OnOk result (dropped_of self.new ≡ dropped_of self.old) }
     {
-        mark(&mut self.sessions, &trigger, &cause)?;
+        mark(&mut self.sessions, &triggers, &cause)?;
         let turn = Turn {
-            trigger: &trigger,
+            triggers: &triggers,
             cause: &cause,
             before: offers.before,
             after: offers.after,
             same: offers.same,
         };
-        tell_all(&self.routes, &mut self.sessions, &turn, &mut self.said)?;
+        tell_all(
+            &self.routes,
+            &mut self.sessions,
+            &self.held_back,
+            &turn,
+            &mut self.said,
+        )?;
+        hold_back(&self.routes, &self.sessions, &turn, &mut self.held_back)?;
         let sent = SentItems::of(self.alloc, &self.said.sent)?;
         self.keep(Entry {
-            trigger,
+            triggers,
             scope,
             cause,
             sent,
@@ -589,6 +638,7 @@ impl<P: Policy + Copy> NodeLog<P> {
         ensures node { OnOk result (self.new.node ≡ self.old.node) }
         ensures routes { OnOk result (self.new.routes ≡ self.old.routes) }
         ensures sessions { OnOk result (self.new.sessions ≡ self.old.sessions) }
+        ensures held { OnOk result (self.new.held_back ≡ self.old.held_back) }
         ensures said { OnOk result (self.new.said ≡ self.old.said) }
         ensures next { OnOk result (self.new.next_count
             ≡ (if is_local entry.cause then suc self.old.next_count else self.old.next_count)) }
@@ -633,6 +683,18 @@ impl<P: Policy + Copy> NodeLog<P> {
             Cause::Up { nbr, session } => self.may_open(*nbr, *session),
             Cause::Ready { nbr, session } => self.holds(*nbr, *session) && !self.ready(*nbr),
             Cause::Prefer { .. } => true,
+            _ => false,
+        }
+    }
+
+    // Whether an entry of no prefix may follow: it sends a neighbour what is held back from it.
+    fn fits_nothing(&self, cause: &Cause) -> bool
+        ensures { (policy : P) (net : Net) (u : ℕ) (h : List Logged) →
+            StandsFor policy (P.rules policy) net u self.now h → IsOfNeighbour net u cause.now →
+            IsTrue result ↔ MayFollow (P.rules policy) net u h Nothing cause.now }
+    {
+        match cause {
+            Cause::Flush { nbr } => self.held_back.has_some(*nbr),
             _ => false,
         }
     }

@@ -119,7 +119,7 @@ pub fn offers_again<P: Policy + Copy>(
 }
 
 /// The best routes that an entry of all prefixes may change: none where it opens a session, which leaves all offers
-/// as they were.
+/// as they were, and none of an entry that sends what is held back, which is of no prefix.
 pub fn offers_for<P: Policy + Copy>(
     alloc: Global,
     routes: &RouteState<P>,
@@ -131,8 +131,9 @@ pub fn offers_for<P: Policy + Copy>(
         StandsFor policy topology.now u routes.now h →
         AreChosen (P.rules policy) topology.now u h offers.items) }
 {
-    if let Cause::Up { .. } = cause {
-        return Ok(Vec::new(alloc));
+    match cause {
+        Cause::Up { .. } => Ok(Vec::new(alloc)),
+        Cause::Flush { .. } => Ok(Vec::new(alloc)),
+        _ => Ok(offers_of(alloc, routes, topology)?),
     }
-    Ok(offers_of(alloc, routes, topology)?)
 }

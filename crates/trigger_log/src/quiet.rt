@@ -1,5 +1,5 @@
 //! Which entries say nothing to any neighbour.
-ghost use Rattle.std.specs.Prelude.{ℕ, ◌≡◌, ◌∷◌, ◌↔◌, [], List, IsTrue, IfOk};
+ghost use Rattle.std.specs.Prelude.{ℕ, ◌≡◌, ◌∷◌, ◌↔◌, List, IsTrue, IfOk};
 ghost use Rattle.topology.specs.declared.names.Trigger.{Trigger};
 ghost use Rattle.topology.specs.Net.{Net};
 ghost use Rattle.path_vector.specs.Standing.{StandsFor};
@@ -13,13 +13,14 @@ use path_vector::{Cause, Policy, RouteState};
 use std::alloc::Global;
 use topology::{NoMemory, Scope};
 
-// Whether the entry ends a session, or makes one ready.
+// Whether the entry ends a session, makes one ready, or sends what is held back in one.
 fn turns_session(cause: &Cause) -> bool
     ensures { result ≡ turns_session cause.now }
 {
     match cause {
         Cause::Down { .. } => true,
         Cause::Ready { .. } => true,
+        Cause::Flush { .. } => true,
         _ => false,
     }
 }
@@ -58,9 +59,9 @@ pub fn is_quiet(turn: &Turn<'_>) -> bool
 /// Whether an entry is an update that leaves the best route of its prefix as it is: there is nothing
 /// to tell then, and nothing need be compared.
 pub fn stays<P: Policy + Copy>(routes: &RouteState<P>, scope: &Scope, cause: &Cause) -> bool
-    ensures { (policy : P) (net : Net) (u : ℕ) (h : List Entry) (trigger : Trigger) →
+    ensures { (policy : P) (net : Net) (u : ℕ) (h : List Entry) (triggers : List Trigger) →
         StandsFor policy net u routes.now (reads h) → IsPlaced net scope.now → IsTrue result →
-        Stays (P.rules policy) net u h (entry (trigger ∷ []) scope.now cause.now) }
+        Stays (P.rules policy) net u h (entry triggers scope.now cause.now) }
 {
     let Scope::One(prefix) = scope else {
         return false;

@@ -1,5 +1,5 @@
 //! What an entry makes a node tell one neighbour.
-ghost use Rattle.std.specs.Prelude.{ℕ, suc, ◌≡◌, ◌∷◌, [], ◌++◌, true, None, map, option_map, if◌then◌else◌, List, IfOk};
+ghost use Rattle.std.specs.Prelude.{ℕ, suc, ◌≡◌, ◌<◌, ◌∷◌, [], ◌++◌, true, None, length, map, option_map, if◌then◌else◌, List, IfOk};
 ghost use Rattle.std.specs.Option.{option_copied};
 ghost use Rattle.topology.specs.Lists.{has, same_nodes, same_path};
 ghost use Rattle.topology.specs.Net.{Net, neighbours};
@@ -12,14 +12,16 @@ ghost use Rattle.trigger_log.specs.Going.{going_of};
 ghost use Rattle.trigger_log.specs.Entries.{Entry, reads};
 ghost use Rattle.trigger_log.specs.Making.{making};
 ghost use Rattle.trigger_log.specs.Offered.{AreChosen, AreSame, prefixes_of, updates_over};
+ghost use Rattle.trigger_log.specs.HoldingBack.{ArePlacedRows, row_update, row_updates};
 ghost use Rattle.trigger_log.specs.Telling.{TellsUpdates, silence, speech_of, update_going};
 
 use crate::counting::next_number;
 use crate::offers::Offer;
 use crate::outgoing::{Outgoing, forget};
+use crate::pending_list::is_to;
 use path_vector::{Cause, Policy, RouteState};
 use std::alloc::Global;
-use topology::{Item, NoMemory, NodeId, Path, PrefixId, Sent, Session, Trigger};
+use topology::{Item, NoMemory, NodeId, Path, Pending, PrefixId, Sent, Session, Triggers};
 
 fn same_slice(a: &[NodeId], b: &[NodeId]) -> bool
     ensures { result ≡ same_nodes a.now b.now }
@@ -92,19 +94,19 @@ pub struct Listener {
     pub knows: bool,
 }
 
-/// The trigger and the cause of an entry, the best routes of its prefixes before and after it, and of each prefix whether
+/// The triggers and the cause of an entry, the best routes of its prefixes before and after it, and of each prefix whether
 /// its best route is the same after the entry as before.
 #[derive(Drop)]
 pub struct Turn<'a> {
-    pub trigger: &'a Trigger,
+    pub triggers: &'a Triggers,
     pub cause: &'a Cause,
     pub before: &'a [Offer],
     pub after: &'a [Offer],
     pub same: &'a [bool],
 }
 
-// The path that the neighbour knows of: none where it knows nothing.
-fn known<'a, P: Policy + Copy>(
+/// The path that the neighbour knows of: none where it knows nothing.
+pub fn known<'a, P: Policy + Copy>(
     routes: &RouteState<P>,
     before: &'a Offer,
     listener: &Listener,
@@ -126,24 +128,27 @@ fn say(
     listener: &Listener,
     count: u32,
     prefix: PrefixId,
-    trigger: &Trigger,
+    triggers: &Triggers,
     path: Option<&Path>,
     said: &mut Said,
 ) -> Result<u32, NoMemory>
     ensures count { IfOk result (λ seq. seq ≡ suc count) }
     ensures sent { IfOk result (λ seq. said.new.sent.items
-        ≡ said.old.sent.items ++ record { to = listener.now.nbr; session = listener.now.session; seq = seq } ∷ []) }
+        ≡ said.old.sent.items ++ record { to = listener.now.nbr; session = listener.now.session; seq = seq; triggers = triggers.now } ∷ []) }
     ensures outgoing { IfOk result (λ seq. map going_of said.new.outgoing.items
-        ≡ map going_of said.old.outgoing.items ++ update_going listener.now seq (record { prefix = prefix; triggers = trigger.now ∷ []; path = option_copied path.entry }) ∷ []) }
+        ≡ map going_of said.old.outgoing.items ++ update_going listener.now seq (record { prefix = prefix; triggers = triggers.now; path = option_copied path.entry }) ∷ []) }
 {
     let seq = next_number(count)?;
     let path = copy(path)?;
+    let listed = triggers.copy()?;
+    let carried = triggers.copy()?;
     // Room first, as where an entry is kept.
     said.sent.reserve(1)?;
     said.sent.push_reserved(Sent {
         to: listener.nbr,
         session: listener.session,
         seq,
+        triggers: listed,
     });
     said.outgoing.reserve(1)?;
     said.outgoing.push_reserved(Outgoing {
@@ -152,7 +157,7 @@ fn say(
         item: Item::Update {
             prefix,
             seq,
-            trigger: *trigger,
+            triggers: carried,
             path,
         },
     });
@@ -170,7 +175,7 @@ pub fn tell<P: Policy + Copy>(
     requires same_prefixes { prefixes_of turn.now.before.now ≡ prefixes_of turn.now.after.now }
     requires same { AreSame turn.now.before.now turn.now.after.now turn.now.same.now }
     ensures { IfOk result (λ count. (policy : P) (net : Net) (u : ℕ) (h : List Entry) (k : Entry) →
-        StandsFor policy net u routes.now (k.read ∷ reads h) → k.triggers ≡ turn.now.trigger.now ∷ [] →
+        StandsFor policy net u routes.now (k.read ∷ reads h) → k.triggers ≡ turn.now.triggers.now →
         AreChosen (P.rules policy) net u (reads h) turn.now.before.now →
         AreChosen (P.rules policy) net u (k.read ∷ reads h) turn.now.after.now →
         has (neighbours net u) listener.now.nbr ≡ true →
@@ -188,7 +193,52 @@ pub fn tell<P: Policy + Copy>(
         if same(offered, known(routes, before, listener)) {
             continue;
         }
-        count = say(listener, count, offer.prefix, turn.trigger, offered, said)?;
+        count = say(listener, count, offer.prefix, turn.triggers, offered, said)?;
+    }
+    Ok(count)
+}
+
+// Lists what is held back of one row, and answers its number.
+fn tell_row<P: Policy + Copy>(
+    routes: &RouteState<P>,
+    row: &Pending,
+    listener: &Listener,
+    count: u32,
+    said: &mut Said,
+) -> Result<u32, NoMemory>
+    ensures count { IfOk result (λ seq. seq ≡ suc count) }
+    ensures sent { IfOk result (λ seq. said.new.sent.items
+        ≡ said.old.sent.items ++ record { to = listener.now.nbr; session = listener.now.session; seq = seq; triggers = row.now.triggers } ∷ []) }
+    ensures outgoing { IfOk result (λ seq. (policy : P) (net : Net) (u : ℕ) (now : History) →
+        StandsFor policy net u routes.now now → has (neighbours net u) listener.now.nbr ≡ true → row.now.prefix < length net.prefixes →
+        map going_of said.new.outgoing.items ≡ map going_of said.old.outgoing.items
+        ++ update_going listener.now seq (row_update (P.rules policy) net u now row.now listener.now.nbr) ∷ []) }
+{
+    let chosen = routes.chosen(row.prefix)?;
+    let offered = routes.offered_path(&chosen, listener.nbr);
+    Ok(say(listener, count, row.prefix, &row.triggers, offered, said)?)
+}
+
+/// Lists an update of each row of the neighbour, what is offered for the triggers of the row, and answers how many items
+/// were sent in its session then.
+pub fn tell_held<P: Policy + Copy>(
+    routes: &RouteState<P>,
+    rows: &[Pending],
+    listener: &Listener,
+    said: &mut Said,
+) -> Result<u32, NoMemory>
+    ensures { IfOk result (λ count. (policy : P) (net : Net) (u : ℕ) (now : History) →
+        StandsFor policy net u routes.now now → has (neighbours net u) listener.now.nbr ≡ true → ArePlacedRows net rows.now →
+        TellsUpdates listener.now (row_updates (P.rules policy) net u now rows.now listener.now.nbr)
+        (speech_of said.old) (speech_of said.new) count) }
+{
+    let mut count = listener.sent;
+    for place in 0..rows.len() {
+        let row = &rows[place];
+        if !is_to(row, listener.nbr) {
+            continue;
+        }
+        count = tell_row(routes, row, listener, count, said)?;
     }
     Ok(count)
 }

@@ -69,9 +69,10 @@ loop-i-preserved g c = λ policy net u h k stands lists before after near.
     let list = updates_over (making rules net u h k) l.knows l.nbr (take i (prefixes_of turn.after.now)) in
     let more = tells_more l list (update_of (making rules net u h k) l.nbr o.prefix)
     (speech_of c.args.said.now) (speech_of c.loop-i.said) (speech_of c.say.new.said) c.loop-i.count c.in_ok-count.count
-    c.in_ok-count.ensures.count c.in_ok-count.ensures.sent
+    c.in_ok-count.ensures.count
+    (c.in_ok-count.ensures.sent ∙ ap (λ ts. c.loop-i.said.sent.items ++ record { to = l.nbr; session = l.session; seq = c.in_ok-count.count; triggers = ts } ∷ []) (sym lists))
     (c.in_ok-count.ensures.outgoing ∙ ap (λ (x : Update). map going_of c.loop-i.said.outgoing.items ++ update_going l c.in_ok-count.count x ∷ [])
-    (same_update (slice_index_or turn.after.now i o).prefix o.prefix (turn.trigger.now ∷ []) k.triggers (option_copied c.offered_path-offered.result) (offer rules net u (k.read ∷ reads h) o.prefix l.nbr)
+    (same_update (slice_index_or turn.after.now i o).prefix o.prefix turn.triggers.now k.triggers (option_copied c.offered_path-offered.result) (offer rules net u (k.read ∷ reads h) o.prefix l.nbr)
     (ap (λ (x : Offer). x.prefix) (sym c.index-turn-i.is)) (sym lists) offered))
     (c.loop-i.invariant policy net u h k stands lists before after near) in
     subst (λ list. TellsUpdates l list (speech_of c.args.said.now) (speech_of c.say.new.said) c.in_ok-count.count)

@@ -1,4 +1,4 @@
-use Rattle.std.proofs.Common.{◌≡◌, ◌∷◌, [], true, arith, rules, replicate}
+use Rattle.std.proofs.Common.{◌≡◌, ◌∷◌, true, arith, rules, replicate}
 use Rattle.topology.specs.declared.names.Scope.TheVariants.{All}
 use Rattle.path_vector.specs.declared.causes.Cause.TheVariants.{Ready}
 use Rattle.trigger_log.specs.Entries.{entry, reads}
@@ -18,12 +18,12 @@ finish-requires-clause-same g c =
     rw (c.deref.ensures.value, c.deref-2.ensures.value, c.deref-3.ensures.value, flags) (all_flags offers.items c.len.result (omega (arith, c.len.ensures, offers.ok.0)))
 
 pub returns-clause-log : goal.returns-clause-log
-returns-clause-log g c = λ policy u h was near fits.
+returns-clause-log g c = λ policy u h was near fits lists.
     let rules = g.P.Policy.rules policy in
     let net = c.args.topology.now in
-    let trigger = c.args.trigger in
+    let triggers = c.args.triggers in
     let cause = Ready c.args.nbr c.args.session in
-    let k = entry (trigger ∷ []) All cause in
+    let k = entry triggers All cause in
     let stands = c.in_ok-apply.ensures.ok policy net u (reads h) was.routes (accepted h All cause was.fitting fits) in
     let chosen = c.in_ok-offers.ensures.chosen policy u (k.read ∷ reads h) stands in
     let offers : AreOffers (making rules net u h k) c.in_ok-offers.offers.items c.in_ok-offers.offers.items = record {
@@ -31,16 +31,16 @@ returns-clause-log g c = λ policy u h was near fits.
       chosen_before = chosen_ready rules net u (reads h) c.args.nbr c.args.session c.in_ok-offers.offers.items chosen;
       chosen_after = chosen;
     } in
-    (c.in_ok-finish.ensures.made policy net u h c.args.self.now.routes (midway policy rules net u h trigger All cause c.args.self.now c.apply.new.self was near tt fits stands)
+    (c.in_ok-finish.ensures.made policy net u h c.args.self.now.routes (midway policy rules net u h triggers All cause c.args.self.now c.apply.new.self was near tt fits lists stands)
     (as_offered (making rules net u h k) c.deref.ensures.value c.deref-2.ensures.value offers)).stands
 
 pub returns-clause-outgoing : goal.returns-clause-outgoing
-returns-clause-outgoing g c = λ policy u h was near fits.
+returns-clause-outgoing g c = λ policy u h was near fits lists.
     let rules = g.P.Policy.rules policy in
     let net = c.args.topology.now in
-    let trigger = c.args.trigger in
+    let triggers = c.args.triggers in
     let cause = Ready c.args.nbr c.args.session in
-    let k = entry (trigger ∷ []) All cause in
+    let k = entry triggers All cause in
     let stands = c.in_ok-apply.ensures.ok policy net u (reads h) was.routes (accepted h All cause was.fitting fits) in
     let chosen = c.in_ok-offers.ensures.chosen policy u (k.read ∷ reads h) stands in
     let offers : AreOffers (making rules net u h k) c.in_ok-offers.offers.items c.in_ok-offers.offers.items = record {
@@ -48,5 +48,5 @@ returns-clause-outgoing g c = λ policy u h was near fits.
       chosen_before = chosen_ready rules net u (reads h) c.args.nbr c.args.session c.in_ok-offers.offers.items chosen;
       chosen_after = chosen;
     } in
-    (c.in_ok-finish.ensures.made policy net u h c.args.self.now.routes (midway policy rules net u h trigger All cause c.args.self.now c.apply.new.self was near tt fits stands)
+    (c.in_ok-finish.ensures.made policy net u h c.args.self.now.routes (midway policy rules net u h triggers All cause c.args.self.now c.apply.new.self was near tt fits lists stands)
     (as_offered (making rules net u h k) c.deref.ensures.value c.deref-2.ensures.value offers)).goes

@@ -1,6 +1,7 @@
 use Rattle.std.proofs.Common.{◌∙◌, [], refl, sym, ap, subst, map}
 use Rattle.trigger_log.specs.Sessions.{AreRows}
 use Rattle.trigger_log.proofs.Rows.{first}
+use Rattle.trigger_log.proofs.Collected.{none_at_first}
 use Rattle.trigger_log.proofs.AllMarks.{rows_first}
 use Rattle.trigger_log.proofs.log.NodeLog.new.Goals as goal
 
@@ -12,9 +13,11 @@ returns-clause-stands g c =
     record {
       routes = c.in_ok-new.ensures;
       fitting = tt;
+      lists = tt;
       node = refl;
       near = c.in_ok-new-2.ensures.near ∙ c.neighbours.ensures.neighbours;
       next = refl;
-      kept = c.in_ok-new-3.ensures.stands;
+      kept = c.in_ok-new-4.ensures.stands;
       marks = subst (AreRows rules net u []) (sym (c.in_ok-new-2.ensures.rows ∙ ap (map first) c.neighbours.ensures.neighbours)) (rows_first rules net u);
+      held = record { from = c.in_ok-new-3.ensures.from; rows = c.in_ok-new-3.ensures.rows ∙ sym (none_at_first rules net u) };
     }
