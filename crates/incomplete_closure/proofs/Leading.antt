@@ -1,56 +1,81 @@
--- What is reached in the graph of reports is the least set that is closed for their open items and rows.
-use Rattle.std.proofs.Common.{ℕ, suc, ◌+◌, ◌<◌, ◌≤◌, Bool, true, false, not, ◌||◌, ◌==◌, nat_lt, Option, Some, None, List, [], ◌∷◌, ◌++◌, length, get_or, map, slice_get, ◌≡◌, ◌⊎◌, inl, inr, refl, sym, ◌∙◌, ap, subst, arith, if◌then◌else◌}
-use Rattle.std.specs.List.{AllByRecursion}
+-- What is reached in the graph of reports is the least set that is closed for what is open and for their rows.
+use Rattle.std.proofs.Common.{ℕ, ◌+◌, ◌<◌, ◌≤◌, Bool, true, false, not, ◌||◌, ◌==◌, nat_lt, Option, Some, None, List, [], ◌∷◌, ◌++◌, length, slice_get, ◌≡◌, ◌⊎◌, inl, inr, refl, sym, ◌∙◌, ap, subst, arith, if◌then◌else◌}
+use Rattle.std.specs.List.{list_any, AllByRecursion}
 use Rattle.std.specs.Option.{option_to_list}
 use Rattle.std.proofs.lemmas.Bool.{cases_lt}
 use Rattle.std.proofs.lemmas.Bool.Decides.{nat_tests}
-use Rattle.std.proofs.lemmas.List.{append_assoc, length-append, length-map, get_or_past, get_or_at, get_or_append_left, get_or-map}
-use Rattle.std.proofs.lemmas.Option.{slice_get_within, get_or_from_slice_get}
+use Rattle.std.proofs.lemmas.List.{get_or_past}
 use Rattle.topology.specs.declared.names.Trigger.{Trigger}
 use Rattle.topology.specs.declared.names.Scope.{Scope}
-use Rattle.topology.specs.declared.names.Scope.TheVariants.{One, All}
-use Rattle.topology.specs.declared.items.Sent.{Sent}
+use Rattle.topology.specs.declared.names.Scope.TheVariants.{One, All, Nothing}
 use Rattle.topology.specs.Triggers.{lists}
 use Rattle.topology.specs.Lists.{Among}
 use Rattle.incomplete_closure.specs.declared.cut_rows.Row.{Row}
-use Rattle.incomplete_closure.specs.declared.session_rows.SessionRow.{SessionRow}
 use Rattle.incomplete_closure.specs.declared.reports.Report.{Report}
-use Rattle.incomplete_closure.specs.declared.opening.OpenItem.{OpenItem}
+use Rattle.incomplete_closure.specs.declared.opening.OpenTrigger.{OpenTrigger}
 use Rattle.incomplete_closure.specs.Blocked.{shares}
-use Rattle.incomplete_closure.specs.Opening.{received_of, down_of, if_open, row_of, of_node, open_at, open_in_row, open_in_report, open_items}
 use Rattle.incomplete_closure.specs.Graphs.{led_from, IsKept, Trail, has_seen, IsReached}
 use Rattle.incomplete_closure.specs.Marks.{mark_names}
-use Rattle.incomplete_closure.specs.Closed.{is_due, ClosedAt, ClosedFrom, ClosedRows, ClosedFor, IsLeast}
-use Rattle.incomplete_closure.specs.Wiring.{with_reports, place_of, nearest_by, nearest, stretch_by, stretch, next_rows, wire_reports, source_of, blank, graph_of}
-use Rattle.incomplete_closure.proofs.Listing.{or_left, or_right, or_either, lists_among, among_lists, of_flat, each_at, all_from_each}
-use Rattle.incomplete_closure.proofs.Wired.{AllIn, Joined, RowsWired, ReportsWired, BothLead, ItemWired, reports_kept, kept_reports, items_kept, kept_items, length_reports, length_items, length_blank, blank_kept, all_front, all_last, all_more}
-use Rattle.incomplete_closure.proofs.Naming.{in_marks, passes_marked, marks_ascend, Distinct, names_distinct, reports_there, place_found, place_at, place_stands}
+use Rattle.incomplete_closure.specs.Closed.{is_due, ClosedAt, AllInside, ClosedFrom, RowClosed, ClosedRows, ClosedFor, IsLeast}
+use Rattle.incomplete_closure.specs.Names.{names_of, number_of}
+use Rattle.incomplete_closure.specs.Wiring.{nearest_by, nearest, stretch_by, stretch_at, nearest_at, stretch, next_rows, root_of, roots_of, wire_open, graph_of_rows}
+use Rattle.incomplete_closure.proofs.Listing.{or_left, or_right, or_either, lists_among, among_lists, some_passes, passes, in_flat, of_flat, each_at, all_from_each}
+use Rattle.incomplete_closure.proofs.Wired.{AllIn, Leads, TiedIn, RowWired, RowsWired, ReportsWired, DownWired, OpenWired, kept_says, says_kept, length_graph}
+use Rattle.incomplete_closure.proofs.Naming.{in_marks, passes_marked, marks_ascend, Distinct, names_distinct, row_named, open_named, number_within, number_stands, number_at, at_number}
 
 -- ---- one row leads to all later ones that share a prefix
 
-module _ (inside : ℕ → Bool) (names : List Trigger) (base : ℕ) where
-  -- every row's vertex is in the set
-  abbrev Every : List Row → Type 0
-  Every [] = Unit {0}
-  Every (row ∷ later) = (inside (base + length later) ≡ true) × Every later
+module _ (inside : ℕ → Bool) (names : List Trigger) where
+  -- the first trigger that a row lists is in the set
+  abbrev pub HeadIn : List Trigger → Type 0
+  HeadIn [] = Unit {0}
+  HeadIn (t ∷ ts) = inside (number_of names t) ≡ true
 
   -- that of every row that shares a prefix is
   abbrev pub Sharing : Scope → List Row → Type 0
   Sharing scope [] = Unit {0}
-  Sharing scope (row ∷ later) = (shares scope row.scope ≡ true → inside (base + length later) ≡ true) × Sharing scope later
+  Sharing scope (row ∷ later) = (shares scope row.scope ≡ true → HeadIn row.triggers) × Sharing scope later
 
-  one_of_stretch : (scope : Scope) (v : ℕ) (later : List Row) → AllIn inside (stretch_by scope v (stretch base later)) → (inside v ≡ true → AllIn inside (next_rows scope base later))
-      → (inside v ≡ true) × AllIn inside (stretch base later)
-  one_of_stretch (One q) v later all step = (all_last inside (stretch base later) v all, all_front inside (stretch base later) (v ∷ []) all)
-  one_of_stretch All v later all step = (all.0, step all.0)
+  all_front : (xs ys : List ℕ) → AllIn inside (xs ++ ys) → AllIn inside xs
+  all_front [] ys all = tt
+  all_front (x ∷ xs) ys all = (all.0, all_front xs ys all.1)
 
-  every : (rows : List Row) → RowsWired inside names base rows → AllIn inside (stretch base rows) → Every rows
+  all_last : (xs : List ℕ) (y : ℕ) → AllIn inside (xs ++ y ∷ []) → inside y ≡ true
+  all_last [] y all = all.0
+  all_last (x ∷ xs) y all = all_last xs y all.1
+
+  -- one that is in the set leads to others of it
+  pub led_in : (from : ℕ) (tos : List ℕ) → inside from ≡ true → AllByRecursion (Leads inside from) tos → AllIn inside tos
+  led_in from [] e all = tt
+  led_in from (to ∷ tos) e all = (all.0 e, led_in from tos e all.1)
+
+  never : {P : Type 0} → false ≡ true → P
+  never e = absurd (cc e)
+
+  -- of one row of the stretch, and what is behind it
+  one_of_stretch : (scope : Scope) (n : ℕ) (later : List Row) → AllIn inside (stretch_by scope n (stretch names later)) → AllByRecursion (Leads inside n) (next_rows names scope later)
+      → (shares All scope ≡ true → inside n ≡ true) × AllIn inside (stretch names later)
+  one_of_stretch (One q) n later all step = ((λ s. all_last (stretch names later) n all), all_front (stretch names later) (n ∷ []) all)
+  one_of_stretch All n later all step = ((λ s. all.0), led_in n (stretch names later) all.0 step)
+  one_of_stretch Nothing n later all step = ((λ s. never s), all)
+
+  row_of_stretch : (ts : List Trigger) (scope : Scope) (later : List Row) → AllIn inside (stretch_at names ts scope (stretch names later)) → RowWired inside names ts (next_rows names scope later)
+      → (shares All scope ≡ true → HeadIn ts) × AllIn inside (stretch names later)
+  row_of_stretch [] scope later all w = ((λ s. tt), all)
+  row_of_stretch (t ∷ ts) scope later all w = one_of_stretch scope (number_of names t) later all w.1
+
+  every : (rows : List Row) → RowsWired inside names rows → AllIn inside (stretch names rows) → Sharing All rows
   every [] w all = tt
-  every (row ∷ later) w all = let one = one_of_stretch row.scope (base + length later) later all w.0.1 in (one.0, every later w.1 one.1)
+  every (row ∷ later) w all = let one = row_of_stretch row.triggers row.scope later all w.1 in (one.0, every later w.0 one.1)
 
-  every_sharing : (scope : Scope) (rows : List Row) → Every rows → Sharing scope rows
-  every_sharing scope [] e = tt
-  every_sharing scope (row ∷ later) e = ((λ s. e.0), every_sharing scope later e.1)
+  shares_all : (p : ℕ) (scope : Scope) → shares (One p) scope ≡ true → shares All scope ≡ true
+  shares_all p (One q) s = refl
+  shares_all p All s = refl
+  shares_all p Nothing s = s
+
+  all_shared : (p : ℕ) (rows : List Row) → Sharing All rows → Sharing (One p) rows
+  all_shared p [] e = tt
+  all_shared p (row ∷ later) e = ((λ s. e.0 (shares_all p row.scope s)), all_shared p later e.1)
 
   same_prefix : (q p : ℕ) → (q == p) ≡ true → q ≡ p
   same_prefix q p e = grind (arith, nat_tests)
@@ -59,52 +84,58 @@ module _ (inside : ℕ → Bool) (names : List Trigger) (base : ℕ) where
   other_prefix q p e f = grind (arith, nat_tests)
 
   abbrev Near : ℕ → List Row → Type 0
-  Near p rows = AllIn inside (option_to_list (nearest base p rows))
+  Near p rows = AllIn inside (option_to_list (nearest names p rows))
 
-  one_of_near : (p : ℕ) (scope : Scope) (v : ℕ) (later : List Row) → AllIn inside (option_to_list (nearest_by scope v p (nearest base p later))) → (inside v ≡ true → AllIn inside (next_rows scope base later))
-      → RowsWired inside names base later → (Near p later → Sharing (One p) later) → (shares (One p) scope ≡ true → inside v ≡ true) × Sharing (One p) later
-  one_of_near p All v later all step w more = ((λ s. all.0), every_sharing (One p) later (every later w (step all.0)))
-  one_of_near p (One q) v later all step w more =
-      (elim (q == p) as (λ b. (q == p) ≡ b → AllIn inside (option_to_list (if b then Some v else nearest base p later)) → (shares (One p) (One q) ≡ true → inside v ≡ true) × Sharing (One p) later) [
-        | true ↦ λ e here. ((λ s. here.0), more (subst (λ z. Near z later) (same_prefix q p e) (step here.0)))
+  one_of_near : (p : ℕ) (scope : Scope) (n : ℕ) (later : List Row) → AllIn inside (option_to_list (nearest_by scope n p (nearest names p later))) → AllByRecursion (Leads inside n) (next_rows names scope later)
+      → RowsWired inside names later → (Near p later → Sharing (One p) later) → (shares (One p) scope ≡ true → inside n ≡ true) × Sharing (One p) later
+  one_of_near p All n later all step w more = ((λ s. all.0), all_shared p later (every later w (led_in n (stretch names later) all.0 step)))
+  one_of_near p Nothing n later all step w more = ((λ s. never s), more all)
+  one_of_near p (One q) n later all step w more =
+      (elim (q == p) as (λ b. (q == p) ≡ b → AllIn inside (option_to_list (if b then Some n else nearest names p later)) → (shares (One p) (One q) ≡ true → inside n ≡ true) × Sharing (One p) later) [
+        | true ↦ λ e here. ((λ s. here.0), more (subst (λ z. Near z later) (same_prefix q p e) (led_in n (option_to_list (nearest names q later)) here.0 step)))
         | false ↦ λ e here. ((λ s. absurd (other_prefix q p e s)), more here)
       ]) refl all
 
-  sharing : (p : ℕ) (rows : List Row) → RowsWired inside names base rows → Near p rows → Sharing (One p) rows
+  row_of_near : (p : ℕ) (ts : List Trigger) (scope : Scope) (later : List Row) → AllIn inside (option_to_list (nearest_at names ts scope p (nearest names p later))) → RowWired inside names ts (next_rows names scope later)
+      → RowsWired inside names later → (Near p later → Sharing (One p) later) → (shares (One p) scope ≡ true → HeadIn ts) × Sharing (One p) later
+  row_of_near p [] scope later all w ws more = ((λ s. tt), more all)
+  row_of_near p (t ∷ ts) scope later all w ws more = one_of_near p scope (number_of names t) later all w.1 ws more
+
+  sharing : (p : ℕ) (rows : List Row) → RowsWired inside names rows → Near p rows → Sharing (One p) rows
   sharing p [] w near = tt
-  sharing p (row ∷ later) w near = one_of_near p row.scope (base + length later) later near w.0.1 w.1 (sharing p later w.1)
+  sharing p (row ∷ later) w near = row_of_near p row.triggers row.scope later near w.1 w.0 (sharing p later w.0)
 
-  pub follow : (scope : Scope) (rows : List Row) → RowsWired inside names base rows → AllIn inside (next_rows scope base rows) → Sharing scope rows
+  none_shared : (rows : List Row) → Sharing Nothing rows
+  none_shared [] = tt
+  none_shared (row ∷ later) = ((λ s. never s), none_shared later)
+
+  pub follow : (scope : Scope) (rows : List Row) → RowsWired inside names rows → AllIn inside (next_rows names scope rows) → Sharing scope rows
   follow (One p) rows w all = sharing p rows w all
-  follow All rows w all = every_sharing All rows (every rows w all)
+  follow All rows w all = every rows w all
+  follow Nothing rows w all = none_shared rows
 
--- ---- every open item has its trigger among those of the rows
+  -- one trigger of a row leads to all of them
+  pub to_first : (first : ℕ) (ts : List Trigger) (t : Trigger) → TiedIn inside names first ts → Among t ts → inside (number_of names t) ≡ true → inside first ≡ true
+  to_first first [] t w a e = absurd a
+  to_first first (s ∷ ts) t w (inl is) e = w.0.1 (subst (λ z. inside (number_of names z) ≡ true) (sym is) e)
+  to_first first (s ∷ ts) t w (inr a) e = to_first first ts t w.1 a e
 
--- an item by its parts
-abbrev an_item : Trigger → Option Trigger → OpenItem
-an_item t down = record { trigger = t; down = down }
+  pub from_first : (first : ℕ) (ts : List Trigger) → TiedIn inside names first ts → inside first ≡ true → AllByRecursion (λ t. inside (number_of names t) ≡ true) ts
+  from_first first [] w e = tt
+  from_first first (s ∷ ts) w e = (w.0.0 e, from_first first ts w.1 e)
 
-if_open_named : (row : Option SessionRow) (t : Trigger) (item : Sent) (o : OpenItem) → Among o (if_open row t item) → t ≡ o.trigger
-if_open_named row t item o a =
-    elim (nat_lt (received_of row) item.seq) as (λ b. Among o (if b then an_item t (down_of row) ∷ [] else []) → t ≡ o.trigger) [
-      | true ↦ λ m. here m
-      | false ↦ λ m. absurd m
-    ] a
-  where
-    here : (an_item t (down_of row) ≡ o) ⊎ ⊥ → t ≡ o.trigger
-    here (inl e) = ap (λ (z : OpenItem). z.trigger) e
-    here (inr m) = absurd m
+  pub row_head : (ts : List Trigger) (next : List ℕ) (t : Trigger) → RowWired inside names ts next → Among t ts → inside (number_of names t) ≡ true → HeadIn ts
+  row_head [] next t w a e = absurd a
+  row_head (s ∷ ts) next t w (inl is) e = subst (λ z. inside (number_of names z) ≡ true) (sym is) e
+  row_head (s ∷ ts) next t w (inr a) e = to_first (number_of names s) ts t w.0 a e
 
-open_at_named : (to : Option Report) (v : ℕ) (t : Trigger) (item : Sent) (o : OpenItem) → Among o (open_at to v t item) → t ≡ o.trigger
-open_at_named None v t item o a = absurd a
-open_at_named (Some to) v t item o a = if_open_named (row_of to v item.session) t item o a
+  pub head_row : (ts : List Trigger) (next : List ℕ) → RowWired inside names ts next → HeadIn ts → AllByRecursion (λ t. inside (number_of names t) ≡ true) ts
+  head_row [] next w h = tt
+  head_row (s ∷ ts) next w h = (h, from_first (number_of names s) ts w.0 h)
 
-open_named : (rs : List Report) (o : OpenItem) → Among o (open_items rs) → Among o.trigger (with_reports [] rs)
-open_named rs o a =
-    let f = of_flat (open_in_report rs) rs o a in
-    let k = of_flat (open_in_row rs f.0.node) f.0.rows o f.2 in
-    let i = of_flat (λ (item : Sent). open_at (of_node rs item.to) f.0.node k.0.trigger item) k.0.sent o k.2 in
-    subst (λ t. Among t (with_reports [] rs)) (open_at_named (of_node rs i.0.to) f.0.node k.0.trigger i.0 o i.2) (reports_there [] rs f.0 k.0 f.1 k.1)
+  pub head_next : (ts : List Trigger) (next : List ℕ) (t : Trigger) → RowWired inside names ts next → Among t ts → HeadIn ts → AllIn inside next
+  head_next [] next t w a h = absurd a
+  head_next (s ∷ ts) next t w a h = led_in (number_of names s) next h w.1
 
 -- ---- what is reached is closed
 
@@ -114,12 +145,18 @@ not_above v n h = grind (arith, nat_tests)
 is_above : (v n : ℕ) → n ≤ v → nat_lt v n ≡ false
 is_above v n h = grind (arith, nat_tests)
 
-module _ (reports : List Report) (reached : Trail) (names : List Trigger) (named_is : names ≡ with_reports [] reports) (graph : List (List ℕ)) (graph_is : graph ≡ graph_of names reports (open_items reports)) (is : IsReached graph (length names) reached) where
-  abbrev opened : List OpenItem
-  opened = open_items reports
+within_more : (v n m : ℕ) → v ≤ n → m ≡ n + 1 → v < m
+within_more v n m h e = omega arith
 
-  abbrev start : ℕ
-  start = length names
+zero_more : (i : ℕ) → 0 + i ≡ i
+zero_more i = omega arith
+
+module _ (reports : List Report) (opened : List OpenTrigger) (reached : Trail) (is : IsReached (wire_open (names_of reports opened) (graph_of_rows (names_of reports opened) reports) opened) (roots_of (names_of reports opened) opened) reached) where
+  abbrev names : List Trigger
+  names = names_of reports opened
+
+  abbrev graph : List (List ℕ)
+  graph = wire_open names (graph_of_rows names reports) opened
 
   abbrev marks : List Trigger
   marks = mark_names (has_seen reached) 0 names []
@@ -155,45 +192,15 @@ module _ (reports : List Report) (reached : Trail) (names : List Trigger) (named
       split (inl up) = all_from_each (λ w. inside w ≡ true) (led_from graph v) (target up)
       split (inr up) = subst (AllIn inside) (sym (get_or_past graph v [] up)) tt
 
-  abbrev before : List (List ℕ)
-  before = wire_reports names (blank start) reports
-
-  names_blank : start ≤ length (blank start)
-  names_blank = let e = length_blank start in omega arith
-
-  start_before : start < length before
-  start_before =
-      let e = length_blank start in
-      let f = length_reports inside names (blank start) reports in
-      omega arith
-
-  at_most_less : (a b : ℕ) → a < b → a ≤ b
-  at_most_less a b h = omega arith
-
-  wired : AllByRecursion (ItemWired inside names start) opened × IsKept inside before
-  unfolding graph_of
-  wired = kept_items inside names start before opened start_before (at_most_less start (length before) start_before) (subst (IsKept inside) graph_is kept)
-
-  rows_wired : ReportsWired inside names (length (blank start)) reports
-  rows_wired = (kept_reports inside names (blank start) reports names_blank wired.1).0
-
-  -- a place is a vertex
-  place_in : (i : ℕ) → i < start → i < length graph
-  unfolding graph_of
-  place_in i h =
-      let e = length_items inside names start before opened in
-      let f = ap length graph_is in
-      let g = start_before in
-      below i (length graph) (length before) h g (f ∙ e)
-    where
-      below : (i n m : ℕ) → i < start → start < m → n ≡ m → i < n
-      below i n m h g e = omega arith
+  wired : ReportsWired inside names reports × OpenWired inside names opened
+  wired = kept_says inside names reports opened kept
 
   one_place : Distinct names
-  one_place = subst Distinct (sym named_is) (names_distinct reports)
+  one_place = names_distinct reports opened
 
-  zero_more : (i : ℕ) → 0 + i ≡ i
-  zero_more i = omega arith
+  -- numbers are vertices
+  number_in : (t : Trigger) → number_of names t < length graph
+  number_in t = within_more (number_of names t) (length names) (length graph) (number_within names t) (length_graph names reports opened)
 
   -- a marked trigger has a place that was reached
   marked_seen : (t : Trigger) → lists marks t ≡ true → (i : ℕ) × (slice_get names i ≡ Some t) × (has_seen reached i ≡ true)
@@ -203,232 +210,238 @@ module _ (reports : List Report) (reached : Trail) (names : List Trigger) (named
       either (inl a) = absurd a
       either (inr p) = (p.0, p.1, subst (λ k. has_seen reached k ≡ true) (zero_more p.0) p.2)
 
-  -- and one whose place is in the set is marked
-  inside_marked : (t : Trigger) (i : ℕ) → slice_get names i ≡ Some t → inside i ≡ true → lists marks t ≡ true
-  inside_marked t i at e =
-      among_lists marks t
-      (passes_marked (has_seen reached) 0 names [] t i at
-      (subst (λ k. has_seen reached k ≡ true) (sym (zero_more i)) (inside_seen i (place_in i (slice_get_within names i t at)) e)))
+  into : (t : Trigger) → lists marks t ≡ true → inside (number_of names t) ≡ true
+  into t e =
+      let at = marked_seen t e in
+      subst (λ n. inside n ≡ true) (sym (number_at names one_place at.0 t at.1)) (seen_inside at.0 at.2)
 
-  item_closed : (o : OpenItem) → Among o.trigger names → ItemWired inside names start o → ClosedAt (lists marks) o
-  item_closed o a w due =
-      let to = place_found names o.trigger a in
-      inside_marked o.trigger to.0 to.2 (from o.down due to.0 (subst (λ z. BothLead inside (source_of names start o.down) z) to.1 w))
+  -- and one with a number that was reached is marked
+  out_of : (t : Trigger) → Among t names → inside (number_of names t) ≡ true → lists marks t ≡ true
+  out_of t a e =
+      among_lists marks t
+      (passes_marked (has_seen reached) 0 names [] t (number_of names t) (number_stands names t a)
+      (subst (λ k. has_seen reached k ≡ true) (sym (zero_more (number_of names t))) (inside_seen (number_of names t) (number_in t) e)))
+
+  -- ---- what is open
+
+  open_closed : (o : OpenTrigger) → Among o opened → DownWired inside names o.down o.trigger → ClosedAt (lists marks) o
+  open_closed o a w due = out_of o.trigger (open_named reports opened o a) (from o.down refl w due)
     where
-      from : (d : Option Trigger) → is_due (lists marks) d ≡ true → (u : ℕ) → BothLead inside (source_of names start d) (Some u) → inside u ≡ true
-      from None due u lead = lead (seen_inside start is.begun)
-      from (Some s) due u lead =
-          let at = marked_seen s due in
-          (subst (λ z. BothLead inside z (Some u)) (place_at names one_place at.0 s at.1) lead) (seen_inside at.0 at.2)
+      from : (d : Option Trigger) → o.down ≡ d → DownWired inside names d o.trigger → is_due (lists marks) d ≡ true → inside (number_of names o.trigger) ≡ true
+      from (Some s) e lead due = lead (into s due)
+      from None e lead due =
+          seen_inside (number_of names o.trigger)
+          (is.begun (number_of names o.trigger)
+          (in_flat (λ (o : OpenTrigger). root_of names o.down o.trigger) opened o (number_of names o.trigger) a
+          (subst (λ z. Among (number_of names o.trigger) (root_of names z o.trigger)) (sym e) (inl refl)))
+          (number_in o.trigger))
 
   items_closed : AllByRecursion (ClosedAt (lists marks)) opened
   items_closed =
       all_from_each (ClosedAt (lists marks)) opened
-      (λ o a. item_closed o (subst (λ z. Among o.trigger z) (sym named_is) (open_named reports o a)) (each_at (ItemWired inside names start) opened o wired.0 a))
+      (λ o a. open_closed o a (each_at (λ (o : OpenTrigger). DownWired inside names o.down o.trigger) opened o wired.1 a))
 
-  -- the rows of a report have their triggers among the names
+  -- ---- rows
+
+  -- all that these list has a name
   abbrev Named : List Row → Type 0
-  Named rows = AllByRecursion (λ (row : Row). Among row.trigger names) rows
+  Named rows = (row : Row) (t : Trigger) → Among row rows → Among t row.triggers → Among t names
 
-  row_marked : (base : ℕ) (row : Row) (later : List Row) → Among row.trigger names → RowsWired inside names base (row ∷ later) → inside (base + length later) ≡ true → lists marks row.trigger ≡ true
-  row_marked base row later a w e =
-      let at = place_found names row.trigger a in
-      inside_marked row.trigger at.0 at.2 ((subst (λ z. Joined inside (base + length later) z) at.1 w.0.0).0 e)
+  all_out : (ts : List Trigger) → ((t : Trigger) → Among t ts → Among t names) → AllByRecursion (λ t. inside (number_of names t) ≡ true) ts → AllInside (lists marks) ts
+  all_out [] named all = tt
+  all_out (t ∷ ts) named all = (out_of t (named t (inl refl)) all.0, all_out ts (λ s a. named s (inr a)) all.1)
 
-  marked_row : (base : ℕ) (row : Row) (later : List Row) → RowsWired inside names base (row ∷ later) → lists marks row.trigger ≡ true → inside (base + length later) ≡ true
-  marked_row base row later w e =
-      let at = marked_seen row.trigger e in
-      (subst (λ z. Joined inside (base + length later) z) (place_at names one_place at.0 row.trigger at.1) w.0.0).1 (seen_inside at.0 at.2)
-
-  later_marked : (base : ℕ) (row : Row) (rows : List Row) → RowsWired inside names base rows → Named rows → Sharing inside names base row.scope rows → AllByRecursion (ClosedFrom (lists marks) row) rows
-  later_marked base row [] w named shared = tt
-  later_marked base row (next ∷ later) w named shared = (λ s. row_marked base next later named.0 w (shared.0 s), later_marked base row later w.1 named.1 shared.1)
-
-  rows_closed : (base : ℕ) (rows : List Row) → RowsWired inside names base rows → Named rows → ClosedRows (lists marks) rows
-  rows_closed base [] w named = tt
-  rows_closed base (row ∷ later) w named = (
-    λ here. later_marked base row later w.1 named.1 (follow inside names base row.scope later w.1 (w.0.1 (marked_row base row later w here))),
-    rows_closed base later w.1 named.1,
+  later_marked : (row : Row) (rows : List Row) → RowsWired inside names rows → Named rows → Sharing inside names row.scope rows → AllByRecursion (ClosedFrom (lists marks) row) rows
+  later_marked row [] w named shared = tt
+  later_marked row (next ∷ later) w named shared = (
+    λ s. all_out next.triggers (λ t a. named next t (inl refl) a) (head_row inside names next.triggers (next_rows names next.scope later) w.1 (shared.0 s)),
+    later_marked row later w.0 (λ k t a b. named k t (inr a) b) shared.1,
   )
 
-  rows_named : (rs : List Report) → ((r : Report) → Among r rs → Among r reports) → AllByRecursion (λ (r : Report). Named r.rows) rs
-  rows_named rs sub =
-      all_from_each (λ (r : Report). Named r.rows) rs
-      (λ r a. all_from_each (λ (row : Row). Among row.trigger names) r.rows
-      (λ row b. subst (λ z. Among row.trigger z) (sym named_is) (reports_there [] reports r row (sub r a) b)))
-
-  reports_closed : (base : ℕ) (rs : List Report) → ReportsWired inside names base rs → AllByRecursion (λ (r : Report). Named r.rows) rs → AllByRecursion (λ (r : Report). ClosedRows (lists marks) r.rows) rs
-  reports_closed base [] w named = tt
-  reports_closed base (r ∷ rs) w named = (rows_closed base r.rows w.0 named.0, reports_closed (base + length r.rows) rs w.1 named.1)
+  rows_closed : (rows : List Row) → RowsWired inside names rows → Named rows → ClosedRows (lists marks) rows
+  rows_closed [] w named = tt
+  rows_closed (row ∷ later) w named = (
+    λ some.
+        let t = some_passes (lists marks) row.triggers some in
+        let next = next_rows names row.scope later in
+        let head = row_head inside names row.triggers next t.0 w.1 t.1 (into t.0 t.2) in
+        record {
+          together = all_out row.triggers (λ t a. named row t (inl refl) a) (head_row inside names row.triggers next w.1 head);
+          order = later_marked row later w.0 (λ k t a b. named k t (inr a) b) (follow inside names row.scope later w.0 (head_next inside names row.triggers next t.0 w.1 t.1 head));
+        },
+    rows_closed later w.0 (λ k t a b. named k t (inr a) b),
+  )
 
   marks_closed : ClosedFor opened reports (lists marks)
-  marks_closed = record { items = items_closed; rows = reports_closed (length (blank start)) reports rows_wired (rows_named reports (λ r a. a)) }
+  marks_closed = record {
+    items = items_closed;
+    rows = all_from_each (λ (r : Report). ClosedRows (lists marks) r.rows) reports
+        (λ r a. rows_closed r.rows (each_at (λ (r : Report). RowsWired inside names r.rows) reports r wired.0 a) (λ row t b c. row_named reports opened r row t a b c));
+  }
 
   -- ---- and in every closed set
 
   module _ (good : Trigger → Bool) (closed : ClosedFor opened reports good) where
-    -- whether the trigger of each row's vertex is in the set
-    abbrev goods : List Row → List Bool
-    goods [] = []
-    goods (row ∷ later) = goods later ++ good row.trigger ∷ []
+    -- the trigger with the number is in the set
+    good_at : Option Trigger → Bool
+    good_at None = false
+    good_at (Some t) = good t
 
-    abbrev goods_of : List Report → List Bool
-    goods_of [] = []
-    goods_of (r ∷ rs) = goods r.rows ++ goods_of rs
-
-    abbrev firsts : List Bool
-    firsts = map good names ++ true ∷ []
-
-    -- whether that of the vertex is; the start is
     is_good : ℕ → Bool
-    is_good v = get_or (firsts ++ goods_of reports) v false
+    is_good v = good_at (slice_get names v)
 
-    length_goods : (rows : List Row) → length (goods rows) ≡ length rows
-    length_goods [] = refl
-    length_goods (row ∷ later) = length-append (goods later) (good row.trigger ∷ []) ∙ one_up (length (goods later)) (length later) (length_goods later)
+    number_good : (t : Trigger) → Among t names → is_good (number_of names t) ≡ good t
+    unfolding is_good good_at
+    number_good t a = ap good_at (number_stands names t a)
+
+    good_number : (t : Trigger) → is_good (number_of names t) ≡ true → good t ≡ true
+    unfolding is_good good_at
+    good_number t e = either (at_number names t)
       where
-        one_up : (a b : ℕ) → a ≡ b → a + 1 ≡ suc b
-        one_up a b e = omega arith
+        either : (slice_get names (number_of names t) ≡ Some t) ⊎ (slice_get names (number_of names t) ≡ None) → good t ≡ true
+        either (inl f) = sym (ap good_at f) ∙ e
+        either (inr f) = absurd (cc (sym (ap good_at f) ∙ e))
 
-    length_firsts : length firsts ≡ length (blank start)
-    length_firsts = length-append (map good names) (true ∷ []) ∙ (ap (λ n. n + 1) (length-map names good) ∙ sym (length_blank start))
+    abbrev GoodHead : List Trigger → Type 0
+    GoodHead [] = Unit {0}
+    GoodHead (t ∷ ts) = is_good (number_of names t) ≡ true
 
-    start_good : is_good start ≡ true
-    unfolding is_good
-    start_good = ap (λ bs. get_or bs start false) (append_assoc (map good names) (true ∷ []) (goods_of reports)) ∙ get_or_at (map good names) true (goods_of reports) false start (length-map names good)
-
-    place_good : (i : ℕ) (t : Trigger) → slice_get names i ≡ Some t → is_good i ≡ good t
-    unfolding is_good
-    place_good i t at =
-        let up = slice_get_within names i t at in
-        let within : i < length (map good names) = subst (λ n. i < n) (sym (length-map names good)) up in
-        ap (λ bs. get_or bs i false) (append_assoc (map good names) (true ∷ []) (goods_of reports))
-        ∙ (get_or_append_left (map good names) (true ∷ goods_of reports) false i within ∙ (get_or-map good names i t false up ∙ ap good (get_or_from_slice_get names i t t at)))
-
-    -- the vertices of rows are as their triggers
-    abbrev Labelled : ℕ → List Row → Type 0
-    Labelled base [] = Unit {0}
-    Labelled base (row ∷ later) = (is_good (base + length later) ≡ good row.trigger) × Labelled base later
-
-    label_rows : (base : ℕ) (rows : List Row) (front back : List Bool) → length front ≡ base → firsts ++ goods_of reports ≡ front ++ (goods rows ++ back) → Labelled base rows
-    unfolding is_good
-    label_rows base [] front back at e = tt
-    label_rows base (row ∷ later) front back at e =
-        let b = good row.trigger in
-        let parts = e ∙ ap (λ bs. front ++ bs) (append_assoc (goods later) (b ∷ []) back) in (
-          ap (λ bs. get_or bs (base + length later) false) (parts ∙ sym (append_assoc front (goods later) (b ∷ back)))
-              ∙ get_or_at (front ++ goods later) b back false (base + length later) (length-append front (goods later) ∙ both (length front) base (length (goods later)) (length later) at (length_goods later)),
-          label_rows base later front (b ∷ back) at parts,
-        )
-      where
-        both : (a b c d : ℕ) → a ≡ b → c ≡ d → a + c ≡ b + d
-        both a b c d e f = omega arith
-
-    abbrev AllLabelled : ℕ → List Report → Type 0
-    AllLabelled base [] = Unit {0}
-    AllLabelled base (r ∷ rs) = Labelled base r.rows × AllLabelled (base + length r.rows) rs
-
-    label_reports : (base : ℕ) (rs : List Report) (front : List Bool) → length front ≡ base → firsts ++ goods_of reports ≡ front ++ goods_of rs → AllLabelled base rs
-    label_reports base [] front at e = tt
-    label_reports base (r ∷ rs) front at e = (
-      label_rows base r.rows front (goods_of rs) at e,
-      label_reports (base + length r.rows) rs (front ++ goods r.rows)
-          (length-append front (goods r.rows) ∙ both (length front) base (length (goods r.rows)) (length r.rows) at (length_goods r.rows))
-          (e ∙ sym (append_assoc front (goods r.rows) (goods_of rs))),
-    )
-      where
-        both : (a b c d : ℕ) → a ≡ b → c ≡ d → a + c ≡ b + d
-        both a b c d e f = omega arith
-
-    -- the rows that share a prefix are in the set
+    -- the first triggers of the rows that share a prefix are in the set
     abbrev GoodFrom : Scope → List Row → Type 0
-    GoodFrom scope rows = AllByRecursion (λ (next : Row). shares scope next.scope ≡ true → good next.trigger ≡ true) rows
+    GoodFrom scope [] = Unit {0}
+    GoodFrom scope (row ∷ later) = (shares scope row.scope ≡ true → GoodHead row.triggers) × GoodFrom scope later
+
+    good_head : (ts : List Trigger) → ((t : Trigger) → Among t ts → Among t names) → AllInside good ts → GoodHead ts
+    good_head [] named all = tt
+    good_head (t ∷ ts) named all = number_good t (named t (inl refl)) ∙ all.0
+
+    good_from : (row : Row) (rows : List Row) → Named rows → AllByRecursion (ClosedFrom good row) rows → GoodFrom row.scope rows
+    good_from row [] named all = tt
+    good_from row (next ∷ later) named all = (
+      λ s. good_head next.triggers (λ t a. named next t (inl refl) a) (all.0 s),
+      good_from row later (λ k t a b. named k t (inr a) b) all.1,
+    )
 
     turned : (q p : ℕ) → (q == p) ≡ true → (p == q) ≡ true
     turned q p e = grind (arith, nat_tests)
 
-    near_by : (p : ℕ) (scope : Scope) (v : ℕ) (near : Option ℕ) → (shares (One p) scope ≡ true → is_good v ≡ true) → AllIn is_good (option_to_list near) → AllIn is_good (option_to_list (nearest_by scope v p near))
-    near_by p All v near here more = (here refl, tt)
-    near_by p (One q) v near here more =
-        (elim (q == p) as (λ b. (q == p) ≡ b → AllIn is_good (option_to_list (if b then Some v else near))) [
+    near_by : (p : ℕ) (scope : Scope) (n : ℕ) (near : Option ℕ) → (shares (One p) scope ≡ true → is_good n ≡ true) → AllIn is_good (option_to_list near) → AllIn is_good (option_to_list (nearest_by scope n p near))
+    near_by p All n near here more = (here refl, tt)
+    near_by p Nothing n near here more = more
+    near_by p (One q) n near here more =
+        (elim (q == p) as (λ b. (q == p) ≡ b → AllIn is_good (option_to_list (if b then Some n else near))) [
           | true ↦ λ e. (here (turned q p e), tt)
           | false ↦ λ e. more
         ]) refl
 
-    near_good : (base p : ℕ) (rows : List Row) → Labelled base rows → GoodFrom (One p) rows → AllIn is_good (option_to_list (nearest base p rows))
-    near_good base p [] l g = tt
-    near_good base p (row ∷ later) l g = near_by p row.scope (base + length later) (nearest base p later) (λ s. l.0 ∙ g.0 s) (near_good base p later l.1 g.1)
+    near_at : (p : ℕ) (ts : List Trigger) (scope : Scope) (near : Option ℕ) → (shares (One p) scope ≡ true → GoodHead ts) → AllIn is_good (option_to_list near) → AllIn is_good (option_to_list (nearest_at names ts scope p near))
+    near_at p [] scope near here more = more
+    near_at p (t ∷ ts) scope near here more = near_by p scope (number_of names t) near here more
 
-    far_by : (scope : Scope) (v : ℕ) (far : List ℕ) → is_good v ≡ true → AllIn is_good far → AllIn is_good (stretch_by scope v far)
-    far_by (One q) v far here more = all_more is_good far v more here
-    far_by All v far here more = (here, tt)
+    near_good : (p : ℕ) (rows : List Row) → GoodFrom (One p) rows → AllIn is_good (option_to_list (nearest names p rows))
+    near_good p [] g = tt
+    near_good p (row ∷ later) g = near_at p row.triggers row.scope (nearest names p later) g.0 (near_good p later g.1)
 
-    far_good : (base : ℕ) (rows : List Row) → Labelled base rows → GoodFrom All rows → AllIn is_good (stretch base rows)
-    far_good base [] l g = tt
-    far_good base (row ∷ later) l g = far_by row.scope (base + length later) (stretch base later) (l.0 ∙ g.0 refl) (far_good base later l.1 g.1)
+    all_more : (xs : List ℕ) (y : ℕ) → AllIn is_good xs → is_good y ≡ true → AllIn is_good (xs ++ y ∷ [])
+    all_more [] y all e = (e, tt)
+    all_more (x ∷ xs) y all e = (all.0, all_more xs y all.1 e)
 
-    next_good : (base : ℕ) (scope : Scope) (rows : List Row) → Labelled base rows → GoodFrom scope rows → AllIn is_good (next_rows scope base rows)
-    next_good base (One p) rows l g = near_good base p rows l g
-    next_good base All rows l g = far_good base rows l g
+    far_by : (scope : Scope) (n : ℕ) (far : List ℕ) → (shares All scope ≡ true → is_good n ≡ true) → AllIn is_good far → AllIn is_good (stretch_by scope n far)
+    far_by (One q) n far here more = all_more far n more (here refl)
+    far_by All n far here more = (here refl, tt)
+    far_by Nothing n far here more = more
 
-    -- a place that is found is as its trigger
-    found_good : (t : Trigger) (i : ℕ) → place_of names t ≡ Some i → is_good i ≡ good t
-    found_good t i e = place_good i t (place_stands names t i e)
+    far_at : (ts : List Trigger) (scope : Scope) (far : List ℕ) → (shares All scope ≡ true → GoodHead ts) → AllIn is_good far → AllIn is_good (stretch_at names ts scope far)
+    far_at [] scope far here more = more
+    far_at (t ∷ ts) scope far here more = far_by scope (number_of names t) far here more
 
-    joined_good : (v : ℕ) (t : Trigger) → is_good v ≡ good t → Joined is_good v (place_of names t)
-    joined_good v t e =
-        (elim (place_of names t) as (λ o. place_of names t ≡ o → Joined is_good v o) [
-          | None ↦ λ f. tt
-          | Some i ↦ λ f. let g = found_good t i f in ((λ h. g ∙ (sym e ∙ h)), (λ h. e ∙ (sym g ∙ h)))
-        ]) refl
+    far_good : (rows : List Row) → GoodFrom All rows → AllIn is_good (stretch names rows)
+    far_good [] g = tt
+    far_good (row ∷ later) g = far_at row.triggers row.scope (stretch names later) g.0 (far_good later g.1)
 
-    rows_good : (base : ℕ) (rows : List Row) → Labelled base rows → ClosedRows good rows → RowsWired is_good names base rows
-    rows_good base [] l c = tt
-    rows_good base (row ∷ later) l c = (
-      (joined_good (base + length later) row.trigger l.0, λ e. next_good base row.scope later l.1 (c.0 (sym l.0 ∙ e))),
-      rows_good base later l.1 c.1,
+    next_good : (scope : Scope) (rows : List Row) → GoodFrom scope rows → AllIn is_good (next_rows names scope rows)
+    next_good (One p) rows g = near_good p rows g
+    next_good All rows g = far_good rows g
+    next_good Nothing rows g = tt
+
+    tied_good : (first : ℕ) (ts : List Trigger) → ((t : Trigger) → Among t ts → Among t names) → (is_good first ≡ true → AllInside good ts)
+        → ((t : Trigger) → Among t ts → good t ≡ true → is_good first ≡ true) → TiedIn is_good names first ts
+    tied_good first [] named all back = tt
+    tied_good first (t ∷ ts) named all back = (
+      ((λ e. number_good t (named t (inl refl)) ∙ (all e).0), (λ e. back t (inl refl) (good_number t e))),
+      tied_good first ts (λ s a. named s (inr a)) (λ e. (all e).1) (λ s a e. back s (inr a) e),
     )
 
-    reports_good : (base : ℕ) (rs : List Report) → AllLabelled base rs → AllByRecursion (λ (r : Report). ClosedRows good r.rows) rs → ReportsWired is_good names base rs
-    reports_good base [] l c = tt
-    reports_good base (r ∷ rs) l c = (rows_good base r.rows l.0 c.0, reports_good (base + length r.rows) rs l.1 c.1)
+    leads_good : (from : ℕ) (tos : List ℕ) → (is_good from ≡ true → AllIn is_good tos) → AllByRecursion (Leads is_good from) tos
+    leads_good from [] all = tt
+    leads_good from (to ∷ tos) all = ((λ e. (all e).0), leads_good from tos (λ e. (all e).1))
 
-    -- the source of an item that is due leads on
-    source_due : (d : Option Trigger) (i : ℕ) → source_of names start d ≡ Some i → is_good i ≡ true → is_due good d ≡ true
-    source_due None i e h = refl
-    source_due (Some s) i e h = sym (found_good s i e) ∙ h
+    row_good : (row : Row) (ts : List Trigger) (later : List Row) → row.triggers ≡ ts → Named (row ∷ later) → (list_any good row.triggers ≡ true → RowClosed good row later) → RowWired is_good names ts (next_rows names row.scope later)
+    row_good row [] later e named c = tt
+    row_good row (t ∷ ts) later e named c = (
+      tied_good (number_of names t) ts (λ s a. named_here s (inr a)) (λ g. (all t (inl refl) (good_number t g)).1)
+          (λ s a g. number_good t (named_here t (inl refl)) ∙ (all s (inr a) g).0),
+      leads_good (number_of names t) (next_rows names row.scope later)
+          (λ g. next_good row.scope later (good_from row later (λ k s a b. named k s (inr a) b) (c (some t (inl refl) (good_number t g))).order)),
+    )
+      where
+        named_here : (s : Trigger) → Among s (t ∷ ts) → Among s names
+        named_here s a = named row s (inl refl) (subst (λ z. Among s z) (sym e) a)
 
-    item_good : (o : OpenItem) → ClosedAt good o → ItemWired is_good names start o
-    item_good o c =
-        (elim (source_of names start o.down) as (λ a. source_of names start o.down ≡ a → BothLead is_good a (place_of names o.trigger)) [
-          | None ↦ λ e. tt
-          | Some from ↦ λ e.
-              (elim (place_of names o.trigger) as (λ b. place_of names o.trigger ≡ b → BothLead is_good (Some from) b) [
-                | None ↦ λ f. tt
-                | Some to ↦ λ f h. found_good o.trigger to f ∙ c (source_due o.down from e h)
-              ]) refl
-        ]) refl
+        some : (s : Trigger) → Among s (t ∷ ts) → good s ≡ true → list_any good row.triggers ≡ true
+        some s a g = subst (λ z. list_any good z ≡ true) (sym e) (passes good (t ∷ ts) s a g)
+
+        all : (s : Trigger) → Among s (t ∷ ts) → good s ≡ true → AllInside good (t ∷ ts)
+        all s a g = subst (AllInside good) e (c (some s a g)).together
+
+    rows_good : (rows : List Row) → Named rows → ClosedRows good rows → RowsWired is_good names rows
+    rows_good [] named c = tt
+    rows_good (row ∷ later) named c = (rows_good later (λ k t a b. named k t (inr a) b) c.1, row_good row row.triggers later refl named c.0)
+
+    open_good : (o : OpenTrigger) → Among o opened → DownWired is_good names o.down o.trigger
+    open_good o a = from o.down (each_at (ClosedAt good) opened o closed.items a)
+      where
+        from : (d : Option Trigger) → (is_due good d ≡ true → good o.trigger ≡ true) → DownWired is_good names d o.trigger
+        from None c = tt
+        from (Some s) c = λ e. number_good o.trigger (open_named reports opened o a) ∙ c (good_number s e)
 
     good_kept : IsKept is_good graph
-    unfolding graph_of
     good_kept =
-        let rows = reports_kept is_good names (blank start) reports (blank_kept is_good start)
-        (reports_good (length (blank start)) reports (label_reports (length (blank start)) reports firsts length_firsts refl) closed.rows) in
-        subst (IsKept is_good) (sym graph_is)
-        (items_kept is_good names start before opened rows (all_from_each (ItemWired is_good names start) opened (λ o a. item_good o (each_at (ClosedAt good) opened o closed.items a))))
+        says_kept is_good names reports opened
+        (all_from_each (λ (r : Report). RowsWired is_good names r.rows) reports
+        (λ r a. rows_good r.rows (λ row t b c. row_named reports opened r row t a b c) (each_at (λ (r : Report). ClosedRows good r.rows) reports r closed.rows a)))
+        (all_from_each (λ (o : OpenTrigger). DownWired is_good names o.down o.trigger) opened open_good)
+
+    -- roots
+    root_good : (w : ℕ) → Among w (roots_of names opened) → is_good w ≡ true
+    root_good w a =
+        let o = of_flat (λ (o : OpenTrigger). root_of names o.down o.trigger) opened w a in
+        from o.0 o.1 o.0.down o.2 (each_at (ClosedAt good) opened o.0 closed.items o.1)
+      where
+        here : (o : OpenTrigger) → Among o opened → (number_of names o.trigger ≡ w) ⊎ ⊥ → good o.trigger ≡ true → is_good w ≡ true
+        here o a (inl e) g = subst (λ z. is_good z ≡ true) e (number_good o.trigger (open_named reports opened o a) ∙ g)
+        here o a (inr b) g = absurd b
+
+        from : (o : OpenTrigger) → Among o opened → (d : Option Trigger) → Among w (root_of names d o.trigger) → (is_due good d ≡ true → good o.trigger ≡ true) → is_good w ≡ true
+        from o a None b c = here o a b (c refl)
+        from o a (Some s) b c = absurd b
 
     marks_good : (t : Trigger) → Among t marks → good t ≡ true
+    unfolding is_good good_at
     marks_good t a =
         let at = marked_seen t (among_lists marks t a) in
-        sym (place_good at.0 t at.1) ∙ is.least is_good good_kept start_good at.0 at.2
+        sym (ap good_at at.1) ∙ is.least is_good good_kept root_good at.0 at.2
 
   pub marks_least : IsLeast opened reports marks
   marks_least = record { ascending = marks_ascend (has_seen reached) 0 names [] tt; closed = marks_closed; least = λ good closed t a. marks_good good closed t a }
 
 -- so where each part is as the code has it
-pub found_least : (reports : List Report) (names : List Trigger) (os : List OpenItem) (graph : List (List ℕ)) (first : ℕ) (reached : Trail) (marked : List Trigger)
-    → names ≡ with_reports [] reports → os ≡ open_items reports → graph ≡ graph_of names reports os → first ≡ length names → IsReached graph first reached → marked ≡ mark_names (has_seen reached) 0 names []
-    → IsLeast (open_items reports) reports marked
-found_least reports names os graph first reached marked names_are os_are graph_is first_is is marked_is =
-    subst (λ z. IsLeast (open_items reports) reports z) (sym marked_is)
-    (marks_least reports reached names names_are graph (graph_is ∙ ap (graph_of names reports) os_are) (subst (λ n. IsReached graph n reached) first_is is))
+pub found_least : (reports : List Report) (opened : List OpenTrigger) (ns : List Trigger) (graph : List (List ℕ)) (roots : List ℕ) (reached : Trail) (marked : List Trigger)
+    → ns ≡ names_of reports opened → graph ≡ wire_open ns (graph_of_rows ns reports) opened → roots ≡ roots_of ns opened → IsReached graph roots reached → marked ≡ mark_names (has_seen reached) 0 ns []
+    → IsLeast opened reports marked
+found_least reports opened ns graph roots reached marked names_are graph_is roots_are is marked_is =
+    let all = names_of reports opened in
+    subst (λ z. IsLeast opened reports z) (sym (marked_is ∙ ap (λ z. mark_names (has_seen reached) 0 z []) names_are))
+    (marks_least reports opened reached
+    (subst (λ z. IsReached z (roots_of all opened) reached) (graph_is ∙ ap (λ z. wire_open z (graph_of_rows z reports) opened) names_are)
+    (subst (λ z. IsReached graph z reached) (roots_are ∙ ap (λ z. roots_of z opened) names_are) is)))

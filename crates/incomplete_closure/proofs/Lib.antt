@@ -1,4 +1,6 @@
 pub mod Bound
+pub mod Carried
+pub mod Chained
 pub mod Gathering
 pub mod Leading
 pub mod Least
@@ -9,7 +11,7 @@ pub mod Nearest
 pub mod Opened
 pub mod Searching
 pub mod Sorting
+pub mod Startless
 pub mod Tabled
 pub mod Told
 pub mod Wired
-mod Startless

@@ -8,7 +8,7 @@ use Rattle.std.specs.BTreeSet.{insert_key}
 use Rattle.std.proofs.lemmas.Bool.Decides.{nat_tests}
 use Rattle.topology.specs.declared.names.Trigger.{Trigger}
 use Rattle.topology.specs.Triggers.{same_trigger, lists}
-use Rattle.incomplete_closure.specs.Marking.{put}
+use Rattle.topology.specs.Triggers.{put}
 use Rattle.incomplete_closure.specs.Marks.{mark}
 
 -- by node, then by counter

@@ -8,13 +8,14 @@ use Rattle.std.proofs.lemmas.Option.{slice_get_within, get_or_from_slice_get, sl
 use Rattle.topology.specs.declared.names.Trigger.{Trigger}
 use Rattle.topology.specs.Triggers.{same_trigger, Ascend, lists}
 use Rattle.topology.specs.Lists.{Among}
+use Rattle.topology.specs.Triggers.{put, union}
+use Rattle.topology.proofs.Unions.{in_put, in_put_either, union_ascends}
 use Rattle.incomplete_closure.specs.declared.cut_rows.Row.{Row}
 use Rattle.incomplete_closure.specs.declared.reports.Report.{Report}
-use Rattle.incomplete_closure.specs.Marking.{put}
+use Rattle.incomplete_closure.specs.declared.opening.OpenTrigger.{OpenTrigger}
 use Rattle.incomplete_closure.specs.Marks.{mark_if, mark_names}
-use Rattle.incomplete_closure.specs.Wiring.{with_name, with_rows, with_reports, place_of}
+use Rattle.incomplete_closure.specs.Names.{with_name, with_names, with_rows, with_reports, with_open, names_of, place_of, place_or, number_of}
 use Rattle.incomplete_closure.proofs.Listing.{same_is, lists_among, among_lists, in_front, at_end}
-use Rattle.incomplete_closure.proofs.Sorting.{in_put, in_put_either, put_ascends}
 
 -- ---- marks, one place after another
 
@@ -102,6 +103,10 @@ passes_marked due n (s ∷ names) marked t zero e d =
     (subst (λ z. Among z (mark_if (due n) s marked)) is (subst (λ b. Among s (mark_if b s marked)) (sym (subst (λ k. due k ≡ true) (sym (no_more n)) d)) (mark_there s marked)))
 passes_marked due n (s ∷ names) marked t (suc i) e d = passes_marked due (suc n) names (mark_if (due n) s marked) t i e (subst (λ k. due k ≡ true) (sym (one_further n i)) d)
 
+put_ascends : (t : Trigger) (marked : List Trigger) → Ascend marked → Ascend (put t marked)
+unfolding union
+put_ascends t marked a = union_ascends (t ∷ []) marked a
+
 mark_ascends : (due : Bool) (t : Trigger) (marked : List Trigger) → Ascend marked → Ascend (mark_if due t marked)
 mark_ascends false t marked a = a
 mark_ascends true t marked a =
@@ -161,18 +166,26 @@ distinct_name names s one =
       | false ↦ λ e. distinct_more names s one e
     ]) refl
 
+distinct_all : (names ts : List Trigger) → Distinct names → Distinct (with_names names ts)
+distinct_all names [] one = one
+distinct_all names (t ∷ ts) one = distinct_all (with_name names t) ts (distinct_name names t one)
+
 distinct_rows : (names : List Trigger) (rows : List Row) → Distinct names → Distinct (with_rows names rows)
 distinct_rows names [] one = one
-distinct_rows names (row ∷ rows) one = distinct_rows (with_name names row.trigger) rows (distinct_name names row.trigger one)
+distinct_rows names (row ∷ rows) one = distinct_rows (with_names names row.triggers) rows (distinct_all names row.triggers one)
 
 distinct_reports : (names : List Trigger) (rs : List Report) → Distinct names → Distinct (with_reports names rs)
 distinct_reports names [] one = one
 distinct_reports names (r ∷ rs) one = distinct_reports (with_rows names r.rows) rs (distinct_rows names r.rows one)
 
-pub names_distinct : (rs : List Report) → Distinct (with_reports [] rs)
-names_distinct rs = distinct_reports [] rs (λ i j t e f. absurd (cc e))
+distinct_open : (names : List Trigger) (os : List OpenTrigger) → Distinct names → Distinct (with_open names os)
+distinct_open names [] one = one
+distinct_open names (o ∷ os) one = distinct_open (with_name names o.trigger) os (distinct_name names o.trigger one)
 
--- ---- every row has its trigger there
+pub names_distinct : (rs : List Report) (os : List OpenTrigger) → Distinct (names_of rs os)
+names_distinct rs os = distinct_open (with_reports [] rs) os (distinct_reports [] rs (λ i j t e f. absurd (cc e)))
+
+-- ---- all that is listed is there
 
 name_keeps : (names : List Trigger) (s t : Trigger) → Among t names → Among t (with_name names s)
 name_keeps names s t a =
@@ -185,24 +198,50 @@ name_there names s =
       | false ↦ λ e. at_end s names (s ∷ []) (inl refl)
     ]) refl
 
+all_keep : (names ts : List Trigger) (t : Trigger) → Among t names → Among t (with_names names ts)
+all_keep names [] t a = a
+all_keep names (s ∷ ts) t a = all_keep (with_name names s) ts t (name_keeps names s t a)
+
+all_there : (names ts : List Trigger) (t : Trigger) → Among t ts → Among t (with_names names ts)
+all_there names [] t a = absurd a
+all_there names (s ∷ ts) t (inl e) = all_keep (with_name names s) ts t (subst (λ z. Among z (with_name names s)) e (name_there names s))
+all_there names (s ∷ ts) t (inr a) = all_there (with_name names s) ts t a
+
 rows_keep : (names : List Trigger) (rows : List Row) (t : Trigger) → Among t names → Among t (with_rows names rows)
 rows_keep names [] t a = a
-rows_keep names (row ∷ rows) t a = rows_keep (with_name names row.trigger) rows t (name_keeps names row.trigger t a)
+rows_keep names (row ∷ rows) t a = rows_keep (with_names names row.triggers) rows t (all_keep names row.triggers t a)
 
-rows_there : (names : List Trigger) (rows : List Row) (row : Row) → Among row rows → Among row.trigger (with_rows names rows)
-rows_there names [] row a = absurd a
-rows_there names (r ∷ rows) row (inl e) = rows_keep (with_name names r.trigger) rows row.trigger (subst (λ z. Among z.trigger (with_name names r.trigger)) e (name_there names r.trigger))
-rows_there names (r ∷ rows) row (inr a) = rows_there (with_name names r.trigger) rows row a
+rows_there : (names : List Trigger) (rows : List Row) (row : Row) (t : Trigger) → Among row rows → Among t row.triggers → Among t (with_rows names rows)
+rows_there names [] row t a b = absurd a
+rows_there names (r ∷ rows) row t (inl e) b =
+    rows_keep (with_names names r.triggers) rows t (all_there names r.triggers t (subst (λ (z : Row). Among t z.triggers) (sym e) b))
+rows_there names (r ∷ rows) row t (inr a) b = rows_there (with_names names r.triggers) rows row t a b
 
 reports_keep : (names : List Trigger) (rs : List Report) (t : Trigger) → Among t names → Among t (with_reports names rs)
 reports_keep names [] t a = a
 reports_keep names (r ∷ rs) t a = reports_keep (with_rows names r.rows) rs t (rows_keep names r.rows t a)
 
-pub reports_there : (names : List Trigger) (rs : List Report) (r : Report) (row : Row) → Among r rs → Among row r.rows → Among row.trigger (with_reports names rs)
-reports_there names [] r row a b = absurd a
-reports_there names (q ∷ rs) r row (inl e) b =
-    reports_keep (with_rows names q.rows) rs row.trigger (rows_there names q.rows row (subst (λ z. Among row z.rows) (sym e) b))
-reports_there names (q ∷ rs) r row (inr a) b = reports_there (with_rows names q.rows) rs r row a b
+reports_there : (names : List Trigger) (rs : List Report) (r : Report) (row : Row) (t : Trigger) → Among r rs → Among row r.rows → Among t row.triggers → Among t (with_reports names rs)
+reports_there names [] r row t a b c = absurd a
+reports_there names (q ∷ rs) r row t (inl e) b c =
+    reports_keep (with_rows names q.rows) rs t (rows_there names q.rows row t (subst (λ (z : Report). Among row z.rows) (sym e) b) c)
+reports_there names (q ∷ rs) r row t (inr a) b c = reports_there (with_rows names q.rows) rs r row t a b c
+
+open_keep : (names : List Trigger) (os : List OpenTrigger) (t : Trigger) → Among t names → Among t (with_open names os)
+open_keep names [] t a = a
+open_keep names (o ∷ os) t a = open_keep (with_name names o.trigger) os t (name_keeps names o.trigger t a)
+
+open_there : (names : List Trigger) (os : List OpenTrigger) (o : OpenTrigger) → Among o os → Among o.trigger (with_open names os)
+open_there names [] o a = absurd a
+open_there names (p ∷ os) o (inl e) =
+    open_keep (with_name names p.trigger) os o.trigger (subst (λ (z : OpenTrigger). Among z.trigger (with_name names p.trigger)) e (name_there names p.trigger))
+open_there names (p ∷ os) o (inr a) = open_there (with_name names p.trigger) os o a
+
+pub row_named : (rs : List Report) (os : List OpenTrigger) (r : Report) (row : Row) (t : Trigger) → Among r rs → Among row r.rows → Among t row.triggers → Among t (names_of rs os)
+row_named rs os r row t a b c = open_keep (with_reports [] rs) os t (reports_there [] rs r row t a b c)
+
+pub open_named : (rs : List Report) (os : List OpenTrigger) (o : OpenTrigger) → Among o os → Among o.trigger (names_of rs os)
+open_named rs os o a = open_there (with_reports [] rs) os o a
 
 -- ---- the place that is found
 
@@ -236,3 +275,34 @@ pub place_at : (names : List Trigger) → Distinct names → (i : ℕ) (t : Trig
 place_at names one i t e =
     let found = place_found names t (lists_among names t (at_lists names i t e)) in
     found.1 ∙ ap Some (one found.0 i t found.2 e)
+
+-- ---- numbers
+
+pub number_within : (names : List Trigger) (t : Trigger) → number_of names t ≤ length names
+number_within names t =
+    (elim (place_of names t) as (λ o. place_of names t ≡ o → place_or (length names) o ≤ length names) [
+      | None ↦ λ e. omega arith
+      | Some i ↦ λ e. let up = (position-Some (same_trigger t) names i t e).0 in omega arith
+    ]) refl
+
+-- a trigger of the list stands at its number
+pub number_stands : (names : List Trigger) (t : Trigger) → Among t names → slice_get names (number_of names t) ≡ Some t
+number_stands names t a =
+    let found = place_found names t a in
+    subst (λ n. slice_get names n ≡ Some t) (sym (ap (place_or (length names)) found.1)) found.2
+
+-- and what stands somewhere has that number
+pub number_at : (names : List Trigger) → Distinct names → (i : ℕ) (t : Trigger) → slice_get names i ≡ Some t → number_of names t ≡ i
+number_at names one i t e = ap (place_or (length names)) (place_at names one i t e)
+
+nothing_past : (names : List Trigger) → slice_get names (length names) ≡ None
+nothing_past [] = refl
+nothing_past (t ∷ names) = nothing_past names
+
+-- at the number of a trigger stands that trigger, or nothing
+pub at_number : (names : List Trigger) (t : Trigger) → (slice_get names (number_of names t) ≡ Some t) ⊎ (slice_get names (number_of names t) ≡ None)
+at_number names t =
+    (elim (place_of names t) as (λ o. place_of names t ≡ o → (slice_get names (place_or (length names) o) ≡ Some t) ⊎ (slice_get names (place_or (length names) o) ≡ None)) [
+      | None ↦ λ e. inr (nothing_past names)
+      | Some i ↦ λ e. inl (place_stands names t i e)
+    ]) refl

@@ -1,4 +1,4 @@
--- A set is closed for the open items and the rows of reports exactly where no step of them leaves it.
+-- A set is closed for what is open and the rows of reports exactly where no step of them leaves it.
 use Rattle.std.proofs.Common.{ℕ, Bool, true, false, ◌&&◌, ◌==◌, Option, Some, None, List, [], ◌∷◌, map, ◌≡◌, ◌⊎◌, inl, inr, refl, sym, ◌∙◌, ap, subst, cond, arith, find, option_map, Less, nat_lt, nat_cmp, if◌then◌else◌}
 use Rattle.std.specs.Prelude.{option_and_then}
 use Rattle.std.specs.List.{AllByRecursion}
@@ -7,20 +7,22 @@ use Rattle.std.proofs.lemmas.Map.Keys.{sorted_head, sorted_tail, sorted_from_str
 use Rattle.std.proofs.lemmas.Bool.Decides.{nat_tests}
 use Rattle.topology.specs.declared.names.Trigger.{Trigger}
 use Rattle.topology.specs.declared.items.Sent.{Sent}
+use Rattle.topology.specs.declared.items.Pending.{Pending}
 use Rattle.topology.specs.Triggers.{lists}
 use Rattle.topology.specs.Lists.{Among}
 use Rattle.incomplete_closure.specs.declared.cut_rows.Row.{Row as TheRow}
 use Rattle.incomplete_closure.specs.declared.session_rows.SessionRow.{SessionRow as TheSessionRow}
 use Rattle.incomplete_closure.specs.declared.reports.Report.{Report as TheReport}
-use Rattle.incomplete_closure.specs.declared.opening.OpenItem.{OpenItem}
-use Rattle.incomplete_closure.specs.Reports.{Listed, Row, SessionRow, Report, is_of, received_in, received, down, missing}
-use Rattle.incomplete_closure.specs.Blocked.{Missing, Starts, shares, Precedes, Orders, Joins, Covers, StepsTo}
+use Rattle.incomplete_closure.specs.declared.opening.OpenTrigger.{OpenTrigger}
+use Rattle.incomplete_closure.specs.Reports.{Carrier, Row, SessionRow, Report, is_of, received_in, received, down, missing, of_item, of_pending, items_of, open_to}
+use Rattle.incomplete_closure.specs.Blocked.{Open, Starts, shares, Precedes, Orders, Joins, Covers, StepsTo}
 use Rattle.incomplete_closure.specs.Values.{IsValue, IsClosed}
-use Rattle.incomplete_closure.specs.Seen.{item_seen, row_seen, session_seen, report_seen, reports_seen}
-use Rattle.incomplete_closure.specs.Opening.{row_of, received_of, down_of, if_open, of_node, open_at, open_in_row, open_in_report, open_items}
+use Rattle.incomplete_closure.specs.Seen.{row_seen, session_seen, report_seen, reports_seen}
+use Rattle.incomplete_closure.specs.Opening.{row_of, received_of, down_of, with_down, if_open, of_node, open_at, waiting_at, open_in_row, open_in_rows, waiting_in, open_in_report, open_triggers}
 use Rattle.incomplete_closure.specs.Closed.{is_due, ClosedAt, ClosedFrom, ClosedRows, ClosedFor, IsLeast}
 use Rattle.incomplete_closure.specs.Together.{OfOneEpoch, nodes_of}
-use Rattle.incomplete_closure.proofs.Listing.{and_both, both_and, in_map, of_map, in_flat, of_flat, each_at, all_from_each}
+use Rattle.incomplete_closure.proofs.Listing.{and_both, both_and, some_passes, passes, in_front, at_end, in_either, in_map, of_map, in_flat, of_flat, each_at, all_from_each}
+use Rattle.incomplete_closure.proofs.Carried.{missing_open, pending_open, OneOf, ByItem, ByRow, of_open}
 use Rattle.incomplete_closure.proofs.Sorting.{found_passes}
 use Rattle.incomplete_closure.proofs.Least.{a_value, least_is_value}
 
@@ -56,8 +58,8 @@ received_seen report v s = ap received_in (find_seen v s report.sessions) ∙ re
 pub down_seen : (report : TheReport) (v s : ℕ) → down (report_seen report) v s ≡ option_map single (down_of (row_of report v s))
 down_seen report v s = ap (λ o. option_and_then (λ (row : SessionRow). row.down) o) (find_seen v s report.sessions) ∙ down_by (row_of report v s)
 
-pub missing_is : (from to : TheReport) (item : Sent) (triggers : List Trigger) → missing (report_seen from) (report_seen to) (item_seen triggers item) ≡ (item.to == to.node && nat_lt (received_of (row_of to from.node item.session)) item.seq)
-missing_is from to item triggers = ap (λ n. item.to == to.node && nat_lt n item.seq) (received_seen to from.node item.session)
+pub missing_is : (from to : TheReport) (item : Sent) → missing (report_seen from) (report_seen to) item ≡ (item.to == to.node && nat_lt (received_of (row_of to from.node item.session)) item.seq)
+missing_is from to item = ap (λ n. item.to == to.node && nat_lt n item.seq) (received_seen to from.node item.session)
 
 -- ---- the report of a node
 
@@ -74,61 +76,86 @@ node_found (r ∷ rs) sorted g (inr a) =
     let below = each_at (λ y. nat_cmp r.node y ≡ Less) (nodes_of rs) g.node (sorted_head nat_cmp r.node (nodes_of rs) sorted) (in_map (λ (r : TheReport). r.node) rs g a) in
     rw (is_less r.node g.node below) (node_found rs (sorted_tail nat_cmp r.node (nodes_of rs) sorted) g a)
 
--- ---- an item that is missing is open
-
--- an open item with the trigger, and with what the Down of the session lists
-abbrev Found : List TheReport → Report → Report → Listed → Trigger → Type 0
-Found rs from to item t = (o : OpenItem) × Among o (open_items rs) × (o.trigger ≡ t) × (option_map single o.down ≡ down to from.node item.session)
+-- ---- what is open is found
 
 is_node : (a b : ℕ) → (a == b) ≡ true → a ≡ b
 is_node a b e = grind (arith, nat_tests)
 
--- the item as it is opened
-abbrev opened : TheReport → TheReport → TheRow → Sent → OpenItem
-opened f g k i = record { trigger = k.trigger; down = down_of (row_of g f.node i.session) }
+turned : (a b : ℕ) → (a == b) ≡ true → (b == a) ≡ true
+turned a b e = grind (arith, nat_tests)
 
-among_open : (rs : List TheReport) → IsStrictlySortedBy nat_cmp (nodes_of rs) → (f g : TheReport) (k : TheRow) (i : Sent) → Among g rs → (i.to == g.node) ≡ true → nat_lt (received_of (row_of g f.node i.session)) i.seq ≡ true
-    → Among (opened f g k i) (open_at (of_node rs i.to) f.node k.trigger i)
-among_open rs sorted f g k i a to fewer =
-    subst (λ o. Among (opened f g k i) (open_at o f.node k.trigger i)) (sym (ap (of_node rs) (is_node i.to g.node to) ∙ node_found rs sorted g a))
-    (subst (λ b. Among (opened f g k i) (if b then opened f g k i ∷ [] else [])) (sym fewer) (inl refl))
+-- an open trigger, with what the Down of the session lists
+abbrev Found : List TheReport → Report → Report → Carrier → Trigger → Type 0
+Found rs from to carrier t = (o : OpenTrigger) × Among o (open_triggers rs) × (o.trigger ≡ t) × (option_map single o.down ≡ down to from.node carrier.session)
 
-open_found : (rs : List TheReport) → IsStrictlySortedBy nat_cmp (nodes_of rs) → (f g : TheReport) (k : TheRow) (i : Sent) → Among f rs → Among g rs → Among k f.rows → Among i k.sent
-    → missing (report_seen f) (report_seen g) (item_seen (single k.trigger) i) ≡ true → (t : Trigger) → Among t (single k.trigger) → Found rs (report_seen f) (report_seen g) (item_seen (single k.trigger) i) t
-open_found rs sorted f g k i fa ga ka ia gone t (inl e) =
+-- the Down of the session in the report
+abbrev down_in : TheReport → TheReport → ℕ → Option Trigger
+down_in f g s = down_of (row_of g f.node s)
+
+item_carried : (rs : List TheReport) → IsStrictlySortedBy nat_cmp (nodes_of rs) → (f g : TheReport) (i : Sent) (t : Trigger) → Among g rs → (i.to == g.node) ≡ true → nat_lt (received_of (row_of g f.node i.session)) i.seq ≡ true
+    → Among t i.triggers → Among (with_down (down_in f g i.session) t) (open_at (of_node rs i.to) f.node i)
+item_carried rs sorted f g i t a to fewer ta =
+    subst (λ o. Among (with_down (down_in f g i.session) t) (open_at o f.node i)) (sym (ap (of_node rs) (is_node i.to g.node to) ∙ node_found rs sorted g a))
+    (subst (λ b. Among (with_down (down_in f g i.session) t) (if b then map (with_down (down_in f g i.session)) i.triggers else [])) (sym fewer)
+    (in_map (with_down (down_in f g i.session)) i.triggers t ta))
+
+row_carried : (rs : List TheReport) → IsStrictlySortedBy nat_cmp (nodes_of rs) → (f g : TheReport) (p : Pending) (t : Trigger) → Among g rs → (p.to == g.node) ≡ true
+    → Among t p.triggers → Among (with_down (down_in f g p.session) t) (waiting_at (of_node rs p.to) f.node p)
+row_carried rs sorted f g p t a to ta =
+    subst (λ o. Among (with_down (down_in f g p.session) t) (waiting_at o f.node p)) (sym (ap (of_node rs) (is_node p.to g.node to) ∙ node_found rs sorted g a))
+    (in_map (with_down (down_in f g p.session)) p.triggers t ta)
+
+-- the row of an item
+item_row : (f : TheReport) (i : Sent) → Among i (items_of (report_seen f)) → (k : TheRow) × Among k f.rows × Among i k.sent
+item_row f i a =
+    let r = of_flat (λ (row : Row). row.sent) (map row_seen f.rows) i a in
+    let k = of_map row_seen f.rows r.0 r.1 in
+    (k.0, k.1, subst (λ (z : Row). Among i z.sent) (sym k.2) r.2)
+
+row_item : (f : TheReport) (k : TheRow) (i : Sent) → Among k f.rows → Among i k.sent → Among i (items_of (report_seen f))
+row_item f k i ka ia = in_flat (λ (row : Row). row.sent) (map row_seen f.rows) (row_seen k) i (in_map row_seen f.rows k ka) ia
+
+item_open : (rs : List TheReport) (f : TheReport) (k : TheRow) (i : Sent) (o : OpenTrigger) → Among f rs → Among k f.rows → Among i k.sent → Among o (open_at (of_node rs i.to) f.node i) → Among o (open_triggers rs)
+item_open rs f k i o fa ka ia oa =
+    in_flat (open_in_report rs) rs f o fa
+    (in_front o (open_in_rows rs f.node f.rows) (waiting_in rs f.node f.pending)
+    (in_flat (open_in_row rs f.node) f.rows k o ka (in_flat (λ (item : Sent). open_at (of_node rs item.to) f.node item) k.sent i o ia oa)))
+
+row_open : (rs : List TheReport) (f : TheReport) (p : Pending) (o : OpenTrigger) → Among f rs → Among p f.pending → Among o (waiting_at (of_node rs p.to) f.node p) → Among o (open_triggers rs)
+row_open rs f p o fa pa oa =
+    in_flat (open_in_report rs) rs f o fa
+    (at_end o (open_in_rows rs f.node f.rows) (waiting_in rs f.node f.pending)
+    (in_flat (λ (row : Pending). waiting_at (of_node rs row.to) f.node row) f.pending p o pa oa))
+
+one_found : (rs : List TheReport) → IsStrictlySortedBy nat_cmp (nodes_of rs) → (f g : TheReport) (c : Carrier) → Among f rs → Among g rs → OneOf (report_seen f) (report_seen g) c → (t : Trigger) → Among t c.triggers → Found rs (report_seen f) (report_seen g) c t
+one_found rs sorted f g c fa ga (ByItem i ia gone is) t ta =
     let both = and_both (i.to == g.node) (nat_lt (received (report_seen g) f.node i.session) i.seq) gone in
-    let fewer = subst (λ n. nat_lt n i.seq ≡ true) (received_seen g f.node i.session) both.1 in (
-      opened f g k i,
-      in_flat (open_in_report rs) rs f (opened f g k i) fa
-          (in_flat (open_in_row rs f.node) f.rows k (opened f g k i) ka
-          (in_flat (λ (item : Sent). open_at (of_node rs item.to) f.node k.trigger item) k.sent i (opened f g k i) ia (among_open rs sorted f g k i ga both.0 fewer))),
-      e,
+    let fewer = subst (λ n. nat_lt n i.seq ≡ true) (received_seen g f.node i.session) both.1 in
+    let k = item_row f i ia in
+    subst (λ (z : Carrier). Among t z.triggers → Found rs (report_seen f) (report_seen g) z t) is
+    (λ ta. (
+      with_down (down_in f g i.session) t,
+      item_open rs f k.0 i (with_down (down_in f g i.session) t) fa k.1 k.2 (item_carried rs sorted f g i t ga both.0 fewer ta),
+      refl,
       sym (down_seen g f.node i.session),
-    )
-open_found rs sorted f g k i fa ga ka ia gone t (inr a) = absurd a
+    )) ta
+one_found rs sorted f g c fa ga (ByRow p pa waits is) t ta =
+    subst (λ (z : Carrier). Among t z.triggers → Found rs (report_seen f) (report_seen g) z t) is
+    (λ ta. (
+      with_down (down_in f g p.session) t,
+      row_open rs f p (with_down (down_in f g p.session) t) fa pa (row_carried rs sorted f g p t ga waits ta),
+      refl,
+      sym (down_seen g f.node p.session),
+    )) ta
 
-item_found : (rs : List TheReport) → IsStrictlySortedBy nat_cmp (nodes_of rs) → (f g : TheReport) (k : TheRow) (item : Listed) → Among f rs → Among g rs → Among k f.rows → Among item (map (item_seen (single k.trigger)) k.sent)
-    → missing (report_seen f) (report_seen g) item ≡ true → (t : Trigger) → Among t item.triggers → Found rs (report_seen f) (report_seen g) item t
-item_found rs sorted f g k item fa ga ka ia gone t ta =
-    let i = of_map (item_seen (single k.trigger)) k.sent item ia in
-    subst (λ (z : Listed). missing (report_seen f) (report_seen g) z ≡ true → Among t z.triggers → Found rs (report_seen f) (report_seen g) z t) i.2
-    (λ gone ta. open_found rs sorted f g k i.0 fa ga ka i.1 gone t ta) gone ta
-
-row_found : (rs : List TheReport) → IsStrictlySortedBy nat_cmp (nodes_of rs) → (f g : TheReport) (row : Row) (item : Listed) → Among f rs → Among g rs → Among row (map row_seen f.rows) → Among item row.sent
-    → missing (report_seen f) (report_seen g) item ≡ true → (t : Trigger) → Among t item.triggers → Found rs (report_seen f) (report_seen g) item t
-row_found rs sorted f g row item fa ga ra ia gone t ta =
-    let k = of_map row_seen f.rows row ra in
-    subst (λ (z : Row). Among item z.sent → Found rs (report_seen f) (report_seen g) item t) k.2
-    (λ ia. item_found rs sorted f g k.0 item fa ga k.1 ia gone t ta) ia
-
-missing_found : (rs : List TheReport) → IsStrictlySortedBy nat_cmp (nodes_of rs) → (from to : Report) (item : Listed) → Missing (reports_seen rs) from to item → (t : Trigger) → Among t item.triggers → Found rs from to item t
-missing_found rs sorted from to item m t ta =
+open_found : (rs : List TheReport) → IsStrictlySortedBy nat_cmp (nodes_of rs) → (from to : Report) (c : Carrier) → Open (reports_seen rs) from to c → (t : Trigger) → Among t c.triggers → Found rs from to c t
+open_found rs sorted from to c m t ta =
     let f = of_map report_seen rs from m.sender in
     let g = of_map report_seen rs to m.receiver in
-    subst (λ (z : Report). Among m.row z.rows → missing z to item ≡ true → Found rs z to item t) f.2
-    (subst (λ (w : Report). Among m.row (map row_seen f.0.rows) → missing (report_seen f.0) w item ≡ true → Found rs (report_seen f.0) w item t) g.2
-    (λ ra gone. row_found rs sorted f.0 g.0 m.row item f.1 g.1 ra m.sent gone t ta))
-    m.listed m.missing
+    subst (λ (z : Report). Among c (open_to z to) → Found rs z to c t) f.2
+    (subst (λ (w : Report). Among c (open_to (report_seen f.0) w) → Found rs (report_seen f.0) w c t) g.2
+    (λ oa. one_found rs sorted f.0 g.0 c f.1 g.1 (of_open (report_seen f.0) (report_seen g.0) c oa) t ta))
+    m.is_open
 
 -- ---- closed for them: no step leaves the set
 
@@ -147,56 +174,55 @@ covered inside s closed a i (Some t) e = by (subst (λ z. Among s z) (sym (same_
     by (inl f) = subst (λ z. inside z ≡ true) (sym f) i
     by (inr f) = absurd f
 
-starts_inside : (rs : List TheReport) → IsStrictlySortedBy nat_cmp (nodes_of rs) → (inside : Trigger → Bool) → ClosedFor (open_items rs) rs inside → (t : Trigger) → Starts (reports_seen rs) t → inside t ≡ true
+starts_inside : (rs : List TheReport) → IsStrictlySortedBy nat_cmp (nodes_of rs) → (inside : Trigger → Bool) → ClosedFor (open_triggers rs) rs inside → (t : Trigger) → Starts (reports_seen rs) t → inside t ≡ true
 starts_inside rs sorted inside closed t s =
-    let o = missing_found rs sorted s.from s.to s.item s.lacks t s.lists in
+    let o = open_found rs sorted s.from s.to s.carrier s.lacks t s.lists in
     let none = no_list o.0.down (o.3 ∙ s.unclosed) in
-    subst (λ z. inside z ≡ true) o.2 (each_at (ClosedAt inside) (open_items rs) o.0 closed.items o.1 (subst (λ d. is_due inside d ≡ true) (sym none) refl))
+    subst (λ z. inside z ≡ true) o.2 (each_at (ClosedAt inside) (open_triggers rs) o.0 closed.items o.1 (subst (λ d. is_due inside d ≡ true) (sym none) refl))
 
-covers_inside : (rs : List TheReport) → IsStrictlySortedBy nat_cmp (nodes_of rs) → (inside : Trigger → Bool) → ClosedFor (open_items rs) rs inside → (s t : Trigger) → Covers (reports_seen rs) s t → inside s ≡ true → inside t ≡ true
+covers_inside : (rs : List TheReport) → IsStrictlySortedBy nat_cmp (nodes_of rs) → (inside : Trigger → Bool) → ClosedFor (open_triggers rs) rs inside → (s t : Trigger) → Covers (reports_seen rs) s t → inside s ≡ true → inside t ≡ true
 covers_inside rs sorted inside closed s t c i =
-    let o = missing_found rs sorted c.from c.to c.item c.lacks t c.lists in
-    subst (λ z. inside z ≡ true) o.2 (each_at (ClosedAt inside) (open_items rs) o.0 closed.items o.1 (covered inside s c.closed c.names i o.0.down (o.3 ∙ c.closes)))
-
-one_of : (s t : Trigger) → Among s (single t) → t ≡ s
-one_of s t (inl e) = e
-one_of s t (inr a) = absurd a
+    let o = open_found rs sorted c.from c.to c.carrier c.lacks t c.lists in
+    subst (λ z. inside z ≡ true) o.2 (each_at (ClosedAt inside) (open_triggers rs) o.0 closed.items o.1 (covered inside s c.closed c.names i o.0.down (o.3 ∙ c.closes)))
 
 next_inside : (inside : Trigger → Bool) (row : TheRow) (later : List TheRow) (next : Row) (t : Trigger) → AllByRecursion (ClosedFrom inside row) later → Among next (map row_seen later) → Among t next.triggers → shares row.scope next.scope ≡ true → inside t ≡ true
 next_inside inside row later next t closed a ta shared =
     let n = of_map row_seen later next a in
     subst (λ (z : Row). Among t z.triggers → shares row.scope z.scope ≡ true → inside t ≡ true) n.2
-    (λ ta shared. subst (λ z. inside z ≡ true) (one_of t n.0.trigger ta) (each_at (ClosedFrom inside row) later n.0 closed n.1 shared)) ta shared
+    (λ ta shared. each_at (λ t. inside t ≡ true) n.0.triggers t (each_at (ClosedFrom inside row) later n.0 closed n.1 shared) ta) ta shared
 
 rows_step : (inside : Trigger → Bool) (rows : List TheRow) → ClosedRows inside rows → (s t : Trigger) → Precedes (map row_seen rows) s t → inside s ≡ true → inside t ≡ true
 rows_step inside [] closed s t p i = absurd p
 rows_step inside (row ∷ later) closed s t (inl (named, next, stands, named_next, shared)) i =
-    next_inside inside row later next t (closed.0 (subst (λ z. inside z ≡ true) (sym (one_of s row.trigger named)) i)) stands named_next shared
+    next_inside inside row later next t (closed.0 (passes inside row.triggers s named i)).order stands named_next shared
 rows_step inside (row ∷ later) closed s t (inr p) i = rows_step inside later closed.1 s t p i
 
-orders_inside : (rs : List TheReport) (inside : Trigger → Bool) → ClosedFor (open_items rs) rs inside → (s t : Trigger) → Orders (reports_seen rs) s t → inside s ≡ true → inside t ≡ true
+orders_inside : (rs : List TheReport) (inside : Trigger → Bool) → ClosedFor (open_triggers rs) rs inside → (s t : Trigger) → Orders (reports_seen rs) s t → inside s ≡ true → inside t ≡ true
 orders_inside rs inside closed s t o i =
     let r = of_map report_seen rs o.0 o.1 in
     subst (λ (z : Report). Precedes z.rows s t → inside t ≡ true) r.2
     (λ p. rows_step inside r.0.rows (each_at (λ (x : TheReport). ClosedRows inside x.rows) rs r.0 closed.rows r.1) s t p i) o.2
 
--- a row lists one trigger
-row_single : (s t : Trigger) (rows : List TheRow) (row : Row) → Among row (map row_seen rows) → Among s row.triggers → Among t row.triggers → s ≡ t
-row_single s t rows row a sa ta =
-    let k = of_map row_seen rows row a in
-    subst (λ (z : Row). Among s z.triggers → Among t z.triggers → s ≡ t) k.2 (λ sa ta. sym (one_of s k.0.trigger sa) ∙ one_of t k.0.trigger ta) sa ta
+-- a row that lists one of the set lists no others but those of it
+together : (inside : Trigger → Bool) (rows : List TheRow) (row : Row) (s t : Trigger) → ClosedRows inside rows → Among row (map row_seen rows) → Among s row.triggers → Among t row.triggers → inside s ≡ true → inside t ≡ true
+together inside [] row s t closed a sa ta i = absurd a
+together inside (k ∷ rows) row s t closed (inl e) sa ta i =
+    each_at (λ t. inside t ≡ true) k.triggers t
+    (closed.0 (passes inside k.triggers s (subst (λ (z : Row). Among s z.triggers) (sym e) sa) i)).together (subst (λ (z : Row). Among t z.triggers) (sym e) ta)
+together inside (k ∷ rows) row s t closed (inr a) sa ta i = together inside rows row s t closed.1 a sa ta i
 
-joined_same : (rs : List TheReport) (s t : Trigger) → Joins (reports_seen rs) s t → s ≡ t
-joined_same rs s t j =
+joins_inside : (rs : List TheReport) (inside : Trigger → Bool) → ClosedFor (open_triggers rs) rs inside → (s t : Trigger) → Joins (reports_seen rs) s t → inside s ≡ true → inside t ≡ true
+joins_inside rs inside closed s t j i =
     let r = of_map report_seen rs j.0 j.2 in
-    subst (λ (z : Report). Among j.1 z.rows → s ≡ t) r.2 (λ a. row_single s t r.0.rows j.1 a j.4 j.5) j.3
+    subst (λ (z : Report). Among j.1 z.rows → inside t ≡ true) r.2
+    (λ a. together inside r.0.rows j.1 s t (each_at (λ (x : TheReport). ClosedRows inside x.rows) rs r.0 closed.rows r.1) a j.4 j.5 i) j.3
 
-steps_inside : (rs : List TheReport) → IsStrictlySortedBy nat_cmp (nodes_of rs) → (inside : Trigger → Bool) → ClosedFor (open_items rs) rs inside → (s t : Trigger) → StepsTo (reports_seen rs) s t → inside s ≡ true → inside t ≡ true
+steps_inside : (rs : List TheReport) → IsStrictlySortedBy nat_cmp (nodes_of rs) → (inside : Trigger → Bool) → ClosedFor (open_triggers rs) rs inside → (s t : Trigger) → StepsTo (reports_seen rs) s t → inside s ≡ true → inside t ≡ true
 steps_inside rs sorted inside closed s t (inl o) i = orders_inside rs inside closed s t o i
-steps_inside rs sorted inside closed s t (inr (inl j)) i = subst (λ z. inside z ≡ true) (joined_same rs s t j) i
+steps_inside rs sorted inside closed s t (inr (inl j)) i = joins_inside rs inside closed s t j i
 steps_inside rs sorted inside closed s t (inr (inr c)) i = covers_inside rs sorted inside closed s t c i
 
-pub closed_seen : (rs : List TheReport) → IsStrictlySortedBy nat_cmp (nodes_of rs) → (inside : Trigger → Bool) → ClosedFor (open_items rs) rs inside → IsClosed (reports_seen rs) inside
+pub closed_seen : (rs : List TheReport) → IsStrictlySortedBy nat_cmp (nodes_of rs) → (inside : Trigger → Bool) → ClosedFor (open_triggers rs) rs inside → IsClosed (reports_seen rs) inside
 closed_seen rs sorted inside closed = record {
   start = starts_inside rs sorted inside closed;
   step = steps_inside rs sorted inside closed;
@@ -204,72 +230,97 @@ closed_seen rs sorted inside closed = record {
 
 -- ---- the other way
 
--- a missing item, as it is opened
-missing_seen : (rs : List TheReport) (f g : TheReport) (k : TheRow) (i : Sent) → Among f rs → Among g rs → Among k f.rows → Among i k.sent → (g.node == i.to) ≡ true → nat_lt (received_of (row_of g f.node i.session)) i.seq ≡ true
-    → Missing (reports_seen rs) (report_seen f) (report_seen g) (item_seen (single k.trigger) i)
-missing_seen rs f g k i fa ga ka ia to fewer = record {
-  sender = in_map report_seen rs f fa;
-  receiver = in_map report_seen rs g ga;
-  row = row_seen k;
-  listed = in_map row_seen f.rows k ka;
-  sent = in_map (item_seen (single k.trigger)) k.sent i ia;
-  missing = both_and (i.to == g.node) (nat_lt (received (report_seen g) f.node i.session) i.seq) (turned g.node i.to to) (subst (λ n. nat_lt n i.seq ≡ true) (sym (received_seen g f.node i.session)) fewer);
-}
-  where
-    turned : (a b : ℕ) → (a == b) ≡ true → (b == a) ≡ true
-    turned a b e = grind (arith, nat_tests)
+module _ (rs : List TheReport) (inside : Trigger → Bool) (closed : IsClosed (reports_seen rs) inside) where
+  -- what is open leads on where its Down is in the set
+  carrier_inside : (f g : TheReport) (c : Carrier) → Open (reports_seen rs) (report_seen f) (report_seen g) c → (t : Trigger) → Among t c.triggers
+      → (d : Option Trigger) → down (report_seen g) f.node c.session ≡ option_map single d → is_due inside d ≡ true → inside t ≡ true
+  carrier_inside f g c lacks t ta None e due = closed.start t (record { from = report_seen f; to = report_seen g; carrier = c; lacks = lacks; unclosed = e; lists = ta })
+  carrier_inside f g c lacks t ta (Some s) e due =
+      closed.step s t (inr (inr (record { from = report_seen f; to = report_seen g; carrier = c; lacks = lacks; lists = ta; closed = single s; closes = e; names = inl refl }))) due
 
-item_inside : (rs : List TheReport) (inside : Trigger → Bool) → IsClosed (reports_seen rs) inside → (f g : TheReport) (k : TheRow) (i : Sent) → Missing (reports_seen rs) (report_seen f) (report_seen g) (item_seen (single k.trigger) i)
-    → (d : Option Trigger) → down (report_seen g) f.node i.session ≡ option_map single d → is_due inside d ≡ true → inside k.trigger ≡ true
-item_inside rs inside closed f g k i lacks None e due =
-    closed.start k.trigger (record { from = report_seen f; to = report_seen g; item = item_seen (single k.trigger) i; lacks = lacks; unclosed = e; lists = inl refl })
-item_inside rs inside closed f g k i lacks (Some s) e due =
-    closed.step s k.trigger (inr (inr (record { from = report_seen f; to = report_seen g; item = item_seen (single k.trigger) i; lacks = lacks; lists = inl refl; closed = single s; closes = e; names = inl refl }))) due
+  -- each trigger of a carrier, with its Down
+  carried_inside : (f g : TheReport) (c : Carrier) → Open (reports_seen rs) (report_seen f) (report_seen g) c → (o : OpenTrigger) → Among o (map (with_down (down_in f g c.session)) c.triggers) → ClosedAt inside o
+  carried_inside f g c lacks o a =
+      let t = of_map (with_down (down_in f g c.session)) c.triggers o a in
+      subst (ClosedAt inside) t.2 (λ due. carrier_inside f g c lacks t.0 t.1 (down_in f g c.session) (down_seen g f.node c.session) due)
 
-if_open_inside : (rs : List TheReport) (inside : Trigger → Bool) → IsClosed (reports_seen rs) inside → (f g : TheReport) (k : TheRow) (i : Sent) → Among f rs → Among g rs → Among k f.rows → Among i k.sent → (g.node == i.to) ≡ true
-    → (o : OpenItem) → Among o (if_open (row_of g f.node i.session) k.trigger i) → ClosedAt inside o
-if_open_inside rs inside closed f g k i fa ga ka ia to o a =
-    (elim (nat_lt (received_of (row_of g f.node i.session)) i.seq) as (λ b. nat_lt (received_of (row_of g f.node i.session)) i.seq ≡ b → Among o (if b then opened f g k i ∷ [] else []) → ClosedAt inside o) [
-      | true ↦ λ fewer m. here fewer m
-      | false ↦ λ fewer m. absurd m
-    ]) refl a
-  where
-    here : nat_lt (received_of (row_of g f.node i.session)) i.seq ≡ true → (opened f g k i ≡ o) ⊎ ⊥ → ClosedAt inside o
-    here fewer (inl e) =
-        subst (ClosedAt inside) e
-        (λ due. item_inside rs inside closed f g k i (missing_seen rs f g k i fa ga ka ia to fewer) (down_of (row_of g f.node i.session)) (down_seen g f.node i.session) due)
-    here fewer (inr m) = absurd m
+  if_open_inside : (f g : TheReport) (k : TheRow) (i : Sent) → Among f rs → Among g rs → Among k f.rows → Among i k.sent → (g.node == i.to) ≡ true
+      → (o : OpenTrigger) → Among o (if_open (row_of g f.node i.session) i) → ClosedAt inside o
+  if_open_inside f g k i fa ga ka ia to o a =
+      (elim (nat_lt (received_of (row_of g f.node i.session)) i.seq) as (λ b. nat_lt (received_of (row_of g f.node i.session)) i.seq ≡ b
+      → Among o (if b then map (with_down (down_in f g i.session)) i.triggers else []) → ClosedAt inside o) [
+        | true ↦ λ fewer m. carried_inside f g (of_item i) (lacks fewer) o m
+        | false ↦ λ fewer m. absurd m
+      ]) refl a
+    where
+      lacks : nat_lt (received_of (row_of g f.node i.session)) i.seq ≡ true → Open (reports_seen rs) (report_seen f) (report_seen g) (of_item i)
+      lacks fewer = record {
+        sender = in_map report_seen rs f fa;
+        receiver = in_map report_seen rs g ga;
+        is_open = missing_open (report_seen f) (report_seen g) i (row_item f k i ka ia)
+            (both_and (i.to == g.node) (nat_lt (received (report_seen g) f.node i.session) i.seq) (turned g.node i.to to) (subst (λ n. nat_lt n i.seq ≡ true) (sym (received_seen g f.node i.session)) fewer));
+      }
 
-open_at_inside : (rs : List TheReport) (inside : Trigger → Bool) → IsClosed (reports_seen rs) inside → (f : TheReport) (k : TheRow) (i : Sent) → Among f rs → Among k f.rows → Among i k.sent
-    → (o : OpenItem) → Among o (open_at (of_node rs i.to) f.node k.trigger i) → ClosedAt inside o
-open_at_inside rs inside closed f k i fa ka ia o a =
-    (elim (of_node rs i.to) as (λ r. of_node rs i.to ≡ r → Among o (open_at r f.node k.trigger i) → ClosedAt inside o) [
-      | None ↦ λ e m. absurd m
-      | Some g ↦ λ e m. let found = found_passes (λ (r : TheReport). r.node == i.to) rs g e in if_open_inside rs inside closed f g k i fa found.0 ka ia found.1 o m
-    ]) refl a
+  open_at_inside : (f : TheReport) (k : TheRow) (i : Sent) → Among f rs → Among k f.rows → Among i k.sent → (o : OpenTrigger) → Among o (open_at (of_node rs i.to) f.node i) → ClosedAt inside o
+  open_at_inside f k i fa ka ia o a =
+      (elim (of_node rs i.to) as (λ r. of_node rs i.to ≡ r → Among o (open_at r f.node i) → ClosedAt inside o) [
+        | None ↦ λ e m. absurd m
+        | Some g ↦ λ e m. let found = found_passes (λ (r : TheReport). r.node == i.to) rs g e in if_open_inside f g k i fa found.0 ka ia found.1 o m
+      ]) refl a
 
-items_inside : (rs : List TheReport) (inside : Trigger → Bool) → IsClosed (reports_seen rs) inside → AllByRecursion (ClosedAt inside) (open_items rs)
-items_inside rs inside closed =
-    all_from_each (ClosedAt inside) (open_items rs)
-    (λ o a.
-    let f = of_flat (open_in_report rs) rs o a in
-    let k = of_flat (open_in_row rs f.0.node) f.0.rows o f.2 in
-    let i = of_flat (λ (item : Sent). open_at (of_node rs item.to) f.0.node k.0.trigger item) k.0.sent o k.2 in
-    open_at_inside rs inside closed f.0 k.0 i.0 f.1 k.1 i.1 o i.2)
+  waiting_inside : (f : TheReport) (p : Pending) → Among f rs → Among p f.pending → (o : OpenTrigger) → Among o (waiting_at (of_node rs p.to) f.node p) → ClosedAt inside o
+  waiting_inside f p fa pa o a =
+      (elim (of_node rs p.to) as (λ r. of_node rs p.to ≡ r → Among o (waiting_at r f.node p) → ClosedAt inside o) [
+        | None ↦ λ e m. absurd m
+        | Some g ↦ λ e m.
+            let found = found_passes (λ (r : TheReport). r.node == p.to) rs g e in
+            carried_inside f g (of_pending p)
+            (record {
+              sender = in_map report_seen rs f fa;
+              receiver = in_map report_seen rs g found.0;
+              is_open = pending_open (report_seen f) (report_seen g) p pa (turned g.node p.to found.1);
+            }) o m
+      ]) refl a
 
-rows_from : (inside : Trigger → Bool) (rows : List TheRow) → ((s t : Trigger) → Precedes (map row_seen rows) s t → inside s ≡ true → inside t ≡ true) → ClosedRows inside rows
-rows_from inside [] step = tt
-rows_from inside (row ∷ later) step = (
-  λ here. all_from_each (ClosedFrom inside row) later (λ next a shared. step row.trigger next.trigger (inl (inl refl, row_seen next, in_map row_seen later next a, inl refl, shared)) here),
-  rows_from inside later (λ s t p. step s t (inr p)),
-)
+  in_report : (f : TheReport) → Among f rs → (o : OpenTrigger) → Among o (open_in_rows rs f.node f.rows) ⊎ Among o (waiting_in rs f.node f.pending) → ClosedAt inside o
+  in_report f fa o (inl a) =
+      let k = of_flat (open_in_row rs f.node) f.rows o a in
+      let i = of_flat (λ (item : Sent). open_at (of_node rs item.to) f.node item) k.0.sent o k.2 in
+      open_at_inside f k.0 i.0 fa k.1 i.1 o i.2
+  in_report f fa o (inr a) =
+      let p = of_flat (λ (row : Pending). waiting_at (of_node rs row.to) f.node row) f.pending o a in
+      waiting_inside f p.0 fa p.1 o p.2
 
-pub seen_closed : (rs : List TheReport) (inside : Trigger → Bool) → IsClosed (reports_seen rs) inside → ClosedFor (open_items rs) rs inside
-seen_closed rs inside closed = record {
-  items = items_inside rs inside closed;
-  rows = all_from_each (λ (r : TheReport). ClosedRows inside r.rows) rs
-      (λ r a. rows_from inside r.rows (λ s t p i. closed.step s t (inl (report_seen r, in_map report_seen rs r a, p)) i));
-}
+  items_inside : AllByRecursion (ClosedAt inside) (open_triggers rs)
+  items_inside =
+      all_from_each (ClosedAt inside) (open_triggers rs)
+      (λ o a.
+      let f = of_flat (open_in_report rs) rs o a in
+      in_report f.0 f.1 o (in_either o (open_in_rows rs f.0.node f.0.rows) (waiting_in rs f.0.node f.0.pending) f.2))
+
+  rows_from : (rows : List TheRow) → ((row : TheRow) (s t : Trigger) → Among row rows → Among s row.triggers → Among t row.triggers → inside s ≡ true → inside t ≡ true)
+      → ((s t : Trigger) → Precedes (map row_seen rows) s t → inside s ≡ true → inside t ≡ true) → ClosedRows inside rows
+  rows_from [] joins step = tt
+  rows_from (row ∷ later) joins step = (
+    λ some.
+        let s = some_passes inside row.triggers some in
+        record {
+          together = all_from_each (λ t. inside t ≡ true) row.triggers (λ t ta. joins row s.0 t (inl refl) s.1 ta s.2);
+          order = all_from_each (ClosedFrom inside row) later
+              (λ next a shared. all_from_each (λ t. inside t ≡ true) next.triggers
+              (λ t ta. step s.0 t (inl (s.1, row_seen next, in_map row_seen later next a, ta, shared)) s.2));
+        },
+    rows_from later (λ k s t a b c. joins k s t (inr a) b c) (λ s t p. step s t (inr p)),
+  )
+
+  pub seen_closed : ClosedFor (open_triggers rs) rs inside
+  seen_closed = record {
+    items = items_inside;
+    rows = all_from_each (λ (r : TheReport). ClosedRows inside r.rows) rs
+        (λ r a. rows_from r.rows
+        (λ row s t b sa ta i. closed.step s t (inr (inl (report_seen r, row_seen row, in_map report_seen rs r a, in_map row_seen r.rows row b, sa, ta))) i)
+        (λ s t p i. closed.step s t (inl (report_seen r, in_map report_seen rs r a, p)) i));
+  }
 
 -- ---- the value
 
@@ -277,8 +328,8 @@ nodes_seen : (rs : List TheReport) → nodes_of rs ≡ map (λ (r : Report). r.n
 nodes_seen [] = refl
 nodes_seen (r ∷ rs) = ap (λ ns. r.node ∷ ns) (nodes_seen rs)
 
--- the least set that is closed for the open items and the rows is that of the value
-pub least_told : (rs : List TheReport) → OfOneEpoch rs → (nodes : List ℕ) (marked : List Trigger) → nodes ≡ nodes_of rs → IsLeast (open_items rs) rs marked → IsValue (reports_seen rs) (a_value nodes marked)
+-- the least set that is closed for what is open and the rows is that of the value
+pub least_told : (rs : List TheReport) → OfOneEpoch rs → (nodes : List ℕ) (marked : List Trigger) → nodes ≡ nodes_of rs → IsLeast (open_triggers rs) rs marked → IsValue (reports_seen rs) (a_value nodes marked)
 least_told rs one nodes marked same least =
     let sorted = sorted_from_strictly_increasing (nodes_of rs) one.nodes in
     least_is_value (reports_seen rs) nodes marked (same ∙ nodes_seen rs) least.ascending

@@ -10,7 +10,7 @@ use Rattle.incomplete_closure.proofs.Listing.{each_at, in_front, at_end, in_eith
 -- ---- one vertex is entered
 
 -- by parts
-abbrev seen_as : List Bool → List ℕ → Trail
+abbrev pub seen_as : List Bool → List ℕ → Trail
 seen_as seen order = record { seen = seen; order = order }
 
 -- a vertex below n was seen
@@ -212,12 +212,16 @@ entered_all n before (v ∷ vs) fits =
 
 -- ---- the search
 
+-- all of the list are in the set
+abbrev pub Holding : (ℕ → Bool) → List ℕ → Type 0
+Holding inside ws = (w : ℕ) → Among w ws → inside w ≡ true
+
 -- after so many turns: what is left of the graph, and what was reached
-pub record Going (graph : List (List ℕ)) (start : ℕ) (rest : List (List ℕ)) (reached : Trail) (turn : ℕ) : Type 0 where
+pub record Going (graph : List (List ℕ)) (roots : List ℕ) (rest : List (List ℕ)) (reached : Trail) (turn : ℕ) : Type 0 where
   pub fits : Fits (length graph) reached
   pub same : length rest ≡ length graph
-  pub begun : has_seen reached start ≡ true
-  pub least : (inside : ℕ → Bool) → IsKept inside graph → inside start ≡ true → (v : ℕ) → has_seen reached v ≡ true → inside v ≡ true
+  pub begun : AllSeen (length graph) reached roots
+  pub least : (inside : ℕ → Bool) → IsKept inside graph → Holding inside roots → (v : ℕ) → has_seen reached v ≡ true → inside v ≡ true
   pub left : (v : ℕ) → (led_from rest v ≡ led_from graph v) ⊎ ((led_from rest v ≡ []) × AllSeen (length graph) reached (led_from graph v))
   pub done : (i v : ℕ) → i < turn → slice_get reached.order i ≡ Some v → AllSeen (length graph) reached (led_from graph v)
   pub turns : turn ≤ length reached.order
@@ -231,27 +235,29 @@ none_seen (suc n) (suc v) = none_seen n v
 pub none_yet : (n : ℕ) → Fits n (seen_as (replicate n false) [])
 none_yet n = record { all = length-replicate n false; entered = λ v. ((λ a. absurd a), λ e. absurd (not_true e (none_seen n v))); once = tt }
 
-pub going_first : (graph : List (List ℕ)) (start : ℕ) → start < length graph → Going graph start graph (enter (seen_as (replicate (length graph) false) []) start) 0
-going_first graph start up =
-    let n = length graph in
-    let one = entered_one n (seen_as (replicate n false) []) start (none_yet n) in
-    record {
-      fits = one.fits;
-      same = refl;
-      begun = one.there start (inl refl) up;
-      least = λ inside kept first v e. first_only inside first v (one.either v e);
-      left = λ v. inl refl;
-      done = λ i v h e. absurd (below_none i h);
-      turns = omega arith;
-    }
+pub going_first : (graph : List (List ℕ)) (roots : List ℕ) (reached : Trail) → reached ≡ enter_all (seen_as (replicate (length graph) false) []) roots → Going graph roots graph reached 0
+going_first graph roots reached is = subst (λ z. Going graph roots graph z 0) (sym is) first
   where
     below_none : (i : ℕ) → i < 0 → ⊥
     below_none i h = omega arith
 
-    first_only : (inside : ℕ → Bool) → inside start ≡ true → (v : ℕ) → ((start ≡ v) ⊎ ⊥) ⊎ (get_or (replicate (length graph) false) v false ≡ true) → inside v ≡ true
-    first_only inside first v (inl (inl e)) = subst (λ z. inside z ≡ true) e first
-    first_only inside first v (inl (inr a)) = absurd a
-    first_only inside first v (inr f) = absurd (not_true f (none_seen (length graph) v))
+    roots_only : (inside : ℕ → Bool) → Holding inside roots → (v : ℕ) → Among v roots ⊎ (get_or (replicate (length graph) false) v false ≡ true) → inside v ≡ true
+    roots_only inside first v (inl a) = first v a
+    roots_only inside first v (inr f) = absurd (not_true f (none_seen (length graph) v))
+
+    one : Entered (length graph) (seen_as (replicate (length graph) false) []) (enter_all (seen_as (replicate (length graph) false) []) roots) roots
+    one = entered_all (length graph) (seen_as (replicate (length graph) false) []) roots (none_yet (length graph))
+
+    first : Going graph roots graph (enter_all (seen_as (replicate (length graph) false) []) roots) 0
+    first = record {
+      fits = one.fits;
+      same = refl;
+      begun = one.there;
+      least = λ inside kept held v e. roots_only inside held v (one.either v e);
+      left = λ v. inl refl;
+      done = λ i v h e. absurd (below_none i h);
+      turns = omega arith;
+    }
 
 -- ---- one turn
 
@@ -279,7 +285,7 @@ same_value o u v e f = cc (sym e ∙ f)
 less_or : (i turn : ℕ) → i < turn + 1 → (i < turn) ⊎ (i ≡ turn)
 less_or i turn h = search (arith, cases_lt)
 
-module _ (graph : List (List ℕ)) (start : ℕ) (rest : List (List ℕ)) (reached : Trail) (turn v : ℕ) (g : Going graph start rest reached turn) (at : slice_get reached.order turn ≡ Some v) where
+module _ (graph : List (List ℕ)) (roots : List ℕ) (rest : List (List ℕ)) (reached : Trail) (turn v : ℕ) (g : Going graph roots rest reached turn) (at : slice_get reached.order turn ≡ Some v) where
   abbrev targets : List ℕ
   targets = led_from rest v
 
@@ -303,14 +309,14 @@ module _ (graph : List (List ℕ)) (start : ℕ) (rest : List (List ℕ)) (reach
       either (inl e) = subst (λ ws. AllSeen (length graph) after ws) e went.there
       either (inr f) = all_kept (length graph) reached after (led_from graph v) went.kept f.1
 
-  new_inside : (inside : ℕ → Bool) → IsKept inside graph → inside start ≡ true → (w : ℕ) → Among w targets → inside w ≡ true
+  new_inside : (inside : ℕ → Bool) → IsKept inside graph → Holding inside roots → (w : ℕ) → Among w targets → inside w ≡ true
   new_inside inside kept first w a = either (g.left v)
     where
       either : (led_from rest v ≡ led_from graph v) ⊎ ((led_from rest v ≡ []) × AllSeen (length graph) reached (led_from graph v)) → inside w ≡ true
       either (inl e) = each_at (λ u. inside u ≡ true) (led_from graph v) w (kept v (g.least inside kept first v here)) (subst (λ ws. Among w ws) e a)
       either (inr f) = absurd (subst (λ ws. Among w ws) f.0 a)
 
-  still_least : (inside : ℕ → Bool) → IsKept inside graph → inside start ≡ true → (w : ℕ) → has_seen after w ≡ true → inside w ≡ true
+  still_least : (inside : ℕ → Bool) → IsKept inside graph → Holding inside roots → (w : ℕ) → has_seen after w ≡ true → inside w ≡ true
   still_least inside kept first w e = either (went.either w e)
     where
       either : Among w targets ⊎ (has_seen reached w ≡ true) → inside w ≡ true
@@ -348,11 +354,11 @@ module _ (graph : List (List ℕ)) (start : ℕ) (rest : List (List ℕ)) (reach
           let same : v ≡ u = same_value (slice_get after.order turn) v u (went.front turn v at) (subst (λ j. slice_get after.order j ≡ Some u) is e) in
           subst (λ z. AllSeen (length graph) after (led_from graph z)) same all_here
 
-  pub going_on : Going graph start (set rest v []) after (turn + 1)
+  pub going_on : Going graph roots (set rest v []) after (turn + 1)
   going_on = record {
     fits = went.fits;
     same = length-set rest v [] ∙ g.same;
-    begun = went.kept start g.begun;
+    begun = all_kept (length graph) reached after roots went.kept g.begun;
     least = still_least;
     left = still_left;
     done = still_done;
@@ -360,8 +366,8 @@ module _ (graph : List (List ℕ)) (start : ℕ) (rest : List (List ℕ)) (reach
   }
 
 -- after the last turn
-pub going_last : (graph : List (List ℕ)) (start : ℕ) (rest : List (List ℕ)) (reached : Trail) (turn : ℕ) → Going graph start rest reached turn → slice_get reached.order turn ≡ None → IsReached graph start reached
-going_last graph start rest reached turn g none = record {
+pub going_last : (graph : List (List ℕ)) (roots : List ℕ) (rest : List (List ℕ)) (reached : Trail) (turn : ℕ) → Going graph roots rest reached turn → slice_get reached.order turn ≡ None → IsReached graph roots reached
+going_last graph roots rest reached turn g none = record {
   begun = g.begun;
   led = λ v w e a up. let i = is_at reached.order v ((g.fits.entered v).1 e) in g.done i.0 v (below i.0 v i.1) i.1 w a up;
   least = g.least;
@@ -396,12 +402,12 @@ pub record Turned (rest rest' : List (List ℕ)) (v : ℕ) (ws : List ℕ) : Typ
   pub rest_is : rest' ≡ set rest v []
   pub targets_are : ws ≡ led_from rest v
 
-pub turned_on : (graph : List (List ℕ)) (start : ℕ) (rest rest' : List (List ℕ)) (reached reached' : Trail) (turn v : ℕ) (ws : List ℕ) → Going graph start rest reached turn → slice_get reached.order turn ≡ Some v → Turned rest rest' v ws
-    → reached' ≡ enter_all reached ws → Going graph start rest' reached' (turn + 1)
-turned_on graph start rest rest' reached reached' turn v ws g at t e =
-    subst (λ z. Going graph start z reached' (turn + 1)) (sym t.rest_is)
-    (subst (λ z. Going graph start (set rest v []) z (turn + 1)) (sym (e ∙ ap (enter_all reached) t.targets_are))
-    (going_on graph start rest reached turn v g at))
+pub turned_on : (graph : List (List ℕ)) (roots : List ℕ) (rest rest' : List (List ℕ)) (reached reached' : Trail) (turn v : ℕ) (ws : List ℕ) → Going graph roots rest reached turn → slice_get reached.order turn ≡ Some v → Turned rest rest' v ws
+    → reached' ≡ enter_all reached ws → Going graph roots rest' reached' (turn + 1)
+turned_on graph roots rest rest' reached reached' turn v ws g at t e =
+    subst (λ z. Going graph roots z reached' (turn + 1)) (sym t.rest_is)
+    (subst (λ z. Going graph roots (set rest v []) z (turn + 1)) (sym (e ∙ ap (enter_all reached) t.targets_are))
+    (going_on graph roots rest reached turn v g at))
 
 -- the list that is taken is that much less
 pub edges_taken : (rest rest' : List (List ℕ)) (v : ℕ) (ws : List ℕ) → Turned rest rest' v ws → edges rest' + length ws ≡ edges rest
@@ -411,9 +417,9 @@ measure_less : (a b l t m n : ℕ) → b ≤ a + l → m + l ≡ n → t < a →
 measure_less a b l t m n f e up = omega arith
 
 -- the turns that are left and the edges become fewer
-pub turned_less : (graph : List (List ℕ)) (start : ℕ) (rest rest' : List (List ℕ)) (reached reached' : Trail) (turn v : ℕ) (ws : List ℕ) → Going graph start rest reached turn → slice_get reached.order turn ≡ Some v → Turned rest rest' v ws
+pub turned_less : (graph : List (List ℕ)) (roots : List ℕ) (rest rest' : List (List ℕ)) (reached reached' : Trail) (turn v : ℕ) (ws : List ℕ) → Going graph roots rest reached turn → slice_get reached.order turn ≡ Some v → Turned rest rest' v ws
     → reached' ≡ enter_all reached ws → (length reached'.order - (turn + 1)) + edges rest' < (length reached.order - turn) + edges rest
-turned_less graph start rest rest' reached reached' turn v ws g at t e =
+turned_less graph roots rest rest' reached reached' turn v ws g at t e =
     subst (λ z. (length z.order - (turn + 1)) + edges rest' < (length reached.order - turn) + edges rest) (sym e)
     (measure_less (length reached.order) (length (enter_all reached ws).order) (length ws) turn (edges rest') (edges rest)
     (entered_all (length graph) reached ws g.fits).longer (edges_taken rest rest' v ws t) (slice_get_within reached.order turn v at))

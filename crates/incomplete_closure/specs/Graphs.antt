@@ -9,7 +9,7 @@ led_from graph v = get_or graph v []
 
 -- the graph where the vertex leads to one more
 abbrev pub linked : List (List ℕ) → ℕ → ℕ → List (List ℕ)
-linked graph from to = set graph from (led_from graph from ++ to ∷ [])
+linked graph from to = set graph from (to ∷ led_from graph from)
 
 -- how many edges there are
 unfoldable pub edges : List (List ℕ) → ℕ
@@ -44,10 +44,10 @@ abbrev pub Differ : List ℕ → Type 0
 Differ [] = Unit {0}
 Differ (x ∷ xs) = (Among x xs → ⊥) × Differ xs
 
--- the vertices seen are those of each set that has the start and that no edge leaves, and no others; each entered once
-pub record IsReached (graph : List (List ℕ)) (start : ℕ) (reached : Trail) : Type 0 where
-  pub begun : has_seen reached start ≡ true
+-- the vertices seen are those of each set that has the roots and that no edge leaves, and no others; each entered once
+pub record IsReached (graph : List (List ℕ)) (roots : List ℕ) (reached : Trail) : Type 0 where
+  pub begun : (v : ℕ) → Among v roots → v < length graph → has_seen reached v ≡ true
   pub led : (v w : ℕ) → has_seen reached v ≡ true → Among w (led_from graph v) → w < length graph → has_seen reached w ≡ true
-  pub least : (inside : ℕ → Bool) → IsKept inside graph → inside start ≡ true → (v : ℕ) → has_seen reached v ≡ true → inside v ≡ true
+  pub least : (inside : ℕ → Bool) → IsKept inside graph → ((w : ℕ) → Among w roots → inside w ≡ true) → (v : ℕ) → has_seen reached v ≡ true → inside v ≡ true
   pub entered : (v : ℕ) → Among v reached.order ↔ (has_seen reached v ≡ true)
   pub once : Differ reached.order

@@ -1,9 +1,11 @@
 pub mod Blocked
+pub mod Chains
 pub mod Closed
 pub mod Following
 pub mod Graphs
 pub mod Marking
 pub mod Marks
+pub mod Names
 pub mod Opening
 pub mod Reports
 pub mod Seen

@@ -1,8 +1,7 @@
 -- Marks: triggers in rising order.
 use Rattle.std.specs.Prelude.{ℕ, suc, Bool, List, [], ◌∷◌, if◌then◌else◌}
 use Rattle.topology.specs.declared.names.Trigger.{Trigger}
-use Rattle.topology.specs.Triggers.{lists}
-use Rattle.incomplete_closure.specs.Marking.{put}
+use Rattle.topology.specs.Triggers.{lists, put}
 
 -- the trigger is put in, unless it is there
 abbrev pub mark : Trigger → List Trigger → List Trigger

@@ -1,11 +1,13 @@
--- The items that are open: sent to a node of the reports, and not received there.
-use Rattle.std.specs.Prelude.{ℕ, Bool, is_none, ◌==◌, ◌&&◌, Option, Some, None, List, [], ◌∷◌, nat_lt, find, flat_map, if◌then◌else◌}
+-- What is open: the triggers of items that were sent to a node of the reports and not received there, and of updates that
+-- are held back from one.
+use Rattle.std.specs.Prelude.{ℕ, Bool, is_none, ◌==◌, ◌&&◌, Option, Some, None, List, [], ◌++◌, nat_lt, find, map, flat_map, if◌then◌else◌}
 use Rattle.topology.specs.declared.names.Trigger.{Trigger}
 use Rattle.topology.specs.declared.items.Sent.{Sent}
+use Rattle.topology.specs.declared.items.Pending.{Pending}
 use Rattle.incomplete_closure.specs.declared.cut_rows.Row.{Row}
 use Rattle.incomplete_closure.specs.declared.session_rows.SessionRow.{SessionRow}
 use Rattle.incomplete_closure.specs.declared.reports.Report.{Report}
-use Rattle.incomplete_closure.specs.declared.opening.OpenItem.{OpenItem}
+use Rattle.incomplete_closure.specs.declared.opening.OpenTrigger.{OpenTrigger}
 
 -- the row of session s with v: the first, where rows repeat
 abbrev pub row_of : Report → ℕ → ℕ → Option SessionRow
@@ -21,31 +23,48 @@ abbrev pub down_of : Option SessionRow → Option Trigger
 down_of None = None
 down_of (Some row) = row.down
 
--- the item with its trigger, where its receiver has received fewer
-abbrev pub if_open : Option SessionRow → Trigger → Sent → List OpenItem
-if_open row t item = if nat_lt (received_of row) item.seq then record { trigger = t; down = down_of row } ∷ [] else []
+-- a trigger, with that of the Down
+abbrev pub with_down : Option Trigger → Trigger → OpenTrigger
+with_down down t = record { trigger = t; down = down }
+
+-- the triggers of an item, where its receiver has received fewer
+abbrev pub if_open : Option SessionRow → Sent → List OpenTrigger
+if_open row item = if nat_lt (received_of row) item.seq then map (with_down (down_of row)) item.triggers else []
 
 -- the report of node v
 abbrev pub of_node : List Report → ℕ → Option Report
 of_node reports v = find (λ (r : Report). r.node == v) reports
 
--- the item, sent by v, where its receiver has a report and lacks it
-abbrev pub open_at : Option Report → ℕ → Trigger → Sent → List OpenItem
-open_at None v t item = []
-open_at (Some to) v t item = if_open (row_of to v item.session) t item
+-- of an item that v sent, where its receiver has a report and lacks it
+abbrev pub open_at : Option Report → ℕ → Sent → List OpenTrigger
+open_at None v item = []
+open_at (Some to) v item = if_open (row_of to v item.session) item
 
--- the open items of a row of v
-abbrev pub open_in_row : List Report → ℕ → Row → List OpenItem
-open_in_row reports v row = flat_map (λ (item : Sent). open_at (of_node reports item.to) v row.trigger item) row.sent
+-- of an update that v holds back, where its receiver has a report
+abbrev pub waiting_at : Option Report → ℕ → Pending → List OpenTrigger
+waiting_at None v row = []
+waiting_at (Some to) v row = map (with_down (down_of (row_of to v row.session))) row.triggers
 
--- those of a report
-abbrev pub open_in_report : List Report → Report → List OpenItem
-open_in_report reports from = flat_map (open_in_row reports from.node) from.rows
+-- what is open of a row of v
+abbrev pub open_in_row : List Report → ℕ → Row → List OpenTrigger
+open_in_row reports v row = flat_map (λ (item : Sent). open_at (of_node reports item.to) v item) row.sent
 
--- all of them
-abbrev pub open_items : List Report → List OpenItem
-open_items reports = flat_map (open_in_report reports) reports
+-- of the rows of v
+abbrev pub open_in_rows : List Report → ℕ → List Row → List OpenTrigger
+open_in_rows reports v rows = flat_map (open_in_row reports v) rows
 
--- the receiver of the item has not closed its session
-abbrev pub is_start : OpenItem → Bool
-is_start item = is_none item.down
+-- of what v holds back
+abbrev pub waiting_in : List Report → ℕ → List Pending → List OpenTrigger
+waiting_in reports v rows = flat_map (λ (row : Pending). waiting_at (of_node reports row.to) v row) rows
+
+-- of a report
+abbrev pub open_in_report : List Report → Report → List OpenTrigger
+open_in_report reports from = open_in_rows reports from.node from.rows ++ waiting_in reports from.node from.pending
+
+-- all of it
+abbrev pub open_triggers : List Report → List OpenTrigger
+open_triggers reports = flat_map (open_in_report reports) reports
+
+-- the receiver has not closed the session
+abbrev pub is_start : OpenTrigger → Bool
+is_start o = is_none o.down

@@ -1,15 +1,15 @@
 //! The rows behind a row, and to which of them it leads.
-ghost use Rattle.std.specs.Prelude.{ℕ, ◌≡◌, ◌==◌, ◌++◌, ◌∷◌, [], Some, None, OnOk, IfOk, if◌then◌else◌};
+ghost use Rattle.std.specs.Prelude.{ℕ, ◌≡◌, ◌<◌, ◌==◌, ◌++◌, ◌∷◌, [], Some, None, length, OnOk, if◌then◌else◌};
 ghost use Rattle.std.specs.Option.{option_to_list};
-ghost use Rattle.incomplete_closure.specs.Wiring.{nearest_by, stretch_by};
+ghost use Rattle.incomplete_closure.specs.Wiring.{nearest_by, stretch_by, fanned};
 ghost use Rattle.incomplete_closure.specs.Following.{next_of, led_by};
 
+use crate::graph::Graph;
 use std::alloc::Global;
 use std::collections::BTreeMap;
-use std::mem;
 use topology::{NoMemory, PrefixId, Scope};
 
-/// The rows from some row of a report on, by their vertices, as far as a row before them leads to them.
+/// The rows from some row of a report on, by their numbers, as far as a row before them leads to them.
 #[derive(Drop)]
 pub(crate) struct Behind {
     /// The first row of each prefix, as far as the first row of all prefixes.
@@ -19,6 +19,18 @@ pub(crate) struct Behind {
     /// Every row up to that one, and that one.
     stretch: Vec<usize>,
     alloc: Global,
+}
+
+// The vertex leads to each of these.
+fn fan_out(graph: &mut Graph, from: usize, targets: &[usize]) -> Result<(), NoMemory>
+    requires { from < length graph.old }
+    ensures graph { OnOk result (graph.new ≡ fanned graph.old from targets.now) }
+    ensures len { OnOk result (length graph.new ≡ length graph.old) }
+{
+    for target in targets {
+        graph.link(from, *target)?;
+    }
+    Ok(())
 }
 
 impl Behind {
@@ -42,44 +54,66 @@ impl Behind {
         self.nearest.get(&prefix).copied().or(self.all)
     }
 
-    fn put_one(&mut self, vertex: usize, prefix: PrefixId) -> Result<Vec<usize>, NoMemory>
-        ensures led { IfOk result (λ targets. targets.items ≡ option_to_list (next_of self.old prefix)) }
+    fn put_one(&mut self, number: usize, prefix: PrefixId) -> Result<(), NoMemory>
         ensures nearest { OnOk result ((p : ℕ) →
-            next_of self.new p ≡ (if prefix == p then Some vertex else next_of self.old p)) }
-        ensures stretch { OnOk result (self.new.stretch.items ≡ self.old.stretch.items ++ vertex ∷ []) }
+            next_of self.new p ≡ (if prefix == p then Some number else next_of self.old p)) }
+        ensures stretch { OnOk result (self.new.stretch.items ≡ self.old.stretch.items ++ number ∷ []) }
     {
-        let mut targets = Vec::new(self.alloc);
-        if let Some(next) = self.next(prefix) {
-            targets.push(next)?;
-        }
-        let _ = self.nearest.insert(prefix, vertex)?;
-        self.stretch.push(vertex)?;
-        Ok(targets)
+        let _ = self.nearest.insert(prefix, number)?;
+        self.stretch.push(number)?;
+        Ok(())
     }
 
-    fn put_all(&mut self, vertex: usize) -> Result<Vec<usize>, NoMemory>
-        ensures led { IfOk result (λ targets. targets.items ≡ self.old.stretch.items) }
-        ensures nearest { OnOk result ((p : ℕ) → next_of self.new p ≡ Some vertex) }
-        ensures stretch { OnOk result (self.new.stretch.items ≡ vertex ∷ []) }
+    fn put_all(&mut self, number: usize) -> Result<(), NoMemory>
+        ensures nearest { OnOk result ((p : ℕ) → next_of self.new p ≡ Some number) }
+        ensures stretch { OnOk result (self.new.stretch.items ≡ number ∷ []) }
     {
-        let mut stretch = Vec::new(self.alloc);
-        stretch.push(vertex)?;
         self.nearest = BTreeMap::new(self.alloc);
-        self.all = Some(vertex);
-        Ok(mem::replace(&mut self.stretch, stretch))
+        self.all = Some(number);
+        self.stretch.clear();
+        self.stretch.push(number)?;
+        Ok(())
     }
 
-    /// Puts a row in front of the others, and answers those to which it leads: the next row that shares its
-    /// prefix, or every row up to the next row of all.
-    pub(crate) fn put(&mut self, vertex: usize, scope: &Scope) -> Result<Vec<usize>, NoMemory>
-        ensures led { IfOk result (λ targets. targets.items ≡ led_by scope.now self.old) }
+    /// Puts a row in front of the others.
+    pub(crate) fn put(&mut self, number: usize, scope: &Scope) -> Result<(), NoMemory>
         ensures nearest { OnOk result ((p : ℕ) →
-            next_of self.new p ≡ nearest_by scope.now vertex p (next_of self.old p)) }
-        ensures stretch { OnOk result (self.new.stretch.items ≡ stretch_by scope.now vertex self.old.stretch.items) }
+            next_of self.new p ≡ nearest_by scope.now number p (next_of self.old p)) }
+        ensures stretch { OnOk result (self.new.stretch.items ≡ stretch_by scope.now number self.old.stretch.items) }
     {
         match scope {
-            Scope::One(prefix) => self.put_one(vertex, *prefix),
-            Scope::All => self.put_all(vertex),
+            Scope::One(prefix) => self.put_one(number, *prefix),
+            Scope::All => self.put_all(number),
+            Scope::Nothing => Ok(()),
+        }
+    }
+
+    fn lead_on(&self, graph: &mut Graph, number: usize, prefix: PrefixId) -> Result<(), NoMemory>
+        requires { number < length graph.old }
+        ensures graph { OnOk result (graph.new ≡ fanned graph.old number (option_to_list (next_of self.now prefix))) }
+        ensures len { OnOk result (length graph.new ≡ length graph.old) }
+    {
+        match self.next(prefix) {
+            Some(next) => graph.link(number, next),
+            None => Ok(()),
+        }
+    }
+
+    /// A row in front of them leads to the next row that shares its prefix, or to every row up to the next row of all.
+    pub(crate) fn lead(
+        &self,
+        graph: &mut Graph,
+        number: usize,
+        scope: &Scope,
+    ) -> Result<(), NoMemory>
+        requires { number < length graph.old }
+        ensures graph { OnOk result (graph.new ≡ fanned graph.old number (led_by scope.now self.now)) }
+        ensures len { OnOk result (length graph.new ≡ length graph.old) }
+    {
+        match scope {
+            Scope::One(prefix) => self.lead_on(graph, number, *prefix),
+            Scope::All => fan_out(graph, number, &self.stretch),
+            Scope::Nothing => Ok(()),
         }
     }
 }

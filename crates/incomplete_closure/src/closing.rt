@@ -1,5 +1,5 @@
 //! The value of reports.
-ghost use Rattle.std.specs.Prelude.{◌≡◌, ◌+◌, ◌*◌, ◌≤◌, [], map, length, OnOk, IfOk};
+ghost use Rattle.std.specs.Prelude.{◌≡◌, ◌+◌, ◌*◌, ◌≤◌, ◌<◌, [], map, length, OnOk, IfOk};
 ghost use Rattle.std.specs.List.{list_any};
 ghost use Rattle.std.specs.Rc.{rc_value};
 ghost use Rattle.incomplete_closure.specs.Seen.{reports_seen};
@@ -7,21 +7,24 @@ ghost use Rattle.incomplete_closure.specs.Values.{IsValue};
 ghost use Rattle.incomplete_closure.specs.Marking.{value_of};
 ghost use Rattle.incomplete_closure.specs.Marks.{mark_names};
 ghost use Rattle.incomplete_closure.specs.Graphs.{has_seen};
-ghost use Rattle.incomplete_closure.specs.Opening.{is_start, open_items};
+ghost use Rattle.incomplete_closure.specs.Opening.{is_start, open_triggers};
 ghost use Rattle.incomplete_closure.specs.Closed.{IsLeast};
 ghost use Rattle.incomplete_closure.specs.Together.{OfOneEpoch, nodes_of};
-ghost use Rattle.incomplete_closure.specs.Sizes.{size_of};
+ghost use Rattle.incomplete_closure.specs.Sizes.{rows_of, triggers_of, entries_of, size_of};
 
 use crate::marks::Marks;
 use crate::names::Names;
-use crate::opening::{OpenItem, open_items};
-use crate::search::{Reached, search};
+use crate::opening::{OpenTrigger, open_triggers};
+use crate::reached::Reached;
+use crate::search::search;
 use crate::steps::Steps;
-use crate::wiring::graph_of;
-use crate::{Nodes, Report, Triggers, Value};
+use crate::wiring::{graph_of_rows, wire_open};
+use crate::{Nodes, Report, Value};
 use std::alloc::Global;
+use std::marker::Brand;
 use std::rc::Rc;
-use topology::{NoMemory, NodeId};
+use std::sync::ledger::{Blank, Ledger};
+use topology::{NoMemory, NodeId, Triggers};
 
 // The names of the vertices that were reached.
 fn mark(alloc: Global, names: &Names, reached: &Reached) -> Result<Marks, NoMemory>
@@ -36,33 +39,54 @@ fn mark(alloc: Global, names: &Names, reached: &Reached) -> Result<Marks, NoMemo
     Ok(marks)
 }
 
-// Whether one of the items has a receiver that has not closed its session. Every chain of blocked triggers begins at such an item.
-fn has_start(opened: &[OpenItem]) -> bool
+// Whether one is open to a receiver that has not closed the session. Every chain of blocked triggers begins at such a one.
+fn has_start(opened: &[OpenTrigger]) -> bool
     ensures { result ≡ list_any is_start opened.now }
 {
-    for item in opened {
-        if item.down.is_none() {
+    for open_trigger in opened {
+        if open_trigger.down.is_none() {
             return true;
         }
     }
     false
 }
 
-// The incomplete triggers. Where no chain of blocked triggers begins there is none, and no graph is made.
-fn incomplete(alloc: Global, reports: &[Rc<Report>], steps: &mut Steps) -> Result<Marks, NoMemory>
-    ensures least { IfOk result (λ marks.
-        IsLeast (open_items (map rc_value reports.now)) (map rc_value reports.now) marks) }
-    ensures steps { steps.new ≤ steps.old + 6 * size_of (map rc_value reports.now) }
+// The incomplete triggers, where these are open.
+fn lead_on<L: Ledger>(
+    alloc: Global,
+    reports: &[Rc<Report>],
+    opened: &[OpenTrigger],
+    steps: &mut Steps<L>,
+) -> Result<Marks, NoMemory>
+    ensures least { IfOk result (IsLeast opened.now (map rc_value reports.now)) }
+    ensures most { steps.new ≤ steps.old + (2 * rows_of (map rc_value reports.now)
+        + 4 * triggers_of (map rc_value reports.now) + 3 * length opened.now) }
+    ensures more { steps.old ≤ steps.new }
 {
-    let mut names = Names::new(alloc);
-    let opened = open_items(alloc, reports, &mut names, steps)?;
+    let names = Names::of(alloc, reports, opened, steps)?;
+    let mut graph = graph_of_rows(alloc, &names, reports, steps)?;
+    let roots = wire_open(alloc, &mut graph, &names, opened, steps)?;
+    let reached = search(alloc, &mut graph, &roots, steps)?;
+    let marks = mark(alloc, &names, &reached)?;
+    Ok(marks)
+}
+
+// The incomplete triggers. Where no chain of blocked triggers begins there is none, and no graph is made.
+fn incomplete<L: Ledger>(
+    alloc: Global,
+    reports: &[Rc<Report>],
+    steps: &mut Steps<L>,
+) -> Result<Marks, NoMemory>
+    ensures least { IfOk result (λ marks.
+        IsLeast (open_triggers (map rc_value reports.now)) (map rc_value reports.now) marks) }
+    ensures most { steps.new ≤ steps.old + 6 * size_of (map rc_value reports.now) }
+    ensures more { OnOk result (steps.old + entries_of (map rc_value reports.now) ≤ steps.new) }
+{
+    let opened = open_triggers(alloc, reports, steps)?;
     if !has_start(&opened) {
         return Ok(Marks::new(alloc));
     }
-    let mut graph = graph_of(alloc, &names, reports, &opened, steps)?;
-    let reached = search(alloc, &mut graph, names.len(), steps)?;
-    let marks = mark(alloc, &names, &reached)?;
-    Ok(marks)
+    lead_on(alloc, reports, &opened, steps)
 }
 
 fn responding(alloc: Global, reports: &[Rc<Report>]) -> Result<Vec<NodeId>, NoMemory>
@@ -75,31 +99,50 @@ fn responding(alloc: Global, reports: &[Rc<Report>]) -> Result<Vec<NodeId>, NoMe
     Ok(nodes)
 }
 
-/// The value of the reports of one epoch: their nodes, and the incomplete triggers.
-pub fn closure(alloc: Global, reports: &[Rc<Report>]) -> Result<Value, NoMemory>
-    requires { OfOneEpoch (map rc_value reports.now) }
-    ensures told { IfOk result (λ value. IsValue (reports_seen (map rc_value reports.now)) value) }
-    ensures named { IfOk result (λ value. value ≡ value_of (reports_seen (map rc_value reports.now))) }
-{
-    let mut steps = Steps::new();
-    closure_counting(alloc, reports, &mut steps)
-}
-
-/// The same, and the steps that it takes are counted.
-pub fn closure_counting(
+/// The value of the reports of one epoch: their nodes, and the incomplete triggers. The steps that it takes are counted:
+/// each row, item and pending row is taken at least once.
+pub fn closure<L: Ledger>(
     alloc: Global,
     reports: &[Rc<Report>],
-    steps: &mut Steps,
+    steps: &mut Steps<L>,
 ) -> Result<Value, NoMemory>
     requires { OfOneEpoch (map rc_value reports.now) }
     ensures told { IfOk result (λ value. IsValue (reports_seen (map rc_value reports.now)) value) }
     ensures named { IfOk result (λ value. value ≡ value_of (reports_seen (map rc_value reports.now))) }
-    ensures steps { steps.new ≤ steps.old + 6 * size_of (map rc_value reports.now) }
+    ensures most { steps.new ≤ steps.old + 6 * size_of (map rc_value reports.now) }
+    ensures least { OnOk result (steps.old + entries_of (map rc_value reports.now) ≤ steps.new) }
 {
     let nodes = responding(alloc, reports)?;
     let marks = incomplete(alloc, reports, steps)?;
     Ok(Value {
         responding: Nodes::new(nodes),
-        incomplete: Triggers::new(marks.list(alloc)?),
+        incomplete: Triggers::from_ascending(marks.list(alloc)?)?,
     })
+}
+
+// The same, where the steps are counted by a ledger of its own.
+fn closure_by<L: Ledger>(
+    alloc: Global,
+    reports: &[Rc<Report>],
+    blank: Blank,
+) -> Result<Value, NoMemory>
+    requires one { OfOneEpoch (map rc_value reports.now) }
+    requires name { blank.name ≡ L.name }
+    requires parts { blank.parts ≡ L.parts }
+    requires some { 0 < blank.parts }
+    ensures told { IfOk result (λ value. IsValue (reports_seen (map rc_value reports.now)) value) }
+    ensures named { IfOk result (λ value. value ≡ value_of (reports_seen (map rc_value reports.now))) }
+{
+    let mut steps: Steps<L> = Steps::new(blank);
+    let value = closure(alloc, reports, &mut steps)?;
+    Ok(value)
+}
+
+/// The same, for a caller that counts nothing.
+pub fn uncounted_closure(alloc: Global, reports: &[Rc<Report>]) -> Result<Value, NoMemory>
+    requires { OfOneEpoch (map rc_value reports.now) }
+    ensures told { IfOk result (λ value. IsValue (reports_seen (map rc_value reports.now)) value) }
+    ensures named { IfOk result (λ value. value ≡ value_of (reports_seen (map rc_value reports.now))) }
+{
+    closure_by::<Brand>(alloc, reports, Blank::new(1))
 }

@@ -2,12 +2,12 @@
 ghost use Rattle.std.specs.Prelude.{◌≡◌};
 
 use std::marker::Model;
-use topology::{Scope, SentItems, Trigger};
+use topology::{Scope, SentItems, Triggers};
 
-/// An entry of the cut: its trigger, what it concerns, and the items that it sent.
+/// An entry of the cut: the triggers that it lists, what it concerns, and the items that it sent.
 #[derive(Debug, Drop)]
 pub struct Row {
-    pub trigger: Trigger,
+    pub triggers: Triggers,
     pub scope: Scope,
     pub sent: SentItems,
 }

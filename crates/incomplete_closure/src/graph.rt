@@ -1,68 +1,112 @@
-//! Graphs: a vertex is a number, from 0, and leads to a list of others.
-ghost use Rattle.std.specs.Prelude.{◌≡◌, ◌<◌, ◌++◌, ◌∷◌, [], OnOk, length, set};
-ghost use Rattle.incomplete_closure.specs.Graphs.{led_from, linked};
+//! Graphs: a vertex is a number, from 0, and leads to others.
+ghost use Rattle.std.specs.Prelude.{◌≡◌, ◌≤◌, ◌<◌, ◌+◌, [], OnOk, IfOk, length, replicate, set};
+ghost use Rattle.incomplete_closure.specs.Chains.{chained, GoDown};
+ghost use Rattle.incomplete_closure.specs.Graphs.{led_from, linked, enter_all};
 
+use crate::reached::Reached;
+use crate::steps::Steps;
 use std::alloc::Global;
 use std::marker::Model;
-use std::mem;
+use std::sync::ledger::Ledger;
 use topology::NoMemory;
 
-/// To which vertices each vertex leads.
+/// That a vertex leads to another. The edges of a vertex are a chain: each tells the place of an older one.
+#[derive(Clone, Copy, Debug)]
+pub(crate) struct Edge {
+    to: usize,
+    // One more than the place of the next one in the chain; 0 where this is the last.
+    next: usize,
+}
+
+/// To which vertices each vertex leads. All edges stand in one list, as they came.
 #[derive(Drop)]
 pub(crate) struct Graph {
-    edges: Vec<Vec<usize>>,
-    alloc: Global,
+    // One more than the place of the newest edge of each vertex; 0 where it has none.
+    newest: Vec<usize>,
+    edges: Vec<Edge>,
 }
 
 impl Model for Graph {
     ghost use Rattle.std.specs.Prelude.{ℕ, List, map};
+    ghost use Rattle.incomplete_closure.specs.Chains.{chained, AreChained};
 
     ghost Value = { List (List ℕ) };
 
-    ghost view = { λ g. map (λ targets. targets.items) g.edges.items };
+    ghost view = { λ g. map (chained g.edges.items) g.newest.items };
+
+    ghost invariant = { λ g. AreChained g.newest.items g.edges.items };
+}
+
+// Enters all to which a chain leads.
+fn enter_chain<L: Ledger>(
+    edges: &[Edge],
+    newest: usize,
+    reached: &mut Reached,
+    steps: &mut Steps<L>,
+) -> Result<(), NoMemory>
+    requires older { GoDown edges.now }
+    requires within { newest ≤ length edges.now }
+    ensures reached { OnOk result (reached.new ≡ enter_all reached.old (chained edges.now newest)) }
+    ensures most { steps.new ≤ steps.old + length (chained edges.now newest) }
+    ensures least { steps.old ≤ steps.new }
+{
+    let mut at = newest;
+    while at > 0 {
+        let edge = edges[at - 1];
+        steps.take();
+        reached.enter(edge.to)?;
+        at = edge.next;
+    }
+    Ok(())
 }
 
 impl Graph {
-    /// No vertex. Takes no memory.
-    pub(crate) fn new(alloc: Global) -> Graph
-        ensures { result ≡ [] }
+    /// So many vertices and one more, which lead nowhere.
+    pub(crate) fn new(alloc: Global, vertices: usize) -> Result<Graph, NoMemory>
+        ensures { IfOk result (λ graph. graph ≡ replicate (vertices + 1) []) }
     {
-        Graph {
+        let mut newest = vec![in alloc; 0; vertices]?;
+        newest.push(0)?;
+        Ok(Graph {
+            newest,
             edges: Vec::new(alloc),
-            alloc,
-        }
+        })
     }
 
-    /// How many vertices there are: the number of the next one.
+    /// How many vertices there are.
     pub(crate) fn len(&self) -> usize
         ensures { result ≡ length self.now }
     {
-        self.edges.len()
-    }
-
-    /// One vertex more, which leads to these.
-    pub(crate) fn add(&mut self, targets: Vec<usize>) -> Result<(), NoMemory>
-        ensures { OnOk result (self.new ≡ self.old ++ targets.items ∷ []) }
-    {
-        self.edges.push(targets)?;
-        Ok(())
+        self.newest.len()
     }
 
     /// A vertex leads to one more.
     pub(crate) fn link(&mut self, from: usize, to: usize) -> Result<(), NoMemory>
         requires { from < length self.old }
-        ensures { OnOk result (self.new ≡ linked self.old from to) }
+        ensures graph { OnOk result (self.new ≡ linked self.old from to) }
+        ensures len { OnOk result (length self.new ≡ length self.old) }
     {
-        self.edges[from].push(to)?;
+        let next = self.newest[from];
+        self.edges.push(Edge { to, next })?;
+        self.newest[from] = self.edges.len();
         Ok(())
     }
 
-    /// Takes out what a vertex leads to; then it leads nowhere.
-    pub(crate) fn take(&mut self, vertex: usize) -> Vec<usize>
+    /// Enters all to which a vertex leads; then it leads nowhere.
+    pub(crate) fn follow<L: Ledger>(
+        &mut self,
+        vertex: usize,
+        reached: &mut Reached,
+        steps: &mut Steps<L>,
+    ) -> Result<(), NoMemory>
         requires { vertex < length self.old }
-        ensures targets { result.items ≡ led_from self.old vertex }
+        ensures reached { OnOk result (reached.new ≡ enter_all reached.old (led_from self.old vertex)) }
         ensures rest { self.new ≡ set self.old vertex [] }
+        ensures most { steps.new ≤ steps.old + length (led_from self.old vertex) }
+        ensures least { steps.old ≤ steps.new }
     {
-        mem::replace(&mut self.edges[vertex], Vec::new(self.alloc))
+        let newest = self.newest[vertex];
+        self.newest[vertex] = 0;
+        enter_chain(&self.edges, newest, reached, steps)
     }
 }

@@ -1,4 +1,4 @@
-//! Which triggers are incomplete: reports of cuts, what is missing between them, and the value agreed on.
+//! Which triggers are incomplete: reports of cuts, what is open between them, and the value agreed on.
 #![tactic(auto)]
 
 mod behind;
@@ -9,6 +9,8 @@ pub mod laws;
 mod marks;
 mod names;
 mod opening;
+pub mod pending_rows;
+mod reached;
 pub mod reports;
 mod search;
 pub mod session_rows;
@@ -17,9 +19,10 @@ pub mod steps;
 pub mod values;
 mod wiring;
 
-pub use closing::{closure, closure_counting};
+pub use closing::{closure, uncounted_closure};
 pub use cut_rows::{Row, Rows};
+pub use pending_rows::PendingRows;
 pub use reports::{Report, missing};
 pub use session_rows::{SessionRow, SessionRows};
 pub use steps::Steps;
-pub use values::{Nodes, Triggers, Value};
+pub use values::{Nodes, Value};

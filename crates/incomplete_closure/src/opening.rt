@@ -1,123 +1,214 @@
-//! Which items are open: sent to a node of the reports, and not received there.
+//! What is open: the triggers of items that were sent to a node of the reports and not received there, and of updates
+//! that are held back from one.
 ghost use Rattle.std.specs.Prelude.{◌≡◌, ◌++◌, ◌+◌, ◌≤◌, List, map, length, OnOk, IfOk};
 ghost use Rattle.std.specs.Rc.{rc_value};
 ghost use Rattle.incomplete_closure.specs.declared.reports.Report.{Report as AnyReport};
-ghost use Rattle.incomplete_closure.specs.Opening.{if_open, open_at, of_node, open_in_row, open_in_report, open_items};
+ghost use Rattle.incomplete_closure.specs.Opening.{down_of, with_down, if_open, open_at, waiting_at, of_node, open_in_row, open_in_rows, waiting_in, open_in_report, open_triggers};
 ghost use Rattle.incomplete_closure.specs.Tables.{IsTableOf};
-ghost use Rattle.incomplete_closure.specs.Wiring.{with_rows, with_reports};
-ghost use Rattle.incomplete_closure.specs.Sizes.{items_in, size_of};
+ghost use Rattle.incomplete_closure.specs.Sizes.{carried_by, items_in, carried_in, held_in, entries_of, sessions_of, carried_of};
 
-use crate::names::Names;
+use crate::reports::received_of;
 use crate::session_table::SessionTable;
 use crate::steps::Steps;
 use crate::{Report, Row, SessionRow};
 use std::alloc::Global;
 use std::rc::Rc;
-use topology::{NoMemory, NodeId, Sent, Trigger};
+use std::sync::ledger::Ledger;
+use topology::{NoMemory, NodeId, Pending, Sent, Trigger, Triggers};
 
-/// An item that its receiver has not received: the trigger of its row, and that of the `Down` of
-/// its session at the receiver, if there is one.
+/// A trigger that is listed by an item which its receiver has not received, or by an update that is held back: with the
+/// trigger of the `Down` of that session at the receiver, if there is one.
 #[derive(Clone, Copy, Debug)]
-pub(crate) struct OpenItem {
+pub(crate) struct OpenTrigger {
     pub(crate) trigger: Trigger,
     pub(crate) down: Option<Trigger>,
 }
 
-// Puts the item at the end, where the receiver's row tells of fewer.
-fn push_open(
-    opened: &mut Vec<OpenItem>,
-    row: Option<SessionRow>,
-    trigger: Trigger,
-    item: &Sent,
-) -> Result<(), NoMemory>
-    ensures { OnOk result (opened.new.items ≡ opened.old.items ++ if_open row trigger item.now) }
+// The trigger of the `Down` that the row tells of.
+fn down_of(row: &Option<SessionRow>) -> Option<Trigger>
+    ensures { result ≡ down_of row.now }
 {
-    let (received, down) = match row {
-        Some(row) => (row.received, row.down),
-        None => (0, None),
-    };
-    if received < item.seq {
-        opened.push(OpenItem { trigger, down })?;
+    match row {
+        Some(row) => row.down,
+        None => None,
+    }
+}
+
+// Puts each trigger at the end.
+fn push_all<L: Ledger>(
+    opened: &mut Vec<OpenTrigger>,
+    triggers: &Triggers,
+    down: &Option<Trigger>,
+    steps: &mut Steps<L>,
+) -> Result<(), NoMemory>
+    ensures opened { OnOk result (opened.new.items ≡ opened.old.items ++ map (with_down down.now) triggers.now) }
+    ensures most { steps.new ≤ steps.old + length triggers.now }
+    ensures least { steps.old ≤ steps.new }
+{
+    for trigger in triggers.as_slice() {
+        steps.take();
+        opened.push(OpenTrigger {
+            trigger: *trigger,
+            down: *down,
+        })?;
     }
     Ok(())
 }
 
-// The same of an item of a row of node `from`.
-fn gather_item(
-    opened: &mut Vec<OpenItem>,
+// Puts the triggers of the item at the end, where the receiver's row tells of fewer.
+fn push_open<L: Ledger>(
+    opened: &mut Vec<OpenTrigger>,
+    row: &Option<SessionRow>,
+    item: &Sent,
+    steps: &mut Steps<L>,
+) -> Result<(), NoMemory>
+    ensures opened { OnOk result (opened.new.items ≡ opened.old.items ++ if_open row.now item.now) }
+    ensures most { steps.new ≤ steps.old + length item.now.triggers }
+    ensures least { steps.old ≤ steps.new }
+{
+    if received_of(row) < item.seq {
+        return push_all(opened, &item.triggers, &down_of(row), steps);
+    }
+    Ok(())
+}
+
+// The same of an item of node `from`, where its receiver has a report.
+fn gather_item<L: Ledger>(
+    opened: &mut Vec<OpenTrigger>,
     table: &SessionTable,
     from: NodeId,
-    trigger: Trigger,
     item: &Sent,
+    steps: &mut Steps<L>,
 ) -> Result<(), NoMemory>
-    ensures { OnOk result ((reports : List AnyReport) → IsTableOf reports table.now →
-        opened.new.items ≡ opened.old.items ++ open_at (of_node reports item.now.to) from trigger item.now) }
+    ensures opened { OnOk result ((reports : List AnyReport) → IsTableOf reports table.now →
+        opened.new.items ≡ opened.old.items ++ open_at (of_node reports item.now.to) from item.now) }
+    ensures most { steps.new ≤ steps.old + length item.now.triggers }
+    ensures least { steps.old ≤ steps.new }
 {
     if !table.has_node(item.to) {
         return Ok(());
     }
-    push_open(
-        opened,
-        table.row(item.to, from, item.session),
-        trigger,
-        item,
-    )
+    push_open(opened, &table.row(item.to, from, item.session), item, steps)
 }
 
-fn gather_row(
-    opened: &mut Vec<OpenItem>,
+// The open triggers of a row.
+fn gather_row<L: Ledger>(
+    opened: &mut Vec<OpenTrigger>,
     table: &SessionTable,
     from: NodeId,
     row: &Row,
-    steps: &mut Steps,
+    steps: &mut Steps<L>,
 ) -> Result<(), NoMemory>
     ensures opened { OnOk result ((reports : List AnyReport) → IsTableOf reports table.now →
         opened.new.items ≡ opened.old.items ++ open_in_row reports from row.now) }
-    ensures steps { steps.new ≤ steps.old + length row.now.sent }
+    ensures most { steps.new ≤ steps.old + (length row.now.sent + carried_by row.now.sent) }
+    ensures least { OnOk result (steps.old + length row.now.sent ≤ steps.new) }
 {
     for item in row.sent.laid_out().as_slice() {
         steps.take();
-        gather_item(opened, table, from, row.trigger, item)?;
+        gather_item(opened, table, from, item, steps)?;
     }
     Ok(())
 }
 
-// The open items of a report, and the triggers of its rows.
-fn gather_report(
-    opened: &mut Vec<OpenItem>,
-    names: &mut Names,
+// Those of rows.
+fn gather_rows<L: Ledger>(
+    opened: &mut Vec<OpenTrigger>,
+    table: &SessionTable,
+    from: NodeId,
+    rows: &[Row],
+    steps: &mut Steps<L>,
+) -> Result<(), NoMemory>
+    ensures opened { OnOk result ((reports : List AnyReport) → IsTableOf reports table.now →
+        opened.new.items ≡ opened.old.items ++ open_in_rows reports from rows.now) }
+    ensures most { steps.new ≤ steps.old + (length rows.now + items_in rows.now + carried_in rows.now) }
+    ensures least { OnOk result (steps.old + (length rows.now + items_in rows.now) ≤ steps.new) }
+{
+    for row in rows {
+        steps.take();
+        gather_row(opened, table, from, row, steps)?;
+    }
+    Ok(())
+}
+
+// Those of an update that node `from` holds back, where its receiver has a report.
+fn gather_pending<L: Ledger>(
+    opened: &mut Vec<OpenTrigger>,
+    table: &SessionTable,
+    from: NodeId,
+    row: &Pending,
+    steps: &mut Steps<L>,
+) -> Result<(), NoMemory>
+    ensures opened { OnOk result ((reports : List AnyReport) → IsTableOf reports table.now →
+        opened.new.items ≡ opened.old.items ++ waiting_at (of_node reports row.now.to) from row.now) }
+    ensures most { steps.new ≤ steps.old + length row.now.triggers }
+    ensures least { steps.old ≤ steps.new }
+{
+    if !table.has_node(row.to) {
+        return Ok(());
+    }
+    push_all(
+        opened,
+        &row.triggers,
+        &down_of(&table.row(row.to, from, row.session)),
+        steps,
+    )
+}
+
+// Those of all that it holds back.
+fn gather_waiting<L: Ledger>(
+    opened: &mut Vec<OpenTrigger>,
+    table: &SessionTable,
+    from: NodeId,
+    rows: &[Pending],
+    steps: &mut Steps<L>,
+) -> Result<(), NoMemory>
+    ensures opened { OnOk result ((reports : List AnyReport) → IsTableOf reports table.now →
+        opened.new.items ≡ opened.old.items ++ waiting_in reports from rows.now) }
+    ensures most { steps.new ≤ steps.old + (length rows.now + held_in rows.now) }
+    ensures least { OnOk result (steps.old + length rows.now ≤ steps.new) }
+{
+    for row in rows {
+        steps.take();
+        gather_pending(opened, table, from, row, steps)?;
+    }
+    Ok(())
+}
+
+// Those of a report.
+fn gather_report<L: Ledger>(
+    opened: &mut Vec<OpenTrigger>,
     table: &SessionTable,
     report: &Report,
-    steps: &mut Steps,
+    steps: &mut Steps<L>,
 ) -> Result<(), NoMemory>
     ensures opened { OnOk result ((reports : List AnyReport) → IsTableOf reports table.now →
         opened.new.items ≡ opened.old.items ++ open_in_report reports report.now) }
-    ensures names { OnOk result (names.new ≡ with_rows names.old report.now.rows) }
-    ensures steps { steps.new ≤ steps.old + (length report.now.rows + items_in report.now.rows) }
+    ensures most { steps.new ≤ steps.old
+        + ((length report.now.rows + items_in report.now.rows + length report.now.pending)
+        + (carried_in report.now.rows + held_in report.now.pending)) }
+    ensures least { OnOk result (steps.old
+        + (length report.now.rows + items_in report.now.rows + length report.now.pending) ≤ steps.new) }
 {
-    for row in report.rows.as_slice() {
-        steps.take();
-        names.add(row.trigger)?;
-        gather_row(opened, table, report.node, row, steps)?;
-    }
-    Ok(())
+    gather_rows(opened, table, report.node, report.rows.as_slice(), steps)?;
+    gather_waiting(opened, table, report.node, report.pending.as_slice(), steps)
 }
 
-/// The open items of the reports. The triggers of their rows are added to the names.
-pub(crate) fn open_items(
+/// What is open between the reports.
+pub(crate) fn open_triggers<L: Ledger>(
     alloc: Global,
     reports: &[Rc<Report>],
-    names: &mut Names,
-    steps: &mut Steps,
-) -> Result<Vec<OpenItem>, NoMemory>
-    ensures opened { IfOk result (λ opened. opened.items ≡ open_items (map rc_value reports.now)) }
-    ensures names { OnOk result (names.new ≡ with_reports names.old (map rc_value reports.now)) }
-    ensures steps { steps.new ≤ steps.old + size_of (map rc_value reports.now) }
+    steps: &mut Steps<L>,
+) -> Result<Vec<OpenTrigger>, NoMemory>
+    ensures opened { IfOk result (λ opened. opened.items ≡ open_triggers (map rc_value reports.now)) }
+    ensures most { steps.new ≤ steps.old + (sessions_of (map rc_value reports.now)
+        + (entries_of (map rc_value reports.now) + carried_of (map rc_value reports.now))) }
+    ensures least { OnOk result (steps.old + entries_of (map rc_value reports.now) ≤ steps.new) }
 {
     let table = SessionTable::of(alloc, reports, steps)?;
     let mut opened = Vec::new(alloc);
     for report in reports {
-        gather_report(&mut opened, names, &table, report, steps)?;
+        gather_report(&mut opened, &table, report, steps)?;
     }
     Ok(opened)
 }

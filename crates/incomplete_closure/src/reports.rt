@@ -1,20 +1,20 @@
 //! Reports of cuts, and what is missing between two of them.
-ghost use Rattle.std.specs.Prelude.{◌≡◌, ◌==◌, ◌&&◌, List, find};
-ghost use Rattle.topology.specs.declared.names.Trigger.{Trigger as AnyTrigger};
+ghost use Rattle.std.specs.Prelude.{◌≡◌, ◌==◌, ◌&&◌, find};
 ghost use Rattle.incomplete_closure.specs.Reports.{missing as is_missing};
-ghost use Rattle.incomplete_closure.specs.Seen.{report_seen, item_seen};
+ghost use Rattle.incomplete_closure.specs.Seen.{report_seen};
 ghost use Rattle.incomplete_closure.specs.Opening.{row_of, received_of};
 
-use crate::{Rows, SessionRow, SessionRows};
+use crate::{PendingRows, Rows, SessionRow, SessionRows};
 use topology::{Epoch, NodeId, Sent, Session};
 
-/// What a node tells of its cut of an epoch: its entries and its sessions.
+/// What a node tells of its cut of an epoch: its entries, its sessions, and what it holds back.
 #[derive(Debug, Drop)]
 pub struct Report {
     pub node: NodeId,
     pub epoch: Epoch,
     pub rows: Rows,
     pub sessions: SessionRows,
+    pub pending: PendingRows,
 }
 
 // The row of the session with the neighbour: the first, where rows repeat.
@@ -30,8 +30,8 @@ pub(crate) fn session_of(report: &Report, nbr: NodeId, session: Session) -> Opti
 }
 
 // How many updates the row tells of.
-pub(crate) fn received_of(row: Option<SessionRow>) -> u32
-    ensures { result ≡ received_of row }
+pub(crate) fn received_of(row: &Option<SessionRow>) -> u32
+    ensures { result ≡ received_of row.now }
 {
     match row {
         Some(row) => row.received,
@@ -41,9 +41,8 @@ pub(crate) fn received_of(row: Option<SessionRow>) -> u32
 
 /// Whether the item goes to the node of the other report, and that one has received fewer items of
 /// its session. Takes no memory.
-pub fn missing(from: &Report, to: &Report, item: Sent) -> bool
-    ensures { (triggers : List AnyTrigger) →
-        result ≡ is_missing (report_seen from.now) (report_seen to.now) (item_seen triggers item) }
+pub fn missing(from: &Report, to: &Report, item: &Sent) -> bool
+    ensures { result ≡ is_missing (report_seen from.now) (report_seen to.now) item.now }
 {
-    item.to == to.node && received_of(session_of(to, from.node, item.session)) < item.seq
+    item.to == to.node && received_of(&session_of(to, from.node, item.session)) < item.seq
 }

@@ -12,6 +12,7 @@ use crate::{Report, SessionRow};
 use std::alloc::Global;
 use std::collections::{BTreeMap, BTreeSet};
 use std::rc::Rc;
+use std::sync::ledger::Ledger;
 use topology::{NoMemory, NodeId, Session, Trigger};
 
 /// A session of a node with a neighbour.
@@ -31,13 +32,14 @@ pub(crate) struct SessionTable {
 
 impl SessionTable {
     /// The table of these reports: the first of each node counts, and the first row of each session.
-    pub(crate) fn of(
+    pub(crate) fn of<L: Ledger>(
         alloc: Global,
         reports: &[Rc<Report>],
-        steps: &mut Steps,
+        steps: &mut Steps<L>,
     ) -> Result<SessionTable, NoMemory>
         ensures table { IfOk result (IsTableOf (map rc_value reports.now)) }
-        ensures steps { steps.new ≤ steps.old + sessions_of (map rc_value reports.now) }
+        ensures most { steps.new ≤ steps.old + sessions_of (map rc_value reports.now) }
+        ensures least { steps.old ≤ steps.new }
     {
         let mut table = SessionTable {
             nodes: BTreeSet::new(alloc),
@@ -49,10 +51,11 @@ impl SessionTable {
         Ok(table)
     }
 
-    fn add(&mut self, report: &Report, steps: &mut Steps) -> Result<(), NoMemory>
+    fn add<L: Ledger>(&mut self, report: &Report, steps: &mut Steps<L>) -> Result<(), NoMemory>
         ensures table { OnOk result ((before : List AnyReport) →
             IsTableOf before self.old → IsTableOf (before ++ report.now ∷ []) self.new) }
-        ensures steps { steps.new ≤ steps.old + length report.now.sessions }
+        ensures most { steps.new ≤ steps.old + length report.now.sessions }
+        ensures least { steps.old ≤ steps.new }
     {
         if self.has_node(report.node) {
             return Ok(());
@@ -62,11 +65,12 @@ impl SessionTable {
         Ok(())
     }
 
-    fn fill(&mut self, report: &Report, steps: &mut Steps) -> Result<(), NoMemory>
+    fn fill<L: Ledger>(&mut self, report: &Report, steps: &mut Steps<L>) -> Result<(), NoMemory>
         ensures nodes { OnOk result (self.new.nodes.keys ≡ self.old.nodes.keys) }
         ensures rows { OnOk result ((n v s : ℕ) → row_at self.new n v s ≡
             option_or (row_at self.old n v s) (if n == report.now.node then row_of report.now v s else None)) }
-        ensures steps { steps.new ≤ steps.old + length report.now.sessions }
+        ensures most { steps.new ≤ steps.old + length report.now.sessions }
+        ensures least { steps.old ≤ steps.new }
     {
         for row in report.sessions.as_slice() {
             steps.take();

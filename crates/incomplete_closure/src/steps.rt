@@ -1,40 +1,43 @@
 //! How much work a call did.
-ghost use Rattle.std.specs.Prelude.{ℕ, ◌≡◌, ◌+◌, ◌-◌, ◌^◌, min};
+ghost use Rattle.std.specs.Prelude.{ℕ, ◌≡◌, ◌+◌, ◌<◌};
 
 use std::marker::Model;
+use std::sync::ledger::{Blank, Book, Ledger, Share};
 
-/// How many rows, sent items and session rows were taken from lists, up to the greatest `u64`.
-#[derive(Debug, Drop)]
-pub struct Steps {
-    taken: u64,
+/// How many rows, sent items, session rows, pending rows and listed triggers were taken from lists. It takes no bytes, and
+/// has no value when a program runs.
+#[derive(Drop)]
+pub struct Steps<L: Ledger> {
+    book: Book<L>,
+    share: Share<L>,
 }
 
-impl Model for Steps {
-    ghost use Rattle.std.specs.Prelude.{ℕ};
+impl<L: Ledger> Model for Steps<L> {
+    ghost use Rattle.std.specs.Prelude.{ℕ, ◌<◌};
 
     ghost Value = { ℕ };
 
-    ghost view = { λ s. s.taken };
+    ghost view = { λ s. s.book.total };
+
+    ghost invariant = { λ s. 0 < s.share.parts };
 }
 
-impl Steps {
-    /// None yet. Takes no memory.
-    pub fn new() -> Steps
+impl<L: Ledger> Steps<L> {
+    /// None yet.
+    pub fn new(blank: Blank) -> Steps<L>
+        requires name { blank.name ≡ L.name }
+        requires parts { blank.parts ≡ L.parts }
+        requires some { 0 < blank.parts }
         ensures { result ≡ 0 }
     {
-        Steps { taken: 0 }
+        let (book, share) = blank.open::<L>();
+        Steps { book, share }
     }
 
-    pub fn taken(&self) -> u64
-        ensures { result ≡ self.now }
-    {
-        self.taken
-    }
-
-    /// One more.
+    /// One more. When a program runs it does nothing.
     pub(crate) fn take(&mut self)
-        ensures { self.new ≡ min (self.old + 1) (2 ^ 64 - 1) }
+        ensures { self.new ≡ self.old + 1 }
     {
-        self.taken = self.taken.saturating_add(1);
+        self.book.add(&mut self.share, 1);
     }
 }

@@ -2,7 +2,7 @@
 ghost use Rattle.std.specs.Prelude.{◌≡◌, IfOk};
 
 use std::marker::Model;
-use topology::{NoMemory, NodeId, Trigger};
+use topology::{NoMemory, NodeId, Triggers};
 
 /// Nodes, ascending in a value.
 #[derive(Debug, Drop)]
@@ -41,45 +41,7 @@ impl Nodes {
     }
 }
 
-/// Triggers, ascending in a value by node, then by counter.
-#[derive(Debug, Drop)]
-pub struct Triggers {
-    list: Vec<Trigger>,
-}
-
-impl Model for Triggers {
-    ghost use Rattle.std.specs.Prelude.{List};
-    ghost use Rattle.topology.specs.declared.names.Trigger.{Trigger};
-
-    ghost Value = { List Trigger };
-
-    ghost view = { λ t. t.list.items };
-}
-
-impl Triggers {
-    /// These triggers. Takes no memory.
-    pub fn new(list: Vec<Trigger>) -> Triggers
-        ensures { result ≡ list.items }
-    {
-        Triggers { list }
-    }
-
-    pub fn as_slice(&self) -> &[Trigger]
-        ensures { result.now ≡ self.now }
-    {
-        &self.list
-    }
-
-    fn copy(&self) -> Result<Triggers, NoMemory>
-        ensures { IfOk result (λ triggers. triggers ≡ self.now) }
-    {
-        Ok(Triggers {
-            list: self.list.clone()?,
-        })
-    }
-}
-
-/// The nodes that responded, ascending, and the incomplete triggers, ascending.
+/// The nodes that responded, ascending, and the incomplete triggers.
 #[derive(Debug, Drop)]
 pub struct Value {
     pub responding: Nodes,

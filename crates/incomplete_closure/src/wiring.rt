@@ -1,93 +1,110 @@
-//! The graph of reports: where the trigger or the row of a vertex is blocked, so are those to which it
-//! leads. Triggers come first, by number. Then comes the start, which leads to what is blocked from the
-//! start, and then a vertex for each row.
-ghost use Rattle.std.specs.Prelude.{ℕ, ◌≡◌, ◌≤◌, ◌<◌, ◌+◌, ◌∷◌, List, length, map, OnOk, IfOk};
+//! The graph of reports: where a trigger is blocked, so are those to which it leads.
+ghost use Rattle.std.specs.Prelude.{◌≡◌, ◌≤◌, ◌<◌, ◌+◌, ◌++◌, ◌∷◌, List, length, map, OnOk, IfOk};
 ghost use Rattle.std.specs.Rc.{rc_value};
 ghost use Rattle.incomplete_closure.specs.declared.cut_rows.Row.{Row as AnyRow};
-ghost use Rattle.incomplete_closure.specs.Wiring.{blank, wire_row, wire_rows, wire_reports, wire_both, wire_items, source_of, place_of, next_rows, graph_of};
+ghost use Rattle.incomplete_closure.specs.Names.{number_of};
+ghost use Rattle.incomplete_closure.specs.Wiring.{tied, wire_row, wire_rows, wire_reports, wire_down, wire_open, next_rows, root_of, roots_of, graph_of_rows};
 ghost use Rattle.incomplete_closure.specs.Following.{IsBehind};
-ghost use Rattle.incomplete_closure.specs.Sizes.{rows_of};
+ghost use Rattle.incomplete_closure.specs.Sizes.{triggers_in, rows_of, triggers_of};
 
 use crate::behind::Behind;
 use crate::graph::Graph;
 use crate::names::Names;
-use crate::opening::OpenItem;
+use crate::opening::OpenTrigger;
 use crate::steps::Steps;
 use crate::{Report, Row};
 use std::alloc::Global;
 use std::rc::Rc;
-use topology::NoMemory;
+use std::sync::ledger::Ledger;
+use topology::{NoMemory, Trigger};
 
-// So many triggers and the start, which lead nowhere yet.
-fn vertices(alloc: Global, triggers: usize) -> Result<Graph, NoMemory>
-    ensures graph { IfOk result (λ graph. graph ≡ blank triggers) }
-    ensures len { IfOk result (λ graph. length graph ≡ triggers + 1) }
-{
-    let mut graph = Graph::new(alloc);
-    for _place in 0..triggers {
-        graph.add(Vec::new(alloc))?;
-    }
-    graph.add(Vec::new(alloc))?;
-    Ok(graph)
-}
-
-// A vertex for a row, which leads to its trigger and to later rows; its trigger leads to it.
-fn wire_row(
+// The first trigger of a row and each of the others lead to each other.
+fn tie<L: Ledger>(
     graph: &mut Graph,
     names: &Names,
-    behind: &mut Behind,
-    row: &Row,
+    first: usize,
+    others: &[Trigger],
+    steps: &mut Steps<L>,
 ) -> Result<(), NoMemory>
-    requires { length names.now ≤ length graph.old }
-    ensures graph { OnOk result ((base : ℕ) (later : List AnyRow) → IsBehind base later behind.old →
-        graph.new ≡ wire_row names.now graph.old row.now.trigger (next_rows row.now.scope base later)) }
-    ensures len { OnOk result (length graph.new ≡ length graph.old + 1) }
-    ensures behind { OnOk result ((base : ℕ) (later : List AnyRow) → IsBehind base later behind.old →
-        length graph.old ≡ base + length later → IsBehind base (row.now ∷ later) behind.new) }
+    requires names { length names.now < length graph.old }
+    requires first { first < length graph.old }
+    ensures graph { OnOk result (graph.new ≡ tied names.now graph.old first others.now) }
+    ensures len { OnOk result (length graph.new ≡ length graph.old) }
+    ensures most { steps.new ≤ steps.old + length others.now }
+    ensures least { steps.old ≤ steps.new }
 {
-    let vertex = graph.len();
-    let targets = behind.put(vertex, &row.scope)?;
-    graph.add(targets)?;
-    let Some(trigger) = names.place(row.trigger) else {
-        return Ok(());
-    };
-    graph.link(vertex, trigger)?;
-    graph.link(trigger, vertex)
-}
-
-// The same for the rows of a report, the last first.
-fn wire_rows(
-    alloc: Global,
-    graph: &mut Graph,
-    names: &Names,
-    rows: &[Row],
-    steps: &mut Steps,
-) -> Result<(), NoMemory>
-    requires { length names.now ≤ length graph.old }
-    ensures graph { OnOk result (graph.new ≡ wire_rows names.now graph.old rows.now) }
-    ensures len { OnOk result (length graph.old ≤ length graph.new) }
-    ensures steps { steps.new ≤ steps.old + length rows.now }
-{
-    let mut behind = Behind::new(alloc);
-    for place in (0..rows.len()).rev() {
+    for other in others {
         steps.take();
-        wire_row(graph, names, &mut behind, &rows[place])?;
+        let number = names.number(other);
+        graph.link(first, number)?;
+        graph.link(number, first)?;
     }
     Ok(())
 }
 
-// The same for all reports.
-fn wire_reports(
+// A row leads to its triggers and to later rows.
+fn wire_row<L: Ledger>(
+    graph: &mut Graph,
+    names: &Names,
+    behind: &mut Behind,
+    row: &Row,
+    steps: &mut Steps<L>,
+) -> Result<(), NoMemory>
+    requires { length names.now < length graph.old }
+    ensures graph { OnOk result ((later : List AnyRow) → IsBehind names.now later behind.old →
+        graph.new ≡ wire_row names.now graph.old row.now.triggers (next_rows names.now row.now.scope later)) }
+    ensures len { OnOk result (length graph.new ≡ length graph.old) }
+    ensures behind { OnOk result ((later : List AnyRow) → IsBehind names.now later behind.old →
+        IsBehind names.now (row.now ∷ later) behind.new) }
+    ensures most { steps.new ≤ steps.old + length row.now.triggers }
+    ensures least { steps.old ≤ steps.new }
+{
+    let Some((first, others)) = row.triggers.as_slice().split_first() else {
+        return Ok(());
+    };
+    steps.take();
+    let number = names.number(first);
+    tie(graph, names, number, others, steps)?;
+    behind.lead(graph, number, &row.scope)?;
+    behind.put(number, &row.scope)
+}
+
+// So do the rows of a report, the last first.
+fn wire_rows<L: Ledger>(
+    alloc: Global,
+    graph: &mut Graph,
+    names: &Names,
+    rows: &[Row],
+    steps: &mut Steps<L>,
+) -> Result<(), NoMemory>
+    requires { length names.now < length graph.old }
+    ensures graph { OnOk result (graph.new ≡ wire_rows names.now graph.old rows.now) }
+    ensures len { OnOk result (length graph.new ≡ length graph.old) }
+    ensures most { steps.new ≤ steps.old + (length rows.now + triggers_in rows.now) }
+    ensures least { steps.old ≤ steps.new }
+{
+    let mut behind = Behind::new(alloc);
+    for place in (0..rows.len()).rev() {
+        steps.take();
+        wire_row(graph, names, &mut behind, &rows[place], steps)?;
+    }
+    Ok(())
+}
+
+// And those of all reports.
+fn wire_reports<L: Ledger>(
     alloc: Global,
     graph: &mut Graph,
     names: &Names,
     reports: &[Rc<Report>],
-    steps: &mut Steps,
+    steps: &mut Steps<L>,
 ) -> Result<(), NoMemory>
-    requires { length names.now ≤ length graph.old }
+    requires { length names.now < length graph.old }
     ensures graph { OnOk result (graph.new ≡ wire_reports names.now graph.old (map rc_value reports.now)) }
-    ensures len { OnOk result (length graph.old ≤ length graph.new) }
-    ensures steps { steps.new ≤ steps.old + rows_of (map rc_value reports.now) }
+    ensures len { OnOk result (length graph.new ≡ length graph.old) }
+    ensures most { steps.new ≤ steps.old
+        + (rows_of (map rc_value reports.now) + triggers_of (map rc_value reports.now)) }
+    ensures least { steps.old ≤ steps.new }
 {
     for report in reports {
         wire_rows(alloc, graph, names, report.rows.as_slice(), steps)?;
@@ -95,69 +112,63 @@ fn wire_reports(
     Ok(())
 }
 
-// The trigger of the `Down` leads to that of the item; where there is no `Down`, the start does.
-fn wire_item(
+// The trigger of the `Down` leads to that of the item; where there is no `Down`, that one is a root.
+fn wire_one(
     graph: &mut Graph,
+    roots: &mut Vec<usize>,
     names: &Names,
-    start: usize,
-    item: &OpenItem,
+    open_trigger: &OpenTrigger,
 ) -> Result<(), NoMemory>
-    requires names { length names.now ≤ length graph.old }
-    requires start { start < length graph.old }
+    requires { length names.now < length graph.old }
+    ensures graph { OnOk result (graph.new ≡ wire_down names.now graph.old open_trigger.now.down open_trigger.now.trigger) }
+    ensures roots { OnOk result (roots.new.items ≡
+        roots.old.items ++ root_of names.now open_trigger.now.down open_trigger.now.trigger) }
     ensures len { OnOk result (length graph.new ≡ length graph.old) }
-    ensures graph { OnOk result (graph.new ≡
-        wire_both graph.old (source_of names.now start item.now.down) (place_of names.now item.now.trigger)) }
 {
-    let Some(to) = names.place(item.trigger) else {
-        return Ok(());
-    };
-    let Some(down) = item.down else {
-        return graph.link(start, to);
-    };
-    let Some(from) = names.place(down) else {
-        return Ok(());
-    };
-    graph.link(from, to)
-}
-
-// The same for all open items.
-fn wire_items(
-    graph: &mut Graph,
-    names: &Names,
-    start: usize,
-    opened: &[OpenItem],
-    steps: &mut Steps,
-) -> Result<(), NoMemory>
-    requires names { length names.now ≤ length graph.old }
-    requires start { start < length graph.old }
-    ensures graph { OnOk result (graph.new ≡ wire_items names.now start graph.old opened.now) }
-    ensures len { OnOk result (length graph.new ≡ length graph.old) }
-    ensures steps { steps.new ≤ steps.old + length opened.now }
-{
-    for item in opened {
-        steps.take();
-        wire_item(graph, names, start, item)?;
+    let number = names.number(&open_trigger.trigger);
+    match &open_trigger.down {
+        Some(down) => graph.link(names.number(down), number),
+        None => Ok(roots.push(number)?),
     }
-    Ok(())
 }
 
-/// The graph of the reports and their open items, over the triggers with names.
-#[tactic(auto, unfolding(crate::specs::Wiring::graph_of))]
-pub(crate) fn graph_of(
+/// All that is open, in the graph; the roots of the search.
+pub(crate) fn wire_open<L: Ledger>(
+    alloc: Global,
+    graph: &mut Graph,
+    names: &Names,
+    opened: &[OpenTrigger],
+    steps: &mut Steps<L>,
+) -> Result<Vec<usize>, NoMemory>
+    requires { length names.now < length graph.old }
+    ensures graph { OnOk result (graph.new ≡ wire_open names.now graph.old opened.now) }
+    ensures roots { IfOk result (λ roots. roots.items ≡ roots_of names.now opened.now) }
+    ensures most { steps.new ≤ steps.old + length opened.now }
+    ensures least { steps.old ≤ steps.new }
+{
+    let mut roots = Vec::new(alloc);
+    for open_trigger in opened {
+        steps.take();
+        wire_one(graph, &mut roots, names, open_trigger)?;
+    }
+    Ok(roots)
+}
+
+/// The graph of the rows of reports, over the triggers with names.
+#[tactic(auto, unfolding(crate::specs::Wiring::graph_of_rows))]
+pub(crate) fn graph_of_rows<L: Ledger>(
     alloc: Global,
     names: &Names,
     reports: &[Rc<Report>],
-    opened: &[OpenItem],
-    steps: &mut Steps,
+    steps: &mut Steps<L>,
 ) -> Result<Graph, NoMemory>
-    ensures graph { IfOk result (λ graph.
-        graph ≡ graph_of names.now (map rc_value reports.now) opened.now) }
-    ensures start { IfOk result (λ graph. length names.now < length graph) }
-    ensures steps { steps.new ≤ steps.old + (rows_of (map rc_value reports.now) + length opened.now) }
+    ensures graph { IfOk result (λ graph. graph ≡ graph_of_rows names.now (map rc_value reports.now)) }
+    ensures len { IfOk result (λ graph. length graph ≡ length names.now + 1) }
+    ensures most { steps.new ≤ steps.old
+        + (rows_of (map rc_value reports.now) + triggers_of (map rc_value reports.now)) }
+    ensures least { steps.old ≤ steps.new }
 {
-    let start = names.len();
-    let mut graph = vertices(alloc, start)?;
+    let mut graph = Graph::new(alloc, names.len())?;
     wire_reports(alloc, &mut graph, names, reports, steps)?;
-    wire_items(&mut graph, names, start, opened, steps)?;
     Ok(graph)
 }

@@ -4,7 +4,8 @@ use Rattle.incomplete_closure.proofs.Searching.{Going}
 use Rattle.incomplete_closure.proofs.search.search.Given as goal
 
 abbrev pub invariant-loop-vertex : goal.invariant-loop-vertex
-invariant-loop-vertex l = Going l.fn.graph l.start l.graph l.reached l.turn × (l.steps + edges l.graph ≤ l.fn.steps + edges l.fn.graph)
+invariant-loop-vertex g l =
+    Going l.fn.graph l.roots l.graph l.reached l.turn × (l.steps + edges l.graph ≤ l.fn.steps + (length l.roots + edges l.fn.graph)) × (l.fn.steps ≤ l.steps)
 
 abbrev pub decreases-loop-vertex : goal.decreases-loop-vertex
-decreases-loop-vertex l = (length l.reached.order - l.turn) + edges l.graph
+decreases-loop-vertex g l = (length l.reached.order - l.turn) + edges l.graph

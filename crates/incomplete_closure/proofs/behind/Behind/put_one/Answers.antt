@@ -4,4 +4,4 @@ use Rattle.incomplete_closure.proofs.behind.Behind.put_one.Goals as goal
 
 pub returns-clause-nearest : goal.returns-clause-nearest
 returns-clause-nearest c =
-    nearest_put _ (λ a b. refl) c.args.prefix c.args.vertex c.args.self.now.nearest.entries c.insert.new.self.entries c.args.self.now.all c.in_ok-insert.ensures.updates.0
+    nearest_put _ (λ a b. refl) c.args.prefix c.args.number c.args.self.now.nearest.entries c.insert.new.self.entries c.args.self.now.all c.in_ok-insert.ensures.updates.0

@@ -4,10 +4,10 @@ use Rattle.incomplete_closure.proofs.Tabled.{added_again, added_new, put_has}
 use Rattle.incomplete_closure.proofs.session_table.SessionTable.add.Goals as goal
 
 pub returns-then-has_node-clause-table : goal.returns-then-has_node-clause-table
-returns-then-has_node-clause-table c = λ before is. added_again before c.args.self.now c.args.report.now is (sym c.has_node.ensures ∙ c.if-has_node.true)
+returns-then-has_node-clause-table g c = λ before is. added_again before c.args.self.now c.args.report.now is (sym c.has_node.ensures ∙ c.if-has_node.true)
 
 pub returns-clause-table : goal.returns-clause-table
-returns-clause-table c = λ before is.
+returns-clause-table g c = λ before is.
     added_new before c.args.self.now (record { nodes = c.insert.new.self; rows = c.fill.new.self.rows }) c.args.report.now is
     (sym c.has_node.ensures ∙ c.if-has_node.false)
     (λ n.

@@ -1,0 +1,35 @@
+//! What a node holds back at the end of a cut, as a report tells it.
+ghost use Rattle.std.specs.Prelude.{◌≡◌};
+
+use std::marker::Model;
+use topology::Pending;
+
+/// The pending rows of a report: one for each neighbour and prefix whose update is held back.
+#[derive(Debug, Drop)]
+pub struct PendingRows {
+    list: Vec<Pending>,
+}
+
+impl Model for PendingRows {
+    ghost use Rattle.std.specs.Prelude.{List};
+    ghost use Rattle.topology.specs.declared.items.Pending.{Pending};
+
+    ghost Value = { List Pending };
+
+    ghost view = { λ r. r.list.items };
+}
+
+impl PendingRows {
+    /// These rows. Takes no memory.
+    pub fn new(list: Vec<Pending>) -> PendingRows
+        ensures { result ≡ list.items }
+    {
+        PendingRows { list }
+    }
+
+    pub fn as_slice(&self) -> &[Pending]
+        ensures { result.now ≡ self.now }
+    {
+        &self.list
+    }
+}
