@@ -7,7 +7,7 @@ ghost use Rattle.incomplete_closure.specs.Marking.{value_of};
 ghost use Rattle.consolidator.specs.Readings.{put_report, nodes_of, is_empty};
 ghost use Rattle.consolidator.specs.Holding.{place_of};
 
-use incomplete_closure::{Report, Value, closure};
+use incomplete_closure::{Report, Value, uncounted_closure};
 use std::alloc::Global;
 use std::marker::Model;
 use std::rc::Rc;
@@ -115,6 +115,6 @@ impl HeldReports {
     pub fn value(&self, alloc: Global) -> Result<Value, NoMemory>
         ensures { IfOk result (λ value. value ≡ value_of self.now.reports) }
     {
-        closure(alloc, &self.list)
+        uncounted_closure(alloc, &self.list)
     }
 }

@@ -20,7 +20,7 @@ abbrev a_link : ℕ → ℕ → Link
 a_link a b = record { a = a; b = b; relation = Any }
 
 abbrev network : List ℕ → List Link → Net
-network nodes links = record { nodes = nodes; consolidators = []; links = links; preferences = []; prefixes = []; hops = 128; scheme = Deflect }
+network nodes links = record { nodes = nodes; consolidators = []; links = links; preferences = []; prefixes = []; holds = []; hops = 128; scheme = Deflect }
 
 -- the line 1 2 3 4, and node 5 alone, which owns the prefix
 abbrev line : Net

@@ -21,3 +21,9 @@ pub popped : (before after : List ℕ) (o : Option ℕ) → before ≡ after ++ 
 popped before after (Some x) is some = sym (but_last-end after x) ∙ ap but_last (sym is)
 popped [] after None is some = sym (is ∙ append-nil after)
 popped (y ∷ before) after None is some = let one : IsSome {T = ℕ} None = some (omega arith) in cc
+
+-- a list is all but its last one, then that
+pub last_at_end : (xs : List ℕ) (w : ℕ) → last_of xs ≡ Some w → but_last xs ++ w ∷ [] ≡ xs
+last_at_end [] w is = cc
+last_at_end (x ∷ []) w is = let same : x ≡ w = cc in ap (λ n. n ∷ []) (sym same)
+last_at_end (x ∷ y ∷ rest) w is = ap (λ l. x ∷ l) (last_at_end (y ∷ rest) w is)

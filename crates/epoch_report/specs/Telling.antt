@@ -6,7 +6,7 @@ use Rattle.incomplete_closure.specs.declared.session_rows.SessionRow.{SessionRow
 
 -- the row of an entry
 abbrev pub row_told : Entry → Row
-row_told entry = record { trigger = entry.trigger; scope = entry.scope; sent = entry.sent }
+row_told entry = record { triggers = entry.triggers; scope = entry.scope; sent = entry.sent }
 
 -- the row of a session
 abbrev pub session_told : SessionMark → SessionRow

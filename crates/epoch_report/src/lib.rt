@@ -1,4 +1,4 @@
-//! What a node reports of its cut of an epoch: its entries, with what each sent, and its sessions.
+//! What a node reports of its cut of an epoch: its entries, with what each sent, its sessions, and what it holds back.
 #![tactic(auto)]
 
 pub mod reporting;

@@ -5,9 +5,10 @@ ghost use Rattle.trigger_log.specs.Entries.{Entry};
 ghost use Rattle.trigger_log.specs.Dropping.{trimmed};
 ghost use Rattle.trigger_log.specs.Standing.{StandsFor, dropped_of};
 ghost use Rattle.incomplete_closure.specs.Seen.{report_seen};
+ghost use Rattle.epoch_report.specs.Downs.{first_downs};
 ghost use Rattle.epoch_report.specs.Trimming.{trimmed_report};
 
-use crate::telling::{rows_of, sessions_of};
+use crate::telling::{pending_of, rows_of, sessions_of};
 use incomplete_closure::Report;
 use path_vector::Policy;
 use std::alloc::Global;
@@ -15,9 +16,10 @@ use topology::{Epoch, NoMemory};
 use trigger_log::NodeLog;
 
 /// What the node of a log reports of an epoch, where its cut is the whole log: a row for each
-/// entry that the log keeps, the oldest first, with all items that the entry sent, `close` included; and a row for
-/// each session that it ever held, by neighbour, ascending, then by session. An entry that was dropped has no
-/// row; the sessions are whole. Takes time and memory in proportion to the entries that are kept, their items and the sessions.
+/// entry that the log keeps, the oldest first, with all items that the entry sent, `close` included; a row for
+/// each session that it ever held, by neighbour, ascending, then by session; and a row for each update that is held back.
+/// An entry that was dropped has no row; the other rows are whole, but that of a `Down` that lists several triggers the first is told. Takes time and memory in proportion to the entries
+/// that are kept, their items, the sessions and what is held back.
 pub fn report_of<P: Policy + Copy>(
     alloc: Global,
     log: &NodeLog<P>,
@@ -25,12 +27,14 @@ pub fn report_of<P: Policy + Copy>(
 ) -> Result<Report, NoMemory>
     ensures { IfOk result (λ report. (policy : P) (net : Net) (u : ℕ) (h : List Entry) →
         StandsFor policy (P.rules policy) net u log.now h →
-        report_seen report ≡ trimmed_report (P.rules policy) net u epoch (trimmed (dropped_of log.now) h)) }
+        report_seen report
+        ≡ first_downs (trimmed_report (P.rules policy) net u epoch (trimmed (dropped_of log.now) h))) }
 {
     Ok(Report {
         node: log.next_trigger().node,
         epoch,
         rows: rows_of(alloc, log.entries())?,
         sessions: sessions_of(alloc, log.sessions())?,
+        pending: pending_of(alloc, log.pending())?,
     })
 }

@@ -1,17 +1,17 @@
-//! Entries and sessions of a log as rows of a report.
+//! Entries and sessions of a log, and what it holds back, as rows of a report.
 ghost use Rattle.std.specs.Prelude.{◌≡◌, map, IfOk};
 ghost use Rattle.epoch_report.specs.Telling.{row_told, session_told};
 
-use incomplete_closure::{Row, Rows, SessionRow, SessionRows};
+use incomplete_closure::{PendingRows, Row, Rows, SessionRow, SessionRows};
 use std::alloc::Global;
-use topology::NoMemory;
+use topology::{NoMemory, Pending};
 use trigger_log::{Entry, SessionMark};
 
 fn row_of(entry: &Entry) -> Result<Row, NoMemory>
     ensures { IfOk result (λ row. row ≡ row_told entry.now) }
 {
     Ok(Row {
-        trigger: entry.trigger,
+        triggers: entry.triggers.copy()?,
         scope: entry.scope,
         sent: entry.sent.copy()?,
     })
@@ -48,4 +48,15 @@ pub(crate) fn sessions_of(alloc: Global, marks: &[SessionMark]) -> Result<Sessio
         rows.push(session_of(mark))?;
     }
     Ok(SessionRows::new(rows))
+}
+
+/// The rows of what is held back, in their order.
+pub(crate) fn pending_of(alloc: Global, held: &[Pending]) -> Result<PendingRows, NoMemory>
+    ensures { IfOk result (λ rows. rows ≡ held.now) }
+{
+    let mut rows = Vec::with_capacity(alloc, held.len())?;
+    for row in held {
+        rows.push(row.copy()?)?;
+    }
+    Ok(PendingRows::new(rows))
 }

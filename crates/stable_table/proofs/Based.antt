@@ -101,7 +101,7 @@ kept_on_base rules net u incomplete (k ∷ newer) base shown past z =
   where
     last : (bs : List Shown) → AllZip (Shows rules net u) (record { before = newer ++ base; entry = k } ∷ []) bs → fold (kept_by incomplete) (reads_kept incomplete newer ++ past) bs ≡ reads_kept incomplete (k ∷ newer) ++ past
     last [] z = absurd z
-    last (b ∷ []) z = kept_same incomplete (reads_kept incomplete newer ++ past) b k z.0.trigger z.0.read ∙ more (is_kept incomplete k)
+    last (b ∷ []) z = kept_same incomplete (reads_kept incomplete newer ++ past) b k z.0.triggers z.0.read ∙ more (is_kept incomplete k)
       where
         more : (t : Bool) → (if t then k.read ∷ (reads_kept incomplete newer ++ past) else reads_kept incomplete newer ++ past) ≡ reads (cond t (k ∷ filter (is_kept incomplete) newer) (filter (is_kept incomplete) newer)) ++ past
         more true = refl

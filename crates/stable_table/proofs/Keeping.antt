@@ -19,7 +19,7 @@ use Rattle.stable_table.specs.Keeping.{kept_by}
 pub accepted_before : (incomplete : List Trigger) (past : History) (es : List Shown) → Accepted (fold (kept_by incomplete) past es) → Accepted past
 accepted_before incomplete past [] a = a
 accepted_before incomplete past (e ∷ es) a =
-    (elim (lists incomplete e.trigger) as (λ b. Accepted (if b then past else change e.scope e.cause ∷ past) → Accepted past) [ true ↦ λ x. x | false ↦ λ x. x.1 ])
+    (elim (list_any (lists incomplete) e.triggers) as (λ b. Accepted (if b then past else change e.scope e.cause ∷ past) → Accepted past) [ true ↦ λ x. x | false ↦ λ x. x.1 ])
     (accepted_before incomplete (kept_by incomplete past e) es a)
 
 -- what is left from a place on, by its first
@@ -38,20 +38,25 @@ is_kept incomplete k = not (list_any (lists incomplete) k.triggers)
 abbrev pub reads_kept : List Trigger → List Entry → History
 reads_kept incomplete h = reads (filter (is_kept incomplete) h)
 
-pub kept_same : (incomplete : List Trigger) (past : History) (shown : Shown) (k : Entry) → shown.trigger ∷ [] ≡ k.triggers → change shown.scope shown.cause ≡ k.read
+pub kept_same : (incomplete : List Trigger) (past : History) (shown : Shown) (k : Entry) → shown.triggers ≡ k.triggers → change shown.scope shown.cause ≡ k.read
     → kept_by incomplete past shown ≡ (if is_kept incomplete k then k.read ∷ past else past)
 kept_same incomplete past shown k triggers read =
     subst (λ (ts : List Trigger). kept_by incomplete past shown ≡ (if not (list_any (lists incomplete) ts) then k.read ∷ past else past)) triggers
-    ((elim (lists incomplete shown.trigger) as (λ b. (if b then past else change shown.scope shown.cause ∷ past) ≡ (if not (b || false) then k.read ∷ past else past)) [
+    (elim (list_any (lists incomplete) shown.triggers) as (λ b. (if b then past else change shown.scope shown.cause ∷ past) ≡ (if not b then k.read ∷ past else past)) [
       | true ↦ refl
       | false ↦ ap (λ (e : Change). e ∷ past) read
-    ]))
+    ])
+
+-- two lists that list the same triggers have the same ones of others
+pub lists_alike : (a b : List Trigger) → ((t : Trigger) → lists a t ≡ lists b t) → (ts : List Trigger) → list_any (lists a) ts ≡ list_any (lists b) ts
+lists_alike a b same [] = refl
+lists_alike a b same (t ∷ ts) = ap₂ (λ x y. x || y) (same t) (lists_alike a b same ts)
 
 -- two lists that list the same triggers keep the same entries
 pub kept_alike : (a b : List Trigger) → ((t : Trigger) → lists a t ≡ lists b t) → (past : History) (es : List Shown) → fold (kept_by a) past es ≡ fold (kept_by b) past es
 kept_alike a b same past [] = refl
 kept_alike a b same past (e ∷ es) =
-    ap (λ (t : Bool). fold (kept_by a) (if t then past else change e.scope e.cause ∷ past) es) (same e.trigger) ∙ kept_alike a b same (kept_by b past e) es
+    ap (λ (t : Bool). fold (kept_by a) (if t then past else change e.scope e.cause ∷ past) es) (lists_alike a b same e.triggers) ∙ kept_alike a b same (kept_by b past e) es
 
 -- ---- a part of a log is a log
 
@@ -71,11 +76,11 @@ kept_part base incomplete (k ∷ h) = elim (is_kept incomplete k) as (λ b. IsPa
 ]
 
 -- where none of them lists an incomplete trigger, all are kept
-pub all_kept : (incomplete : List Trigger) (past : History) (es : List Shown) → list_any (λ (e : Shown). lists incomplete e.trigger) es ≡ false → fold (kept_by incomplete) past es ≡ fold taken past es
+pub all_kept : (incomplete : List Trigger) (past : History) (es : List Shown) → list_any (λ (e : Shown). list_any (lists incomplete) e.triggers) es ≡ false → fold (kept_by incomplete) past es ≡ fold taken past es
 all_kept incomplete past [] none = refl
 all_kept incomplete past (e ∷ es) none =
-    let here : lists incomplete e.trigger ≡ false = or_left (lists incomplete e.trigger) (list_any (λ (d : Shown). lists incomplete d.trigger) es) none in
-    let others = or_right (lists incomplete e.trigger) (list_any (λ (d : Shown). lists incomplete d.trigger) es) none in
+    let here : list_any (lists incomplete) e.triggers ≡ false = or_left (list_any (lists incomplete) e.triggers) (list_any (λ (d : Shown). list_any (lists incomplete) d.triggers) es) none in
+    let others = or_right (list_any (lists incomplete) e.triggers) (list_any (λ (d : Shown). list_any (lists incomplete) d.triggers) es) none in
     ap (λ (b : Bool). fold (kept_by incomplete) (if b then past else change e.scope e.cause ∷ past) es) here ∙ all_kept incomplete (taken past e) es others
 
 -- what is kept behind a base is part of the log
@@ -89,6 +94,6 @@ scoped_of [] a = tt
 scoped_of (e ∷ past) a = (a.0.scoped, scoped_of past a.1)
 
 -- two lists that list the same triggers find the same
-pub any_alike : (a b : List Trigger) → ((t : Trigger) → lists a t ≡ lists b t) → (es : List Shown) → list_any (λ (e : Shown). lists a e.trigger) es ≡ list_any (λ (e : Shown). lists b e.trigger) es
+pub any_alike : (a b : List Trigger) → ((t : Trigger) → lists a t ≡ lists b t) → (es : List Shown) → list_any (λ (e : Shown). list_any (lists a) e.triggers) es ≡ list_any (λ (e : Shown). list_any (lists b) e.triggers) es
 any_alike a b same [] = refl
-any_alike a b same (e ∷ es) = ap₂ (λ x y. x || y) (same e.trigger) (any_alike a b same es)
+any_alike a b same (e ∷ es) = ap₂ (λ x y. x || y) (lists_alike a b same e.triggers) (any_alike a b same es)

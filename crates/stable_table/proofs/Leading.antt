@@ -1,5 +1,5 @@
 -- How many of the first entries of a cut that are kept list no incomplete trigger, as they are shown and as those of the log.
-use Rattle.std.proofs.Common.{ℕ, zero, suc, ◌+◌, ◌-◌, ◌≤◌, Bool, true, false, not, ◌||◌, List, [], ◌∷◌, ◌++◌, length, length-append, append_assoc, drop, take, map, ◌≡◌, refl, sym, ◌∙◌, ap, ap₂, subst, arith}
+use Rattle.std.proofs.Common.{ℕ, zero, suc, ◌+◌, ◌-◌, ◌≤◌, Bool, true, false, not, ◌||◌, List, [], ◌∷◌, ◌++◌, length, length-append, append_assoc, drop, take, map, ◌≡◌, refl, sym, ◌∙◌, ap, ap₂, arith}
 use Rattle.std.specs.Prelude.{if◌then◌else◌}
 use Rattle.std.specs.List.{AllZip, list_any}
 use Rattle.topology.specs.declared.names.Trigger.{Trigger}
@@ -13,6 +13,7 @@ use Rattle.trigger_log.specs.Entries.{Entry}
 use Rattle.trigger_log.proofs.Droppable.{in_order, is_clean, leading, droppable_leads, kept_and_base, base_length}
 use Rattle.trigger_log.proofs.Kept.{entered_on}
 use Rattle.stable_table.specs.Keeping.{complete_first}
+use Rattle.stable_table.proofs.Keeping.{lists_alike}
 use Rattle.stable_table.proofs.Tabled.{cut_shown}
 
 -- ---- the entries in their order
@@ -60,10 +61,10 @@ leading_shown rules net u n incomplete [] [] z = refl
 leading_shown rules net u n incomplete [] (s ∷ shown) z = absurd z
 leading_shown rules net u n incomplete (e ∷ steps) [] z = absurd z
 leading_shown rules net u n incomplete (e ∷ steps) (s ∷ shown) z =
-    let test : is_clean (lists incomplete) n e.entry ≡ not (lists incomplete s.trigger) =
-    subst (λ (ts : List Trigger). not (list_any (lists incomplete) ts) ≡ not (lists incomplete s.trigger)) z.0.trigger (ap not (or_false (lists incomplete s.trigger))) in
+    let test : is_clean (lists incomplete) n e.entry ≡ not (list_any (lists incomplete) s.triggers) =
+    ap (λ (ts : List Trigger). not (list_any (lists incomplete) ts)) (sym z.0.triggers) in
     let others = leading_shown rules net u n incomplete steps shown z.1 in
-    (elim (lists incomplete s.trigger) as (λ b. (if b then 0 else suc (complete_first incomplete shown)) ≡ (if not b then suc (leading (is_clean (lists incomplete) n) (map (λ (e : Entered). e.entry) steps)) else 0)) [
+    (elim (list_any (lists incomplete) s.triggers) as (λ b. (if b then 0 else suc (complete_first incomplete shown)) ≡ (if not b then suc (leading (is_clean (lists incomplete) n) (map (λ (e : Entered). e.entry) steps)) else 0)) [
       | true ↦ refl
       | false ↦ ap suc others
     ]) ∙ ap (λ b. if b then suc (leading (is_clean (lists incomplete) n) (map (λ (e : Entered). e.entry) steps)) else 0) (sym test)
@@ -73,12 +74,12 @@ pub first_short : (incomplete : List Trigger) (shown : List Shown) → complete_
 first_short incomplete [] = omega arith
 first_short incomplete (s ∷ shown) =
     let others = first_short incomplete shown in
-    elim (lists incomplete s.trigger) as (λ b. (if b then 0 else suc (complete_first incomplete shown)) ≤ suc (length shown)) [ true ↦ omega arith | false ↦ omega (arith, others) ]
+    elim (list_any (lists incomplete) s.triggers) as (λ b. (if b then 0 else suc (complete_first incomplete shown)) ≤ suc (length shown)) [ true ↦ omega arith | false ↦ omega (arith, others) ]
 
 -- the same by any list of the same triggers
 pub first_alike : (a b : List Trigger) → ((t : Trigger) → lists a t ≡ lists b t) → (shown : List Shown) → complete_first a shown ≡ complete_first b shown
 first_alike a b same [] = refl
-first_alike a b same (s ∷ shown) = ap₂ (λ (t : Bool) (n : ℕ). if t then 0 else suc n) (same s.trigger) (first_alike a b same shown)
+first_alike a b same (s ∷ shown) = ap₂ (λ (t : Bool) (n : ℕ). if t then 0 else suc n) (lists_alike a b same s.triggers) (first_alike a b same shown)
 
 -- what may be dropped of the cut: what was, and the first of the others that are complete
 pub first_droppable : (rules : Rules) (net : Net) (u n cut : ℕ) (incomplete : List Trigger) (newer entries : List Entry) (all : List Shown) → AllZip (Shows rules net u) (drop n (all_entered (newer ++ entries))) all → cut ≡ length entries → n ≤ cut

@@ -136,7 +136,7 @@ module _ (rules : Rules) (net : Net) (u n cut : ℕ) (value : Value) (newer entr
       ∙ kept_on_base rules net u value.incomplete (kept_of (trimmed n entries)) (base_of (trimmed n entries)) (take (cut - n) all) (reads (base_of (trimmed n entries))) (cut_shown rules net u n cut newer entries all z is within)
 
   -- where no entry of the cut that is kept lists an incomplete trigger, that is what routing reads of the whole cut
-  pub cut_whole : list_any (λ (e : Shown). lists incomplete e.trigger) shown ≡ false → kept_reads value (trimmed n entries) ≡ reads entries
+  pub cut_whole : list_any (λ (e : Shown). list_any (lists incomplete) e.triggers) shown ≡ false → kept_reads value (trimmed n entries) ≡ reads entries
   cut_whole none =
       sym cut_kept
       ∙ (all_kept incomplete (reads (base_of (trimmed n entries))) shown none

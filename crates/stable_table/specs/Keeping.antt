@@ -1,5 +1,6 @@
 -- The entries of a cut that list no incomplete trigger, as routing reads them, behind what was read before.
 use Rattle.std.specs.Prelude.{ℕ, suc, List, [], ◌∷◌, fold, if◌then◌else◌}
+use Rattle.std.specs.List.{list_any}
 use Rattle.topology.specs.declared.names.Trigger.{Trigger}
 use Rattle.topology.specs.Triggers.{lists}
 use Rattle.path_vector.specs.History.{History, change}
@@ -7,7 +8,7 @@ use Rattle.trigger_log.specs.declared.entries.Entry.{Entry}
 
 -- what is read so far, and this entry, where it lists no incomplete trigger
 abbrev pub kept_by : List Trigger → History → Entry → History
-kept_by incomplete past entry = if lists incomplete entry.trigger then past else change entry.scope entry.cause ∷ past
+kept_by incomplete past entry = if list_any (lists incomplete) entry.triggers then past else change entry.scope entry.cause ∷ past
 
 -- what is read of the entries, the oldest first, behind what was read before
 abbrev pub kept : List Trigger → History → List Entry → History
@@ -16,4 +17,4 @@ kept incomplete past entries = fold (kept_by incomplete) past entries
 -- how many of the first entries list no incomplete trigger
 abbrev pub complete_first : List Trigger → List Entry → ℕ
 complete_first incomplete [] = 0
-complete_first incomplete (e ∷ es) = if lists incomplete e.trigger then 0 else suc (complete_first incomplete es)
+complete_first incomplete (e ∷ es) = if list_any (lists incomplete) e.triggers then 0 else suc (complete_first incomplete es)

@@ -22,7 +22,7 @@ fn complete_first(entries: &[Entry], incomplete: &Incomplete) -> usize
 {
     let mut count = 0;
     for entry in entries {
-        if incomplete.has(entry.trigger) {
+        if incomplete.has_any(&entry.triggers) {
             return count;
         }
         count += 1;

@@ -1,12 +1,13 @@
 //! The incomplete triggers of a value, to be looked up.
 ghost use Rattle.std.specs.Prelude.{◌≡◌, ℕ, IfOk};
+ghost use Rattle.std.specs.List.{list_any};
 ghost use Rattle.topology.specs.declared.names.Trigger.{Trigger as AnyTrigger};
 ghost use Rattle.topology.specs.Triggers.{lists};
 
 use std::alloc::Global;
 use std::collections::BTreeSet;
 use std::marker::Model;
-use topology::{NoMemory, Trigger};
+use topology::{NoMemory, Trigger, Triggers};
 
 /// A set of triggers, in which one is found without going over all of them, in whatever order they were given.
 #[derive(Drop)]
@@ -35,10 +36,29 @@ impl Incomplete {
         Ok(Incomplete { set })
     }
 
-    /// Whether the trigger is in the set.
-    pub(crate) fn has(&self, trigger: Trigger) -> bool
-        ensures { result ≡ lists self.now trigger }
+    // Whether the trigger is in the set.
+    fn has(&self, trigger: &Trigger) -> bool
+        ensures { result ≡ lists self.now trigger.now }
     {
-        self.set.contains(&trigger)
+        self.set.contains(trigger)
+    }
+
+    // Whether one of the triggers is in the set.
+    fn has_one(&self, triggers: &[Trigger]) -> bool
+        ensures { result ≡ list_any (lists self.now) triggers.now }
+    {
+        for trigger in triggers {
+            if self.has(trigger) {
+                return true;
+            }
+        }
+        false
+    }
+
+    /// Whether one of the triggers is in the set.
+    pub(crate) fn has_any(&self, triggers: &Triggers) -> bool
+        ensures { result ≡ list_any (lists self.now) triggers.now }
+    {
+        self.has_one(triggers.as_slice())
     }
 }

@@ -25,7 +25,7 @@ fn take<P: Policy + Copy>(
         StandsFor policy net u state.old past →
         StandsFor policy net u state.new (kept_by incomplete.now past entry.now)) }
 {
-    if !incomplete.has(entry.trigger) {
+    if !incomplete.has_any(&entry.triggers) {
         state.apply(entry.scope, &entry.cause)?;
     }
     Ok(())
@@ -50,10 +50,10 @@ pub(crate) fn routes_of<P: Policy + Copy>(
 
 /// Whether the trigger of one of the entries is among the incomplete ones.
 pub(crate) fn has_incomplete(entries: &[Entry], incomplete: &Incomplete) -> bool
-    ensures { result ≡ list_any (λ (e : Shown). lists incomplete.now e.trigger) entries.now }
+    ensures { result ≡ list_any (λ (e : Shown). list_any (lists incomplete.now) e.triggers) entries.now }
 {
     for entry in entries {
-        if incomplete.has(entry.trigger) {
+        if incomplete.has_any(&entry.triggers) {
             return true;
         }
     }

@@ -36,7 +36,7 @@ returns g c = λ policy u newer entries stands is few.
     let count : c.complete_first-complete.result ≡ complete_first value.incomplete (take (cut - n) items) =
     c.complete_first-complete.ensures
     ∙ (first_alike c.in_ok-incomplete.incomplete c.as_slice.result.now c.in_ok-incomplete.ensures c.first_of.result.now
-    ∙ ap₂ (λ i s. complete_first i s) c.as_slice.ensures (c.first_of.ensures ∙ ap (λ m. take m items) left)) in
+    ∙ ap₂ (λ i s. complete_first i s) c.as_slice.ensures.triggers (c.first_of.ensures ∙ ap (λ m. take m items) left)) in
     let made = first_droppable rules net u n cut value.incomplete newer entries items (c.entries.ensures policy net u (newer ++ entries) stands) is few in
     let short = counted_short value.incomplete (cut - n) items in
     let long = length-append newer entries in

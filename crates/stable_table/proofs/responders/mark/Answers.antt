@@ -1,4 +1,4 @@
-use Rattle.std.proofs.Common.{◌≡◌, ◌==◌, ◌||◌, ◌∙◌, ap}
+use Rattle.std.proofs.Common.{◌==◌, ◌||◌, ◌∙◌, ap}
 use Rattle.stable_table.specs.Marks.{is_marked}
 use Rattle.stable_table.proofs.Marking.{marked_more}
 use Rattle.stable_table.proofs.responders.mark.Goals as goal

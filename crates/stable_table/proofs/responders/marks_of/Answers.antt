@@ -1,4 +1,4 @@
-use Rattle.std.proofs.Common.{◌+◌, suc, drop, ◌≡◌, ◌==◌, ◌||◌, sym, ◌∙◌, ap, ap₂, arith}
+use Rattle.std.proofs.Common.{◌+◌, suc, drop, ◌≡◌, ◌==◌, ◌||◌, sym, ◌∙◌, ap, arith}
 use Rattle.topology.specs.Lists.{has}
 use Rattle.stable_table.specs.Marks.{is_marked}
 use Rattle.stable_table.proofs.Keeping.{dropped}

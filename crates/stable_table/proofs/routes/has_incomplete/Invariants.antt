@@ -5,4 +5,4 @@ use Rattle.trigger_log.specs.declared.entries.Entry.{Entry}
 use Rattle.stable_table.proofs.routes.has_incomplete.Given as goal
 
 abbrev pub invariant-loop-entry : goal.invariant-loop-entry
-invariant-loop-entry l = list_any (λ (e : Entry). lists l.incomplete e.trigger) (take l.entry-index l.entries) ≡ false
+invariant-loop-entry l = list_any (λ (e : Entry). list_any (lists l.incomplete) e.triggers) (take l.entry-index l.entries) ≡ false

@@ -30,9 +30,9 @@ returns-then-not-has_incomplete-clause-table g c = λ policy u newer entries sta
     let fits = fits_before newer entries stands.fitting in
     let left : c.saturating_sub.result ≡ c.args.cut - n = omega (arith, c.saturating_sub.ensures, c.saturating_sub-dropped.ensures, c.kept_from.ensures.place policy net u whole stands) in
     let first = c.first_of-entries.ensures ∙ ap (λ m. take m c.entries.result.now) left in
-    let none : list_any (λ (e : Shown). lists value.incomplete e.trigger) c.first_of-entries.result.now ≡ false =
+    let none : list_any (λ (e : Shown). list_any (lists value.incomplete) e.triggers) c.first_of-entries.result.now ≡ false =
     sym (any_alike c.in_ok-incomplete.incomplete c.as_slice.result.now c.in_ok-incomplete.ensures c.first_of-entries.result.now
-    ∙ ap (λ (i : List Trigger). list_any (λ (e : Shown). lists i e.trigger) c.first_of-entries.result.now) c.as_slice.ensures)
+    ∙ ap (λ (i : List Trigger). list_any (λ (e : Shown). list_any (lists i) e.triggers) c.first_of-entries.result.now) c.as_slice.ensures.triggers)
     ∙ (sym c.has_incomplete.ensures ∙ (let off : c.has_incomplete.result ≡ false = grind (arith, c.if-not-has_incomplete.true) in off)) in
     let same = cut_whole rules net u n c.args.cut value newer entries value.incomplete c.entries.result.now c.first_of-entries.result.now (c.entries.ensures policy net u whole stands) first is few refl none in
     let alone = no_newer newer entries c.args.cut c.len.result is (c.len.ensures policy net u whole stands) c.if-cut-len.true in
@@ -59,7 +59,7 @@ returns-clause-table g c = λ policy u newer entries stands is few.
     let base = subst (λ b. RoutesStandFor policy net u c.base.result.now (reads b)) (base_behind n newer entries short) (c.base.ensures policy net u whole stands) in
     let same : kept c.in_ok-incomplete.incomplete past c.first_of-entries.result.now ≡ kept_reads value cut =
     kept_alike c.in_ok-incomplete.incomplete c.as_slice.result.now c.in_ok-incomplete.ensures past c.first_of-entries.result.now
-    ∙ cut_kept rules net u n c.args.cut value newer entries c.as_slice.result.now c.entries.result.now c.first_of-entries.result.now (c.entries.ensures policy net u whole stands) first is few c.as_slice.ensures in
+    ∙ cut_kept rules net u n c.args.cut value newer entries c.as_slice.result.now c.entries.result.now c.first_of-entries.result.now (c.entries.ensures policy net u whole stands) first is few c.as_slice.ensures.triggers in
     let state = subst (RoutesStandFor policy net u c.in_ok-state.state) same (c.in_ok-state.ensures policy net u past base (subst Accepted (sym same) (reads_accepted value cut fits))) in
     let rows = subst (λ w. RoutesStandFor policy net w c.in_ok-state.state (kept_reads value cut) → AllZip (λ p. IsRow (prefix_row rules net w value (kept_reads value cut) p)) (places net) c.in_ok-rows-2.rows.items) own
     ((rw c.in_ok-responders.ensures at c.in_ok-rows-2.ensures) policy (kept_reads value cut)) state in

@@ -3,5 +3,5 @@ use Rattle.std.specs.Rc.{rc_value}
 use Rattle.consolidator.proofs.Holding.{together}
 use Rattle.consolidator.proofs.held_reports.HeldReports.value.Goals as goal
 
-pub closure-requires : goal.closure-requires
-closure-requires c = rw c.deref.ensures.value (together c.self.inside.epoch (map rc_value c.self.inside.list.items) c.self.invariant)
+pub uncounted_closure-requires : goal.uncounted_closure-requires
+uncounted_closure-requires c = rw c.deref.ensures.value (together c.self.inside.epoch (map rc_value c.self.inside.list.items) c.self.invariant)
