@@ -178,6 +178,7 @@ module _ (rules : Rules) (net : Net) (valid : IsValid net) (deflects : net.schem
     after_all (event.Restore a b) same = unmoved (event.Restore a b) (λ t. t) same
     after_all (event.Notice u v) same = unmoved (event.Notice u v) (λ t. t) same
     after_all (event.OpenSession u v) same = unmoved (event.OpenSession u v) (λ t. t) same
+    after_all (event.Flush u v) same = unmoved (event.Flush u v) (λ t. t) same
     after_all (event.Snap u) same = unmoved (event.Snap u) (λ t. t) same
     after_all (event.Propose u e) same = unmoved (event.Propose u e) (λ t. t) same
     after_all (event.Control number) same = unmoved (event.Control number) (λ t. t) same

@@ -12,3 +12,4 @@ pub mod EveryRun
 pub mod Placing
 pub mod Publishing
 pub mod Live
+pub mod Holding

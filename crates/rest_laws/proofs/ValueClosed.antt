@@ -1,48 +1,96 @@
 -- The incomplete triggers of a value of reports of a family are a set that no step leaves.
-use Rattle.std.proofs.Common.{ℕ, suc, ◌<◌, ◌≤◌, Bool, true, List, [], ◌∷◌, length, ◌≡◌, inl, inr, refl, sym, ◌∙◌, subst, arith}
+use Rattle.std.proofs.Common.{ℕ, suc, ◌<◌, ◌≤◌, Bool, true, false, Some, List, [], ◌∷◌, length, map, filter, ◌≡◌, inl, inr, ⊎_elim, cond, refl, sym, ◌∙◌, subst, arith}
 use Rattle.std.proofs.lemmas.Bool.Decides.{nat_tests}
 use Rattle.std.proofs.lemmas.List.{length-append}
 use Rattle.topology.specs.declared.names.Trigger.{Trigger}
+use Rattle.topology.specs.declared.items.Sent.{Sent}
+use Rattle.topology.specs.declared.items.Pending.{Pending}
 use Rattle.topology.specs.Lists.{has, Among, Begins}
 use Rattle.topology.specs.Triggers.{lists}
-use Rattle.topology.specs.Net.{Net, IsValid, neighbours}
+use Rattle.topology.specs.Net.{Net, IsValid, neighbours, places}
 use Rattle.topology.proofs.Neighbours.{neighbours_mutual}
 use Rattle.topology.proofs.Tests.{same_refl}
 use Rattle.path_vector.specs.Rules.{Rules}
-use Rattle.trigger_log.specs.Entries.{Entry, Update, inbox}
+use Rattle.trigger_log.specs.Entries.{Entry, Update, reads, inbox}
+use Rattle.path_vector.specs.History.{held}
+use Rattle.trigger_log.specs.Pending.{is_some_trigger, pending, is_pending, pending_row, pending_rows}
 use Rattle.trigger_log.specs.Sending.{outbox, next_number}
 use Rattle.trigger_log.specs.Fits.{Fits}
-use Rattle.incomplete_closure.specs.Reports.{Listed, Report, missing}
-use Rattle.incomplete_closure.specs.Blocked.{Missing, shares}
+use Rattle.incomplete_closure.specs.Reports.{Carrier, Row, Report, missing, waits_for, of_item, of_pending, items_of, open_to}
+use Rattle.incomplete_closure.specs.Blocked.{Open, shares}
 use Rattle.incomplete_closure.specs.declared.values.Value.{Value}
 use Rattle.incomplete_closure.specs.Values.{IsValue, IsClosed}
-use Rattle.incomplete_closure.proofs.Listing.{some_passes, all_from_each}
+use Rattle.incomplete_closure.proofs.Listing.{some_passes, all_from_each, in_front, at_end, in_either, in_map, of_map, in_flat}
 use Rattle.incomplete_closure.proofs.Least.{value_closed}
 use Rattle.epoch_report.specs.Reporting.{entry_row, entry_rows, report_of}
 use Rattle.cut_laws.specs.Older.{Older}
 use Rattle.rest_laws.specs.Families.{Family, Closed, StillHolds, Never, Blocked, AllIn, AllInFrom, some_in}
 use Rattle.rest_laws.proofs.SessionRows.{received_is, down_is}
-use Rattle.rest_laws.proofs.SentRows.{SendsRow, AllSent, item, outbox_rows, close_rows, rows_stand, row_stands}
+use Rattle.rest_laws.proofs.SentRows.{SendsRow, AllSent, item, in_filtered, outbox_rows, close_rows, held_rows, rows_stand, row_stands}
 
--- ---- what is missing between two reports
+-- ---- what is open between two reports
+
+-- a carrier is open where it is a missing item
+pub missing_open : (from to : Report) (item : Sent) → Among item (items_of from) → missing from to item ≡ true → Among (of_item item) (open_to from to)
+unfolding open_to
+missing_open from to item a e =
+    in_front (of_item item) (map of_item (filter (missing from to) (items_of from))) (map of_pending (filter (waits_for to) from.pending))
+    (in_map of_item (filter (missing from to) (items_of from)) item (in_filtered (missing from to) (items_of from) item a e))
+
+-- or an update that is held back
+pub pending_open : (from to : Report) (row : Pending) → Among row from.pending → waits_for to row ≡ true → Among (of_pending row) (open_to from to)
+unfolding open_to
+pending_open from to row a e =
+    at_end (of_pending row) (map of_item (filter (missing from to) (items_of from))) (map of_pending (filter (waits_for to) from.pending))
+    (in_map of_pending (filter (waits_for to) from.pending) row (in_filtered (waits_for to) from.pending row a e))
+
+-- what passes is one of those that are tried
+pub of_filter : {A : Type 0} (test : A → Bool) (xs : List A) (x : A) → Among x (filter test xs) → Among x xs × (test x ≡ true)
+of_filter test [] x a = absurd a
+of_filter test (y ∷ ys) x a =
+    (elim (test y) as (λ b. test y ≡ b → Among x (cond b (y ∷ filter test ys) (filter test ys)) → Among x (y ∷ ys) × (test x ≡ true)) [
+      | true ↦ λ e m.
+          ⊎_elim (λ (q : y ≡ x). (inl q, subst (λ z. test z ≡ true) q e))
+          (λ (n : Among x (filter test ys)). let found = of_filter test ys x n in (inr found.0, found.1)) m
+      | false ↦ λ e m. let found = of_filter test ys x m in (inr found.0, found.1)
+    ]) refl a
+
+-- what is open is one of the two
+pub data OneOf (from to : Report) (c : Carrier) : Type 0 where
+  ByItem : (i : Sent) → Among i (items_of from) → missing from to i ≡ true → of_item i ≡ c → OneOf from to c
+  ByRow : (row : Pending) → Among row from.pending → waits_for to row ≡ true → of_pending row ≡ c → OneOf from to c
+
+pub of_open : (from to : Report) (c : Carrier) → Among c (open_to from to) → OneOf from to c
+unfolding open_to
+of_open from to c a =
+    ⊎_elim
+    (λ (m : Among c (map of_item (filter (missing from to) (items_of from)))).
+    let one = of_map of_item (filter (missing from to) (items_of from)) c m in
+    let two = of_filter (missing from to) (items_of from) one.0 one.1 in
+    ByItem one.0 two.0 two.1 one.2)
+    (λ (m : Among c (map of_pending (filter (waits_for to) from.pending))).
+    let one = of_map of_pending (filter (waits_for to) from.pending) c m in
+    let two = of_filter (waits_for to) from.pending one.0 one.1 in
+    ByRow one.0 two.0 two.1 one.2)
+    (in_either c (map of_item (filter (missing from to) (items_of from))) (map of_pending (filter (waits_for to) from.pending)) a)
 
 module _ (rules : Rules) (net : Net) (e : ℕ) (reports : List Report) (blocked : Trigger → Bool) (inside : IsClosed reports blocked) (u v : ℕ) (a b : List Entry) (fits : Fits a) (near : has (neighbours net u) v ≡ true)
     (receiver : Among (report_of rules net u e a) reports) (sender : Among (report_of rules net v e b) reports) where
-  -- a missing item lists triggers of the set, where its session is still held
-  missing_in : (i : Listed) → SendsRow (entry_rows rules net v b) i → missing (report_of rules net v e b) (report_of rules net u e a) i ≡ true → StillHolds blocked a v i.session → AllIn blocked i.triggers
+  -- what is open lists triggers of the set, where its session is still held
+  open_in : (c : Carrier) → Among c (open_to (report_of rules net v e b) (report_of rules net u e a)) → StillHolds blocked a v c.session → AllIn blocked c.triggers
   unfolding report_of
-  missing_in i sends gone holds = all_from_each (λ t. blocked t ≡ true) i.triggers (λ t among. by holds t among)
+  open_in c is holds = all_from_each (λ t. blocked t ≡ true) c.triggers (λ t among. by holds t among)
     where
-      lacks : Missing reports (report_of rules net v e b) (report_of rules net u e a) i
-      lacks = record { sender = sender; receiver = receiver; row = sends.0; listed = sends.1; sent = sends.2; missing = gone }
+      lacks : Open reports (report_of rules net v e b) (report_of rules net u e a) c
+      lacks = record { sender = sender; receiver = receiver; is_open = is }
 
-      by : StillHolds blocked a v i.session → (t : Trigger) → Among t i.triggers → blocked t ≡ true
-      by (Never c) t among =
-          inside.start t (record { from = report_of rules net v e b; to = report_of rules net u e a; item = i; lacks = lacks; unclosed = down_is rules net u e a v i.session fits near ∙ c; lists = among })
-      by (Blocked triggers c d) t among =
-          let one = some_passes blocked triggers d in
+      by : StillHolds blocked a v c.session → (t : Trigger) → Among t c.triggers → blocked t ≡ true
+      by (Never d) t among =
+          inside.start t (record { from = report_of rules net v e b; to = report_of rules net u e a; carrier = c; lacks = lacks; unclosed = down_is rules net u e a v c.session fits near ∙ d; lists = among })
+      by (Blocked triggers d some) t among =
+          let one = some_passes blocked triggers some in
           inside.step one.0 t
-          (inr (inr (record { from = report_of rules net v e b; to = report_of rules net u e a; item = i; lacks = lacks; lists = among; closed = triggers; closes = down_is rules net u e a v i.session fits near ∙ c; names = one.1 })))
+          (inr (inr (record { from = report_of rules net v e b; to = report_of rules net u e a; carrier = c; lacks = lacks; lists = among; closed = triggers; closes = down_is rules net u e a v c.session fits near ∙ d; names = one.1 })))
           one.2
 
   -- an item with a number above all that were received is missing
@@ -52,14 +100,27 @@ module _ (rules : Rules) (net : Net) (e : ℕ) (reports : List Report) (blocked 
       let count = received_is rules net u e a v s fits near in
       rw (same_refl u, count) (grind (arith, nat_tests))
 
+  -- an item in a row is an item of the report
+  sends_item : (i : Sent) → SendsRow (entry_rows rules net v b) i → Among i (items_of (report_of rules net v e b))
+  unfolding report_of
+  sends_item i sends = in_flat (λ (r : Row). r.sent) (entry_rows rules net v b) sends.0 i sends.1 sends.2
+
   -- so it lists triggers of the set, where it stands in a row
   above_in : (s n : ℕ) (triggers : List Trigger) → SendsRow (entry_rows rules net v b) (item u s n triggers) → StillHolds blocked a v s → length (inbox a v s) < n → AllIn blocked triggers
-  above_in s n triggers sends holds above = missing_in (item u s n triggers) sends (is_missing s n triggers above) holds
+  above_in s n triggers sends holds above =
+      open_in (of_item (item u s n triggers))
+      (missing_open (report_of rules net v e b) (report_of rules net u e a) (item u s n triggers) (sends_item (item u s n triggers) sends) (is_missing s n triggers above)) holds
 
   -- so do all updates that were not received
   updates_in : (s m : ℕ) (xs : List Update) → StillHolds blocked a v s → AllSent (entry_rows rules net v b) u s m xs → AllInFrom blocked (length (inbox a v s)) m xs
   updates_in s m [] holds sent = tt
   updates_in s m (x ∷ xs) holds sent = (λ above. above_in s m x.triggers sent.0 holds above, updates_in s (suc m) xs holds sent.1)
+
+  -- so does what is held back
+  pending_in : (s : ℕ) (row : Pending) → Among row (pending_rows rules net v b) → row.to ≡ u → row.session ≡ s → StillHolds blocked a v s → AllIn blocked row.triggers
+  unfolding report_of
+  pending_in s row stands to is holds =
+      open_in (of_pending row) (pending_open (report_of rules net v e b) (report_of rules net u e a) row stands (rw to (same_refl u))) (subst (StillHolds blocked a v) (sym is) holds)
 
 -- ---- the set is closed
 
@@ -102,12 +163,25 @@ closed_over rules net nodes log e reports blocked valid family told inside = rec
       let short = begins_short (inbox (log u) v s) (outbox rules net v (log v) u s) (family.begins u v s mu mv near) in
       above_in rules net e reports blocked inside u v (log u) (log v) (family.fits u mu) near (told u mu) (told v mv) s (next_number rules net v (log v) u s) triggers
       (close_rows rules net v (log v) u s triggers (family.fits v mv) (other_way u v near) c) holds (omega arith);
+  waits = λ u v s p mu mv near known holds held_in.
+      waits_in u v s p mu mv near known holds held_in (is_pending rules net v (log v) u p) refl;
   order = λ u h j k mu o a near some. order_in rules net e reports blocked inside u (log u) (told u mu) h j k o a near some;
   together = λ u h k mu o some. together_in rules net e reports blocked inside u (log u) (told u mu) h k o some;
 }
   where
     other_way : (u v : ℕ) → has (neighbours net u) v ≡ true → has (neighbours net v) u ≡ true
     other_way u v near = sym (neighbours_mutual net u v valid) ∙ near
+
+    none_waits : (ts : List Trigger) → is_some_trigger ts ≡ false → AllIn blocked ts
+    none_waits [] e = tt
+    none_waits (t ∷ ts) e = absurd (cc e)
+
+    waits_in : (u v s p : ℕ) → Among u nodes → Among v nodes → has (neighbours net u) v ≡ true → has (places net) p ≡ true → StillHolds blocked (log u) v s → held (reads (log v)) u ≡ Some s
+        → (b : Bool) → is_pending rules net v (log v) u p ≡ b → AllIn blocked (pending rules net v (log v) u p)
+    waits_in u v s p mu mv near known holds held_in false q = none_waits (pending rules net v (log v) u p) q
+    waits_in u v s p mu mv near known holds held_in true q =
+        pending_in rules net e reports blocked inside u v (log u) (log v) (family.fits u mu) near (told u mu) (told v mv) s (pending_row (pending rules net v (log v) u) u s p)
+        (held_rows rules net v (log v) u s p (other_way u v near) known held_in q) refl refl holds
 
 -- the incomplete triggers of the value of the reports of a family are closed
 pub closed_of_value : (rules : Rules) (net : Net) (nodes : List ℕ) (log : ℕ → List Entry) (e : ℕ) (reports : List Report) (value : Value) → IsValid net → Family rules net nodes log

@@ -1,6 +1,6 @@
 -- The way back never needs more room than there are nodes.
-use Rattle.std.proofs.Common.{ℕ, suc, ◌≤◌, ◌<◌, true, false, not, ◌&&◌, ◌||◌, ◌==◌, Some, List, [], ◌∷◌, ◌++◌, ◌≡◌, refl, sym, ◌∙◌, ap, subst, arith}
-use Rattle.std.specs.Prelude.{if◌then◌else◌, length}
+use Rattle.std.proofs.Common.{ℕ, ◌≤◌, ◌<◌, true, false, not, ◌&&◌, ◌||◌, ◌==◌, Some, List, [], ◌∷◌, ◌++◌, ◌≡◌, refl, sym, ◌∙◌, ap, subst, arith}
+use Rattle.std.specs.Prelude.{length}
 use Rattle.topology.specs.Lists.{has}
 use Rattle.topology.specs.Paths.{differ}
 use Rattle.topology.specs.Net.{Net}
@@ -8,12 +8,13 @@ use Rattle.topology.specs.declared.names.Scheme.{Scheme}
 use Rattle.topology.specs.declared.names.Scheme.TheVariants as scheme
 use Rattle.topology.proofs.Few.{no_more}
 use Rattle.topology.proofs.Sets.{has-append, differ-append}
-use Rattle.topology.proofs.Tests.{and_left, and_right, and_both, or_left, or_right, or_first, or_second, or_none, not_true, not_false, same_sym, same_is, same_refl}
+use Rattle.topology.proofs.Tests.{and_left, and_right, and_both, or_left, or_right, or_none, not_true, not_false, same_sym, same_is}
 use Rattle.epoch_packet.specs.declared.packets.Packet.{Packet}
 use Rattle.epoch_packet.specs.declared.walks.Mode.TheVariants.{Transient}
 use Rattle.epoch_packet.specs.declared.walks.Visit.{Visit}
 use Rattle.epoch_packet.specs.NodeLists.{last_of, but_last}
 use Rattle.epoch_packet.specs.Visited.{visits}
+use Rattle.epoch_packet.proofs.LastNodes.{last_at_end}
 use Rattle.transient_mode.specs.Sights.{Sight}
 use Rattle.transient_mode.specs.TransientHops.{Next, spent, deflects, transient_hop}
 use Rattle.transient_mode.proofs.Hopping.{hopped}
@@ -32,12 +33,6 @@ differ_turned (x ∷ xs) n apart =
     and_both (not (x == n || has xs n)) (not (has xs x) && differ xs)
     (not_false (x == n || has xs n) (or_none (x == n) (has xs n) (same_sym x n ∙ or_right (has xs x) (n == x) off) (not_true (has xs n) (and_left (not (has xs n)) (differ xs) rest))))
     (and_both (not (has xs x)) (differ xs) (not_false (has xs x) (or_left (has xs x) (n == x) off)) (and_right (not (has xs n)) (differ xs) rest))
-
--- a list is all but its last one, then that
-last_at_end : (xs : List ℕ) (w : ℕ) → last_of xs ≡ Some w → but_last xs ++ w ∷ [] ≡ xs
-last_at_end [] w is = cc
-last_at_end (x ∷ []) w is = let same : x ≡ w = cc in ap (λ n. n ∷ []) (sym same)
-last_at_end (x ∷ y ∷ rest) w is = ap (λ l. x ∷ l) (last_at_end (y ∷ rest) w is)
 
 -- without its last one a list is no longer
 but_last_is_short : (xs : List ℕ) → length (but_last xs) ≤ length xs
