@@ -20,7 +20,7 @@ use Rattle.schedule_file.specs.declared.lines.Numbered.{Numbered}
 use Rattle.schedule_file.specs.declared.lines.Schedule.{Schedule}
 use Rattle.schedule_file.specs.declared.table.OriginVerb.TheVariants.{Originate, Withdraw, Probe}
 use Rattle.schedule_file.specs.declared.table.NodeEvent.TheVariants.{Snap, Crash, Restart}
-use Rattle.schedule_file.specs.declared.table.PairEvent.TheVariants.{Deliver, Fail, Restore, Notice, Open}
+use Rattle.schedule_file.specs.declared.table.PairEvent.TheVariants.{Deliver, Fail, Restore, Notice, Open, Flush}
 use Rattle.schedule_file.specs.declared.table.PlainView.TheVariants as plain
 use Rattle.schedule_file.specs.declared.table.EpochView.TheVariants.{Cut, Closure, Tables}
 use Rattle.schedule_file.specs.declared.table.Part.TheVariants.{Network, Run}
@@ -28,7 +28,7 @@ use Rattle.schedule_file.specs.Spelling.{words_by_line}
 use Rattle.schedule_file.specs.Table.{may_declare, may_direct}
 use Rattle.schedule_file.specs.Lines.{InRange, DirectsInRange}
 use Rattle.schedule_file.specs.Grammar.{net_of, begun, directives_of, directive_of, directed_fault, origin_fault, place_in, allowed, Reads, IsFile, Follows, AllFollow}
-use Rattle.schedule_file.specs.Printing.{node_line, link_line, prefix_line, pref_line, packet_lines, sorted_preferences, prefix_at, instruction_of, directive_line, network_lines, printed_lines, printed, SameNet, unnumbered, IsSame, IsFileAgain}
+use Rattle.schedule_file.specs.Printing.{node_line, link_line, prefix_line, pref_line, hold_line, packet_lines, sorted_preferences, sorted_holds, prefix_at, instruction_of, directive_line, network_lines, printed_lines, printed, SameNet, unnumbered, IsSame, IsFileAgain}
 use Rattle.schedule_file.specs.Refusals.{FirstBad}
 use Rattle.schedule_file.proofs.Steps.{allowed_from}
 use Rattle.schedule_file.proofs.Readings.{same_lines, none_first}
@@ -37,7 +37,8 @@ use Rattle.schedule_file.proofs.Plain.{lines_there}
 use Rattle.schedule_file.proofs.Growing.{map_next}
 use Rattle.schedule_file.proofs.Coming.{after, comes_read, comes_in_range, Reaches, reaches_both, section, At}
 use Rattle.schedule_file.proofs.Preferences.{same_found}
-use Rattle.schedule_file.proofs.Sections.{with_nodes, with_links, with_prefixes, with_preferences, with_packets, nodes_come, links_come, prefixes_come, preferences_come, packets_come}
+use Rattle.schedule_file.proofs.Holding.{same_held}
+use Rattle.schedule_file.proofs.Sections.{with_nodes, with_links, with_prefixes, with_preferences, with_holds, with_packets, nodes_come, links_come, prefixes_come, preferences_come, holds_come, packets_come}
 use Rattle.schedule_file.proofs.Described.{Described, described}
 
 abbrev range_of : ℕ → ℕ → Range
@@ -81,6 +82,7 @@ same_instruction net (Pair Fail a b) e = refl
 same_instruction net (Pair Restore a b) e = refl
 same_instruction net (Pair Notice a b) e = refl
 same_instruction net (Pair Open a b) e = refl
+same_instruction net (Pair Flush a b) e = refl
 same_instruction net (Prefer node nbr value) e = refl
 same_instruction net (Propose node epoch) e = refl
 same_instruction net (Drain times) e = refl
@@ -185,11 +187,12 @@ module _ (net : Net) (valid : IsValid net) where
   all_come d all follow =
       let start : At (with_nodes net []) [] = record { stands_for = refl; early = refl; none = refl } in
       let nodes = nodes_come net valid d.in_order [] start in
-      let first : (e : List Line) → At (with_nodes net net.nodes) e → Reaches e (map link_line net.links) (At (with_links net valid net.links)) = λ e at. links_come net valid e (subst (λ cs. At (record { nodes = net.nodes; consolidators = cs; links = []; preferences = []; prefixes = []; hops = 128; scheme = Deflect }) e) (sym d.in_order) at) in
+      let first : (e : List Line) → At (with_nodes net net.nodes) e → Reaches e (map link_line net.links) (At (with_links net valid net.links)) = λ e at. links_come net valid e (subst (λ cs. At (record { nodes = net.nodes; consolidators = cs; links = []; preferences = []; prefixes = []; holds = []; hops = 128; scheme = Deflect }) e) (sym d.in_order) at) in
       let linked = reaches_both [] (map (node_line net) net.nodes) (map link_line net.links) (At (with_nodes net net.nodes)) (At (with_links net valid net.links)) nodes first in
       let named = reaches_both [] (map (node_line net) net.nodes ++ map link_line net.links) (map prefix_line net.prefixes) (At (with_links net valid net.links)) (At (with_prefixes net valid net.prefixes)) linked (prefixes_come net valid d.ranges) in
       let preferred = reaches_both [] (map (node_line net) net.nodes ++ map link_line net.links ++ map prefix_line net.prefixes) (map pref_line (sorted_preferences net)) (At (with_prefixes net valid net.prefixes)) (At (with_preferences net valid (sorted_preferences net))) named (preferences_come net valid) in
-      let settled = reaches_both [] (map (node_line net) net.nodes ++ map link_line net.links ++ map prefix_line net.prefixes ++ map pref_line (sorted_preferences net)) (packet_lines net) (At (with_preferences net valid (sorted_preferences net))) (At final) preferred (packets_come net valid) in
+      let holding = reaches_both [] (map (node_line net) net.nodes ++ map link_line net.links ++ map prefix_line net.prefixes ++ map pref_line (sorted_preferences net)) (map hold_line (sorted_holds net)) (At (with_preferences net valid (sorted_preferences net))) (At (with_holds net valid (sorted_holds net))) preferred (holds_come net valid) in
+      let settled = reaches_both [] (map (node_line net) net.nodes ++ map link_line net.links ++ map prefix_line net.prefixes ++ map pref_line (sorted_preferences net) ++ map hold_line (sorted_holds net)) (packet_lines net) (At (with_holds net valid (sorted_holds net))) (At final) holding (packets_come net valid) in
       reaches_both [] (network_lines net) (Begin ∷ map (directive_line net) all) (At final) (Behind all) settled
       (λ e at. reaches_both e (Begin ∷ []) (map (directive_line net) all) (Behind []) (Behind all) (begin_comes e at) (directives_come all follow))
 
@@ -200,6 +203,7 @@ module _ (net : Net) (valid : IsValid net) where
     links = refl;
     prefixes = refl;
     preferences = same_found net valid;
+    holds = same_held net final valid refl;
     hops = refl;
     scheme = refl;
   }

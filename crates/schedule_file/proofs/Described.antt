@@ -13,7 +13,7 @@ use Rattle.topology.proofs.Tests.{or_left, or_right, or_second, or_none, or_fals
 use Rattle.topology.proofs.Sets.{has-append}
 use Rattle.schedule_file.specs.declared.lines.Line.{Line}
 use Rattle.schedule_file.specs.declared.lines.Line.TheVariants.{Blank, Begin, Declares, Directs}
-use Rattle.schedule_file.specs.declared.lines.Declaration.TheVariants.{Node, Link, Pref, Prefix, Hops, Transient}
+use Rattle.schedule_file.specs.declared.lines.Declaration.TheVariants.{Node, Link, Pref, Hold, Prefix, Hops, Transient}
 use Rattle.schedule_file.specs.declared.table.Part.{Part}
 use Rattle.schedule_file.specs.Spelling.{IsRange}
 use Rattle.schedule_file.specs.Lines.{InRange}
@@ -76,6 +76,7 @@ next_line net (Declares (Node id mark)) d range fine = record {
 }
 next_line net (Declares (Link a b relation)) d range fine = record { in_order = d.in_order; ranges = d.ranges }
 next_line net (Declares (Pref a b value)) d range fine = record { in_order = d.in_order; ranges = d.ranges }
+next_line net (Declares (Hold a b)) d range fine = record { in_order = d.in_order; ranges = d.ranges }
 next_line net (Declares (Prefix p)) d range fine = record { in_order = d.in_order; ranges = ranges_next net.prefixes p d.ranges range }
 next_line net (Declares (Hops hops)) d range fine = record { in_order = d.in_order; ranges = d.ranges }
 next_line net (Declares (Transient scheme)) d range fine = record { in_order = d.in_order; ranges = d.ranges }

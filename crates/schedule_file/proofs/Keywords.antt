@@ -7,7 +7,7 @@ use Rattle.std.proofs.lemmas.Option.{none-some, same_Some}
 use Rattle.topology.specs.declared.status.BadKind.TheVariants.{UnknownWord}
 use Rattle.schedule_file.specs.declared.table.Keyword.{Keyword}
 use Rattle.schedule_file.specs.declared.table.Part.{Part}
-use Rattle.schedule_file.specs.declared.table.Keyword.TheVariants.{Node, Link, Pref, Prefix, Hops, Transient, Begin, Origin, Single, Pair, Prefer, Propose, Drain, Control, Inject, Hop, Show}
+use Rattle.schedule_file.specs.declared.table.Keyword.TheVariants.{Node, Link, Pref, Hold, Prefix, Hops, Transient, Begin, Origin, Single, Pair, Prefer, Propose, Drain, Control, Inject, Hop, Show}
 use Rattle.schedule_file.specs.declared.table.OriginVerb.TheVariants.{Originate}
 use Rattle.schedule_file.specs.declared.table.NodeEvent.TheVariants.{Snap, Crash, Restart}
 use Rattle.schedule_file.specs.declared.table.PairEvent.TheVariants.{Deliver}
@@ -25,6 +25,7 @@ pub keyword_found : (k : Keyword) → keyword_in (keyword_text k) ≡ Some k
 keyword_found Node = refl
 keyword_found Link = refl
 keyword_found Pref = refl
+keyword_found Hold = refl
 keyword_found Prefix = refl
 keyword_found Hops = refl
 keyword_found Transient = refl

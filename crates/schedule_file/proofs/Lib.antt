@@ -17,6 +17,7 @@ mod Plain
 mod Coming
 mod Growing
 mod Preferences
+mod Holding
 mod Sections
 mod Described
 mod Again

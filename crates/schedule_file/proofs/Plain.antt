@@ -22,7 +22,7 @@ use Rattle.topology.specs.declared.links.Relation.TheVariants.{Customer, Provide
 use Rattle.schedule_file.specs.declared.lines.Line.{Line}
 use Rattle.schedule_file.specs.declared.lines.Line.TheVariants.{Blank, Begin, Declares, Directs}
 use Rattle.schedule_file.specs.declared.lines.Declaration.{Declaration}
-use Rattle.schedule_file.specs.declared.lines.Declaration.TheVariants.{Node, Link, Pref, Prefix, Hops, Transient}
+use Rattle.schedule_file.specs.declared.lines.Declaration.TheVariants.{Node, Link, Pref, Hold, Prefix, Hops, Transient}
 use Rattle.schedule_file.specs.declared.lines.Instruction.{Instruction}
 use Rattle.schedule_file.specs.declared.lines.Instruction.TheVariants.{Origin, Single, Pair, Prefer, Propose, Drain, Control, ControlAll, Inject, Hop, HopTimes, Show, ShowEpoch, ShowWalk}
 use Rattle.schedule_file.specs.declared.table.Keyword.{Keyword}
@@ -104,6 +104,7 @@ plain_keyword : (k : Keyword) → Plain (keyword_text k)
 plain_keyword keyword.Node = record { some = refl; high = refl }
 plain_keyword keyword.Link = record { some = refl; high = refl }
 plain_keyword keyword.Pref = record { some = refl; high = refl }
+plain_keyword keyword.Hold = record { some = refl; high = refl }
 plain_keyword keyword.Prefix = record { some = refl; high = refl }
 plain_keyword keyword.Hops = record { some = refl; high = refl }
 plain_keyword keyword.Transient = record { some = refl; high = refl }
@@ -143,6 +144,7 @@ declared_plain (Node id false) h = (plain_number id h, tt)
 declared_plain (Node id true) h = (plain_number id h, (record { some = refl; high = refl }, tt))
 declared_plain (Link a b relation) h = (plain_number a h.0, (plain_number b h.1, (plain_relation relation, tt)))
 declared_plain (Pref a b value) h = (plain_number a h.0, (plain_number b h.1, (plain_decimal value (omega (arith, h.2)), tt)))
+declared_plain (Hold a b) h = (plain_number a h.0, (plain_number b h.1, tt))
 declared_plain (Prefix p) h = (plain_prefix p h, tt)
 declared_plain (Hops hops) h = (plain_decimal hops (omega (arith, h)), tt)
 declared_plain (Transient scheme) h = scheme_plain scheme h

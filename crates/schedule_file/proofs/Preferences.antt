@@ -29,7 +29,7 @@ differs net valid a b e =
     ]
 
 -- what find gives passes, and has what all have
-found_each : {X : Type 0} (P : X → Type 0) (p : X → Bool) (xs : List X) (x : X) → AllByRecursion P xs → find p xs ≡ Some x → P x × (p x ≡ true)
+pub found_each : {X : Type 0} (P : X → Type 0) (p : X → Bool) (xs : List X) (x : X) → AllByRecursion P xs → find p xs ≡ Some x → P x × (p x ≡ true)
 found_each P p [] x h e = absurd (none-some x e)
 found_each P p (y ∷ xs) x h e =
     (elim (p y) as (λ t. p y ≡ t → cond t (Some y) (find p xs) ≡ Some x → P x × (p x ≡ true)) [
@@ -37,15 +37,15 @@ found_each P p (y ∷ xs) x h e =
       | false ↦ λ f k. found_each P p xs x h.1 k
     ]) refl e
 
-each_append : {X : Type 0} (P : X → Type 0) (xs ys : List X) → AllByRecursion P xs → AllByRecursion P ys → AllByRecursion P (xs ++ ys)
+pub each_append : {X : Type 0} (P : X → Type 0) (xs ys : List X) → AllByRecursion P xs → AllByRecursion P ys → AllByRecursion P (xs ++ ys)
 each_append P [] ys h k = k
 each_append P (x ∷ xs) ys h k = (h.0, each_append P xs ys h.1 k)
 
-each_flat : {X A : Type 0} (P : A → Type 0) (f : X → List A) (Q : X → Type 0) → ((x : X) → Q x → AllByRecursion P (f x)) → (xs : List X) → AllByRecursion Q xs → AllByRecursion P (flat_map f xs)
+pub each_flat : {X A : Type 0} (P : A → Type 0) (f : X → List A) (Q : X → Type 0) → ((x : X) → Q x → AllByRecursion P (f x)) → (xs : List X) → AllByRecursion Q xs → AllByRecursion P (flat_map f xs)
 each_flat P f Q step [] h = tt
 each_flat P f Q step (x ∷ xs) h = each_append P (f x) (flat_map f xs) (step x h.0) (each_flat P f Q step xs h.1)
 
-each_of : {X : Type 0} (P : X → Type 0) → ((x : X) → P x) → (xs : List X) → AllByRecursion P xs
+pub each_of : {X : Type 0} (P : X → Type 0) → ((x : X) → P x) → (xs : List X) → AllByRecursion P xs
 each_of P h [] = tt
 each_of P h (x ∷ xs) = (h x, each_of P h xs)
 
@@ -57,7 +57,7 @@ passes_filter p (x ∷ xs) =
       | false ↦ λ f. passes_filter p xs
     ]) refl
 
-near_linked : (net : Net) (u : ℕ) → AllByRecursion (λ v. linked net u v ≡ true) (neighbours net u)
+pub near_linked : (net : Net) (u : ℕ) → AllByRecursion (λ v. linked net u v ≡ true) (neighbours net u)
 unfolding neighbours
 near_linked net u = passes_filter (linked net u) (ascending net.nodes)
 
@@ -171,7 +171,7 @@ only_given : (net : Net) (u v : ℕ) → IsValid net → (ps : List Pref) → Al
 only_given net u v valid [] h = tt
 only_given net u v valid (p ∷ ps) h = (given_is net u v (find (prefers u v) net.preferences) p valid refl h.0, only_given net u v valid ps h.1)
 
-any_flat : {A : Type 0} (q : A → Bool) (f : ℕ → List A) (n : ℕ) (xs : List ℕ) → has xs n ≡ true → list_any q (f n) ≡ true → list_any q (flat_map f xs) ≡ true
+pub any_flat : {A : Type 0} (q : A → Bool) (f : ℕ → List A) (n : ℕ) (xs : List ℕ) → has xs n ≡ true → list_any q (f n) ≡ true → list_any q (flat_map f xs) ≡ true
 any_flat q f n [] h e = absurd (true≢false (sym h))
 any_flat q f n (x ∷ xs) h e =
     list_any-append q (f x) (flat_map f xs)

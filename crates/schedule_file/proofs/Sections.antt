@@ -1,4 +1,4 @@
--- The network of a file, line by line: nodes, links, prefixes, preferences, and what is said of packets.
+-- The network of a file, line by line: nodes, links, prefixes, preferences, holds, and what is said of packets.
 use Rattle.std.proofs.Common.{◌≡◌, ◌≢◌, ℕ, ◌+◌, ◌<◌, ◌≤◌, ◌^◌, Bool, true, false, not, cond, ◌&&◌, ◌||◌, ◌==◌, List, [], ◌∷◌, ◌++◌, length, filter, length-append, refl, sym, ap, ◌∙◌, subst, inl, inr, true≢false, arith}
 use Rattle.std.specs.Prelude.{None, IsTrue, nat_le, map, if◌then◌else◌}
 use Rattle.std.specs.List.{list_any, count_by, AllByRecursion}
@@ -6,6 +6,7 @@ use Rattle.std.proofs.lemmas.Bool.Decides.{nat_tests}
 use Rattle.std.proofs.lemmas.List.Recursion.{is_count_by}
 use Rattle.topology.specs.declared.links.Link.{Link}
 use Rattle.topology.specs.declared.links.Pref.{Pref}
+use Rattle.topology.specs.declared.links.Hold.{Hold}
 use Rattle.topology.specs.declared.prefixes.Prefix.{Prefix as Range}
 use Rattle.topology.specs.declared.names.Scheme.{Scheme}
 use Rattle.topology.specs.declared.names.Scheme.TheVariants.{Deflect, Detour, Backup}
@@ -22,10 +23,11 @@ use Rattle.schedule_file.specs.Spelling.{IsNumber, IsRange}
 use Rattle.schedule_file.specs.declared.table.Part.TheVariants.{Run}
 use Rattle.schedule_file.specs.Lines.{SchemeInRange, InRange}
 use Rattle.schedule_file.specs.Grammar.{fault_from, allowed}
-use Rattle.schedule_file.specs.Printing.{node_line, link_line, prefix_line, pref_line, packet_lines, sorted_preferences}
+use Rattle.schedule_file.specs.Printing.{node_line, link_line, prefix_line, pref_line, hold_line, packet_lines, sorted_preferences, sorted_holds}
 use Rattle.schedule_file.proofs.Places.{same_prefix-self}
 use Rattle.schedule_file.proofs.Coming.{Reaches, section, At, declared_next}
 use Rattle.schedule_file.proofs.Preferences.{Given, differs, sorted_given, put_all, put_next}
+use Rattle.schedule_file.proofs.Holding.{Held, sorted_held, hold_all, hold_next}
 
 -- one of a list, and those in front of it
 
@@ -99,7 +101,7 @@ scheme_taken net Backup leads = refl
 -- the nodes so far
 
 abbrev pub with_nodes : Net → List ℕ → Net
-with_nodes net front = record { nodes = front; consolidators = filter (has net.consolidators) front; links = []; preferences = []; prefixes = []; hops = 128; scheme = Deflect }
+with_nodes net front = record { nodes = front; consolidators = filter (has net.consolidators) front; links = []; preferences = []; prefixes = []; holds = []; hops = 128; scheme = Deflect }
 
 filter_front : (p : ℕ → Bool) (front : List ℕ) (x : ℕ) (back : List ℕ) → p x ≡ true → length (filter p front) < length (filter p (front ++ x ∷ back))
 filter_front p [] x back e = rw e (omega arith)
@@ -132,7 +134,7 @@ module _ (net : Net) (valid : IsValid net) where
       let marked : p x ≡ true → length (filter p front) < 7 = λ m. (let less = filter_front p front x back m in omega arith) in
       declared_next (declares.Node x (p x)) (with_nodes net front) (with_nodes net (front ++ x ∷ [])) e at number
       (ap fault_from (node_taken (with_nodes net front) x (p x) new few marked))
-      (ap (λ cs. record { nodes = front ++ x ∷ []; consolidators = cs; links = []; preferences = []; prefixes = []; hops = 128; scheme = Deflect }) (filter_last p front x))
+      (ap (λ cs. record { nodes = front ++ x ∷ []; consolidators = cs; links = []; preferences = []; prefixes = []; holds = []; hops = 128; scheme = Deflect }) (filter_last p front x))
 
   pub nodes_come : net.consolidators ≡ filter (has net.consolidators) net.nodes → (e : List Line) → At (with_nodes net []) e → Reaches e (map (node_line net) net.nodes) (At (with_nodes net net.nodes))
   nodes_come order e at = section (node_line net) (λ front. At (with_nodes net front)) net.nodes (node_step order) e at
@@ -151,7 +153,7 @@ module _ (net : Net) (valid : IsValid net) where
 
   -- the links so far
   abbrev pub with_links : List Link → Net
-  with_links front = record { nodes = net.nodes; consolidators = net.consolidators; links = front; preferences = []; prefixes = []; hops = 128; scheme = Deflect }
+  with_links front = record { nodes = net.nodes; consolidators = net.consolidators; links = front; preferences = []; prefixes = []; holds = []; hops = 128; scheme = Deflect }
 
   link_step : (front : List Link) (x : Link) (back : List Link) (e : List Line) → front ++ x ∷ back ≡ net.links → At (with_links front) e → InRange (link_line x) × IsTrue (allowed Run e (link_line x)) × At (with_links (front ++ x ∷ [])) (link_line x ∷ e)
   link_step front x back e same at =
@@ -167,7 +169,7 @@ module _ (net : Net) (valid : IsValid net) where
 
   -- the prefixes so far
   abbrev pub with_prefixes : List Range → Net
-  with_prefixes front = record { nodes = net.nodes; consolidators = net.consolidators; links = net.links; preferences = []; prefixes = front; hops = 128; scheme = Deflect }
+  with_prefixes front = record { nodes = net.nodes; consolidators = net.consolidators; links = net.links; preferences = []; prefixes = front; holds = []; hops = 128; scheme = Deflect }
 
   prefix_step : AllByRecursion IsRange net.prefixes → (front : List Range) (x : Range) (back : List Range) (e : List Line) → front ++ x ∷ back ≡ net.prefixes → At (with_prefixes front) e → InRange (prefix_line x) × IsTrue (allowed Run e (prefix_line x)) × At (with_prefixes (front ++ x ∷ [])) (prefix_line x ∷ e)
   prefix_step ranges front x back e same at =
@@ -181,7 +183,7 @@ module _ (net : Net) (valid : IsValid net) where
 
   -- the preferences so far
   abbrev pub with_preferences : List Pref → Net
-  with_preferences front = record { nodes = net.nodes; consolidators = net.consolidators; links = net.links; preferences = put_all [] front; prefixes = net.prefixes; hops = 128; scheme = Deflect }
+  with_preferences front = record { nodes = net.nodes; consolidators = net.consolidators; links = net.links; preferences = put_all [] front; prefixes = net.prefixes; holds = []; hops = 128; scheme = Deflect }
 
   preference_step : (all : List Pref) → AllByRecursion (Given net) all → (front : List Pref) (x : Pref) (back : List Pref) (e : List Line) → front ++ x ∷ back ≡ all → At (with_preferences front) e → InRange (pref_line x) × IsTrue (allowed Run e (pref_line x)) × At (with_preferences (front ++ x ∷ [])) (pref_line x ∷ e)
   preference_step all given front x back e same at =
@@ -190,26 +192,42 @@ module _ (net : Net) (valid : IsValid net) where
       let other = differs net valid x.a x.b g.joined in
       declared_next (declares.Pref x.a x.b x.value) (with_preferences front) (with_preferences (front ++ x ∷ [])) e at (is_number x.a ends.0, is_number x.b ends.1, g.small)
       (ap fault_from (pref_taken (with_preferences front) x.a x.b ends.0 ends.1 other g.joined))
-      (ap (λ ps. record { nodes = net.nodes; consolidators = net.consolidators; links = net.links; preferences = ps; prefixes = net.prefixes; hops = 128; scheme = Deflect }) (put_next [] front x))
+      (ap (λ ps. record { nodes = net.nodes; consolidators = net.consolidators; links = net.links; preferences = ps; prefixes = net.prefixes; holds = []; hops = 128; scheme = Deflect }) (put_next [] front x))
 
   pub preferences_come : (e : List Line) → At (with_preferences []) e → Reaches e (map pref_line (sorted_preferences net)) (At (with_preferences (sorted_preferences net)))
   preferences_come e at = section pref_line (λ front. At (with_preferences front)) (sorted_preferences net) (preference_step (sorted_preferences net) (sorted_given net valid)) e at
 
+  -- the holds so far
+  abbrev pub with_holds : List Hold → Net
+  with_holds front = record { nodes = net.nodes; consolidators = net.consolidators; links = net.links; preferences = put_all [] (sorted_preferences net); prefixes = net.prefixes; holds = hold_all [] front; hops = 128; scheme = Deflect }
+
+  hold_step : (all : List Hold) → AllByRecursion (Held net) all → (front : List Hold) (x : Hold) (back : List Hold) (e : List Line) → front ++ x ∷ back ≡ all → At (with_holds front) e → InRange (hold_line x) × IsTrue (allowed Run e (hold_line x)) × At (with_holds (front ++ x ∷ [])) (hold_line x ∷ e)
+  hold_step all given front x back e same at =
+      let g = each_at (Held net) front x back (subst (AllByRecursion (Held net)) (sym same) given) in
+      let ends = linked_nodes net x.a x.b valid g.joined in
+      let other = differs net valid x.a x.b g.joined in
+      declared_next (declares.Hold x.a x.b) (with_holds front) (with_holds (front ++ x ∷ [])) e at (is_number x.a ends.0, is_number x.b ends.1)
+      (ap fault_from (pref_taken (with_holds front) x.a x.b ends.0 ends.1 other g.joined))
+      (ap (λ hs. record { nodes = net.nodes; consolidators = net.consolidators; links = net.links; preferences = put_all [] (sorted_preferences net); prefixes = net.prefixes; holds = hs; hops = 128; scheme = Deflect }) (hold_next [] front x))
+
+  pub holds_come : (e : List Line) → At (with_holds []) e → Reaches e (map hold_line (sorted_holds net)) (At (with_holds (sorted_holds net)))
+  holds_come e at = section hold_line (λ front. At (with_holds front)) (sorted_holds net) (hold_step (sorted_holds net) (sorted_held net)) e at
+
   -- hops and the scheme as they are
   abbrev pub with_packets : Net
-  with_packets = record { nodes = net.nodes; consolidators = net.consolidators; links = net.links; preferences = put_all [] (sorted_preferences net); prefixes = net.prefixes; hops = net.hops; scheme = net.scheme }
+  with_packets = record { nodes = net.nodes; consolidators = net.consolidators; links = net.links; preferences = put_all [] (sorted_preferences net); prefixes = net.prefixes; holds = hold_all [] (sorted_holds net); hops = net.hops; scheme = net.scheme }
 
   -- the hops are set, the scheme is not yet
   abbrev with_moves : Net
-  with_moves = record { nodes = net.nodes; consolidators = net.consolidators; links = net.links; preferences = put_all [] (sorted_preferences net); prefixes = net.prefixes; hops = net.hops; scheme = Deflect }
+  with_moves = record { nodes = net.nodes; consolidators = net.consolidators; links = net.links; preferences = put_all [] (sorted_preferences net); prefixes = net.prefixes; holds = hold_all [] (sorted_holds net); hops = net.hops; scheme = Deflect }
 
   scheme_number : (scheme : Scheme) → Leads net.nodes scheme → SchemeInRange scheme
   scheme_number Deflect leads = tt
   scheme_number (Detour n) leads = is_number n leads
   scheme_number Backup leads = tt
 
-  pub packets_come : (e : List Line) → At (with_preferences (sorted_preferences net)) e → Reaches e (packet_lines net) (At with_packets)
+  pub packets_come : (e : List Line) → At (with_holds (sorted_holds net)) e → Reaches e (packet_lines net) (At with_packets)
   packets_come e at =
-      let moves = declared_next (declares.Hops net.hops) (with_preferences (sorted_preferences net)) with_moves e at (omega (arith, valid.few_hops)) refl refl in
+      let moves = declared_next (declares.Hops net.hops) (with_holds (sorted_holds net)) with_moves e at (omega (arith, valid.few_hops)) refl refl in
       let last = declared_next (declares.Transient net.scheme) with_moves with_packets (Declares (declares.Hops net.hops) ∷ e) moves.2 (scheme_number net.scheme valid.scheme_fits) (ap fault_from (scheme_taken with_moves net.scheme valid.scheme_fits)) refl in
       record { comes = (moves.0, moves.1, (last.0, last.1, tt)); there = last.2 }

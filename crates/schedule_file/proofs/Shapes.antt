@@ -164,6 +164,11 @@ found_by keyword.Pref part rest f =
       in_range = (a.1, b.1, v.2);
       here = f.here;
     })
+found_by keyword.Hold part rest f =
+    let w = two NodeNumber NodeNumber rest f.fine_words in
+    let a = number_is w.word w.spells in
+    let b = number_is w.next w.spells_next in
+    subst (Found part keyword.Hold) (sym w.are) (record { spelled = ap₂ (λ x y. codes "hold" ∷ x ∷ y ∷ []) a.0 b.0; in_range = (a.1, b.1); here = f.here })
 found_by keyword.Prefix part rest f =
     let w = one Masked rest f.fine_words in
     let p = prefix_spelled w.word w.spells in

@@ -7,7 +7,7 @@ use Rattle.topology.specs.declared.names.Scheme.TheVariants as scheme
 use Rattle.schedule_file.specs.declared.lines.Line.{Line}
 use Rattle.schedule_file.specs.declared.lines.Line.TheVariants.{Blank, Begin, Declares, Directs}
 use Rattle.schedule_file.specs.declared.lines.Declaration.{Declaration}
-use Rattle.schedule_file.specs.declared.lines.Declaration.TheVariants.{Node, Link, Pref, Prefix, Hops, Transient}
+use Rattle.schedule_file.specs.declared.lines.Declaration.TheVariants.{Node, Link, Pref, Hold, Prefix, Hops, Transient}
 use Rattle.schedule_file.specs.declared.lines.Instruction.{Instruction}
 use Rattle.schedule_file.specs.declared.lines.Instruction.TheVariants.{Origin, Single, Pair, Prefer, Propose, Drain, Control, ControlAll, Inject, Hop, HopTimes, Show, ShowEpoch, ShowWalk}
 use Rattle.schedule_file.specs.declared.table.Keyword.{Keyword}
@@ -78,6 +78,10 @@ fine_declaration (Link a b relation) h = record {
 fine_declaration (Pref a b value) h = record {
   counted = refl;
   fine_words = three_fine NodeNumber NodeNumber Value (decimal a) (decimal b) (decimal value) (node_fine a h.0) (node_fine b h.1) (value_fine value h.2);
+}
+fine_declaration (Hold a b) h = record {
+  counted = refl;
+  fine_words = two_fine NodeNumber NodeNumber (decimal a) (decimal b) (node_fine a h.0) (node_fine b h.1);
 }
 fine_declaration (Prefix p) h = record { counted = refl; fine_words = one_fine Masked (prefix_text p) (spells_text p h) }
 fine_declaration (Hops hops) h = record { counted = refl; fine_words = one_fine HopLimit (decimal hops) (hops_fine hops h) }
@@ -151,6 +155,7 @@ declares_here : (part : Part) (d : Declaration) → stands part (Declares d) ≡
 declares_here part (Node id consolidator) = refl
 declares_here part (Link a b relation) = refl
 declares_here part (Pref a b value) = refl
+declares_here part (Hold a b) = refl
 declares_here part (Prefix p) = refl
 declares_here part (Hops hops) = refl
 declares_here part (Transient chosen) = refl
@@ -193,6 +198,7 @@ declared_back (Link a b relation) h =
     ap₂ (λ m n. Declares (Link m n (relation_of (relation_text relation)))) (value_back a h.0) (value_back b h.1) ∙ ap (λ r. Declares (Link a b r)) (relation_of_text relation)
 declared_back (Pref a b value) h =
     ap₂ (λ m n. Declares (Pref m n (number_of (decimal value)))) (value_back a h.0) (value_back b h.1) ∙ ap (λ n. Declares (Pref a b n)) (decimal_value value (omega (arith, h.2)))
+declared_back (Hold a b) h = ap₂ (λ m n. Declares (Hold m n)) (value_back a h.0) (value_back b h.1)
 declared_back (Prefix p) h = ap (λ q. Declares (Prefix q)) (prefix_of_text p h)
 declared_back (Hops hops) h = ap (λ n. Declares (Hops n)) (decimal_value hops (omega (arith, h)))
 declared_back (Transient scheme.Deflect) h = refl

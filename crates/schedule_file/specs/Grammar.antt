@@ -8,11 +8,11 @@ use Rattle.topology.specs.declared.status.BadKind.{BadKind}
 use Rattle.topology.specs.declared.status.BadKind.TheVariants as bad
 use Rattle.topology.specs.Lists.{has}
 use Rattle.topology.specs.Net.{Net, linked, has_prefix, same_prefix}
-use Rattle.topology.specs.Building.{nothing, with_node, with_link, with_pref, with_prefix, with_hops, with_scheme, node_refusal, link_refusal, pref_refusal, prefix_refusal, scheme_refusal}
+use Rattle.topology.specs.Building.{nothing, with_node, with_link, with_pref, with_hold, with_prefix, with_hops, with_scheme, node_refusal, link_refusal, pref_refusal, prefix_refusal, scheme_refusal}
 use Rattle.schedule_file.specs.declared.lines.Line.{Line}
 use Rattle.schedule_file.specs.declared.lines.Line.TheVariants.{Blank, Begin, Declares, Directs}
 use Rattle.schedule_file.specs.declared.lines.Declaration.{Declaration}
-use Rattle.schedule_file.specs.declared.lines.Declaration.TheVariants.{Node, Link, Pref, Prefix, Hops, Transient}
+use Rattle.schedule_file.specs.declared.lines.Declaration.TheVariants.{Node, Link, Pref, Hold, Prefix, Hops, Transient}
 use Rattle.schedule_file.specs.declared.lines.Instruction.{Instruction}
 use Rattle.schedule_file.specs.declared.lines.Instruction.TheVariants.{Origin, Single, Pair, Prefer, Propose, Drain, Control, ControlAll, Inject, Hop, HopTimes, Show, ShowEpoch, ShowWalk}
 use Rattle.schedule_file.specs.declared.lines.Directive.{Directive}
@@ -32,6 +32,7 @@ abbrev pub with_declaration : Declaration → Net → Net
 with_declaration (Node id consolidator) net = with_node net id consolidator
 with_declaration (Link a b relation) net = with_link net (record { a = a; b = b; relation = relation })
 with_declaration (Pref a b value) net = with_pref net (record { a = a; b = b; value = value })
+with_declaration (Hold a b) net = with_hold net (record { a = a; b = b })
 with_declaration (Prefix p) net = with_prefix net p
 with_declaration (Hops hops) net = with_hops net hops
 with_declaration (Transient scheme) net = with_scheme net scheme
@@ -110,6 +111,7 @@ abbrev pub declared_fault : Net → Declaration → Option BadKind
 declared_fault net (Node id consolidator) = fault_from (node_refusal net id consolidator)
 declared_fault net (Link a b relation) = fault_from (link_refusal net a b)
 declared_fault net (Pref a b value) = fault_from (pref_refusal net a b)
+declared_fault net (Hold a b) = fault_from (pref_refusal net a b)
 declared_fault net (Prefix p) = fault_from (prefix_refusal net p)
 declared_fault net (Hops hops) = None
 declared_fault net (Transient scheme) = fault_from (scheme_refusal net scheme)

@@ -6,7 +6,7 @@ use Rattle.topology.specs.declared.names.Scheme.TheVariants.{Deflect, Detour, Ba
 use Rattle.schedule_file.specs.declared.lines.Line.{Line}
 use Rattle.schedule_file.specs.declared.lines.Line.TheVariants.{Blank, Begin, Declares, Directs}
 use Rattle.schedule_file.specs.declared.lines.Declaration.{Declaration}
-use Rattle.schedule_file.specs.declared.lines.Declaration.TheVariants.{Node, Link, Pref, Prefix, Hops, Transient}
+use Rattle.schedule_file.specs.declared.lines.Declaration.TheVariants.{Node, Link, Pref, Hold, Prefix, Hops, Transient}
 use Rattle.schedule_file.specs.declared.lines.Instruction.{Instruction}
 use Rattle.schedule_file.specs.declared.lines.Instruction.TheVariants.{Origin, Single, Pair, Prefer, Propose, Drain, Control, ControlAll, Inject, Hop, HopTimes, Show, ShowEpoch, ShowWalk}
 use Rattle.schedule_file.specs.declared.table.Keyword.{Keyword}
@@ -22,6 +22,7 @@ abbrev pub declaring : Declaration → Keyword
 declaring (Node id consolidator) = keyword.Node
 declaring (Link a b relation) = keyword.Link
 declaring (Pref a b value) = keyword.Pref
+declaring (Hold a b) = keyword.Hold
 declaring (Prefix p) = keyword.Prefix
 declaring (Hops hops) = keyword.Hops
 declaring (Transient scheme) = keyword.Transient
@@ -38,6 +39,7 @@ declared_words (Node id false) = decimal id ∷ []
 declared_words (Node id true) = decimal id ∷ codes "consolidator" ∷ []
 declared_words (Link a b relation) = decimal a ∷ decimal b ∷ relation_text relation ∷ []
 declared_words (Pref a b value) = decimal a ∷ decimal b ∷ decimal value ∷ []
+declared_words (Hold a b) = decimal a ∷ decimal b ∷ []
 declared_words (Prefix p) = prefix_text p ∷ []
 declared_words (Hops hops) = decimal hops ∷ []
 declared_words (Transient scheme) = scheme_words scheme
@@ -94,6 +96,7 @@ abbrev pub DeclaresInRange : Declaration → Type 0
 DeclaresInRange (Node id consolidator) = IsNumber id
 DeclaresInRange (Link a b relation) = IsNumber a × IsNumber b
 DeclaresInRange (Pref a b value) = IsNumber a × IsNumber b × (value ≤ MAX_PREFERENCE)
+DeclaresInRange (Hold a b) = IsNumber a × IsNumber b
 DeclaresInRange (Prefix p) = IsRange p
 DeclaresInRange (Hops hops) = hops ≤ MAX_HOPS
 DeclaresInRange (Transient scheme) = SchemeInRange scheme

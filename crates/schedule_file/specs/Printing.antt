@@ -1,11 +1,12 @@
 -- What print writes of a schedule, and what it is for a text to be read as the same schedule.
-use Rattle.std.specs.Prelude.{ℕ, ◌≡◌, List, [], ◌∷◌, ◌++◌, map, Option, Some, None, option_map, unwrap_or, slice_get, find, codes}
+use Rattle.std.specs.Prelude.{ℕ, ◌≡◌, List, [], ◌∷◌, ◌++◌, map, Option, Some, None, option_map, unwrap_or, slice_get, find, codes, if◌then◌else◌}
 use Rattle.std.specs.List.{flat_map, join_with_byte}
 use Rattle.topology.specs.declared.links.Link.{Link}
 use Rattle.topology.specs.declared.links.Pref.{Pref}
+use Rattle.topology.specs.declared.links.Hold.{Hold}
 use Rattle.topology.specs.declared.prefixes.Prefix.{Prefix as Range}
 use Rattle.topology.specs.Lists.{has, ascending}
-use Rattle.topology.specs.Net.{Net, neighbours, prefers}
+use Rattle.topology.specs.Net.{Net, neighbours, prefers, holds_back}
 use Rattle.schedule_file.specs.declared.lines.Line.{Line}
 use Rattle.schedule_file.specs.declared.lines.Line.TheVariants.{Begin, Declares, Directs}
 use Rattle.schedule_file.specs.declared.lines.Declaration.TheVariants as declares
@@ -17,7 +18,7 @@ use Rattle.schedule_file.specs.declared.lines.Numbered.{Numbered}
 use Rattle.schedule_file.specs.declared.lines.Schedule.{Schedule}
 use Rattle.schedule_file.specs.declared.table.OriginVerb.TheVariants.{Originate, Withdraw, Probe}
 use Rattle.schedule_file.specs.declared.table.NodeEvent.TheVariants.{Snap, Crash, Restart}
-use Rattle.schedule_file.specs.declared.table.PairEvent.TheVariants.{Deliver, Fail, Restore, Notice, Open}
+use Rattle.schedule_file.specs.declared.table.PairEvent.TheVariants.{Deliver, Fail, Restore, Notice, Open, Flush}
 use Rattle.schedule_file.specs.declared.table.PlainView.TheVariants as plain
 use Rattle.schedule_file.specs.declared.table.EpochView.TheVariants.{Cut, Closure, Tables}
 use Rattle.schedule_file.specs.Spelling.{words_by_line}
@@ -28,7 +29,7 @@ use Rattle.schedule_file.specs.Grammar.{Reads, net_of, directives_of}
 abbrev pub line_text : Line → List ℕ
 line_text line = join_with_byte 32 (line_words line) ++ codes "\n"
 
--- a node, a link, a prefix and a preference as they are declared
+-- a node, a link, a prefix, a preference and a hold as they are declared
 abbrev pub node_line : Net → ℕ → Line
 node_line net id = Declares (declares.Node id (has net.consolidators id))
 
@@ -40,6 +41,9 @@ prefix_line p = Declares (declares.Prefix p)
 
 abbrev pub pref_line : Pref → Line
 pref_line pref = Declares (declares.Pref pref.a pref.b pref.value)
+
+abbrev pub hold_line : Hold → Line
+hold_line hold = Declares (declares.Hold hold.a hold.b)
 
 -- how far and by which scheme a packet goes that has left the stable tables, said also where nothing was said of it
 abbrev pub hops_line : Net → Line
@@ -64,6 +68,14 @@ added net u v = pref_with u v (option_map (λ pref. pref.value) (find (prefers u
 abbrev pub sorted_preferences : Net → List Pref
 sorted_preferences net = flat_map (λ u. flat_map (added net u) (neighbours net u)) (ascending net.nodes)
 
+-- the hold of u towards w, where u holds back what it would send to w
+abbrev pub held : Net → ℕ → ℕ → List Hold
+held net u w = if holds_back net u w then record { a = u; b = w } ∷ [] else []
+
+-- all holds, ascending by node and then by neighbour
+abbrev pub sorted_holds : Net → List Hold
+sorted_holds net = flat_map (λ u. flat_map (held net u) (neighbours net u)) (ascending net.nodes)
+
 -- the prefix at a place in file order; where there is none it is of no account
 abbrev pub prefix_at : Net → ℕ → Range
 prefix_at net place = unwrap_or (slice_get net.prefixes place) (record { bits = 0; len = 0 })
@@ -84,6 +96,7 @@ instruction_of net (directive.Fail a b) = Pair Fail a b
 instruction_of net (directive.Restore a b) = Pair Restore a b
 instruction_of net (directive.Notice a b) = Pair Notice a b
 instruction_of net (directive.OpenSession a b) = Pair Open a b
+instruction_of net (directive.Flush a b) = Pair Flush a b
 instruction_of net (directive.Snap node) = Single Snap node
 instruction_of net (directive.Crash node) = Single Crash node
 instruction_of net (directive.Restart node) = Single Restart node
@@ -105,10 +118,10 @@ instruction_of net (directive.ShowWalk packet) = ShowWalk packet
 abbrev pub directive_line : Net → Numbered → Line
 directive_line net numbered = Directs (instruction_of net numbered.directive)
 
--- the lines up to begin: nodes, links and prefixes in file order, the preferences, then what is said of packets
+-- the lines up to begin: nodes, links and prefixes in file order, the preferences, the holds, then what is said of packets
 abbrev pub network_lines : Net → List Line
 network_lines net =
-    map (node_line net) net.nodes ++ map link_line net.links ++ map prefix_line net.prefixes ++ map pref_line (sorted_preferences net) ++ packet_lines net
+    map (node_line net) net.nodes ++ map link_line net.links ++ map prefix_line net.prefixes ++ map pref_line (sorted_preferences net) ++ map hold_line (sorted_holds net) ++ packet_lines net
 
 -- all lines
 abbrev pub printed_lines : Net → List Numbered → List Line
@@ -118,13 +131,14 @@ printed_lines net directives = network_lines net ++ (Begin ∷ map (directive_li
 unfoldable pub printed : Net → List Numbered → List ℕ
 printed net directives = flat_map line_text (printed_lines net directives)
 
--- the same network. Preferences are asked for by their two nodes, and have no order of their own
+-- the same network. Preferences and holds are asked for by their two nodes, and have no order of their own
 pub record SameNet (net other : Net) : Type 0 where
   pub nodes : other.nodes ≡ net.nodes
   pub consolidators : other.consolidators ≡ net.consolidators
   pub links : other.links ≡ net.links
   pub prefixes : other.prefixes ≡ net.prefixes
   pub preferences : (u v : ℕ) → find (prefers u v) other.preferences ≡ find (prefers u v) net.preferences
+  pub holds : (u w : ℕ) → holds_back other u w ≡ holds_back net u w
   pub hops : other.hops ≡ net.hops
   pub scheme : other.scheme ≡ net.scheme
 

@@ -9,7 +9,7 @@ use Rattle.schedule_file.specs.declared.lines.Line.TheVariants as form
 use Rattle.schedule_file.specs.declared.lines.Declaration.TheVariants as declares
 use Rattle.schedule_file.specs.declared.lines.Instruction.TheVariants as directs
 use Rattle.schedule_file.specs.declared.table.Keyword.{Keyword}
-use Rattle.schedule_file.specs.declared.table.Keyword.TheVariants.{Node, Link, Pref, Prefix, Hops, Transient, Begin, Origin, Single, Pair, Prefer, Propose, Drain, Control, Inject, Hop, Show}
+use Rattle.schedule_file.specs.declared.table.Keyword.TheVariants.{Node, Link, Pref, Hold, Prefix, Hops, Transient, Begin, Origin, Single, Pair, Prefer, Propose, Drain, Control, Inject, Hop, Show}
 use Rattle.schedule_file.specs.declared.table.Part.{Part}
 use Rattle.schedule_file.specs.declared.table.Part.TheVariants.{Run, Over}
 use Rattle.schedule_file.specs.declared.table.View.{View}
@@ -59,6 +59,7 @@ line_by Node (id ∷ mark ∷ others) = form.Declares (declares.Node (number_at 
 line_by Node words = form.Declares (declares.Node (number_at 0 words) false)
 line_by Link words = form.Declares (declares.Link (number_at 0 words) (number_at 1 words) (relation_of (word_at 2 words)))
 line_by Pref words = form.Declares (declares.Pref (number_at 0 words) (number_at 1 words) (number_at 2 words))
+line_by Hold words = form.Declares (declares.Hold (number_at 0 words) (number_at 1 words))
 line_by Prefix words = form.Declares (declares.Prefix (prefix_of (word_at 0 words)))
 line_by Hops words = form.Declares (declares.Hops (number_at 0 words))
 line_by Transient words = set_by (scheme_in (word_at 0 words)) words

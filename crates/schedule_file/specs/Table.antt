@@ -6,13 +6,13 @@ use Rattle.topology.specs.declared.status.BadKind.TheVariants.{UnknownWord, Wron
 use Rattle.schedule_file.specs.declared.lines.Directive.{Directive}
 use Rattle.schedule_file.specs.declared.lines.Directive.TheVariants as directive
 use Rattle.schedule_file.specs.declared.table.Keyword.{Keyword}
-use Rattle.schedule_file.specs.declared.table.Keyword.TheVariants.{Node, Link, Pref, Prefix, Hops, Transient, Begin, Origin, Single, Pair, Prefer, Propose, Drain, Control, Inject, Hop, Show}
+use Rattle.schedule_file.specs.declared.table.Keyword.TheVariants.{Node, Link, Pref, Hold, Prefix, Hops, Transient, Begin, Origin, Single, Pair, Prefer, Propose, Drain, Control, Inject, Hop, Show}
 use Rattle.schedule_file.specs.declared.table.OriginVerb.{OriginVerb}
 use Rattle.schedule_file.specs.declared.table.OriginVerb.TheVariants.{Originate, Withdraw, Probe}
 use Rattle.schedule_file.specs.declared.table.NodeEvent.{NodeEvent}
 use Rattle.schedule_file.specs.declared.table.NodeEvent.TheVariants.{Snap, Crash, Restart}
 use Rattle.schedule_file.specs.declared.table.PairEvent.{PairEvent}
-use Rattle.schedule_file.specs.declared.table.PairEvent.TheVariants.{Deliver, Fail, Restore, Notice, Open}
+use Rattle.schedule_file.specs.declared.table.PairEvent.TheVariants.{Deliver, Fail, Restore, Notice, Open, Flush}
 use Rattle.schedule_file.specs.declared.table.PlainView.{PlainView}
 use Rattle.schedule_file.specs.declared.table.PlainView.TheVariants as plain
 use Rattle.schedule_file.specs.declared.table.EpochView.{EpochView}
@@ -58,6 +58,7 @@ pair_text Fail = codes "fail"
 pair_text Restore = codes "restore"
 pair_text Notice = codes "notice"
 pair_text Open = codes "open"
+pair_text Flush = codes "flush"
 
 -- and what it directs
 abbrev pub pair_directive : PairEvent → ℕ → ℕ → Directive
@@ -66,6 +67,7 @@ pair_directive Fail a b = directive.Fail a b
 pair_directive Restore a b = directive.Restore a b
 pair_directive Notice a b = directive.Notice a b
 pair_directive Open a b = directive.OpenSession a b
+pair_directive Flush a b = directive.Flush a b
 
 -- what is shown of the run so far: its word
 abbrev pub plain_text : PlainView → List ℕ
@@ -122,6 +124,7 @@ abbrev pub keyword_text : Keyword → List ℕ
 keyword_text Node = codes "node"
 keyword_text Link = codes "link"
 keyword_text Pref = codes "pref"
+keyword_text Hold = codes "hold"
 keyword_text Prefix = codes "prefix"
 keyword_text Hops = codes "hops"
 keyword_text Transient = codes "transient"
@@ -139,10 +142,10 @@ keyword_text Show = codes "show"
 
 abbrev pub keywords : List Keyword
 keywords =
-    Node ∷ Link ∷ Pref ∷ Prefix ∷ Hops ∷ Transient ∷ Begin
+    Node ∷ Link ∷ Pref ∷ Hold ∷ Prefix ∷ Hops ∷ Transient ∷ Begin
     ∷ Origin Originate ∷ Origin Withdraw ∷ Origin Probe
     ∷ Single Snap ∷ Single Crash ∷ Single Restart
-    ∷ Pair Deliver ∷ Pair Fail ∷ Pair Restore ∷ Pair Notice ∷ Pair Open
+    ∷ Pair Deliver ∷ Pair Fail ∷ Pair Restore ∷ Pair Notice ∷ Pair Open ∷ Pair Flush
     ∷ Prefer ∷ Propose ∷ Drain ∷ Control ∷ Inject ∷ Hop ∷ Show ∷ []
 
 -- the kind of line that begins with this word
@@ -162,6 +165,7 @@ abbrev pub shape_of : Keyword → Shape
 shape_of Node = declares 2 3
 shape_of Link = declares 4 4
 shape_of Pref = declares 4 4
+shape_of Hold = declares 3 3
 shape_of Prefix = declares 2 2
 shape_of Hops = declares 2 2
 shape_of Transient = declares 2 3
@@ -234,6 +238,7 @@ fields Node (id ∷ []) = NodeNumber ∷ []
 fields Node words = NodeNumber ∷ OneOf (codes "consolidator" ∷ []) ∷ []
 fields Link words = NodeNumber ∷ NodeNumber ∷ OneOf relations ∷ []
 fields Pref words = NodeNumber ∷ NodeNumber ∷ Value ∷ []
+fields Hold words = NodeNumber ∷ NodeNumber ∷ []
 fields Prefix words = Masked ∷ []
 fields Hops words = HopLimit ∷ []
 fields Transient words = scheme_fields (scheme_in (word_at 0 words))

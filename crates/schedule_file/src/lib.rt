@@ -10,6 +10,7 @@
 //! | `node N`, `node N consolidator` | a node, N from 1 to 65535 |
 //! | `link A B REL` | a link; B is `customer`, `provider`, `peer` or `any` to A |
 //! | `pref A B V` | the preference, 0 to 1000000, that A gives to B; a later one replaces it |
+//! | `hold A B` | A holds back what it would send to B until a flush |
 //! | `prefix PREFIX` | four numbers from 0 to 255 joined by points, `/`, and a length up to 32 |
 //! | `hops H` | how many moves, 0 to 65535, a packet may make that has left the stable tables; 128 where no line says so |
 //! | `transient deflect`, `transient detour N`, `transient backup` | how it goes on; `deflect` where no line says so |
@@ -29,6 +30,7 @@
 //! | `fail A B`, `restore A B` | the link of A and B fails, or works again |
 //! | `notice A B` | A closes its session with B, which the link does not carry any more |
 //! | `open A B` | A opens the session that the link with B carries |
+//! | `flush A B` | A sends what it held back towards B |
 //! | `snap N` | N begins a snapshot |
 //! | `crash N`, `restart N` | N stops, or runs again |
 //! | `inject K N PREFIX` | packet K, 1 to 4294967295, starts at N for the prefix |

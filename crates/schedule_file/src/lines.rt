@@ -34,6 +34,11 @@ pub enum Declaration {
         b: NodeId,
         value: u32,
     },
+    /// `a` holds back what it would send to `b`.
+    Hold {
+        a: NodeId,
+        b: NodeId,
+    },
     Prefix {
         prefix: Prefix,
     },
@@ -156,6 +161,11 @@ pub enum Directive {
         nbr: NodeId,
     },
     OpenSession {
+        node: NodeId,
+        nbr: NodeId,
+    },
+    /// The node sends what it held back towards the neighbour.
+    Flush {
         node: NodeId,
         nbr: NodeId,
     },

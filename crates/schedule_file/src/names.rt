@@ -53,6 +53,7 @@ pub fn declare(topology: &mut Topology, declaration: &Declaration) -> Result<(),
         Declaration::Node { id, consolidator } => topology.add_node(*id, *consolidator)?,
         Declaration::Link { a, b, relation } => topology.add_link(*a, *b, *relation)?,
         Declaration::Pref { a, b, value } => topology.add_pref(*a, *b, *value)?,
+        Declaration::Hold { a, b } => topology.add_hold(*a, *b)?,
         Declaration::Prefix { prefix } => {
             topology.add_prefix(*prefix)?;
         }

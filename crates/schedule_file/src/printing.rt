@@ -6,7 +6,7 @@ ghost use Rattle.topology.specs.Lists.{ascending};
 ghost use Rattle.topology.specs.Net.{neighbours};
 ghost use Rattle.schedule_file.specs.declared.lines.Instruction.TheVariants as Instruction;
 ghost use Rattle.schedule_file.specs.Grammar.{IsFile};
-ghost use Rattle.schedule_file.specs.Printing.{line_text, node_line, link_line, prefix_line, pref_line, packet_lines, added, sorted_preferences, prefix_at, hop_instruction, instruction_of, directive_line, network_lines, printed, IsFileAgain};
+ghost use Rattle.schedule_file.specs.Printing.{line_text, node_line, link_line, prefix_line, pref_line, hold_line, packet_lines, added, sorted_preferences, held, sorted_holds, prefix_at, hop_instruction, instruction_of, directive_line, network_lines, printed, IsFileAgain};
 
 use crate::lines::{Declaration, Directive, Instruction, Line, Schedule};
 use crate::spelling::push_line;
@@ -87,6 +87,7 @@ fn instruction_of(net: &Topology, directive: &Directive) -> Instruction
         Directive::Restore { a, b } => pair(PairEvent::Restore, a, b),
         Directive::Notice { node, nbr } => pair(PairEvent::Notice, node, nbr),
         Directive::OpenSession { node, nbr } => pair(PairEvent::Open, node, nbr),
+        Directive::Flush { node, nbr } => pair(PairEvent::Flush, node, nbr),
         Directive::Snap { node } => single(NodeEvent::Snap, node),
         Directive::Crash { node } => single(NodeEvent::Crash, node),
         Directive::Restart { node } => single(NodeEvent::Restart, node),
@@ -196,6 +197,42 @@ fn pref_lines(out: &mut String, topology: &Topology) -> Result<(), AllocError>
     Ok(())
 }
 
+// That `a` holds back what it would send to `b`, where it does.
+fn held_line(out: &mut String, topology: &Topology, a: NodeId, b: NodeId) -> Result<(), AllocError>
+    ensures { OnOk result (string_bytes out.new
+        ≡ string_bytes out.old ++ flat_map line_text (map hold_line (held topology.now a b))) }
+{
+    if topology.holds(a, b) {
+        push_line(out, &Line::Declares(Declaration::Hold { a, b }))
+    } else {
+        Ok(())
+    }
+}
+
+// The holds of one node, ascending by neighbour.
+fn held_lines(out: &mut String, topology: &Topology, node: NodeId) -> Result<(), AllocError>
+    ensures { OnOk result (string_bytes out.new ≡ string_bytes out.old
+        ++ flat_map line_text (map hold_line (flat_map (held topology.now node) (neighbours topology.now node)))) }
+{
+    let nbrs = topology.neighbours(node);
+    for nbr in nbrs {
+        held_line(out, topology, node, *nbr)?;
+    }
+    Ok(())
+}
+
+// The holds, ascending by node and then by neighbour.
+fn hold_lines(out: &mut String, topology: &Topology) -> Result<(), AllocError>
+    ensures { OnOk result (string_bytes out.new
+        ≡ string_bytes out.old ++ flat_map line_text (map hold_line (sorted_holds topology.now))) }
+{
+    let nodes = topology.nodes();
+    for node in nodes {
+        held_lines(out, topology, *node)?;
+    }
+    Ok(())
+}
+
 // How far and by which scheme packets go that have left the stable tables.
 fn packet_lines(out: &mut String, topology: &Topology) -> Result<(), AllocError>
     ensures { OnOk result (string_bytes out.new
@@ -216,6 +253,7 @@ fn network_text(out: &mut String, topology: &Topology) -> Result<(), AllocError>
     link_lines(out, topology)?;
     prefix_lines(out, topology)?;
     pref_lines(out, topology)?;
+    hold_lines(out, topology)?;
     packet_lines(out, topology)
 }
 
@@ -232,7 +270,7 @@ fn directive_lines(out: &mut String, schedule: &Schedule) -> Result<(), AllocErr
 }
 
 /// The schedule as a file, one line each: the nodes, links and prefixes in file order, the
-/// preferences ascending by node and neighbour, `hops` and `transient` also where the file has no
+/// preferences and then the holds, each ascending by node and neighbour, `hops` and `transient` also where the file has no
 /// such line, `begin`, and the directives. It is a file of the same schedule but for the numbers of
 /// its lines.
 pub fn print(alloc: Global, schedule: &Schedule) -> Result<Vec<u8>, NoMemory>

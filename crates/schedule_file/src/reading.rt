@@ -85,6 +85,15 @@ fn pref_line(a: &[u8], b: &[u8], value: &[u8]) -> Result<Line, BadKind>
     Ok(Line::Declares(Declaration::Pref { a, b, value }))
 }
 
+// The words behind `hold`.
+fn hold_line(a: &[u8], b: &[u8]) -> Result<Line, BadKind>
+    ensures { ReadsAs keyword.Hold (a.now ∷ b.now ∷ []) result }
+{
+    let a = node_of(a)?;
+    let b = node_of(b)?;
+    Ok(Line::Declares(Declaration::Hold { a, b }))
+}
+
 // The word behind `prefix`.
 fn prefix_line(prefix: &[u8]) -> Result<Line, BadKind>
     ensures { ReadsAs keyword.Prefix (prefix.now ∷ []) result }
@@ -275,6 +284,7 @@ fn line_of(keyword: Keyword, words: &Words<'_>) -> Result<Line, BadKind>
         Keyword::Node => node_line(words.second),
         Keyword::Link => link_line(words.second, words.third, words.fourth),
         Keyword::Pref => pref_line(words.second, words.third, words.fourth),
+        Keyword::Hold => hold_line(words.second, words.third),
         Keyword::Prefix => prefix_line(words.second),
         Keyword::Hops => hops_line(words.second),
         Keyword::Transient if words.count == 3 => transient_more_line(words.second, words.third),

@@ -136,6 +136,10 @@ fn push_declaration(out: &mut String, declaration: &Declaration) -> Result<(), A
             out.push_str("pref")?;
             push_preference(out, *a, *b, *value)
         }
+        Declaration::Hold { a, b } => {
+            out.push_str("hold")?;
+            push_nodes(out, *a, *b)
+        }
         Declaration::Prefix { prefix } => {
             out.push_str("prefix")?;
             push_prefix(out, prefix)

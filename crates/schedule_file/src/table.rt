@@ -53,6 +53,7 @@ pub enum PairEvent {
     Restore,
     Notice,
     Open,
+    Flush,
 }
 
 /// What `show` writes of the run so far.
@@ -95,6 +96,7 @@ pub enum Keyword {
     Node,
     Link,
     Pref,
+    Hold,
     Prefix,
     Hops,
     Transient,
@@ -141,6 +143,7 @@ pub fn keyword_named(word: &[u8]) -> Option<Keyword>
         b"node" => Some(Keyword::Node),
         b"link" => Some(Keyword::Link),
         b"pref" => Some(Keyword::Pref),
+        b"hold" => Some(Keyword::Hold),
         b"prefix" => Some(Keyword::Prefix),
         b"begin" => Some(Keyword::Begin),
         b"originate" => Some(Keyword::Origin(OriginVerb::Originate)),
@@ -154,6 +157,7 @@ pub fn keyword_named(word: &[u8]) -> Option<Keyword>
         b"restore" => Some(Keyword::Pair(PairEvent::Restore)),
         b"notice" => Some(Keyword::Pair(PairEvent::Notice)),
         b"open" => Some(Keyword::Pair(PairEvent::Open)),
+        b"flush" => Some(Keyword::Pair(PairEvent::Flush)),
         b"prefer" => Some(Keyword::Prefer),
         b"propose" => Some(Keyword::Propose),
         b"drain" => Some(Keyword::Drain),
@@ -268,6 +272,7 @@ impl Keyword {
         match self {
             Keyword::Node => Shape::declares(2, 3),
             Keyword::Link | Keyword::Pref => Shape::declares(4, 4),
+            Keyword::Hold => Shape::declares(3, 3),
             Keyword::Prefix | Keyword::Hops => Shape::declares(2, 2),
             Keyword::Transient => Shape::declares(2, 3),
             Keyword::Begin => Shape::declares(1, 1),
@@ -338,6 +343,7 @@ impl PairEvent {
             PairEvent::Restore => "restore",
             PairEvent::Notice => "notice",
             PairEvent::Open => "open",
+            PairEvent::Flush => "flush",
         }
     }
 
@@ -351,6 +357,7 @@ impl PairEvent {
             PairEvent::Restore => Directive::Restore { a, b },
             PairEvent::Notice => Directive::Notice { node: a, nbr: b },
             PairEvent::Open => Directive::OpenSession { node: a, nbr: b },
+            PairEvent::Flush => Directive::Flush { node: a, nbr: b },
         }
     }
 }

@@ -19,6 +19,11 @@ returns-in_err-add_pref-in-Pref-clause-err c =
     handed_on c.from_residual-in_err-add_pref-in-Pref.result _ _ c.from_residual-in_err-add_pref-in-Pref.ensures (λ why same.
     subst (λ d. NamesFault why (declared_fault c.args.topology.now d)) (sym c.in-Pref.is) (names_refused_by _ c.in_err-add_pref-in-Pref.field-0.0 _ why c.in_err-add_pref-in-Pref.ensures.refused same))
 
+pub returns-in_err-add_hold-in-Hold-clause-err : goal.returns-in_err-add_hold-in-Hold-clause-err
+returns-in_err-add_hold-in-Hold-clause-err c =
+    handed_on c.from_residual-in_err-add_hold-in-Hold.result _ _ c.from_residual-in_err-add_hold-in-Hold.ensures (λ why same.
+    subst (λ d. NamesFault why (declared_fault c.args.topology.now d)) (sym c.in-Hold.is) (names_refused_by _ c.in_err-add_hold-in-Hold.field-0.0 _ why c.in_err-add_hold-in-Hold.ensures.refused same))
+
 pub returns-in_err-set_scheme-in-Transient-clause-err : goal.returns-in_err-set_scheme-in-Transient-clause-err
 returns-in_err-set_scheme-in-Transient-clause-err c =
     handed_on c.from_residual-in_err-set_scheme-in-Transient.result _ _ c.from_residual-in_err-set_scheme-in-Transient.ensures (λ why same.
