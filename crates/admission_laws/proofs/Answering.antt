@@ -1,5 +1,5 @@
 -- What a node does with an input keeps that every fact fits, where its log and its epoch stay within the limits.
-use Rattle.std.proofs.Common.{ℕ, suc, ◌^◌, ◌≤◌, Bool, true, false, cond, not, ◌&&◌, ◌||◌, ◌==◌, Option, Some, None, List, [], ◌∷◌, ◌≡◌, refl, sym, ◌∙◌, ap, subst, arith, length, option_and_then}
+use Rattle.std.proofs.Common.{ℕ, suc, ◌^◌, ◌≤◌, Bool, true, false, cond, not, ◌&&◌, ◌||◌, ◌==◌, Option, Some, None, List, [], ◌∷◌, ◌≡◌, ◌≢◌, refl, sym, ◌∙◌, ap, subst, arith, length, is_some, option_and_then}
 use Rattle.std.specs.Prelude.{nat_lt, nat_le, if◌then◌else◌}
 use Rattle.std.specs.List.{list_all}
 use Rattle.topology.specs.declared.names.Scope.{Scope}
@@ -13,8 +13,9 @@ use Rattle.path_vector.specs.declared.causes.Cause.{Cause}
 use Rattle.path_vector.specs.declared.causes.Cause.TheVariants as cause
 use Rattle.path_vector.specs.Rules.{Rules}
 use Rattle.path_vector.specs.History.{held, last, opened, ready, owns}
-use Rattle.trigger_log.specs.Entries.{Update, reads, local, inbox, is_session}
-use Rattle.trigger_log.specs.Fits.{CauseFits, Fits}
+use Rattle.trigger_log.specs.Entries.{Update, reads, local, flush, inbox, is_session, next_trigger}
+use Rattle.trigger_log.specs.Fits.{CauseFits, Fits, ListsFor}
+use Rattle.trigger_log.specs.Pending.{holds_some}
 use Rattle.trigger_log.specs.Going.{Item, News, Marker, Hello}
 use Rattle.epoch_packet.specs.declared.packets.Packet.{Packet}
 use Rattle.epoch_packet.specs.declared.stable.StableStep.TheVariants.{Next, Turn}
@@ -32,15 +33,15 @@ use Rattle.chronicle.specs.Publications.{kept_path, newest_epoch}
 use Rattle.chronicle.specs.Inputs.{Input, arrival}
 use Rattle.chronicle.specs.Inputs as input
 use Rattle.chronicle.specs.Steps.{Step, Idle, Goes, Carried, write, open_session, raise, meet_mark, heard, unless_ready, take_item}
-use Rattle.chronicle.specs.Giving.{unless, out_of_turn, closes, opens, on_tables, off_tables, sight, hops_on_tables, hops_off_tables, by_mode, injects, forwards, answer}
+use Rattle.chronicle.specs.Giving.{unless, out_of_turn, closes, opens, flushes, on_tables, off_tables, sight, hops_on_tables, hops_off_tables, by_mode, injects, forwards, answer}
 use Rattle.chronicle.proofs.Blocks.{log_own, log_open, log_raise, epoch_raise, same_number, opening}
-use Rattle.node_core.specs.ControlFits.{in_order, scope_fits}
+use Rattle.node_core.specs.ControlFits.{in_order, row_lists_fit, scope_fits}
 use Rattle.node_core.specs.Fits.{item_fits, path_fits, fits}
-use Rattle.node_core.specs.Names.{is_number, triggers_fit}
+use Rattle.node_core.specs.Names.{is_number, list_fits}
 use Rattle.node_core.specs.PacketFits.{packet_fits, are_links}
 use Rattle.node_core.specs.declared.limits.TheConstants.{MOST_EPOCHS, MOST_PREFERENCE}
 use Rattle.admission_laws.proofs.Facts.{cause_fits, AllFacts}
-use Rattle.admission_laws.proofs.Bounds.{below_from, most_is, most_from, Within, within_before}
+use Rattle.admission_laws.proofs.Bounds.{below_from, most_is, most_from, Within, Reportable, within_before}
 use Rattle.admission_laws.proofs.Sessions.{held_number, neighbour_is}
 use Rattle.admission_laws.proofs.Packets.{parts_of, stamped_fits, moved_fits, turned_fits, GoesOn, hop_goes}
 use Rattle.admission_laws.proofs.Logs.{log_fits, newest_epoch_low, newest_path_carried, newest_backups_carried}
@@ -82,26 +83,30 @@ module _ (rules : Rules) (net : Net) (u : ℕ) (valid : IsValid net) (own : has 
 
   -- an entry of the node's own
   own_entry : (scope : Scope) (cause : Cause) (now : Chronicle) → (Within rules net u (log_of u now) → AllFacts net u now) → Fits (log_of u now) → CauseFits (log_of u now) scope cause
-      → scope_fits net scope ≡ true → cause_fits net u cause ≡ true → Fine rules net u (Goes (write rules net carried u (local u (log_of u now) scope cause) now))
-  own_entry scope cause now all fitting follows scoped is within low =
+      → ListsFor scope (next_trigger u (log_of u now) ∷ []) → scope_fits net scope ≡ true → cause_fits net u cause ≡ true → Fine rules net u (Goes (write rules net carried u (local u (log_of u now) scope cause) now))
+  own_entry scope cause now all fitting follows lists scoped is within low =
       let h = log_of u now in
       let k = local u h scope cause in
       let more = subst (Within rules net u) (log_own rules net carried u k now) within in
       let before = within_before rules net u k h more in
-      write_fits rules net u valid own carried k now (all before) (local_is net u h scope cause own before.entries scoped is) (follows, fitting) more
+      write_fits rules net u valid own carried k now (all before) (local_is net u h scope cause own before.entries lists scoped is) (follows, fitting) more
 
-  module _ (past : Chronicle) (all : AllFacts net u past) (fitting : Fits (log_of u past)) where
+  -- an own entry lists something
+  some_next : (now : Chronicle) → (next_trigger u (log_of u now) ∷ []) ≢ []
+  some_next now none = absurd (cc none)
+
+  module _ (past : Chronicle) (all : AllFacts net u past) (fitting : Fits (log_of u past)) (listed : Reportable rules net u (log_of u past)) where
     -- a local entry here
-    here_fine : (scope : Scope) (cause : Cause) → CauseFits (log_of u past) scope cause → scope_fits net scope ≡ true → cause_fits net u cause ≡ true
+    here_fine : (scope : Scope) (cause : Cause) → CauseFits (log_of u past) scope cause → ListsFor scope (next_trigger u (log_of u past) ∷ []) → scope_fits net scope ≡ true → cause_fits net u cause ≡ true
         → Fine rules net u (Goes (write rules net carried u (local u (log_of u past) scope cause) past))
-    here_fine scope cause follows scoped is = own_entry scope cause past (λ within. all) fitting follows scoped is
+    here_fine scope cause follows lists scoped is = own_entry scope cause past (λ within. all) fitting follows lists scoped is
 
     -- the session that is held is over
     notices_fine : (v : ℕ) (session : Option ℕ) → has (neighbours net u) v ≡ true → held (reads (log_of u past)) v ≡ session
         → Fine rules net u (closes session (λ s. write rules net carried u (local u (log_of u past) All (cause.Down v s)) past))
     notices_fine v None near is = tt
     notices_fine v (Some s) near is =
-        here_fine All (cause.Down v s) is refl (and_both (has (neighbours net u) v) (is_number s) near (held_number net u (log_of u past) v s (log_fits net u past all) is))
+        here_fine All (cause.Down v s) is (some_next past) refl (and_both (has (neighbours net u) v) (is_number s) near (held_number net u (log_of u past) v s (log_fits net u past all) is))
 
     -- a session is opened
     opens_fine : (v s : ℕ) (session : Option ℕ) → has (neighbours net u) v ≡ true → is_number s ≡ true → Fine rules net u (opens carried u past v s session)
@@ -122,7 +127,17 @@ module _ (rules : Rules) (net : Net) (u : ℕ) (valid : IsValid net) (own : has 
         let e = suc (epoch u past) in
         let is : epoch u (raise rules net carried u e past) ≡ e = epoch_raise rules net carried u e past u ∙ ap (λ b. if b then e else epoch u past) (same_number u) in
         raise_fits rules net u valid own carried e past all (and_both (nat_le 1 e) (nat_le e MOST_EPOCHS) (most_is 1 e (omega arith)) (most_is e MOST_EPOCHS (omega arith))) fitting
-        (subst (Within rules net u) (log_raise rules net carried u e past u) within)
+        (subst (Within rules net u) (log_raise rules net carried u e past u) within) listed
+
+    -- what is held back goes out
+    flushes_fine : (v : ℕ) (session : Option ℕ) → has (neighbours net u) v ≡ true → held (reads (log_of u past)) v ≡ session → Fine rules net u (flushes rules net carried u past v session)
+    flushes_fine v None near is = tt
+    flushes_fine v (Some s) near is =
+        elim (holds_some rules net u (log_of u past) v) as (λ b. Fine rules net u (cond b (Goes (write rules net carried u (flush v) past)) (Idle reason.NothingPending))) [
+          | true ↦ λ within low.
+              write_fits rules net u valid own carried (flush v) past all near (ap is_some is, fitting) (subst (Within rules net u) (log_own rules net carried u (flush v) past) within)
+          | false ↦ tt
+        ]
 
     -- ---- an item that comes
 
@@ -141,7 +156,7 @@ module _ (rules : Rules) (net : Net) (u : ℕ) (valid : IsValid net) (own : has 
             | true ↦ λ above.
                 let high = below_from (epoch u past) e above in
                 raise_fits rules net u valid own carried e (Took v u s x ∷ past) (took_fits x is)
-                (and_both (nat_le 1 e) (nat_le e MOST_EPOCHS) (most_is 1 e (omega arith)) (most_is e MOST_EPOCHS low)) fitting few
+                (and_both (nat_le 1 e) (nat_le e MOST_EPOCHS) (most_is 1 e (omega arith)) (most_is e MOST_EPOCHS low)) fitting few listed
             | false ↦ λ below. took_fits x is
           ]) refl
 
@@ -163,7 +178,7 @@ module _ (rules : Rules) (net : Net) (u : ℕ) (valid : IsValid net) (own : has 
           let there : (held (reads (log_of u past)) v ≡ Some s) × (opened (reads (log_of u past)) v s ≡ false) =
           (holds, unopened (held (reads (log_of u past)) v) (opened (reads (log_of u past)) v) s holds so) in
           own_entry All (cause.Ready v s) met (λ within. met_fits x e is low (subst (Within rules net u) (met_log x e) within)) (subst Fits (sym (met_log x e)) fitting)
-          (subst (λ l. (held (reads l) v ≡ Some s) × (opened (reads l) v s ≡ false)) (sym (met_log x e)) there) refl (and_both (has (neighbours net u) v) (is_number s) near number)
+          (subst (λ l. (held (reads l) v ≡ Some s) × (opened (reads l) v s ≡ false)) (sym (met_log x e)) there) (some_next met) refl (and_both (has (neighbours net u) v) (is_number s) near number)
 
       -- an update is entered
       news_fine : (n : ℕ) (x : Update) → item_fits net v (News n x) ≡ true → held (reads (log_of u past)) v ≡ Some s → n ≡ suc (length (inbox (log_of u past) v s))
@@ -171,14 +186,14 @@ module _ (rules : Rules) (net : Net) (u : ℕ) (valid : IsValid net) (own : has 
       news_fine n x is holds turn within low =
           let k = heard v s n x in
           let now = Took v u s (News n x) ∷ past in
-          let update = and_right (is_number n) (nat_lt x.prefix (length net.prefixes) && (triggers_fit net x.triggers && path_fits net v x.path)) is in
-          let placed = and_left (nat_lt x.prefix (length net.prefixes)) (triggers_fit net x.triggers && path_fits net v x.path) update in
-          let rest = and_right (nat_lt x.prefix (length net.prefixes)) (triggers_fit net x.triggers && path_fits net v x.path) update in
+          let update = and_right (is_number n) (nat_lt x.prefix (length net.prefixes) && (list_fits net x.triggers && path_fits net v x.path)) is in
+          let placed = and_left (nat_lt x.prefix (length net.prefixes)) (list_fits net x.triggers && path_fits net v x.path) update in
+          let rest = and_right (nat_lt x.prefix (length net.prefixes)) (list_fits net x.triggers && path_fits net v x.path) update in
           let received =
           and_both (has (neighbours net u) v) (is_number s && path_fits net v x.path) near
-          (and_both (is_number s) (path_fits net v x.path) number (and_right (triggers_fit net x.triggers) (path_fits net v x.path) rest)) in
+          (and_both (is_number s) (path_fits net v x.path) number (and_right (list_fits net x.triggers) (path_fits net v x.path) rest)) in
           let entry =
-          and_both (triggers_fit net x.triggers) (scope_fits net (One x.prefix) && cause_fits net u (cause.Recv v s n x.path)) (and_left (triggers_fit net x.triggers) (path_fits net v x.path) rest)
+          and_both (row_lists_fit net (One x.prefix) x.triggers) (scope_fits net (One x.prefix) && cause_fits net u (cause.Recv v s n x.path)) (and_left (list_fits net x.triggers) (path_fits net v x.path) rest)
           (and_both (scope_fits net (One x.prefix)) (cause_fits net u (cause.Recv v s n x.path)) placed received) in
           write_fits rules net u valid own carried k now (took_fits (News n x) is) entry ((holds, turn), fitting) (subst (Within rules net u) (log_own rules net carried u k now) within)
 
@@ -275,15 +290,15 @@ module _ (rules : Rules) (net : Net) (u : ℕ) (valid : IsValid net) (own : has 
         (elim (owns (reads (log_of u past)) p) as (λ t. owns (reads (log_of u past)) p ≡ t
         → Fine rules net u (cond t (Idle reason.AlreadyOrigin) (Goes (write rules net carried u (local u (log_of u past) (One p) cause.Originate) past)))) [
           | true ↦ λ e. tt
-          | false ↦ λ e. here_fine (One p) cause.Originate e is refl
+          | false ↦ λ e. here_fine (One p) cause.Originate e (some_next past) is refl
         ]) refl
     answer_fine (input.Withdraw p) plain is =
         (elim (owns (reads (log_of u past)) p) as (λ t. owns (reads (log_of u past)) p ≡ t
         → Fine rules net u (cond t (Goes (write rules net carried u (local u (log_of u past) (One p) cause.Withdraw) past)) (Idle reason.NotOrigin))) [
-          | true ↦ λ e. here_fine (One p) cause.Withdraw e is refl
+          | true ↦ λ e. here_fine (One p) cause.Withdraw e (some_next past) is refl
           | false ↦ λ e. tt
         ]) refl
-    answer_fine (input.Prefer v value) plain is = here_fine All (cause.Prefer v value) tt refl (and_left (has (neighbours net u) v) (nat_le value MOST_PREFERENCE) is)
+    answer_fine (input.Prefer v value) plain is = here_fine All (cause.Prefer v value) tt (some_next past) refl (and_left (has (neighbours net u) v) (nat_le value MOST_PREFERENCE) is)
     answer_fine (input.Arrive v s x) plain is =
         let rest = and_right (has (neighbours net u) v) (is_number s && item_fits net v x) is in
         comes_fine v s (and_left (has (neighbours net u) v) (is_number s && item_fits net v x) is) (and_left (is_number s) (item_fits net v x) rest) x (held (reads (log_of u past)) v)
@@ -291,6 +306,7 @@ module _ (rules : Rules) (net : Net) (u : ℕ) (valid : IsValid net) (own : has 
     answer_fine (input.Notice v) plain is = notices_fine v (held (reads (log_of u past)) v) is refl
     answer_fine (input.OpenSession v s) plain is =
         opens_fine v s (held (reads (log_of u past)) v) (and_left (has (neighbours net u) v) (is_number s) is) (and_right (has (neighbours net u) v) (is_number s) is)
+    answer_fine (input.Flush v) plain is = flushes_fine v (held (reads (log_of u past)) v) is refl
     answer_fine input.Snap plain is = snap_fine
     answer_fine (input.Propose e) plain is = absurd plain
     answer_fine (input.Control from m) plain is = absurd plain

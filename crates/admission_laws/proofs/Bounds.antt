@@ -1,21 +1,27 @@
 -- Numbers that fit, and what is counted of a log.
 use Rattle.std.proofs.Common.{ℕ, suc, ◌+◌, ◌^◌, ◌<◌, ◌≤◌, Bool, true, false, cond, Some, List, [], ◌∷◌, length, ◌≡◌, ap, arith, filter}
 use Rattle.std.specs.Prelude.{nat_lt, nat_le}
+use Rattle.std.specs.List.{list_any}
 use Rattle.std.proofs.lemmas.Bool.Decides.{nat_tests}
 use Rattle.std.proofs.lemmas.List.{length-append, length-map}
 use Rattle.std.proofs.lemmas.List.FromFn.{length-range_with_len}
 use Rattle.topology.specs.declared.items.Sent.{Sent}
+use Rattle.topology.specs.declared.names.Trigger.{Trigger}
 use Rattle.topology.specs.Lists.{has}
 use Rattle.topology.specs.Net.{Net, IsValid, neighbours}
 use Rattle.path_vector.specs.Rules.{Rules}
 use Rattle.path_vector.specs.History.{held}
 use Rattle.trigger_log.specs.Entries.{Entry, reads}
+use Rattle.trigger_log.specs.Pending.{pending_rows}
 use Rattle.trigger_log.specs.Sending.{outbox, news, sent_count, sent_by, sent_of, is_sent_in}
 use Rattle.trigger_log.specs.Fits.{Fits}
 use Rattle.trigger_log.proofs.Closings.{outbox_held}
 use Rattle.trigger_log.proofs.Numbering.{numbered_from_one}
 use Rattle.node_core.specs.Names.{is_number}
-use Rattle.node_core.specs.declared.limits.TheConstants.{MOST_ENTRIES, MOST_UPDATES}
+use Rattle.node_core.specs.Counted.{is_long, is_long_item, is_long_row}
+use Rattle.node_core.specs.NodeLimits.{marks_of}
+use Rattle.node_core.specs.declared.limits.TheConstants.{MOST_ENTRIES, MOST_MARKS, MOST_TRIGGERS, MOST_UPDATES}
+use Rattle.admission_laws.proofs.Each.{none_first, none_last}
 
 -- a number from 1 that has four bytes
 pub number_is : (n : ℕ) → 1 ≤ n → n < 2 ^ 32 → is_number n ≡ true
@@ -41,9 +47,19 @@ most_from m n is = grind (arith, nat_tests)
 pub record Within (rules : Rules) (net : Net) (u : ℕ) (h : List Entry) : Type 0 where
   pub entries : length h ≤ MOST_ENTRIES
   pub updates : length (sent_of rules net u h) ≤ MOST_UPDATES
+  pub short : list_any is_long_item (sent_of rules net u h) ≡ false
+
+-- a log of which a report may be made: no list of what is held back is too long, and all lists have few triggers
+pub record Reportable (rules : Rules) (net : Net) (u : ℕ) (h : List Entry) : Type 0 where
+  pub rows : list_any is_long_row (pending_rows rules net u h) ≡ false
+  pub marks : marks_of rules net u h ≤ MOST_MARKS
+
+-- a list that is not too long
+pub not_long : (ts : List Trigger) → is_long ts ≡ false → nat_le (length ts) MOST_TRIGGERS ≡ true
+not_long ts short = grind (arith, nat_tests)
 
 -- a part of a list is no longer
-kept_few : {A : Type 0} (test : A → Bool) (xs : List A) → length (filter test xs) ≤ length xs
+pub kept_few : {A : Type 0} (test : A → Bool) (xs : List A) → length (filter test xs) ≤ length xs
 kept_few test [] = omega arith
 kept_few test (x ∷ xs) =
     let rest = kept_few test xs in
@@ -54,11 +70,22 @@ pub fewer_before : (rules : Rules) (net : Net) (u : ℕ) (k : Entry) (h : List E
 unfolding sent_of
 fewer_before rules net u k h = omega (arith, length-append (sent_of rules net u h) (sent_by rules net u h k))
 
+-- nor a longer list
+shorter_before : (rules : Rules) (net : Net) (u : ℕ) (k : Entry) (h : List Entry) → list_any is_long_item (sent_of rules net u (k ∷ h)) ≡ false → list_any is_long_item (sent_of rules net u h) ≡ false
+unfolding sent_of
+shorter_before rules net u k h short = none_first is_long_item (sent_of rules net u h) (sent_by rules net u h k) short
+
+-- what an entry lists is short
+pub short_items : (rules : Rules) (net : Net) (u : ℕ) (k : Entry) (h : List Entry) → list_any is_long_item (sent_of rules net u (k ∷ h)) ≡ false → list_any is_long_item (sent_by rules net u h k) ≡ false
+unfolding sent_of
+short_items rules net u k h short = none_last is_long_item (sent_of rules net u h) (sent_by rules net u h k) short
+
 -- so that what stands before is within the limits too
 pub within_before : (rules : Rules) (net : Net) (u : ℕ) (k : Entry) (h : List Entry) → Within rules net u (k ∷ h) → Within rules net u h
 within_before rules net u k h in_it = record {
   entries = let few = in_it.entries in omega arith;
   updates = let few = in_it.updates in let less = fewer_before rules net u k h in omega arith;
+  short = shorter_before rules net u k h in_it.short;
 }
 
 module _ (rules : Rules) (net : Net) (u : ℕ) (valid : IsValid net) where

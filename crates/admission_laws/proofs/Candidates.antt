@@ -1,5 +1,5 @@
 -- The candidates of a log that fits, and the backups among them.
-use Rattle.std.proofs.Common.{ℕ, suc, ◌≤◌, Bool, true, false, cond, not, ◌&&◌, ◌||◌, ◌==◌, Option, Some, None, List, [], ◌∷◌, ◌≡◌, ⊎_elim, refl, sym, ◌∙◌, ap, subst, arith, length, map, filter, filter_map, IfSome, option_map, option_and_then}
+use Rattle.std.proofs.Common.{ℕ, Bool, true, false, cond, not, ◌&&◌, ◌==◌, Option, Some, None, List, [], ◌∷◌, ◌≡◌, ⊎_elim, refl, ◌∙◌, ap, subst, arith, length, map, filter, filter_map, IfSome, option_map, option_and_then}
 use Rattle.std.specs.Prelude.{nat_le, if◌then◌else◌}
 use Rattle.std.specs.List.{cons_option, list_all}
 use Rattle.topology.specs.Lists.{has, Among}
@@ -8,9 +8,9 @@ use Rattle.topology.specs.Net.{Net, IsValid, neighbours}
 use Rattle.topology.specs.declared.names.Trigger.{Trigger}
 use Rattle.topology.specs.Triggers.{lists}
 use Rattle.topology.proofs.Few.{no_more}
-use Rattle.topology.proofs.Tests.{and_left, and_right, and_both, or_first, or_second, or_cases, not_true, not_false, same_is, same_refl}
+use Rattle.topology.proofs.Tests.{and_left, and_right, and_both, or_cases, not_false, same_is}
 use Rattle.path_vector.specs.declared.causes.Cause.{Cause}
-use Rattle.path_vector.specs.declared.causes.Cause.TheVariants.{Originate, Withdraw, Recv, Down, Up, Ready, Prefer}
+use Rattle.path_vector.specs.declared.causes.Cause.TheVariants.{Originate, Withdraw, Recv, Down, Up, Ready, Prefer, Flush}
 use Rattle.path_vector.specs.Rules.{Rules}
 use Rattle.path_vector.specs.History.{concerns, held, heard, heard_by}
 use Rattle.path_vector.specs.Selection.{Choice, usable, learnt, beyond, candidate, choice, choices}
@@ -75,6 +75,7 @@ module _ (net : Net) (u : ℕ) where
   heard_then (Up w t) v s before fits is = is
   heard_then (Ready w t) v s before fits is = is
   heard_then (Prefer w x) v s before fits is = is
+  heard_then (Flush w) v s before fits is = is
   heard_then (Recv w t seq path) v s before fits is =
       let whole = and_right (is_number t) (path_fits net w path) (and_right (has (neighbours net u) w) (is_number t && path_fits net w path) fits) in
       elim (w == v && t == s) as (λ c. IsHeard net (cond c (Some path) before)) [ true ↦ path_simple net w path whole | false ↦ is ]

@@ -1,8 +1,8 @@
 -- A test that each of a list passes.
-use Rattle.std.proofs.Common.{ℕ, zero, suc, ◌+◌, ◌<◌, Bool, true, false, cond, ◌==◌, List, [], ◌∷◌, ◌++◌, ◌≡◌, ◌⊎◌, ⊎_elim, inl, inr, refl, subst, arith, map, filter, flat_map}
-use Rattle.std.specs.List.{list_all, range_with_len}
+use Rattle.std.proofs.Common.{ℕ, zero, suc, ◌+◌, ◌<◌, Bool, true, false, cond, ◌==◌, ◌||◌, List, [], ◌∷◌, ◌++◌, ◌≡◌, ◌⊎◌, ⊎_elim, inl, inr, refl, subst, arith, map, filter, flat_map}
+use Rattle.std.specs.List.{list_all, list_any, range_with_len}
 use Rattle.topology.specs.Lists.{has, Among}
-use Rattle.topology.proofs.Tests.{and_left, and_right, and_both, or_first, or_second, same_refl}
+use Rattle.topology.proofs.Tests.{and_left, and_right, and_both, or_first, or_left, or_right, or_second, same_is, same_refl}
 
 -- each of two lists passes
 pub each_append : {A : Type 0} (p : A → Bool) (xs ys : List A) → list_all p xs ≡ true → list_all p ys ≡ true → list_all p (xs ++ ys) ≡ true
@@ -39,6 +39,79 @@ among_filter test (y ∷ ys) x there =
       | false ↦ λ a. inr (among_filter test ys x a)
     ]) there
 
+-- and passes the test
+pub passing_filter : {A : Type 0} (test : A → Bool) (xs : List A) (x : A) → Among x (filter test xs) → test x ≡ true
+passing_filter test [] x there = absurd there
+passing_filter test (y ∷ ys) x there =
+    (elim (test y) as (λ t. test y ≡ t → Among x (cond t (y ∷ filter test ys) (filter test ys)) → test x ≡ true) [
+      | true ↦ λ e a. ⊎_elim (λ (same : y ≡ x). subst (λ z. test z ≡ true) same e) (λ (later : Among x (filter test ys)). passing_filter test ys x later) a
+      | false ↦ λ e a. passing_filter test ys x a
+    ]) refl there
+
+-- ---- tests that none of a list passes
+
+-- none of two lists
+none_append : {A : Type 0} (test : A → Bool) (xs ys : List A) → list_any test (xs ++ ys) ≡ false → (list_any test xs ≡ false) × (list_any test ys ≡ false)
+none_append test [] ys none = (refl, none)
+none_append test (x ∷ xs) ys none =
+    let rest = none_append test xs ys (or_right (test x) (list_any test (xs ++ ys)) none) in
+    (neither (test x) (list_any test xs) (or_left (test x) (list_any test (xs ++ ys)) none) rest.0, rest.1)
+  where
+    neither : (a b : Bool) → a ≡ false → b ≡ false → (a || b) ≡ false
+    neither a b x y = rw (x, y) refl
+
+pub none_first : {A : Type 0} (test : A → Bool) (xs ys : List A) → list_any test (xs ++ ys) ≡ false → list_any test xs ≡ false
+none_first test xs ys none = (none_append test xs ys none).0
+
+pub none_last : {A : Type 0} (test : A → Bool) (xs ys : List A) → list_any test (xs ++ ys) ≡ false → list_any test ys ≡ false
+none_last test xs ys none = (none_append test xs ys none).1
+
+-- none of what is made of one of them
+pub none_flat : {A B : Type 0} (test : B → Bool) (f : A → List B) (xs : List A) (x : A) → list_any test (flat_map f xs) ≡ false → Among x xs → list_any test (f x) ≡ false
+none_flat test f [] x none there = absurd there
+none_flat test f (y ∷ ys) x none there =
+    ⊎_elim (λ (same : y ≡ x). subst (λ z. list_any test (f z) ≡ false) same (none_first test (f y) (flat_map f ys) none))
+    (λ (later : Among x ys). none_flat test f ys x (none_last test (f y) (flat_map f ys) none) later) there
+
+-- not the one that is made of one of them
+pub none_made : {A B : Type 0} (test : B → Bool) (f : A → B) (xs : List A) (x : A) → list_any test (map f xs) ≡ false → Among x xs → test (f x) ≡ false
+none_made test f [] x none there = absurd there
+none_made test f (y ∷ ys) x none there =
+    ⊎_elim (λ (same : y ≡ x). subst (λ z. test (f z) ≡ false) same (or_left (test (f y)) (list_any test (map f ys)) none))
+    (λ (later : Among x ys). none_made test f ys x (or_right (test (f y)) (list_any test (map f ys)) none) later) there
+
+-- ---- where things are from
+
+-- what is in two lists is in one of them
+pub among_append : {A : Type 0} (xs ys : List A) (x : A) → Among x (xs ++ ys) → Among x xs ⊎ Among x ys
+among_append [] ys x there = inr there
+among_append (z ∷ xs) ys x there =
+    ⊎_elim (λ (same : z ≡ x). inl (inl same))
+    (λ (later : Among x (xs ++ ys)). ⊎_elim (λ (a : Among x xs). inl (inr a)) (λ (b : Among x ys). inr b) (among_append xs ys x later)) there
+
+-- what is made of some things is made of one of them
+pub among_made : {A B : Type 0} (f : A → B) (xs : List A) (y : B) → Among y (map f xs) → (x : A) × Among x xs × (f x ≡ y)
+among_made f [] y there = absurd there
+among_made f (x ∷ xs) y there =
+    ⊎_elim (λ (same : f x ≡ y). (x, inl refl, same))
+    (λ (later : Among y (map f xs)). let one = among_made f xs y later in (one.0, inr one.1, one.2)) there
+
+-- what is in the lists of some things is in the list of one
+pub among_flat : {A B : Type 0} (f : A → List B) (xs : List A) (y : B) → Among y (flat_map f xs) → (x : A) × Among x xs × Among y (f x)
+among_flat f [] y there = absurd there
+among_flat f (x ∷ xs) y there =
+    ⊎_elim (λ (here : Among y (f x)). (x, inl refl, here))
+    (λ (later : Among y (flat_map f xs)). let one = among_flat f xs y later in (one.0, inr one.1, one.2)) (among_append (f x) (flat_map f xs) y there)
+
+-- a number that the numbers have is among them
+pub has_among : (ns : List ℕ) (n : ℕ) → has ns n ≡ true → Among n ns
+has_among [] n there = absurd (cc there)
+has_among (m ∷ ns) n there =
+    (elim (m == n) as (λ t. (m == n) ≡ t → (t || has ns n) ≡ true → Among n (m ∷ ns)) [
+      | true ↦ λ e a. inl (same_is m n e)
+      | false ↦ λ e a. inr (has_among ns n a)
+    ]) refl there
+
 -- a number among the numbers
 pub among_has : (ns : List ℕ) (n : ℕ) → Among n ns → has ns n ≡ true
 among_has [] n there = absurd there
@@ -51,10 +124,3 @@ pub among_range : (a n p : ℕ) → Among p (range_with_len a n) → p < a + n
 among_range a zero p there = absurd there
 among_range a (suc n) p there =
     ⊎_elim (λ (same : a ≡ p). omega arith) (λ (later : Among p (range_with_len (a + 1) n)). let low = among_range (a + 1) n p later in omega arith) there
-
--- what is in two lists is in one of them
-pub among_append : {A : Type 0} (xs ys : List A) (x : A) → Among x (xs ++ ys) → Among x xs ⊎ Among x ys
-among_append [] ys x there = inr there
-among_append (z ∷ xs) ys x there =
-    ⊎_elim (λ (same : z ≡ x). inl (inl same))
-    (λ (later : Among x (xs ++ ys)). ⊎_elim (λ (a : Among x xs). inl (inr a)) (λ (b : Among x ys). inr b) (among_append xs ys x later)) there

@@ -3,7 +3,7 @@ use Rattle.std.proofs.Common.{ℕ, suc, ◌≤◌, true, false, cond, ◌&&◌, 
 use Rattle.std.specs.Prelude.{nat_le}
 use Rattle.std.specs.List.{list_all}
 use Rattle.topology.specs.declared.names.Scope.{Scope}
-use Rattle.topology.specs.declared.names.Scope.TheVariants.{All}
+use Rattle.topology.specs.declared.names.Scope.TheVariants.{One, All, Nothing}
 use Rattle.topology.specs.Lists.{has, ascending}
 use Rattle.topology.specs.Net.{Net, IsValid, neighbours}
 use Rattle.topology.proofs.Tests.{and_left, and_right, and_both, same_refl}
@@ -11,8 +11,8 @@ use Rattle.path_vector.specs.declared.causes.Cause.{Cause}
 use Rattle.path_vector.specs.declared.causes.Cause.TheVariants as cause
 use Rattle.path_vector.specs.Rules.{Rules}
 use Rattle.path_vector.specs.History.{held}
-use Rattle.trigger_log.specs.Entries.{Entry, reads, local, locals, is_local}
-use Rattle.trigger_log.specs.Fits.{Fits}
+use Rattle.trigger_log.specs.Entries.{Entry, reads, local, locals, is_local, next_trigger}
+use Rattle.trigger_log.specs.Fits.{Fits, ListsFor}
 use Rattle.trigger_log.specs.Going.{Marker, Hello, Going, going_by}
 use Rattle.consolidator.specs.Messages.{Reports}
 use Rattle.epoch_report.specs.Trimming.{trimmed_report}
@@ -21,13 +21,13 @@ use Rattle.chronicle.specs.Logs.{log_of}
 use Rattle.chronicle.specs.Drops.{dropped, kept_log}
 use Rattle.chronicle.specs.Epochs.{epoch}
 use Rattle.chronicle.specs.Steps.{Carried, sends, write, open_session, markers, take_cut, reporting, raise}
-use Rattle.node_core.specs.ControlFits.{epoch_fits, scope_fits, message_fits}
-use Rattle.node_core.specs.Names.{is_number}
+use Rattle.node_core.specs.ControlFits.{epoch_fits, row_lists_fit, scope_fits, message_fits}
+use Rattle.node_core.specs.Names.{is_number, trigger_fits}
 use Rattle.node_core.specs.declared.limits.TheConstants.{MOST_ENTRIES, MOST_EPOCHS}
 use Rattle.admission_laws.specs.Handing.{is_short}
 use Rattle.admission_laws.proofs.Facts.{cause_fits, entry_fits, AllFacts}
 use Rattle.admission_laws.proofs.Each.{each_map}
-use Rattle.admission_laws.proofs.Bounds.{number_is, most_is, Within}
+use Rattle.admission_laws.proofs.Bounds.{number_is, most_is, Within, Reportable}
 use Rattle.admission_laws.proofs.Sessions.{held_number}
 use Rattle.admission_laws.proofs.Items.{going_fits, spread_fits, entry_goes}
 use Rattle.admission_laws.proofs.ReportsFit.{report_is, report_short}
@@ -44,12 +44,17 @@ locals_few (k ∷ h) =
     elim (is_local k.read.cause) as (λ b. cond b (suc (locals h)) (locals h) ≤ suc (length h)) [ true ↦ omega arith | false ↦ omega arith ]
 
 -- an entry that the node makes by itself
-pub local_is : (net : Net) (u : ℕ) (h : List Entry) (scope : Scope) (cause : Cause) → has net.nodes u ≡ true → length h ≤ MOST_ENTRIES → scope_fits net scope ≡ true → cause_fits net u cause ≡ true
+pub local_is : (net : Net) (u : ℕ) (h : List Entry) (scope : Scope) (cause : Cause) → has net.nodes u ≡ true → length h ≤ MOST_ENTRIES → ListsFor scope (next_trigger u h ∷ []) → scope_fits net scope ≡ true → cause_fits net u cause ≡ true
     → entry_fits net u (local u h scope cause) ≡ true
-local_is net u h scope cause own few scoped fits =
-    and_both (has net.nodes u && is_number (suc (locals h))) (scope_fits net scope && cause_fits net u cause)
-    (and_both (has net.nodes u) (is_number (suc (locals h))) own (number_is (suc (locals h)) (omega arith) (let less = locals_few h in omega arith)))
+local_is net u h scope cause own few concerning scoped fits =
+    and_both (row_lists_fit net scope (next_trigger u h ∷ [])) (scope_fits net scope && cause_fits net u cause)
+    (own_list scope concerning (and_both (has net.nodes u) (is_number (suc (locals h))) own (number_is (suc (locals h)) (omega arith) (let less = locals_few h in omega arith))))
     (and_both (scope_fits net scope) (cause_fits net u cause) scoped fits)
+  where
+    own_list : (scope : Scope) → ListsFor scope (next_trigger u h ∷ []) → trigger_fits net (next_trigger u h) ≡ true → row_lists_fit net scope (next_trigger u h ∷ []) ≡ true
+    own_list (One p) lists fit = fit
+    own_list All lists fit = fit
+    own_list Nothing lists fit = absurd (cc lists)
 
 module _ (net : Net) (u : ℕ) where
   -- items that fit are sent
@@ -78,7 +83,7 @@ module _ (rules : Rules) (net : Net) (u : ℕ) (valid : IsValid net) (own : has 
   open_fits v s past all near number few =
       let k = local u (log_of u past) All (cause.Up v s) in
       let g : Going = record { to = v; session = s; item = Hello (epoch u past) } in
-      let entry = local_is net u (log_of u past) All (cause.Up v s) own few refl (and_both (has (neighbours net u) v) (is_number s) near number) in
+      let entry = local_is net u (log_of u past) All (cause.Up v s) own few (λ none. absurd (cc none)) refl (and_both (has (neighbours net u) v) (is_number s) near number) in
       let greeting =
       and_both (has (neighbours net u) v) (is_number s && nat_le (epoch u past) MOST_EPOCHS) near
       (and_both (is_number s) (nat_le (epoch u past) MOST_EPOCHS) number (most_is (epoch u past) MOST_EPOCHS (epoch_low net u past all))) in
@@ -87,9 +92,9 @@ module _ (rules : Rules) (net : Net) (u : ℕ) (valid : IsValid net) (own : has 
 
   -- an epoch rises, and the cut is reported
   pub raise_fits : (e : ℕ) (past : Chronicle) → AllFacts net u past → epoch_fits e ≡ true → Fits (log_of u past)
-      → Within rules net u (log_of u past) → AllFacts net u (raise rules net carried u e past)
+      → Within rules net u (log_of u past) → Reportable rules net u (log_of u past) → AllFacts net u (raise rules net carried u e past)
   unfolding raise take_cut
-  raise_fits e past all fits fitting few =
+  raise_fits e past all fits fitting few listed =
       let h = log_of u past in
       let log = log_fits net u past all in
       let marks = spread_fits net u (held (reads h)) (λ w s. Marker e ∷ []) (λ w s near holds. (held_number net u h w s log holds, and_both (epoch_fits e) true fits refl)) in
@@ -101,4 +106,4 @@ module _ (rules : Rules) (net : Net) (u : ℕ) (valid : IsValid net) (own : has 
       (λ c there. and_both (has net.nodes c) (message_fits net u (Reports report) && is_short (Reports report))
       (one_of (has net.nodes) (ascending net.consolidators) c (consolidators_known net valid) there)
       (and_both (message_fits net u (Reports report)) (is_short (Reports report))
-      (report_is rules net u valid own e n h fits log fitting few) (report_short rules net u valid own e n h few)))) cut
+      (report_is rules net u valid own e n h fits log fitting few listed) (report_short rules net u valid own e n h few)))) cut

@@ -4,12 +4,12 @@ use Rattle.std.specs.List.{list_all}
 use Rattle.topology.specs.Lists.{has}
 use Rattle.topology.specs.Net.{Net, neighbours}
 use Rattle.path_vector.specs.declared.causes.Cause.{Cause}
-use Rattle.path_vector.specs.declared.causes.Cause.TheVariants.{Originate, Withdraw, Recv, Down, Up, Ready, Prefer}
+use Rattle.path_vector.specs.declared.causes.Cause.TheVariants.{Originate, Withdraw, Recv, Down, Up, Ready, Prefer, Flush}
 use Rattle.trigger_log.specs.Entries.{Entry}
 use Rattle.chronicle.specs.Facts.{Fact, Chronicle, Log, Sent, Took, Fail, Restore, Raise, Start, Mail, Heard, Crash, Restart, Publish, Visit, End}
-use Rattle.node_core.specs.ControlFits.{epoch_fits, ballot_fits, message_fits, scope_fits, value_fits}
+use Rattle.node_core.specs.ControlFits.{epoch_fits, ballot_fits, message_fits, row_lists_fit, scope_fits, value_fits}
 use Rattle.node_core.specs.Fits.{item_fits, path_fits}
-use Rattle.node_core.specs.Names.{is_number, triggers_fit}
+use Rattle.node_core.specs.Names.{is_number}
 use Rattle.node_core.specs.PacketFits.{packet_fits}
 use Rattle.admission_laws.specs.Handing.{table_fits, is_short}
 
@@ -22,10 +22,11 @@ cause_fits net u (Down v s) = has (neighbours net u) v && is_number s
 cause_fits net u (Up v s) = has (neighbours net u) v && is_number s
 cause_fits net u (Ready v s) = has (neighbours net u) v && is_number s
 cause_fits net u (Prefer v value) = has (neighbours net u) v
+cause_fits net u (Flush v) = has (neighbours net u) v
 
 -- an entry of u
 abbrev pub entry_fits : Net → ℕ → Entry → Bool
-entry_fits net u k = triggers_fit net k.triggers && (scope_fits net k.read.scope && cause_fits net u k.read.cause)
+entry_fits net u k = row_lists_fit net k.read.scope k.triggers && (scope_fits net k.read.scope && cause_fits net u k.read.cause)
 
 -- a fact of u's own run
 abbrev pub fact_fits : Net → ℕ → Fact → Bool

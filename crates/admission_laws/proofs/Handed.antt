@@ -1,12 +1,16 @@
 -- The run of a node that admits each input: every fact of it fits, and so does all that the node hands out.
-use Rattle.std.proofs.Common.{ℕ, ◌^◌, ◌≤◌, true, ◌&&◌, ◌==◌, None, List, [], ◌∷◌, ◌≡◌, refl, sym, ◌∙◌, ap, subst, arith}
+use Rattle.std.proofs.Common.{ℕ, ◌^◌, ◌≤◌, Bool, true, false, ◌&&◌, ◌==◌, Option, Some, None, List, [], ◌∷◌, ◌≡◌, refl, sym, ◌∙◌, ap, subst, arith}
 use Rattle.std.specs.Prelude.{nat_lt}
-use Rattle.std.specs.List.{list_all}
+use Rattle.std.specs.List.{list_all, list_any}
 use Rattle.std.proofs.lemmas.Bool.Decides.{nat_tests}
 use Rattle.topology.specs.Lists.{has}
 use Rattle.topology.specs.Net.{Net, IsValid, neighbours}
-use Rattle.topology.proofs.Tests.{and_right, and_both}
+use Rattle.topology.proofs.Tests.{and_right, and_both, or_left, or_right}
 use Rattle.path_vector.specs.Rules.{Rules}
+use Rattle.trigger_log.specs.Pending.{pending_rows}
+use Rattle.trigger_log.specs.Sending.{sent_of}
+use Rattle.trigger_log.proofs.Collected.{none_at_first}
+use Rattle.node_core.specs.Counted.{is_long_item, is_long_row, row_marks}
 use Rattle.chronicle.specs.Facts.{Fact, Chronicle, Log, Sent, Took, Fail, Restore, Raise, Start, Mail, Heard, Crash, Restart, Publish, Visit, End}
 use Rattle.chronicle.specs.Epochs.{epoch}
 use Rattle.chronicle.specs.Inputs.{Input}
@@ -20,16 +24,16 @@ use Rattle.cut_laws.proofs.Owning.{own_given, start_own}
 use Rattle.node_core.specs.ControlFits.{epoch_fits, message_fits, value_fits}
 use Rattle.node_core.specs.Fits.{item_fits, fits}
 use Rattle.node_core.specs.Names.{is_number}
-use Rattle.node_core.specs.NodeLimits.{node_above, node_limit}
+use Rattle.node_core.specs.NodeLimits.{Reached, has_large_value, has_long_list, has_more_marks, marks_of, node_above, node_limit, or_marks}
 use Rattle.node_core.specs.Outputs.{output_by, outputs}
 use Rattle.node_core.specs.PacketFits.{packet_fits}
-use Rattle.node_core.specs.declared.limits.TheConstants.{MOST_EPOCHS}
+use Rattle.node_core.specs.declared.limits.TheConstants.{MOST_EPOCHS, MOST_MARKS}
 use Rattle.node_core.proofs.Admitting.{may_come}
 use Rattle.admission_laws.specs.Handing.{table_fits, is_short, output_fits}
 use Rattle.admission_laws.specs.NodeRuns.{each_link, gives, alone, AllAdmitted}
 use Rattle.admission_laws.proofs.Facts.{fact_fits, AllFacts}
 use Rattle.admission_laws.proofs.Each.{each_append}
-use Rattle.admission_laws.proofs.Bounds.{Within}
+use Rattle.admission_laws.proofs.Bounds.{Within, Reportable}
 use Rattle.admission_laws.proofs.Logs.{first_fact, facts_before}
 use Rattle.admission_laws.proofs.Answering.{Fine, IsPlain, answer_fine}
 use Rattle.admission_laws.proofs.Replying.{ReportsAscend, alone_ascends, within, given_facts, propose_given, control_given}
@@ -41,11 +45,46 @@ reaches : (net : Net) (u : ℕ) (i : Input) → fits net u i ≡ true → MayRea
 reaches net u (input.Arrive v s x) is = (may_come net u (input.Arrive v s x) is).2
 reaches net u other is = tt
 
+-- the items and the rows of what is held back
+short_lists : (rules : Rules) (net : Net) (u : ℕ) (now : Chronicle) → has_long_list rules net u now ≡ false
+    → (list_any is_long_item (sent_of rules net u (log_of u now)) ≡ false) × (list_any is_long_row (pending_rows rules net u (log_of u now)) ≡ false)
+unfolding has_long_list
+short_lists rules net u now short = (
+  or_left (list_any is_long_item (sent_of rules net u (log_of u now))) (list_any is_long_row (pending_rows rules net u (log_of u now))) short,
+  or_right (list_any is_long_item (sent_of rules net u (log_of u now))) (list_any is_long_row (pending_rows rules net u (log_of u now))) short,
+)
+
+-- where no count is above its number, none but the marks is, nor are they
+before_marks : (o : Option Reached) (more : Bool) → or_marks o more ≡ None → (o ≡ None) × (more ≡ false)
+before_marks None true e = absurd (cc e)
+before_marks None false e = (refl, refl)
+before_marks (Some r) more e = absurd (cc e)
+
 -- a log is within the limits where no count is above its number
 log_within : (rules : Rules) (net : Net) (u : ℕ) (now : Chronicle) → node_above rules net u now ≡ None → Within rules net u (log_of u now)
 log_within rules net u now none = record {
   entries = let count = (within rules net u now none).2 in grind (arith, nat_tests);
   updates = let count = (within rules net u now none).3 in grind (arith, nat_tests);
+  short = (short_lists rules net u now (or_right (has_large_value u now) (has_long_list rules net u now) (within rules net u now none).1)).0;
+}
+
+-- and of it a report may be made, where its lists have few triggers
+log_reportable : (rules : Rules) (net : Net) (u : ℕ) (now : Chronicle) → node_above rules net u now ≡ None → has_more_marks rules net u now ≡ false → Reportable rules net u (log_of u now)
+unfolding has_more_marks
+log_reportable rules net u now none few = record {
+  rows = (short_lists rules net u now (or_right (has_large_value u now) (has_long_list rules net u now) (within rules net u now none).1)).1;
+  marks = few_from (marks_of rules net u (log_of u now)) few;
+}
+  where
+    few_from : (n : ℕ) → nat_lt MOST_MARKS n ≡ false → n ≤ MOST_MARKS
+    few_from n is = grind (arith, nat_tests)
+
+-- a log without entries lists nothing
+none_listed : (rules : Rules) (net : Net) (u : ℕ) → Reportable rules net u []
+unfolding marks_of sent_of
+none_listed rules net u = record {
+  rows = rw (none_at_first rules net u) refl;
+  marks = let none = ap row_marks (none_at_first rules net u) in omega (arith, none);
 }
 
 -- and so is the epoch
@@ -53,13 +92,13 @@ epoch_within : (rules : Rules) (net : Net) (u : ℕ) (now : Chronicle) → node_
 epoch_within rules net u now none = let count = (within rules net u now none).0 in grind (arith, nat_tests)
 
 module _ (rules : Rules) (net : Net) (u : ℕ) (valid : IsValid net) (here : has net.nodes u ≡ true) where
-  module _ (past : Chronicle) (own : Own rules net past u) (all : AllFacts net u past) where
+  module _ (past : Chronicle) (own : Own rules net past u) (all : AllFacts net u past) (listed : Reportable rules net u (log_of u past)) where
     -- an input that is no ballot and no control message
     plain_facts : (i : Input) (now : Chronicle) → IsPlain i → fits net u i ≡ true → node_above rules net u now ≡ None → gives rules net u past i ≡ Goes now → AllFacts net u now
     plain_facts i now plain is few goes =
         given_facts rules net valid each_link u here past own all i now (reaches net u i is) goes
         (λ c answered published.
-        let fine : Fine rules net u (Goes c) = subst (Fine rules net u) answered (answer_fine rules net u valid here each_link past all own.alone.fits i plain is) in
+        let fine : Fine rules net u (Goes c) = subst (Fine rules net u) answered (answer_fine rules net u valid here each_link past all own.alone.fits listed i plain is) in
         let log : log_of u c ≡ log_of u now = sym (log_publish rules net u past c u) ∙ ap (log_of u) published in
         let low : epoch u c ≡ epoch u now = sym (epoch_publish rules net u past c u) ∙ ap (epoch u) published in
         fine (subst (Within rules net u) (sym log) (log_within rules net u now few)) (subst (λ e. e ≤ MOST_EPOCHS) (sym low) (epoch_within rules net u now few)))
@@ -73,7 +112,7 @@ module _ (rules : Rules) (net : Net) (u : ℕ) (valid : IsValid net) (here : has
     -- whether it goes on or is idle
     then_facts : (i : Input) (s : Step) → ReportsAscend u past → fits net u i ≡ true → node_limit rules net u s ≡ None → gives rules net u past i ≡ s → AllFacts net u (chronicle_of past s)
     then_facts i (Idle why) up is few goes = all
-    then_facts i (Goes now) up is few goes = gives_facts i now up is few goes
+    then_facts i (Goes now) up is few goes = gives_facts i now up is (before_marks (node_above rules net u now) (has_more_marks rules net u now) few).0 goes
 
   -- ---- all inputs
 
@@ -83,13 +122,25 @@ module _ (rules : Rules) (net : Net) (u : ℕ) (valid : IsValid net) (here : has
   alone_own [] admitted = start_own rules net u
   alone_own (i ∷ before) admitted = own_given rules net u each_link (alone rules net u before) i valid (alone_own before admitted.2) (reaches net u i admitted.0)
 
+  -- of its log a report may be made
+  step_listed : (past : Chronicle) (s : Step) → Reportable rules net u (log_of u past) → node_limit rules net u s ≡ None → Reportable rules net u (log_of u (chronicle_of past s))
+  step_listed past (Idle why) listed few = listed
+  step_listed past (Goes now) listed few =
+      let both = before_marks (node_above rules net u now) (has_more_marks rules net u now) few in log_reportable rules net u now both.0 both.1
+
+  alone_listed : (inputs : List Input) → AllAdmitted rules net u inputs → Reportable rules net u (log_of u (alone rules net u inputs))
+  unfolding alone
+  alone_listed [] admitted = none_listed rules net u
+  alone_listed (i ∷ before) admitted =
+      let past = alone rules net u before in step_listed past (gives rules net u past i) (alone_listed before admitted.2) admitted.1
+
   -- every fact of its run fits
   alone_facts : (inputs : List Input) → AllAdmitted rules net u inputs → AllFacts net u (alone rules net u inputs)
   unfolding alone
   alone_facts [] admitted = refl
   alone_facts (i ∷ before) admitted =
       let past = alone rules net u before in
-      then_facts past (alone_own before admitted.2) (alone_facts before admitted.2) i (gives rules net u past i) (alone_ascends rules net u before) admitted.0 admitted.1 refl
+      then_facts past (alone_own before admitted.2) (alone_facts before admitted.2) (alone_listed before admitted.2) i (gives rules net u past i) (alone_ascends rules net u before) admitted.0 admitted.1 refl
 
 -- ---- what is handed out
 

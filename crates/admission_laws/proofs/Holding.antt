@@ -1,5 +1,5 @@
 -- The reports that a node holds fit, and their nodes ascend: it refuses a second one of a node.
-use Rattle.std.proofs.Common.{ℕ, Bool, true, false, ◌&&◌, ◌||◌, ◌==◌, nat_lt, Some, None, List, [], ◌∷◌, ◌≡◌, refl, sym, subst, arith, if◌then◌else◌}
+use Rattle.std.proofs.Common.{ℕ, Bool, true, false, ◌&&◌, ◌||◌, ◌==◌, nat_le, nat_lt, Some, None, List, [], ◌∷◌, ◌≡◌, refl, sym, subst, arith, if◌then◌else◌}
 use Rattle.std.specs.Prelude.{is_some}
 use Rattle.std.specs.List.{list_all}
 use Rattle.std.proofs.lemmas.Bool.Decides.{nat_tests}
@@ -12,7 +12,8 @@ use Rattle.consolidator.specs.Answers.{refuses_report, refusal_of, posted}
 use Rattle.consolidator.specs.Facts.{Chronicle, Mail, Heard, Crash}
 use Rattle.consolidator.specs.Messages.{Message, Reports, Agrees}
 use Rattle.consolidator.specs.Readings.{put_report, held_by, reports_held, nodes_of, known}
-use Rattle.node_core.specs.ControlFits.{body_fits, epoch_fits, in_order, leads, message_fits, row_fits, rows_are_few, rows_fit, sessions_fit}
+use Rattle.node_core.specs.ControlFits.{body_fits, epoch_fits, in_order, leads, message_fits, pending_fits, report_fits as whole_fits, report_marks, row_fits, rows_are_few, rows_fit, sessions_fit, waiting_ascends, waiting_fits}
+use Rattle.node_core.specs.declared.limits.TheConstants.{MOST_MARKS}
 use Rattle.admission_laws.proofs.Values.{report_fits}
 use Rattle.admission_laws.proofs.Ballots.{control_fits}
 
@@ -24,11 +25,16 @@ module _ (net : Net) where
   report_of from r fit =
       let content : (epoch_fits r.epoch && body_fits net from (Reports r)) ≡ true = and_right (has net.nodes from) (epoch_fits r.epoch && body_fits net from (Reports r)) fit in
       let body : body_fits net from (Reports r) ≡ true = and_right (epoch_fits r.epoch) (body_fits net from (Reports r)) content in
-      let own : r.node ≡ from = same_is r.node from (and_left (r.node == from) (rows_fit net r.rows && sessions_fit net r.sessions) body) in
-      let rows : rows_fit net r.rows ≡ true = and_left (rows_fit net r.rows) (sessions_fit net r.sessions) (and_right (r.node == from) (rows_fit net r.rows && sessions_fit net r.sessions) body) in
-      and_both (has net.nodes r.node) (list_all (row_fits net) r.rows)
+      let own : r.node ≡ from = same_is r.node from (and_left (r.node == from) (whole_fits net r) body) in
+      let whole : whole_fits net r ≡ true = and_right (r.node == from) (whole_fits net r) body in
+      let ends = pending_fits net r.pending && nat_le (report_marks r) MOST_MARKS in
+      let rows : rows_fit net r.rows ≡ true = and_left (rows_fit net r.rows) (sessions_fit net r.sessions && ends) whole in
+      let waiting : pending_fits net r.pending ≡ true =
+      and_left (pending_fits net r.pending) (nat_le (report_marks r) MOST_MARKS) (and_right (sessions_fit net r.sessions) ends (and_right (rows_fit net r.rows) (sessions_fit net r.sessions && ends) whole)) in
+      and_both (has net.nodes r.node) (list_all (row_fits net) r.rows && list_all (waiting_fits net) r.pending)
       (subst (λ n. has net.nodes n ≡ true) (sym own) (and_left (has net.nodes from) (epoch_fits r.epoch && body_fits net from (Reports r)) fit))
-      (and_left (list_all (row_fits net) r.rows) (rows_are_few r.rows) rows)
+      (and_both (list_all (row_fits net) r.rows) (list_all (waiting_fits net) r.pending) (and_left (list_all (row_fits net) r.rows) (rows_are_few r.rows) rows)
+      (and_left (list_all (waiting_fits net) r.pending) (waiting_ascends r.pending) waiting))
 
   -- one more
   put_fits : (r : Report) (rs : List Report) → report_fits net r ≡ true → list_all (report_fits net) rs ≡ true → list_all (report_fits net) (put_report r rs) ≡ true

@@ -1,31 +1,36 @@
 -- What an entry sends: items that fit.
-use Rattle.std.proofs.Common.{ℕ, suc, ◌+◌, ◌^◌, ◌<◌, ◌≤◌, Bool, true, ◌&&◌, Option, Some, None, List, [], ◌∷◌, ◌≡◌, refl, arith, length, filter, IfSome}
-use Rattle.std.specs.Prelude.{nat_lt}
-use Rattle.std.specs.List.{list_all, range_with_len}
-use Rattle.topology.specs.Lists.{has}
+use Rattle.std.proofs.Common.{ℕ, suc, ◌+◌, ◌^◌, ◌<◌, ◌≤◌, Bool, true, false, ◌&&◌, ◌||◌, Option, Some, None, List, [], ◌∷◌, ◌≡◌, refl, sym, ◌∙◌, ap, subst, arith, length, filter, map, IfSome}
+use Rattle.std.specs.Prelude.{nat_le, nat_lt, if◌then◌else◌}
+use Rattle.std.specs.List.{list_all, list_any, range_with_len}
+use Rattle.topology.specs.declared.names.Trigger.{Trigger}
+use Rattle.topology.specs.Lists.{has, Among}
 use Rattle.topology.specs.Paths.{differ, IsPath}
-use Rattle.topology.specs.Net.{Net, IsValid, neighbours, places}
-use Rattle.topology.proofs.Tests.{and_left, and_right, and_both}
+use Rattle.topology.specs.Net.{Net, IsValid, holds_back, neighbours, places}
+use Rattle.topology.proofs.Tests.{and_left, and_right, and_both, or_left, or_right}
 use Rattle.path_vector.specs.declared.causes.Cause.{Cause}
-use Rattle.path_vector.specs.declared.causes.Cause.TheVariants.{Originate, Withdraw, Recv, Down, Up, Ready, Prefer}
+use Rattle.path_vector.specs.declared.causes.Cause.TheVariants.{Originate, Withdraw, Recv, Down, Up, Ready, Prefer, Flush}
 use Rattle.path_vector.specs.Rules.{Rules}
-use Rattle.path_vector.specs.History.{held}
+use Rattle.path_vector.specs.History.{held, ready}
 use Rattle.path_vector.specs.Offers.{offer, changed}
 use Rattle.path_vector.specs.Simple.{Brings, BringsPaths, BringsPathsIn, AreIn}
 use Rattle.path_vector.proofs.Simple.{offer_path, offer_in}
-use Rattle.trigger_log.specs.Entries.{Entry, Update, reads}
+use Rattle.trigger_log.specs.Entries.{Entry, Update, flushes, reads}
 use Rattle.trigger_log.specs.Fits.{Fits}
 use Rattle.trigger_log.specs.Going.{Item, News, Going, numbered, going_to, going_in, spread, told, going_by}
 use Rattle.trigger_log.specs.Making.{making}
-use Rattle.trigger_log.specs.Sending.{news, next_number, update_of}
+use Rattle.trigger_log.specs.Pending.{is_pending, pending}
+use Rattle.trigger_log.specs.Sending.{close_sent, held_update, news, next_number, sent_by, sent_from, sent_to, update_of, updates_sent}
 use Rattle.node_core.specs.Fits.{begins_with, path_fits, item_fits}
-use Rattle.node_core.specs.Names.{are_nodes, is_number, triggers_fit}
+use Rattle.node_core.specs.Names.{are_nodes, is_number, list_fits, triggers_fit}
+use Rattle.node_core.specs.Counted.{is_long, is_long_item}
+use Rattle.node_core.specs.declared.limits.TheConstants.{MOST_TRIGGERS}
 use Rattle.admission_laws.proofs.Facts.{cause_fits}
-use Rattle.admission_laws.proofs.Each.{each_map, each_flat, among_filter, among_has, among_range}
+use Rattle.admission_laws.proofs.Each.{each_map, each_flat, among_filter, among_has, among_range, has_among, none_first, none_flat, passing_filter}
 use Rattle.admission_laws.proofs.Tables.{path_of_fits}
 use Rattle.admission_laws.proofs.Values.{one_of}
-use Rattle.admission_laws.proofs.Bounds.{number_is, below_is, Within, said_few}
-use Rattle.admission_laws.proofs.Sessions.{AllFit, first_fits, rest_fits, triggers_of, cause_of, held_number}
+use Rattle.admission_laws.proofs.Bounds.{number_is, below_is, not_long, short_items, Within, said_few}
+use Rattle.admission_laws.proofs.Listing.{changed_known, pending_known}
+use Rattle.admission_laws.proofs.Sessions.{AllFit, first_fits, rest_fits, cause_of, held_number}
 
 -- ---- paths
 
@@ -67,6 +72,7 @@ module _ (net : Net) (u : ℕ) where
   cause_simple (Up v s) fits = tt
   cause_simple (Ready v s) fits = tt
   cause_simple (Prefer v x) fits = tt
+  cause_simple (Flush v) fits = tt
 
   -- and stays in the network
   cause_inside : (cause : Cause) → cause_fits net u cause ≡ true → Brings (AreIn net) cause
@@ -77,6 +83,7 @@ module _ (net : Net) (u : ℕ) where
   cause_inside (Up v s) fits = tt
   cause_inside (Ready v s) fits = tt
   cause_inside (Prefer v x) fits = tt
+  cause_inside (Flush v) fits = tt
 
   -- no path that a log received repeats a node
   log_simple : (h : List Entry) → AllFit net u h → BringsPaths (reads h)
@@ -91,8 +98,35 @@ module _ (net : Net) (u : ℕ) where
 -- ---- updates
 
 -- an update that its number does not speak of
-abbrev update_fits : Net → ℕ → Update → Bool
-update_fits net v x = nat_lt x.prefix (length net.prefixes) && (triggers_fit net x.triggers && path_fits net v x.path)
+abbrev pub update_fits : Net → ℕ → Update → Bool
+update_fits net v x = nat_lt x.prefix (length net.prefixes) && (list_fits net x.triggers && path_fits net v x.path)
+
+-- the same but for the length of its list
+abbrev update_known : Net → ℕ → Update → Bool
+update_known net v x = nat_lt x.prefix (length net.prefixes) && (triggers_fit net x.triggers && path_fits net v x.path)
+
+-- an update that lists more than it may
+abbrev is_long_update : Update → Bool
+is_long_update x = is_long x.triggers
+
+-- updates whose lists are short
+all_short : (net : Net) (v : ℕ) (xs : List Update) → list_all (update_known net v) xs ≡ true → list_any is_long_update xs ≡ false → list_all (update_fits net v) xs ≡ true
+all_short net v [] all short = refl
+all_short net v (x ∷ xs) all short =
+    let one = and_left (update_known net v x) (list_all (update_known net v) xs) all in
+    let rest = and_right (nat_lt x.prefix (length net.prefixes)) (triggers_fit net x.triggers && path_fits net v x.path) one in
+    and_both (update_fits net v x) (list_all (update_fits net v) xs)
+    (and_both (nat_lt x.prefix (length net.prefixes)) (list_fits net x.triggers && path_fits net v x.path) (and_left (nat_lt x.prefix (length net.prefixes)) (triggers_fit net x.triggers && path_fits net v x.path) one)
+    (and_both (list_fits net x.triggers) (path_fits net v x.path)
+    (and_both (nat_le (length x.triggers) MOST_TRIGGERS) (triggers_fit net x.triggers) (not_long x.triggers (or_left (is_long x.triggers) (list_any is_long_update xs) short))
+    (and_left (triggers_fit net x.triggers) (path_fits net v x.path) rest))
+    (and_right (triggers_fit net x.triggers) (path_fits net v x.path) rest)))
+    (all_short net v xs (and_right (update_known net v x) (list_all (update_known net v) xs) all) (or_right (is_long x.triggers) (list_any is_long_update xs) short))
+
+-- the items of updates list what the updates list
+short_from : (w s n : ℕ) (xs : List Update) → list_any is_long_item (sent_from w s n xs) ≡ list_any is_long_update xs
+short_from w s n [] = refl
+short_from w s n (x ∷ xs) = ap (λ b. is_long x.triggers || b) (short_from w s (suc n) xs)
 
 -- updates that fit, numbered on
 numbered_fit : (net : Net) (v n : ℕ) (xs : List Update) → 1 ≤ n → n + length xs ≤ 2 ^ 32 → list_all (update_fits net v) xs ≡ true → list_all (item_fits net v) (numbered n xs) ≡ true
@@ -130,21 +164,53 @@ spread_fits net u session items all =
     in_it w (Some s) is near = let both = all w s near is in to_fits net u w s (items w s) near both.0 both.1
 
 module _ (rules : Rules) (net : Net) (u : ℕ) (valid : IsValid net) (own : has net.nodes u ≡ true) where
-  -- an update of an entry
-  update_is : (k : Entry) (h : List Entry) (w p : ℕ) → AllFit net u (k ∷ h) → p < length net.prefixes → update_fits net u (update_of (making rules net u h k) w p) ≡ true
-  update_is k h w p all placed =
-      let path = offer rules net u (k.read ∷ reads h) p w in
-      and_both (nat_lt p (length net.prefixes)) (triggers_fit net k.triggers && path_fits net u path) (below_is p (length net.prefixes) placed)
-      (and_both (triggers_fit net k.triggers) (path_fits net u path) (triggers_of net u k (first_fits net u k h all))
-      (path_of_fits net u path (offer_path rules net u (k.read ∷ reads h) p w (log_simple net u (k ∷ h) all)) (offer_in rules net u (k.read ∷ reads h) p w own (log_inside net u (k ∷ h) all))))
+  -- an update of a prefix, for triggers of the network
+  update_of_prefix : (h : List Entry) (w p : ℕ) (ts : List Trigger) → AllFit net u h → p < length net.prefixes → triggers_fit net ts ≡ true
+      → update_known net u (record { prefix = p; triggers = ts; path = offer rules net u (reads h) p w }) ≡ true
+  update_of_prefix h w p ts all placed known =
+      let path = offer rules net u (reads h) p w in
+      and_both (nat_lt p (length net.prefixes)) (triggers_fit net ts && path_fits net u path) (below_is p (length net.prefixes) placed)
+      (and_both (triggers_fit net ts) (path_fits net u path) known
+      (path_of_fits net u path (offer_path rules net u (reads h) p w (log_simple net u h all)) (offer_in rules net u (reads h) p w own (log_inside net u h all))))
+
+  placed_at : (test : ℕ → Bool) (p : ℕ) → Among p (filter test (range_with_len 0 (length net.prefixes))) → p < length net.prefixes
+  placed_at test p there = let low = among_range 0 (length net.prefixes) p (among_filter test (range_with_len 0 (length net.prefixes)) p there) in omega arith
 
   -- all updates of an entry for w
-  news_fit : (k : Entry) (h : List Entry) (w : ℕ) → AllFit net u (k ∷ h) → list_all (update_fits net u) (news rules net u h k w) ≡ true
+  pub news_known : (k : Entry) (h : List Entry) (w : ℕ) → AllFit net u (k ∷ h) → Fits (k ∷ h) → list_all (update_known net u) (news rules net u h k w) ≡ true
   unfolding news places
-  news_fit k h w all =
-      let test = changed rules net u (k.read ∷ reads h) w in
-      each_map (update_fits net u) (update_of (making rules net u h k) w) (filter test (range_with_len 0 (length net.prefixes)))
-      (λ p there. let low = among_range 0 (length net.prefixes) p (among_filter test (range_with_len 0 (length net.prefixes)) p there) in update_is k h w p all (omega arith))
+  news_known k h w all fits =
+      let m = making rules net u h k in
+      let some = range_with_len 0 (length net.prefixes) in
+      let waits = is_pending rules net u h w in
+      let moves = changed rules net u (k.read ∷ reads h) w in
+      elim (holds_back net u w) as (λ c. list_all (update_known net u) (if c then (if flushes k.read.cause w then map (held_update m w) (filter waits some) else []) else map (update_of m w) (filter moves some)) ≡ true) [
+        | true ↦ elim (flushes k.read.cause w) as (λ c. list_all (update_known net u) (if c then map (held_update m w) (filter waits some) else []) ≡ true) [
+          | true ↦
+              each_map (update_known net u) (held_update m w) (filter waits some)
+              (λ p there. update_of_prefix h w p (pending rules net u h w p) (rest_fits net u k h all) (placed_at waits p there)
+              (pending_known rules net u h w p (rest_fits net u k h all) fits.1 (passing_filter waits some p there)))
+          | false ↦ refl
+        ]
+        | false ↦
+            each_map (update_known net u) (update_of m w) (filter moves some)
+            (λ p there. update_of_prefix (k ∷ h) w p k.triggers all (placed_at moves p there) (changed_known rules net u k h w p all fits (passing_filter moves some p there)))
+      ]
+
+  -- in the session that is held, none lists more than it may
+  news_short : (k : Entry) (h : List Entry) (w s : ℕ) → has (neighbours net u) w ≡ true → held (k.read ∷ reads h) w ≡ Some s → list_any is_long_item (sent_by rules net u h k) ≡ false
+      → list_any is_long_update (news rules net u h k w) ≡ false
+  unfolding sent_by
+  news_short k h w s near holds short =
+      let here = none_flat is_long_item (sent_to rules net u h k) (neighbours net u) w short (has_among (neighbours net u) w near) in
+      let updates = none_first is_long_item (updates_sent (making rules net u h k) w (held (k.read ∷ reads h) w)) (close_sent (making rules net u h k) w (ready (reads h) w)) here in
+      sym (short_from w s (next_number rules net u h w s) (news rules net u h k w)) ∙ subst (λ o. list_any is_long_item (updates_sent (making rules net u h k) w o) ≡ false) holds updates
+
+  -- so they fit
+  pub news_fit : (k : Entry) (h : List Entry) (w s : ℕ) → AllFit net u (k ∷ h) → Fits (k ∷ h) → Within rules net u (k ∷ h) → has (neighbours net u) w ≡ true → held (k.read ∷ reads h) w ≡ Some s
+      → list_all (update_fits net u) (news rules net u h k w) ≡ true
+  news_fit k h w s all fits few near holds =
+      all_short net u (news rules net u h k w) (news_known k h w all fits) (news_short k h w s near holds (short_items rules net u k h few.short))
 
   -- all that goes out with an entry
   pub entry_goes : (k : Entry) (h : List Entry) → AllFit net u (k ∷ h) → Fits (k ∷ h) → Within rules net u (k ∷ h) → list_all (going_fits net u) (going_by rules net u h k) ≡ true
@@ -154,5 +220,5 @@ module _ (rules : Rules) (net : Net) (u : ℕ) (valid : IsValid net) (own : has 
       (λ w s near holds. (
         held_number net u (k ∷ h) w s all holds,
         numbered_fit net u (next_number rules net u h w s) (news rules net u h k w) (omega arith)
-            (let most = said_few rules net u valid k h w s fits near holds in let limit = few.updates in omega arith) (news_fit k h w all),
+            (let most = said_few rules net u valid k h w s fits near holds in let limit = few.updates in omega arith) (news_fit k h w s all fits few near holds),
       ))

@@ -9,7 +9,9 @@ pub mod Tables
 pub mod Unheard
 pub mod Replying
 pub mod Sessions
+pub mod Listing
 pub mod Items
+pub mod Waiting
 pub mod ReportsFit
 pub mod Candidates
 pub mod Packets

@@ -1,5 +1,5 @@
 -- A ballot that a node starts, a control message that it hears, and the table that it publishes: all facts of its run are still such as are admitted.
-use Rattle.std.proofs.Common.{ℕ, Bool, true, false, ◌&&◌, ◌==◌, nat_lt, Option, Some, None, List, [], ◌∷◌, length, find, ◌≡◌, refl, sym, ◌∙◌, ap, subst, option_map, option_and_then, if◌then◌else◌, IfSome}
+use Rattle.std.proofs.Common.{ℕ, Bool, true, false, ◌&&◌, ◌||◌, ◌==◌, nat_lt, Option, Some, None, List, [], ◌∷◌, length, find, ◌≡◌, refl, sym, ◌∙◌, ap, subst, option_map, option_and_then, if◌then◌else◌, IfSome}
 use Rattle.std.specs.List.{list_all}
 use Rattle.topology.specs.declared.status.Reason.{Reason}
 use Rattle.topology.specs.Lists.{has}
@@ -34,7 +34,7 @@ use Rattle.cut_laws.proofs.Bringing.{brings_simple, brings_inside}
 use Rattle.cut_laws.proofs.Owning.{own_answered}
 use Rattle.node_core.specs.ControlFits.{ballot_fits, epoch_fits, message_fits, value_fits}
 use Rattle.node_core.specs.Fits.{fits}
-use Rattle.node_core.specs.NodeLimits.{first_of_node, is_large, is_too_large, has_large_value, node_above}
+use Rattle.node_core.specs.NodeLimits.{first_of_node, is_large, is_too_large, has_large_value, has_long_list, node_above}
 use Rattle.node_core.specs.declared.limits.TheConstants.{MOST_EPOCHS, MOST_ENTRIES, MOST_UPDATES}
 use Rattle.admission_laws.specs.Handing.{table_fits, is_short}
 use Rattle.admission_laws.specs.NodeRuns.{each_link, alone}
@@ -251,11 +251,11 @@ none_of false false false false e = (refl, refl, refl, refl)
 
 -- each count is within its number
 pub within : (rules : Rules) (net : Net) (u : ℕ) (now : Chronicle) → node_above rules net u now ≡ None
-    → (nat_lt MOST_EPOCHS (epoch u now) ≡ false) × (has_large_value u now ≡ false) × (nat_lt MOST_ENTRIES (length (log_of u now)) ≡ false)
+    → (nat_lt MOST_EPOCHS (epoch u now) ≡ false) × ((has_large_value u now || has_long_list rules net u now) ≡ false) × (nat_lt MOST_ENTRIES (length (log_of u now)) ≡ false)
     × (nat_lt MOST_UPDATES (length (sent_of rules net u (log_of u now))) ≡ false)
 unfolding node_above
 within rules net u now none =
-    none_of (nat_lt MOST_EPOCHS (epoch u now)) (has_large_value u now) (nat_lt MOST_ENTRIES (length (log_of u now))) (nat_lt MOST_UPDATES (length (sent_of rules net u (log_of u now)))) none
+    none_of (nat_lt MOST_EPOCHS (epoch u now)) (has_large_value u now || has_long_list rules net u now) (nat_lt MOST_ENTRIES (length (log_of u now))) (nat_lt MOST_UPDATES (length (sent_of rules net u (log_of u now)))) none
 
 -- what goes on with the table went on before it
 pub concluded_goes : (rules : Rules) (net : Net) (u : ℕ) (past : Chronicle) (s : Step) (now : Chronicle) → concluded rules net u past s ≡ Goes now
@@ -292,5 +292,5 @@ module _ (rules : Rules) (net : Net) (valid : IsValid net) (carried : Carried) (
   control_given from m now up fit within_all goes =
       given_facts (input.Control from m) now tt goes
       (λ c is published.
-      let small : has_large_value u (publish rules net u past c) ≡ false = subst (λ k. has_large_value u k ≡ false) (sym published) (within rules net u now within_all).1 in
+      let small : has_large_value u (publish rules net u past c) ≡ false = subst (λ k. has_large_value u k ≡ false) (sym published) (or_left (has_large_value u now) (has_long_list rules net u now) (within rules net u now within_all).1) in
       hearing_facts rules net valid carried u here past all from m c up fit is (unpublished_small rules net carried u past c small))

@@ -5,7 +5,7 @@ use Rattle.std.specs.List.{list_all, AllByRecursion}
 use Rattle.std.proofs.lemmas.Bool.Decides.{nat_tests}
 use Rattle.std.proofs.lemmas.List.{length-append, length-map}
 use Rattle.topology.specs.declared.names.Scope.{Scope}
-use Rattle.topology.specs.declared.names.Scope.TheVariants.{One, All}
+use Rattle.topology.specs.declared.names.Scope.TheVariants.{One, All, Nothing}
 use Rattle.topology.specs.declared.names.Trigger.{Trigger}
 use Rattle.topology.specs.Lists.{has, Among}
 use Rattle.topology.specs.Paths.{differ}
@@ -15,7 +15,7 @@ use Rattle.topology.proofs.Ascending.{Rises}
 use Rattle.topology.proofs.Near.{neighbours_few}
 use Rattle.topology.proofs.Neighbours.{linked_nodes, neighbours_linked, rises-neighbours, differ-neighbours}
 use Rattle.path_vector.specs.declared.causes.Cause.{Cause}
-use Rattle.path_vector.specs.declared.causes.Cause.TheVariants.{Originate, Withdraw, Recv, Down, Up, Ready, Prefer}
+use Rattle.path_vector.specs.declared.causes.Cause.TheVariants.{Originate, Withdraw, Recv, Down, Up, Ready, Prefer, Flush}
 use Rattle.path_vector.specs.History.{held, held_by, last}
 use Rattle.trigger_log.specs.Entries.{Entry, Update, reads, inbox, received_by, closes, closing}
 use Rattle.trigger_log.specs.Fits.{Fits, CauseFits}
@@ -24,13 +24,21 @@ use Rattle.trigger_log.proofs.Fresh.{ever_above}
 use Rattle.trigger_log.proofs.Holding.{fits_up}
 use Rattle.incomplete_closure.specs.Reports.{SessionRow}
 use Rattle.epoch_report.specs.Reporting.{session_row, session_rows}
-use Rattle.node_core.specs.ControlFits.{leads, in_order, sooner, scope_fits, session_fits, sessions_ascend, sessions_fit, down_fits}
+use Rattle.node_core.specs.ControlFits.{leads, in_order, row_lists_fit, sooner, scope_fits, session_fits, sessions_ascend, sessions_fit, down_fits}
 use Rattle.node_core.specs.Names.{is_number, triggers_fit}
-use Rattle.node_core.specs.declared.limits.TheConstants.{MOST_ENTRIES, MOST_SESSIONS}
+use Rattle.node_core.specs.declared.limits.TheConstants.{MOST_ENTRIES, MOST_SESSIONS, MOST_TRIGGERS}
 use Rattle.admission_laws.proofs.Facts.{cause_fits, entry_fits}
 use Rattle.admission_laws.proofs.Each.{each_append, each_map, each_flat, among_has, among_append}
 use Rattle.admission_laws.proofs.Values.{one_of}
 use Rattle.admission_laws.proofs.Bounds.{number_is, below_is, most_is}
+
+-- what ends a session concerns all prefixes, so it lists something
+pub close_lists : (net : Net) (h : List Entry) (scope : Scope) (cause : Cause) (w s : ℕ) (ts : List Trigger) → CauseFits h scope cause → closes cause w s ≡ true → row_lists_fit net scope ts ≡ true
+    → triggers_fit net ts ≡ true
+close_lists net h All (Down v t) w s ts f e fit = and_right (nat_le (length ts) MOST_TRIGGERS) (triggers_fit net ts) fit
+close_lists net h (One p) (Down v t) w s ts f e fit = absurd f
+close_lists net h Nothing (Down v t) w s ts f e fit = absurd f
+close_lists net h scope other w s ts f e fit = absurd (cc e)
 
 -- all entries are such as u may have
 abbrev pub AllFit : Net → ℕ → List Entry → Type 0
@@ -46,20 +54,20 @@ module _ (net : Net) (u : ℕ) where
   rest_fits k h all = and_right (entry_fits net u k) (list_all (entry_fits net u) h) all
 
   -- the triggers of an entry that fits
-  pub triggers_of : (k : Entry) → entry_fits net u k ≡ true → triggers_fit net k.triggers ≡ true
-  triggers_of k is = and_left (triggers_fit net k.triggers) (scope_fits net k.read.scope && cause_fits net u k.read.cause) is
+  pub triggers_of : (k : Entry) → entry_fits net u k ≡ true → row_lists_fit net k.read.scope k.triggers ≡ true
+  triggers_of k is = and_left (row_lists_fit net k.read.scope k.triggers) (scope_fits net k.read.scope && cause_fits net u k.read.cause) is
 
   -- its scope
   pub scope_of : (k : Entry) → entry_fits net u k ≡ true → scope_fits net k.read.scope ≡ true
   scope_of k is =
       and_left (scope_fits net k.read.scope) (cause_fits net u k.read.cause)
-      (and_right (triggers_fit net k.triggers) (scope_fits net k.read.scope && cause_fits net u k.read.cause) is)
+      (and_right (row_lists_fit net k.read.scope k.triggers) (scope_fits net k.read.scope && cause_fits net u k.read.cause) is)
 
   -- its cause
   pub cause_of : (k : Entry) → entry_fits net u k ≡ true → cause_fits net u k.read.cause ≡ true
   cause_of k is =
       and_right (scope_fits net k.read.scope) (cause_fits net u k.read.cause)
-      (and_right (triggers_fit net k.triggers) (scope_fits net k.read.scope && cause_fits net u k.read.cause) is)
+      (and_right (row_lists_fit net k.read.scope k.triggers) (scope_fits net k.read.scope && cause_fits net u k.read.cause) is)
 
   -- ---- numbers
 
@@ -70,6 +78,7 @@ module _ (net : Net) (u : ℕ) where
   held_then (Recv v t seq path) w s a fits before is = before is
   held_then (Ready v t) w s a fits before is = before is
   held_then (Prefer v x) w s a fits before is = before is
+  held_then (Flush v) w s a fits before is = before is
   held_then (Down v t) w s a fits before is =
       (elim (v == w) as (λ b. cond b None a ≡ Some s → is_number s ≡ true) [ true ↦ λ r. absurd (cc r) | false ↦ λ r. before r ]) is
   held_then (Up v t) w s a fits before is =
@@ -92,6 +101,7 @@ module _ (net : Net) (u : ℕ) where
   opened_numbers (Down v t) w fits = refl
   opened_numbers (Ready v t) w fits = refl
   opened_numbers (Prefer v x) w fits = refl
+  opened_numbers (Flush v) w fits = refl
   opened_numbers (Up v t) w fits =
       elim (v == w) as (λ b. list_all is_number (cond b (t ∷ []) []) ≡ true) [
         | true ↦ and_both (is_number t) true (and_right (has (neighbours net u) v) (is_number t) fits) refl
@@ -105,13 +115,13 @@ module _ (net : Net) (u : ℕ) where
       each_append is_number (ever h w) (opens_by k.read.cause w) (ever_numbers h w (rest_fits k h all)) (opened_numbers k.read.cause w (cause_of k (first_fits k h all)))
 
   -- what ends a session lists something
-  closing_lists : (h : List Entry) (w s : ℕ) → AllFit net u h → down_fits net (closing h w s) ≡ true
-  closing_lists [] w s all = refl
-  closing_lists (k ∷ h) w s all =
-      elim (closes k.read.cause w s) as (λ b. down_fits net (cond b (Some k.triggers) (closing h w s)) ≡ true) [
-        | true ↦ triggers_of k (first_fits k h all)
-        | false ↦ closing_lists h w s (rest_fits k h all)
-      ]
+  closing_lists : (h : List Entry) (w s : ℕ) → AllFit net u h → Fits h → down_fits net (closing h w s) ≡ true
+  closing_lists [] w s all fits = refl
+  closing_lists (k ∷ h) w s all fits =
+      (elim (closes k.read.cause w s) as (λ b. closes k.read.cause w s ≡ b → down_fits net (cond b (Some k.triggers) (closing h w s)) ≡ true) [
+        | true ↦ λ e. close_lists net h k.read.scope k.read.cause w s k.triggers fits.0 e (triggers_of k (first_fits k h all))
+        | false ↦ λ e. closing_lists h w s (rest_fits k h all) fits.1
+      ]) refl
 
 -- ---- in order
 
@@ -122,7 +132,7 @@ leads_append before x [] (y ∷ ys) first all = all y (inl refl)
 leads_append before x (z ∷ xs) ys first all = first
 
 -- two lists in order, the first before the second
-order_append : {A : Type 0} (before : A → A → Bool) (xs ys : List A) → in_order before xs ≡ true → in_order before ys ≡ true → ((x y : A) → Among x xs → Among y ys → before x y ≡ true)
+pub order_append : {A : Type 0} (before : A → A → Bool) (xs ys : List A) → in_order before xs ≡ true → in_order before ys ≡ true → ((x y : A) → Among x xs → Among y ys → before x y ≡ true)
     → in_order before (xs ++ ys) ≡ true
 order_append before [] ys a b all = b
 order_append before (x ∷ xs) ys a b all =
@@ -131,7 +141,7 @@ order_append before (x ∷ xs) ys a b all =
     (order_append before xs ys (and_right (leads before x xs) (in_order before xs) a) b (λ z y here there. all z y (inr here) there))
 
 -- what is made of a list in order, where it keeps the order
-order_map : {A B : Type 0} (before : A → A → Bool) (then' : B → B → Bool) (f : A → B) (xs : List A) → ((x y : A) → before x y ≡ true → then' (f x) (f y) ≡ true) → in_order before xs ≡ true
+pub order_map : {A B : Type 0} (before : A → A → Bool) (then' : B → B → Bool) (f : A → B) (xs : List A) → ((x y : A) → before x y ≡ true → then' (f x) (f y) ≡ true) → in_order before xs ≡ true
     → in_order then' (map f xs) ≡ true
 order_map before then' f [] step a = refl
 order_map before then' f (x ∷ []) step a = refl
@@ -159,6 +169,7 @@ opened_last k h (Recv v t seq path) w is fits before = order_append nat_lt (ever
 opened_last k h (Down v t) w is fits before = order_append nat_lt (ever h w) [] before refl (λ x y here there. absurd there)
 opened_last k h (Ready v t) w is fits before = order_append nat_lt (ever h w) [] before refl (λ x y here there. absurd there)
 opened_last k h (Prefer v x) w is fits before = order_append nat_lt (ever h w) [] before refl (λ x y here there. absurd there)
+opened_last k h (Flush v) w is fits before = order_append nat_lt (ever h w) [] before refl (λ x y here there. absurd there)
 opened_last k h (Up v t) w is fits before =
     (elim (v == w) as (λ b. (v == w) ≡ b → in_order nat_lt (ever h w ++ cond b (t ∷ []) []) ≡ true) [
       | true ↦ λ e.
@@ -221,6 +232,8 @@ module _ (h : List Entry) where
 -- one update at most comes with an entry
 received_few : (triggers : List Trigger) (scope : Scope) (cause : Cause) (v s : ℕ) → length (received_by triggers scope cause v s) ≤ 1
 received_few triggers All cause v s = omega arith
+received_few triggers Nothing cause v s = omega arith
+received_few triggers (One p) (Flush w) v s = omega arith
 received_few triggers (One p) Originate v s = omega arith
 received_few triggers (One p) Withdraw v s = omega arith
 received_few triggers (One p) (Down w t) v s = omega arith
@@ -301,6 +314,7 @@ opened_few (Recv v t seq path) ws apart = nothing_opened (Recv v t seq path) ws 
 opened_few (Down v t) ws apart = nothing_opened (Down v t) ws (λ w. refl)
 opened_few (Ready v t) ws apart = nothing_opened (Ready v t) ws (λ w. refl)
 opened_few (Prefer v x) ws apart = nothing_opened (Prefer v x) ws (λ w. refl)
+opened_few (Flush v) ws apart = nothing_opened (Flush v) ws (λ w. refl)
 opened_few (Up v t) ws apart = one_opened v t ws apart
 
 -- as many as neighbours at the start
@@ -354,4 +368,4 @@ sessions_are net u h valid own all fits few =
         and_both (has net.nodes w) (is_number s && (nat_lt (length (inbox h w s)) (2 ^ 32) && down_fits net (closing h w s))) (neighbour_is net u w valid near)
         (and_both (is_number s) (nat_lt (length (inbox h w s)) (2 ^ 32) && down_fits net (closing h w s)) (one_of is_number (ever h w) s (ever_numbers net u h w all) there)
         (and_both (nat_lt (length (inbox h w s)) (2 ^ 32)) (down_fits net (closing h w s))
-        (below_is (length (inbox h w s)) (2 ^ 32) (let short = inbox_few h w s in omega arith)) (closing_lists net u h w s all)))
+        (below_is (length (inbox h w s)) (2 ^ 32) (let short = inbox_few h w s in omega arith)) (closing_lists net u h w s all fits)))

@@ -8,7 +8,8 @@ use Rattle.path_vector.specs.declared.causes.Cause.TheVariants as cause
 use Rattle.path_vector.specs.Rules.{Rules}
 use Rattle.path_vector.specs.History.{held, last, owns, ready}
 use Rattle.trigger_log.specs.Dropping.{Trimmed}
-use Rattle.trigger_log.specs.Entries.{Entry, reads, local, inbox, is_session}
+use Rattle.trigger_log.specs.Entries.{Entry, reads, local, flush, inbox, is_session}
+use Rattle.trigger_log.specs.Pending.{holds_some}
 use Rattle.trigger_log.specs.Going.{Item, News, Marker, Hello, Going, going_by}
 use Rattle.incomplete_closure.specs.declared.values.Value.{Value}
 use Rattle.stable_table.specs.Trimming.{trimmed_table}
@@ -18,7 +19,7 @@ use Rattle.chronicle.specs.Control.{control, decision}
 use Rattle.chronicle.specs.Epochs.{epoch, raised}
 use Rattle.chronicle.specs.Drops.{kept_log, table_cut}
 use Rattle.chronicle.specs.Facts.{Fact, Chronicle, Log, Sent, Took, Raise, Start, Mail, Heard, Crash, Publish, Visit, End, happen}
-use Rattle.chronicle.specs.Giving.{unless, out_of_turn, comes, closes, opens, proposes, answer}
+use Rattle.chronicle.specs.Giving.{unless, out_of_turn, comes, closes, opens, flushes, proposes, answer}
 use Rattle.chronicle.specs.Inputs.{Input, Arrival, arrival}
 use Rattle.chronicle.specs.Inputs as input
 use Rattle.chronicle.specs.Logs.{log_of}
@@ -122,6 +123,15 @@ module _ (rules : Rules) (net : Net) (carried : Carried) (u : ℕ) (P : Chronicl
   closes_keep None v now before = before
   closes_keep (Some s) v now before = write_keeps (local u (log_of u now) All (cause.Down v s)) now before
 
+  -- what is held back goes out
+  flushes_keep : (v : ℕ) (o : Option ℕ) (now : Chronicle) → P now → P (chronicle_of now (flushes rules net carried u now v o))
+  flushes_keep v None now before = before
+  flushes_keep v (Some s) now before =
+      elim (holds_some rules net u (log_of u now) v) as (λ t. P (chronicle_of now (if t then Goes (write rules net carried u (flush v) now) else Idle reason.NothingPending))) [
+        | true ↦ write_keeps (flush v) now before
+        | false ↦ before
+      ]
+
   -- a session that opens
   opens_keep : (v s : ℕ) (o : Option ℕ) (now : Chronicle) → P now → P (chronicle_of now (opens carried u now v s o))
   opens_keep v s (Some h) now before = before
@@ -157,6 +167,7 @@ module _ (rules : Rules) (net : Net) (carried : Carried) (u : ℕ) (P : Chronicl
   answer_keeps (input.Arrive v s x) past quiet before = comes_keep v s x past before
   answer_keeps (input.Notice v) past quiet before = closes_keep (held (reads (log_of u past)) v) v past before
   answer_keeps (input.OpenSession v s) past quiet before = opens_keep v s (held (reads (log_of u past)) v) past before
+  answer_keeps (input.Flush v) past quiet before = flushes_keep v (held (reads (log_of u past)) v) past before
   answer_keeps input.Snap past quiet before = raise_keeps (suc (epoch u past)) past before
   answer_keeps (input.Propose e) past quiet before = unless_keeps (proposal_refusal net (control past) u e) past (proposes net u past e) before (proposes_keep e past before)
   answer_keeps (input.Control from m) past quiet before = absurd quiet

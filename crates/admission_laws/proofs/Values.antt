@@ -1,20 +1,25 @@
 -- The value of reports that fit fits.
-use Rattle.std.proofs.Common.{Bool, true, ◌&&◌, nat_lt, nat_le, List, [], ◌∷◌, length, ◌≡◌, inl, inr, refl, sym, subst}
+use Rattle.std.proofs.Common.{Bool, true, ◌&&◌, nat_lt, nat_le, List, [], ◌∷◌, filter, map, length, ◌≡◌, ⊎_elim, inl, inr, refl, sym, subst, arith}
 use Rattle.std.specs.List.{list_all}
+use Rattle.topology.specs.declared.items.Pending.{Pending}
+use Rattle.topology.specs.declared.items.Sent.{Sent}
+use Rattle.topology.specs.declared.names.Scope.{Scope}
+use Rattle.topology.specs.declared.names.Scope.TheVariants.{One, All, Nothing}
 use Rattle.topology.specs.declared.names.Trigger.{Trigger}
 use Rattle.topology.specs.Lists.{has, Among}
 use Rattle.topology.specs.Triggers.{earlier, Ascend}
 use Rattle.topology.specs.Net.{Net}
-use Rattle.topology.proofs.Tests.{and_left, and_right, and_both}
-use Rattle.incomplete_closure.specs.Reports.{Listed, Row, Report}
-use Rattle.incomplete_closure.specs.Blocked.{Missing, Precedes, StepsTo, Leads, Blocked}
+use Rattle.topology.proofs.Tests.{and_left, and_right, and_both, same_is}
+use Rattle.incomplete_closure.specs.Reports.{Carrier, Row, Report, items_of, missing, of_item, of_pending, open_to, waits_for}
+use Rattle.incomplete_closure.specs.Blocked.{Open, Precedes, StepsTo, Leads, Blocked}
 use Rattle.incomplete_closure.specs.Values.{IsValue}
 use Rattle.incomplete_closure.specs.Marking.{value_of}
 use Rattle.incomplete_closure.proofs.Told.{is_value}
 use Rattle.consolidator.specs.Readings.{nodes_of}
-use Rattle.node_core.specs.ControlFits.{all_fit, in_order, incomplete_fits, item_lists_fit, listed_fits, nodes_fit, row_fits, scope_fits, value_fits}
-use Rattle.node_core.specs.Names.{are_nodes, trigger_fits, triggers_fit}
+use Rattle.node_core.specs.ControlFits.{all_fit, in_order, incomplete_fits, listed_fits, nodes_fit, row_fits, row_lists_fit, scope_fits, value_fits, waiting_fits}
+use Rattle.node_core.specs.Names.{are_nodes, is_number, list_fits, trigger_fits, triggers_fit}
 use Rattle.node_core.specs.declared.limits.TheConstants.{MOST_TRIGGERS}
+use Rattle.admission_laws.proofs.Each.{among_append, among_filter, among_flat, among_made}
 
 -- ---- lists
 
@@ -33,7 +38,7 @@ one_of test (y ∷ ys) x all (inr a) = one_of test ys x (and_right (test y) (lis
 
 -- a report of a node of the network, whose rows fit
 abbrev pub report_fits : Net → Report → Bool
-report_fits net r = has net.nodes r.node && list_all (row_fits net) r.rows
+report_fits net r = has net.nodes r.node && (list_all (row_fits net) r.rows && list_all (waiting_fits net) r.pending)
 
 module _ (net : Net) where
   -- each of some triggers that fit
@@ -44,19 +49,37 @@ module _ (net : Net) where
   trigger_of t (s ∷ r ∷ ts) fit (inl same) = subst (λ z. trigger_fits net z ≡ true) same (and_left (trigger_fits net s) (triggers_fit net (r ∷ ts)) fit)
   trigger_of t (s ∷ r ∷ ts) fit (inr a) = trigger_of t (r ∷ ts) (and_right (trigger_fits net s) (triggers_fit net (r ∷ ts)) fit) a
 
+  -- a list that fits has some triggers
+  pub of_list : (ts : List Trigger) → list_fits net ts ≡ true → triggers_fit net ts ≡ true
+  of_list ts fit = and_right (nat_le (length ts) MOST_TRIGGERS) (triggers_fit net ts) fit
+
+  -- what a row of this scope lists
+  pub of_row : (t : Trigger) (scope : Scope) (ts : List Trigger) → row_lists_fit net scope ts ≡ true → Among t ts → trigger_fits net t ≡ true
+  of_row t (One p) ts fit a = trigger_of t ts (of_list ts fit) a
+  of_row t All ts fit a = trigger_of t ts (of_list ts fit) a
+  of_row t Nothing [] fit a = absurd a
+  of_row t Nothing (s ∷ ts) fit a = let none = same_is (length (s ∷ ts)) 0 fit in absurd (omega (arith, none))
+
   -- what a row lists
   by_row : (t : Trigger) (row : Row) → row_fits net row ≡ true → Among t row.triggers → trigger_fits net t ≡ true
   by_row t row fit a =
-      let rest = (scope_fits net row.scope && list_all (listed_fits net) row.sent) && list_all (item_lists_fit net) row.sent in
-      trigger_of t row.triggers (and_left (triggers_fit net row.triggers) rest fit) a
+      of_row t row.scope row.triggers (and_left (row_lists_fit net row.scope row.triggers) (scope_fits net row.scope && list_all (listed_fits net) row.sent) fit) a
 
   -- what its items list
-  by_item : (t : Trigger) (row : Row) (item : Listed) → row_fits net row ≡ true → Among item row.sent → Among t item.triggers → trigger_fits net t ≡ true
+  by_item : (t : Trigger) (row : Row) (item : Sent) → row_fits net row ≡ true → Among item row.sent → Among t item.triggers → trigger_fits net t ≡ true
   by_item t row item fit sent a =
-      let front = scope_fits net row.scope && list_all (listed_fits net) row.sent in
-      let lists = list_all (item_lists_fit net) row.sent in
-      let all : lists ≡ true = and_right front lists (and_right (triggers_fit net row.triggers) (front && lists) fit) in
-      trigger_of t item.triggers (one_of (item_lists_fit net) row.sent item all sent) a
+      let all = and_right (scope_fits net row.scope) (list_all (listed_fits net) row.sent) (and_right (row_lists_fit net row.scope row.triggers) (scope_fits net row.scope && list_all (listed_fits net) row.sent) fit) in
+      let one = one_of (listed_fits net) row.sent item all sent in
+      let numbered = and_right (has net.nodes item.to) (is_number item.session && (is_number item.seq && list_fits net item.triggers)) one in
+      let list = and_right (is_number item.seq) (list_fits net item.triggers) (and_right (is_number item.session) (is_number item.seq && list_fits net item.triggers) numbered) in
+      trigger_of t item.triggers (of_list item.triggers list) a
+
+  -- what is held back
+  by_waiting : (t : Trigger) (row : Pending) → waiting_fits net row ≡ true → Among t row.triggers → trigger_fits net t ≡ true
+  by_waiting t row fit a =
+      let placed = and_right (has net.nodes row.to) (nat_lt row.prefix (length net.prefixes) && (is_number row.session && list_fits net row.triggers)) fit in
+      let list = and_right (is_number row.session) (list_fits net row.triggers) (and_right (nat_lt row.prefix (length net.prefixes)) (is_number row.session && list_fits net row.triggers) placed) in
+      trigger_of t row.triggers (of_list row.triggers list) a
 
   -- what a row behind another one lists
   behind : (s t : Trigger) (rows : List Row) → list_all (row_fits net) rows ≡ true → Precedes rows s t → trigger_fits net t ≡ true
@@ -67,25 +90,47 @@ module _ (net : Net) where
 
   module _ (reports : List Report) (fit : list_all (report_fits net) reports ≡ true) where
     -- the rows of each of them
+    all_rows : (r : Report) → Among r reports → (list_all (row_fits net) r.rows && list_all (waiting_fits net) r.pending) ≡ true
+    all_rows r a = and_right (has net.nodes r.node) (list_all (row_fits net) r.rows && list_all (waiting_fits net) r.pending) (one_of (report_fits net) reports r fit a)
+
     rows_of : (r : Report) → Among r reports → list_all (row_fits net) r.rows ≡ true
-    rows_of r a = and_right (has net.nodes r.node) (list_all (row_fits net) r.rows) (one_of (report_fits net) reports r fit a)
+    rows_of r a = and_left (list_all (row_fits net) r.rows) (list_all (waiting_fits net) r.pending) (all_rows r a)
+
+    waiting_of : (r : Report) → Among r reports → list_all (waiting_fits net) r.pending ≡ true
+    waiting_of r a = and_right (list_all (row_fits net) r.rows) (list_all (waiting_fits net) r.pending) (all_rows r a)
 
     -- a row of one of them
     row_of : (r : Report) (row : Row) → Among r reports → Among row r.rows → row_fits net row ≡ true
     row_of r row a b = one_of (row_fits net) r.rows row (rows_of r a) b
 
-    -- what a missing item lists
-    missing_fits : (from to : Report) (item : Listed) (t : Trigger) → Missing reports from to item → Among t item.triggers → trigger_fits net t ≡ true
-    missing_fits from to item t m a = by_item t m.row item (row_of from m.row m.sender m.listed) m.sent a
+    -- an item of one of them
+    item_of_report : (r : Report) (item : Sent) (t : Trigger) → Among r reports → Among item (items_of r) → Among t item.triggers → trigger_fits net t ≡ true
+    item_of_report r item t a b c =
+        let row = among_flat (λ (row : Row). row.sent) r.rows item b in
+        by_item t row.0 item (row_of r row.0 a row.1) row.2 c
+
+    -- what is open lists
+    open_fits : (from to : Report) (carrier : Carrier) (t : Trigger) → Open reports from to carrier → Among t carrier.triggers → trigger_fits net t ≡ true
+    unfolding open_to
+    open_fits from to carrier t lacks a =
+        ⊎_elim
+        (λ (item : Among carrier (map of_item (filter (missing from to) (items_of from)))).
+        let one = among_made of_item (filter (missing from to) (items_of from)) carrier item in
+        item_of_report from one.0 t lacks.sender (among_filter (missing from to) (items_of from) one.0 one.1) (subst (λ (c : Carrier). Among t c.triggers) (sym one.2) a))
+        (λ (row : Among carrier (map of_pending (filter (waits_for to) from.pending))).
+        let one = among_made of_pending (filter (waits_for to) from.pending) carrier row in
+        by_waiting t one.0 (one_of (waiting_fits net) from.pending one.0 (waiting_of from lacks.sender) (among_filter (waits_for to) from.pending one.0 one.1))
+        (subst (λ (c : Carrier). Among t c.triggers) (sym one.2) a))
+        (among_append (map of_item (filter (missing from to) (items_of from))) (map of_pending (filter (waits_for to) from.pending)) carrier lacks.is_open)
 
     -- that to which a step leads
     step_fits : (s t : Trigger) → StepsTo reports s t → trigger_fits net t ≡ true
     step_fits s t (inl o) = behind s t o.0.rows (rows_of o.0 o.1) o.2
     step_fits s t (inr (inl j)) = by_row t j.1 (row_of j.0 j.1 j.2 j.3) j.5
-    step_fits s t (inr (inr c)) = missing_fits c.from c.to c.item t c.lacks c.lists
+    step_fits s t (inr (inr c)) = open_fits c.from c.to c.carrier t c.lacks c.lists
 
     led_fits : (t : Trigger) (before : List Trigger) → Leads reports (t ∷ before) → trigger_fits net t ≡ true
-    led_fits t [] starts = missing_fits starts.from starts.to starts.item t starts.lacks starts.lists
+    led_fits t [] starts = open_fits starts.from starts.to starts.carrier t starts.lacks starts.lists
     led_fits t (s ∷ before) led = step_fits s t led.0
 
     -- a trigger that is blocked
@@ -98,7 +143,7 @@ module _ (net : Net) where
   nodes_known (r ∷ rs) fit =
       let one : report_fits net r ≡ true = and_left (report_fits net r) (list_all (report_fits net) rs) fit in
       and_both (has net.nodes r.node) (are_nodes net (nodes_of rs))
-      (and_left (has net.nodes r.node) (list_all (row_fits net) r.rows) one)
+      (and_left (has net.nodes r.node) (list_all (row_fits net) r.rows && list_all (waiting_fits net) r.pending) one)
       (nodes_known rs (and_right (report_fits net r) (list_all (report_fits net) rs) fit))
 
 -- triggers that ascend stand in order

@@ -1,7 +1,8 @@
 -- What a node admits may come to it.
-use Rattle.std.proofs.Common.{ℕ, ◌^◌, ◌<◌, Bool, true, false, ◌&&◌, nat_lt, nat_le, Option, Some, None, List, [], ◌∷◌, ◌≡◌, ◌≢◌, refl, sym, ◌∙◌, ap, subst, arith, length}
+use Rattle.std.proofs.Common.{ℕ, ◌^◌, ◌<◌, Bool, true, false, ◌&&◌, ◌==◌, nat_lt, nat_le, Option, Some, None, List, [], ◌∷◌, ◌≡◌, ◌≢◌, refl, sym, ◌∙◌, ap, subst, arith, length}
 use Rattle.std.proofs.Common.{Box, Global, Vec}
 use Rattle.std.specs.Prelude.{IfSome}
+use Rattle.std.specs.List.{list_all}
 use Rattle.std.proofs.lemmas.Bool.Decides.{nat_tests}
 use Rattle.topology.specs.declared.names.Trigger.{Trigger}
 use Rattle.topology.specs.Lists.{has}
@@ -11,7 +12,7 @@ use Rattle.topology.proofs.Tests.{and_left, and_right}
 use Rattle.path_vector.specs.Simple.{AreIn}
 use Rattle.trigger_log.specs.Going.{Item, News, Marker, Hello}
 use Rattle.cut_laws.specs.Received.{IsRouteFrom}
-use Rattle.chronicle.specs.Inputs.{Input, Originate, Withdraw, Prefer, Arrive, Notice, OpenSession, Snap, Propose, Control, Inject, Hop}
+use Rattle.chronicle.specs.Inputs.{Input, Originate, Withdraw, Prefer, Arrive, Notice, OpenSession, Flush, Snap, Propose, Control, Inject, Hop}
 use Rattle.topology.specs.declared.items.Item.{Item as Message}
 use Rattle.consolidator.specs.declared.messages.Message.{Message as Posted}
 use Rattle.consolidator.specs.Seen.{message_seen}
@@ -19,10 +20,11 @@ use Rattle.epoch_packet.specs.declared.packets.Packet.{Packet}
 use Rattle.trigger_log.specs.Going.{item_of}
 use Rattle.node_core.specs.declared.inputs.Input.{Input as Given}
 use Rattle.node_core.specs.declared.inputs.Input.TheVariants as given
+use Rattle.node_core.specs.declared.limits.TheConstants.{MOST_TRIGGERS}
 use Rattle.node_core.specs.Inputs.{input_of}
 use Rattle.node_core.specs.Coming.{MayCome}
 use Rattle.node_core.specs.ControlFits.{epoch_fits, message_fits}
-use Rattle.node_core.specs.Names.{are_nodes, is_number, triggers_fit}
+use Rattle.node_core.specs.Names.{are_nodes, is_number, list_fits, trigger_fits, triggers_fit}
 use Rattle.node_core.specs.PacketFits.{carried_fits, packet_fits, are_links}
 use Rattle.node_core.specs.Fits.{begins_with, path_fits, item_fits, fits}
 
@@ -54,22 +56,35 @@ route net v (Some path) e =
       inside = inside net path (and_right (differ path) (are_nodes net path) rest);
     }
 
-lists : (net : Net) (ts : List Trigger) → triggers_fit net ts ≡ true → ts ≢ []
-lists net [] e = absurd (cc e)
-lists net (t ∷ ts) e = λ same. absurd (cc same)
+-- where there are some, each fits where all do
+pub some_fit : (net : Net) (ts : List Trigger) → (length ts == 0) ≡ false → list_all (trigger_fits net) ts ≡ triggers_fit net ts
+some_fit net [] some = absurd (cc some)
+some_fit net (t ∷ []) some = and_true (trigger_fits net t)
+  where
+    and_true : (b : Bool) → (b && true) ≡ b
+    and_true true = refl
+    and_true false = refl
+some_fit net (t ∷ s ∷ ts) some = let more : (length (s ∷ ts) == 0) ≡ false = grind (arith, nat_tests) in ap (λ b. trigger_fits net t && b) (some_fit net (s ∷ ts) more)
+
+some_listed : (net : Net) (ts : List Trigger) → triggers_fit net ts ≡ true → ts ≢ []
+some_listed net [] e = absurd (cc e)
+some_listed net (t ∷ ts) e = λ same. absurd (cc same)
+
+lists : (net : Net) (ts : List Trigger) → list_fits net ts ≡ true → ts ≢ []
+lists net ts e = some_listed net ts (and_right (nat_le (length ts) MOST_TRIGGERS) (triggers_fit net ts) e)
 
 -- an item that is admitted
 item : (net : Net) (u v s : ℕ) (x : Item) → has (neighbours net u) v ≡ true → item_fits net v x ≡ true → MayCome net u (Arrive v s x)
 item net u v s (Marker e) near ok = (near, tt, tt)
 item net u v s (Hello e) near ok = (near, tt, tt)
 item net u v s (News n x) near ok =
-    let after = and_right (is_number n) (nat_lt x.prefix (length net.prefixes) && (triggers_fit net x.triggers && path_fits net v x.path)) ok in
-    let last = and_right (nat_lt x.prefix (length net.prefixes)) (triggers_fit net x.triggers && path_fits net v x.path) after in (
+    let after = and_right (is_number n) (nat_lt x.prefix (length net.prefixes) && (list_fits net x.triggers && path_fits net v x.path)) ok in
+    let last = and_right (nat_lt x.prefix (length net.prefixes)) (list_fits net x.triggers && path_fits net v x.path) after in (
       near,
-      below x.prefix (length net.prefixes) (and_left (nat_lt x.prefix (length net.prefixes)) (triggers_fit net x.triggers && path_fits net v x.path) after),
+      below x.prefix (length net.prefixes) (and_left (nat_lt x.prefix (length net.prefixes)) (list_fits net x.triggers && path_fits net v x.path) after),
       (
-        route net v x.path (and_right (triggers_fit net x.triggers) (path_fits net v x.path) last),
-        lists net x.triggers (and_left (triggers_fit net x.triggers) (path_fits net v x.path) last),
+        route net v x.path (and_right (list_fits net x.triggers) (path_fits net v x.path) last),
+        lists net x.triggers (and_left (list_fits net x.triggers) (path_fits net v x.path) last),
       ),
     )
 
@@ -91,6 +106,7 @@ may_come net u (Arrive v s x) e =
     (and_right (is_number s) (item_fits net v x) (and_right (has (neighbours net u) v) (is_number s && item_fits net v x) e))
 may_come net u (Notice v) e = e
 may_come net u (OpenSession v s) e = and_left (has (neighbours net u) v) (is_number s) e
+may_come net u (Flush v) e = e
 may_come net u Snap e = tt
 may_come net u (Propose d) e = tt
 may_come net u (Control from m) e = tt
@@ -136,6 +152,10 @@ module _ (net : Net) (u : ℕ) (input : Given) where
   pub fits_notice : (v : ℕ) (near : Bool) → input ≡ given.Notice v → near ≡ has (neighbours net u) v → near ≡ fits net u (input_of input)
   unfolding fits
   fits_notice v near is of = fits_as near (given.Notice v) is of
+
+  pub fits_flush : (v : ℕ) (near : Bool) → input ≡ given.Flush v → near ≡ has (neighbours net u) v → near ≡ fits net u (input_of input)
+  unfolding fits
+  fits_flush v near is of = fits_as near (given.Flush v) is of
 
   pub fits_opening : (v s n : ℕ) (near : Bool) → input ≡ given.OpenSession v s → near ≡ has (neighbours net u) v → n ≡ s → near ≡ true → is_number n ≡ fits net u (input_of input)
   unfolding fits

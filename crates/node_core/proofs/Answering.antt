@@ -1,12 +1,12 @@
 -- What an input asks of a node, and why the node declines.
-use Rattle.std.proofs.Common.{ℕ, suc, ◌≡◌, ◌<◌, ◌≤◌, true≢false, Bool, true, false, ◌==◌, nat_lt, Option, Some, None, refl, sym, ◌∙◌, ap, subst, arith, length}
+use Rattle.std.proofs.Common.{ℕ, suc, ◌≡◌, ◌<◌, ◌≤◌, true≢false, Bool, true, false, ◌==◌, nat_lt, Option, Some, None, List, [], ◌∷◌, ◌≢◌, refl, sym, ◌∙◌, ap, subst, arith, length}
 use Rattle.std.specs.Prelude.{if◌then◌else◌, ◌↔◌, IsTrue, is_some, Ok, Err}
 use Rattle.std.proofs.lemmas.Bool.Decides.{nat_tests}
 use Rattle.topology.specs.declared.items.Item.{Item as Message}
 use Rattle.topology.specs.declared.items.Item.TheVariants as message
 use Rattle.topology.specs.declared.names.Trigger.{Trigger}
 use Rattle.topology.specs.declared.paths.Path.{Path}
-use Rattle.topology.specs.declared.names.Scope.TheVariants.{One, All}
+use Rattle.topology.specs.declared.names.Scope.TheVariants.{One, All, Nothing}
 use Rattle.topology.specs.declared.status.Reason.{Reason}
 use Rattle.topology.specs.declared.status.Reason.TheVariants as reason
 use Rattle.topology.specs.Lists.{has}
@@ -14,21 +14,27 @@ use Rattle.topology.specs.Net.{Net, neighbours}
 use Rattle.path_vector.specs.declared.causes.Cause.TheVariants as cause
 use Rattle.path_vector.specs.Rules.{Rules}
 use Rattle.path_vector.specs.History.{held, last, owns}
-use Rattle.trigger_log.specs.Entries.{reads, inbox, is_session}
+use Rattle.trigger_log.specs.Entries.{reads, flush, inbox, is_session, next_trigger}
+use Rattle.trigger_log.specs.Fits.{MayFollow}
+use Rattle.trigger_log.specs.Pending.{holds_some}
 use Rattle.trigger_log.specs.Going.{Item, News, Marker, Hello, item_of}
 use Rattle.chronicle.specs.Epochs.{epoch}
 use Rattle.chronicle.specs.Facts.{Chronicle}
-use Rattle.chronicle.specs.Giving.{answer, opens, out_of_turn}
-use Rattle.chronicle.specs.Inputs.{Arrive, Notice, OpenSession, Originate, Withdraw, Prefer, Snap}
+use Rattle.chronicle.specs.Giving.{answer, flushes, opens, out_of_turn}
+use Rattle.chronicle.specs.Inputs.{Arrive, Flush, Notice, OpenSession, Originate, Withdraw, Prefer, Snap}
 use Rattle.chronicle.specs.Logs.{log_of}
-use Rattle.chronicle.specs.Steps.{Carried, Idle}
+use Rattle.chronicle.specs.Steps.{Carried, Goes, Idle, write}
 use Rattle.cut_laws.proofs.Marked.{session_is}
 use Rattle.node_core.specs.declared.inputs.Input.{Input as Given}
 use Rattle.node_core.specs.Inputs.{input_of}
 use Rattle.node_core.specs.declared.deciding.Act.{Act}
-use Rattle.node_core.specs.declared.deciding.Act.TheVariants.{Enter, Open, Take, Rise}
+use Rattle.node_core.specs.declared.deciding.Act.TheVariants.{Enter, Open, Take, Flush as Flushes, Rise}
 use Rattle.node_core.specs.Coming.{MayCome}
 use Rattle.node_core.specs.Deciding.{IsInTurn, IsDecided}
+
+-- an own entry lists something
+some_next : (u : ℕ) (past : Chronicle) → (next_trigger u (log_of u past) ∷ []) ≢ []
+some_next u past none = absurd (cc none)
 
 -- what is not out of turn is in turn
 in_turn : (u v s : ℕ) (past : Chronicle) (x : Item) → out_of_turn (suc (length (inbox (log_of u past) v s))) x ≡ None → IsInTurn u v s past x
@@ -42,13 +48,13 @@ in_turn u v s past (News n x) is =
     ]) refl is
 
 -- what is no update has no turn
-pub no_turn : (next : ℕ) (item : Message) → ((p n : ℕ) (t : Trigger) (path : Option Path) → item ≡ message.Update p n t path → ⊥) → out_of_turn next (item_of item) ≡ None
-no_turn next (message.Update p n t path) other = absurd (other p n t path refl)
+pub no_turn : (next : ℕ) (item : Message) → ((p n : ℕ) (ts : List Trigger) (path : Option Path) → item ≡ message.Update p n ts path → ⊥) → out_of_turn next (item_of item) ≡ None
+no_turn next (message.Update p n ts path) other = absurd (other p n ts path refl)
 no_turn next (message.Marker e) other = refl
 no_turn next (message.Hello e) other = refl
 
 -- an update is the next one, or it is not
-module _ (count next p n : ℕ) (t : Trigger) (path : Option Path) (item : Message) (is : item ≡ message.Update p n t path) (after : next ≡ suc count) where
+module _ (count next p n : ℕ) (ts : List Trigger) (path : Option Path) (item : Message) (is : item ≡ message.Update p n ts path) (after : next ≡ suc count) where
   pub its_turn : n ≡ next → out_of_turn (suc count) (item_of item) ≡ None
   its_turn same = let test : (n == next) ≡ true = grind (arith, nat_tests) in subst (λ m. out_of_turn m (item_of item) ≡ None) after (ap (λ x. out_of_turn next (item_of x)) is ∙ rw test refl)
 
@@ -66,6 +72,23 @@ not_higher m n most = let low : n ≤ m = omega (arith, most) in grind (arith, n
 open_by : (carried : Carried) (u : ℕ) (past : Chronicle) (v s : ℕ) (session : Option ℕ) → is_some session ≡ true → opens carried u past v s session ≡ Idle reason.AlreadyOpen
 open_by carried u past v s None e = absurd (cc e)
 open_by carried u past v s (Some t) e = refl
+
+some_if : (o p : Option ℕ) → o ≡ p → is_some o ≡ true → is_some p ≡ true
+some_if o p same some = ap is_some (sym same) ∙ some
+
+not_so : (b : Bool) → (b ≡ true → ⊥) → b ≡ false
+not_so true off = absurd (off refl)
+not_so false off = refl
+
+-- where a session is held, what is held back decides
+module _ (rules : Rules) (net : Net) (carried : Carried) (u : ℕ) (past : Chronicle) (v : ℕ) where
+  flush_by : (session : Option ℕ) → is_some session ≡ true → holds_some rules net u (log_of u past) v ≡ true → flushes rules net carried u past v session ≡ Goes (write rules net carried u (flush v) past)
+  flush_by None e so = absurd (cc e)
+  flush_by (Some s) e so = rw so refl
+
+  no_flush_by : (session : Option ℕ) → is_some session ≡ true → holds_some rules net u (log_of u past) v ≡ false → flushes rules net carried u past v session ≡ Idle reason.NothingPending
+  no_flush_by None e so = absurd (cc e)
+  no_flush_by (Some s) e so = rw so refl
 
 -- what the log says of updates that were received, where it has no answer, and where it has one
 none_received : (b : Bool) (n : ℕ) → (if b then Some n else None) ≡ None → b ≡ false
@@ -87,7 +110,7 @@ module _ (rules : Rules) (net : Net) (u : ℕ) (past : Chronicle) where
     unfolding answer
     originates is =
         let test : owns (reads (log_of u past)) p ≡ false = sym owned ∙ is in
-        (record { near = tt; placed = inside; fits = test }, λ carried. rw test refl)
+        (record { near = tt; placed = inside; fits = test; lists = some_next u past }, λ carried. rw test refl)
 
     pub originates_not : r ≡ true → IsDecided rules net u past (Originate p) (Err reason.AlreadyOrigin)
     unfolding answer
@@ -97,7 +120,7 @@ module _ (rules : Rules) (net : Net) (u : ℕ) (past : Chronicle) where
     unfolding answer
     withdraws is =
         let test : owns (reads (log_of u past)) p ≡ true = sym owned ∙ is in
-        (record { near = tt; placed = inside; fits = test }, λ carried. rw test refl)
+        (record { near = tt; placed = inside; fits = test; lists = some_next u past }, λ carried. rw test refl)
 
     pub withdraws_not : r ≡ false → IsDecided rules net u past (Withdraw p) (Err reason.NotOrigin)
     unfolding answer
@@ -105,7 +128,7 @@ module _ (rules : Rules) (net : Net) (u : ℕ) (past : Chronicle) where
 
   pub prefers : (v value : ℕ) → MayCome net u (Prefer v value) → IsDecided rules net u past (Prefer v value) (Ok (Enter All (cause.Prefer v value)))
   unfolding answer
-  prefers v value may = (record { near = may; placed = tt; fits = tt }, λ carried. refl)
+  prefers v value may = (record { near = may; placed = tt; fits = tt; lists = some_next u past }, λ carried. refl)
 
   pub snaps : (e : ℕ) → e ≡ suc (epoch u past) → IsDecided rules net u past Snap (Ok (Rise e))
   unfolding answer
@@ -117,7 +140,7 @@ module _ (rules : Rules) (net : Net) (u : ℕ) (past : Chronicle) where
       unfolding answer
       closes s is =
           let test : held (reads (log_of u past)) v ≡ Some s = sym holds ∙ is in
-          (record { near = near; placed = tt; fits = test }, λ carried. rw test refl)
+          (record { near = near; placed = tt; fits = test; lists = some_next u past }, λ carried. rw test refl)
 
       pub closes_not : o ≡ None → IsDecided rules net u past (Notice v) (Err reason.NotOpen)
       unfolding answer
@@ -127,22 +150,45 @@ module _ (rules : Rules) (net : Net) (u : ℕ) (past : Chronicle) where
       unfolding answer
       already_open s some = λ carried. open_by carried u past v s (held (reads (log_of u past)) v) (ap is_some (sym holds) ∙ some)
 
-      module _ (s : ℕ) (r : Bool) (fits : IsTrue r ↔ ((held (reads (log_of u past)) v ≡ None) × (last (reads (log_of u past)) v < s))) where
+      module _ (s : ℕ) (r : Bool) (fits : IsTrue r ↔ MayFollow rules net u (log_of u past) All (cause.Up v s)) where
         pub opens_higher : r ≡ true → IsDecided rules net u past (OpenSession v s) (Ok (Open v s))
         unfolding answer
         opens_higher is =
-            let both = fits.0 is in
+            let both = (fits.0 is).fits in
             let none : held (reads (log_of u past)) v ≡ None = both.0 in
             let higher : last (reads (log_of u past)) v < s = both.1 in
             let test : nat_lt (last (reads (log_of u past)) v) s ≡ true = grind (arith, nat_tests, higher) in
-            (record { near = near; placed = tt; fits = both }, λ carried. rw none (rw test refl))
+            (record { near = near; placed = tt; fits = both; lists = some_next u past }, λ carried. rw none (rw test refl))
 
         pub opens_old : is_some o ≡ false → r ≡ false → IsDecided rules net u past (OpenSession v s) (Err reason.OldSession)
         unfolding answer
         opens_old none is =
             let free : held (reads (log_of u past)) v ≡ None = sym holds ∙ none_of o none in
-            let test : nat_lt (last (reads (log_of u past)) v) s ≡ false = not_higher (last (reads (log_of u past)) v) s (λ higher. true≢false (sym (fits.1 (free, higher)) ∙ is)) in
+            let test : nat_lt (last (reads (log_of u past)) v) s ≡ false = not_higher (last (reads (log_of u past)) v) s (λ higher. true≢false (sym (fits.1 (record { fits = (free, higher); flushes = tt })) ∙ is)) in
             λ carried. rw free (rw test refl)
+
+      module _ (r : Bool) (fits : IsTrue r ↔ MayFollow rules net u (log_of u past) Nothing (cause.Flush v)) where
+        -- what is held back is sent
+        pub flushes_held : is_some o ≡ true → r ≡ true → IsDecided rules net u past (Flush v) (Ok (Flushes v))
+        unfolding answer
+        flushes_held some is =
+            let may : MayFollow rules net u (log_of u past) Nothing (cause.Flush v) = fits.0 is in (
+              record { near = near; placed = tt; fits = may.fits; lists = refl },
+              λ carried. flush_by rules net carried u past v (held (reads (log_of u past)) v) (some_if o (held (reads (log_of u past)) v) holds some) may.flushes,
+            )
+
+        -- nothing is
+        pub flushes_nothing : is_some o ≡ true → r ≡ false → IsDecided rules net u past (Flush v) (Err reason.NothingPending)
+        unfolding answer
+        flushes_nothing some is =
+            let holds_one = some_if o (held (reads (log_of u past)) v) holds some in
+            let none : holds_some rules net u (log_of u past) v ≡ false = not_so (holds_some rules net u (log_of u past) v) (λ so. true≢false (sym (fits.1 (record { fits = holds_one; flushes = so })) ∙ is)) in
+            λ carried. no_flush_by rules net carried u past v (held (reads (log_of u past)) v) holds_one none
+
+      -- no session is held
+      pub flushes_not : is_some o ≡ false → IsDecided rules net u past (Flush v) (Err reason.NotOpen)
+      unfolding answer
+      flushes_not none = λ carried. ap (flushes rules net carried u past v) (sym holds ∙ none_of o none)
 
     module _ (s : ℕ) (item : Message) (o : Option ℕ)
         (received : o ≡ (if is_session (held (reads (log_of u past)) v) s then Some (length (inbox (log_of u past) v s)) else None)) where

@@ -49,7 +49,7 @@ use Rattle.node_core.specs.Agreeing.{Agrees}
 use Rattle.node_core.specs.Answering.{Consults, MayComplete, Says, decided_by, posts}
 use Rattle.node_core.specs.Keeping.{Keeps}
 use Rattle.node_core.specs.Outputs.{Hands, output_of, outputs}
-use Rattle.node_core.specs.NodeLimits.{has_large_value, node_above, node_limit, proposes_large, StopsAt}
+use Rattle.node_core.specs.NodeLimits.{has_large_value, node_above, limit_before_marks, proposes_large, StopsAt}
 use Rattle.node_core.specs.Standing.{Follows}
 use Rattle.node_core.proofs.Agreements.{agrees_on}
 use Rattle.node_core.proofs.Entering.{same_keeps}
@@ -218,14 +218,14 @@ module _ (rules : Rules) (net : Net) (carried : Carried) (u : ℕ) (past : Chron
 
   -- a message that proposes too large a value would go out: the node stops
   pub asked_stops : (i : Input) (r : Reply) → Consults net r kept (control past) u i → proposes_large r ≡ true → node_above rules net u past ≡ None
-      → StopsAt (node_limit rules net u (answer rules net carried u past i)) (stop.Limit Triggers MOST_TRIGGERS)
+      → StopsAt (limit_before_marks rules net u (answer rules net carried u past i)) (stop.Limit Triggers MOST_TRIGGERS)
   asked_stops i (reply.Idle why) c large within = absurd (cc large)
   asked_stops i (reply.Sent list) c large within =
       let went = asked_sent i list c in
       let same = went.quietly.epochs in
       let low = epoch_low rules net u past within in
       let more : has_large_value u went.now ≡ true = went.proposed ∙ ap (λ b. b || has_large_value u past) (reply_large (reply.Sent list) list true refl large) in
-      ap (node_limit rules net u) went.goes ∙ triggers_above rules net u went.now (omega (arith, same, low)) more
+      ap (limit_before_marks rules net u) went.goes ∙ triggers_above rules net u went.now (omega (arith, same, low)) more
 
 -- no such message goes out
 pub small_sent : (net : Net) (u : ℕ) (past : Chronicle) (step : Step) (r : Reply) (list : Mails) (kept : Kept) (due : Option ℕ) (went : Went net u past step list kept due) → r ≡ reply.Sent list → proposes_large r ≡ false

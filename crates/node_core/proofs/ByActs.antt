@@ -8,7 +8,7 @@ use Rattle.topology.specs.declared.names.Scope.TheVariants.{All}
 use Rattle.path_vector.specs.declared.causes.Cause.TheVariants.{Ready, Up}
 use Rattle.path_vector.specs.Rules.{Rules}
 use Rattle.path_vector.specs.History.{ready}
-use Rattle.trigger_log.specs.Entries.{Entry, local, reads}
+use Rattle.trigger_log.specs.Entries.{Entry, flush, local, reads}
 use Rattle.trigger_log.specs.Going.{Item, News, Marker, Hello, Going, going_by, item_of}
 use Rattle.trigger_log.specs.Dropping.{Trimmed}
 use Rattle.epoch_report.specs.Trimming.{trimmed_report}
@@ -23,7 +23,7 @@ use Rattle.chronicle.specs.Publications.{Publication, publications_by}
 use Rattle.chronicle.specs.Inputs.{arrival}
 use Rattle.chronicle.specs.Steps.{Carried, sends, mails, write, open_session, markers, take_cut, raise, meet_mark, heard, unless_ready, take_item}
 use Rattle.node_core.specs.declared.deciding.Act.{Act}
-use Rattle.node_core.specs.declared.deciding.Act.TheVariants.{Enter, Open, Take, Rise}
+use Rattle.node_core.specs.declared.deciding.Act.TheVariants.{Enter, Open, Take, Flush, Rise}
 use Rattle.node_core.specs.Deciding.{MayDo, acted}
 
 -- a fact that is none of a cut, of agreement or of a table
@@ -124,4 +124,5 @@ module _ (rules : Rules) (net : Net) (u : ℕ) (P Q : Chronicle → Type 0) (a :
       a.nothing (write rules net carried u k past) (write_keeps P a.before carried u rules net k past p)
   acts_keep past (Open v s) may p = open_keeps v s past p
   acts_keep past (Take v s item) may p = take_keeps v s (item_of item) past p
+  acts_keep past (Flush v) may p = a.nothing (write rules net carried u (flush v) past) (write_keeps P a.before carried u rules net (flush v) past p)
   acts_keep past (Rise e) may p = raise_keeps e past may p

@@ -40,6 +40,7 @@ use Rattle.node_core.specs.Agreeing.{Agrees}
 use Rattle.node_core.specs.Answering.{MayComplete, Tabled}
 use Rattle.node_core.specs.Keeping.{Keeps}
 use Rattle.node_core.specs.Outputs.{Published, Hands, output_of}
+use Rattle.node_core.specs.Counting.{AreCounts}
 use Rattle.node_core.specs.Reports.{AreReports}
 use Rattle.node_core.specs.Views.{backups_over, view_of, views}
 use Rattle.node_core.specs.Standing.{Follows}
@@ -301,7 +302,7 @@ publishes {kept = kept} {made = made} policy rules net u d now old new t place t
         same_id = ap (λ (k : NodeParts). k.id) written ∙ (ap (λ (k : NodeParts). k.id) same ∙ keeps.same_id);
         log = log;
         drops = drops ∙ (let goes = tabled.keeps_from in omega (arith, goes));
-        listed = ap (λ (k : NodeParts). k.updates) written ∙ (ap (λ (k : NodeParts). k.updates) same ∙ keeps.listed);
+        counted = subst (AreCounts rules net u (log_of u now)) (sym (ap (λ (k : NodeParts). k.counts) written ∙ ap (λ (k : NodeParts). k.counts) same)) keeps.counted;
         acts = keeps.acts;
         snapshots = subst (λ kept. SnapshotsStandFor net u kept keeps.acts) (sym (ap (λ (k : NodeParts). k.snapshots) written ∙ ap (λ (k : NodeParts). k.snapshots) same)) keeps.snapshots;
         alike = same_alike keeps.acts u now then' refl (λ e. refl) (λ v s. refl) keeps.alike;

@@ -13,10 +13,10 @@ use Rattle.path_vector.specs.History.{History, held, opened, ready}
 use Rattle.trigger_log.specs.declared.log.NodeLog.{NodeLog}
 use Rattle.trigger_log.specs.Entries.{Entry, entry, local, next_trigger, reads}
 use Rattle.trigger_log.specs.Making.{making}
-use Rattle.trigger_log.specs.Fits.{CauseFits}
+use Rattle.trigger_log.specs.Fits.{CauseFits, ListsFor}
 use Rattle.trigger_log.specs.Going.{Going, Item, Hello, going_by, going_in, going_to, numbered, spread, told}
 use Rattle.trigger_log.specs.Offered.{IsPlaced}
-use Rattle.trigger_log.specs.Sending.{news, next_number, sent_of}
+use Rattle.trigger_log.specs.Sending.{news, next_number}
 use Rattle.trigger_log.specs.Standing.{StandsFor as LogStandsFor, dropped_of}
 use Rattle.incomplete_closure.specs.Reports.{Report}
 use Rattle.epoch_report.specs.Trimming.{trimmed_report}
@@ -30,9 +30,11 @@ use Rattle.chronicle.specs.Steps.{Carried, sends, write, open_session, unless_re
 use Rattle.chronicle.proofs.Blocks.{log_own, took_write, epoch_write, cut_write}
 use Rattle.chronicle.proofs.Dropping.{dropped_write, reported_write}
 use Rattle.node_core.specs.declared.agreement.Agreement.{Agreement}
+use Rattle.node_core.specs.declared.counts.Counts.{Counts}
 use Rattle.node_core.specs.declared.node.Node.{Node}
 use Rattle.node_core.specs.declared.outputs.Output.{Output as Given}
 use Rattle.node_core.specs.declared.parts.NodeParts.{NodeParts}
+use Rattle.node_core.specs.Counting.{AreCounts}
 use Rattle.node_core.specs.Keeping.{Keeps, MayEnter}
 use Rattle.node_core.specs.Outputs.{Logged, Send, output_of, Hands}
 use Rattle.node_core.specs.Reports.{AreReports}
@@ -49,18 +51,18 @@ module _ {P : Type 0} (policy : P) (rules : Rules) (topo net : Net) (u : ℕ) (h
     pub shown : map output_of after ≡ map output_of before ++ Logged (suc (length h)) ∷ map Send (going_by rules net u h k)
 
   -- an entry that fits is made
-  pub appended : (before after : List Given) → topo ≡ net → LogStandsFor policy rules net u old h → MayEnter net u h k.read.scope k.read.cause
-      → (LogStandsFor policy rules topo u old h → IsOfNeighbour topo u k.read.cause → IsPlaced topo k.read.scope → CauseFits h k.read.scope k.read.cause → LogStandsFor policy rules topo u new (k ∷ h))
-      → (LogStandsFor policy rules topo u old h → IsOfNeighbour topo u k.read.cause → IsPlaced topo k.read.scope → CauseFits h k.read.scope k.read.cause
+  pub appended : (before after : List Given) → topo ≡ net → LogStandsFor policy rules net u old h → MayEnter net u h k
+      → (LogStandsFor policy rules topo u old h → IsOfNeighbour topo u k.read.cause → IsPlaced topo k.read.scope → CauseFits h k.read.scope k.read.cause → ListsFor k.read.scope k.triggers → LogStandsFor policy rules topo u new (k ∷ h))
+      → (LogStandsFor policy rules topo u old h → IsOfNeighbour topo u k.read.cause → IsPlaced topo k.read.scope → CauseFits h k.read.scope k.read.cause → ListsFor k.read.scope k.triggers
       → map output_of after ≡ map output_of before ++ Logged (suc (length h)) ∷ map Send (going_by rules topo u h k))
       → Appends before after
   appended before after same was may log out =
       record {
-        log = subst (λ n. LogStandsFor policy rules n u old h → IsOfNeighbour n u k.read.cause → IsPlaced n k.read.scope → CauseFits h k.read.scope k.read.cause → LogStandsFor policy rules n u new (k ∷ h))
-            same log was may.near may.placed may.fits;
-        shown = subst (λ n. LogStandsFor policy rules n u old h → IsOfNeighbour n u k.read.cause → IsPlaced n k.read.scope → CauseFits h k.read.scope k.read.cause
+        log = subst (λ n. LogStandsFor policy rules n u old h → IsOfNeighbour n u k.read.cause → IsPlaced n k.read.scope → CauseFits h k.read.scope k.read.cause → ListsFor k.read.scope k.triggers → LogStandsFor policy rules n u new (k ∷ h))
+            same log was may.near may.placed may.fits may.lists;
+        shown = subst (λ n. LogStandsFor policy rules n u old h → IsOfNeighbour n u k.read.cause → IsPlaced n k.read.scope → CauseFits h k.read.scope k.read.cause → ListsFor k.read.scope k.triggers
             → map output_of after ≡ map output_of before ++ Logged (suc (length h)) ∷ map Send (going_by rules n u h k))
-            same out was may.near may.placed may.fits;
+            same out was may.near may.placed may.fits may.lists;
       }
 
 -- ---- what a node keeps
@@ -79,7 +81,7 @@ same_keeps policy rules net u node past now logs epochs cuts items drops was = r
   same_id = was.same_id;
   log = subst (LogStandsFor policy rules net u node.log.value) (sym logs) was.log;
   drops = was.drops ∙ sym drops.same_count;
-  listed = was.listed ∙ ap (λ h. length (sent_of rules net u h)) (sym logs);
+  counted = subst (λ h. AreCounts rules net u h node.parts.value.counts) (sym logs) was.counted;
   acts = was.acts;
   snapshots = was.snapshots;
   alike = same_alike was.acts u past now epochs cuts items was.alike;
@@ -94,26 +96,26 @@ keeps_as policy rules net u old new past same logs written reports was = record 
   same_id = ap (λ (k : NodeParts). k.id) written ∙ (ap (λ (k : NodeParts). k.id) same ∙ was.same_id);
   log = subst (λ l. LogStandsFor policy rules net u l.value (log_of u past)) (sym logs) was.log;
   drops = ap (λ l. dropped_of l.value) logs ∙ was.drops;
-  listed = ap (λ (k : NodeParts). k.updates) written ∙ (ap (λ (k : NodeParts). k.updates) same ∙ was.listed);
+  counted = subst (AreCounts rules net u (log_of u past)) (sym (ap (λ (k : NodeParts). k.counts) written ∙ ap (λ (k : NodeParts). k.counts) same)) was.counted;
   acts = was.acts;
   snapshots = subst (λ kept. SnapshotsStandFor net u kept was.acts) (sym (ap (λ (k : NodeParts). k.snapshots) written ∙ ap (λ (k : NodeParts). k.snapshots) same)) was.snapshots;
   alike = was.alike;
   reports = subst (AreReports rules net u past) (sym (ap (λ (k : NodeParts). k.agreement.reports) written ∙ (reports ∙ ap (λ (k : NodeParts). k.agreement.reports) same))) was.reports;
 }
 
--- an entry is made, and beside the log their number alone is written
-pub entered : {P : Type 0} {kept : NodeParts} {more : ℕ} (policy : P) (rules : Rules) (net : Net) (u : ℕ) (carried : Carried) (past : Chronicle) (k : Entry) (old new : Node P)
-    → Keeps policy rules net u old past → kept ≡ old.parts.value → new.parts.value ≡ record kept { updates = more }
-    → LogStandsFor policy rules net u new.log.value (k ∷ log_of u past) → dropped_of new.log.value ≡ dropped_of old.log.value → more ≡ length (sent_of rules net u (k ∷ log_of u past))
+-- an entry is made, and beside the log the counts alone are written
+pub entered : {P : Type 0} {kept : NodeParts} {more : Counts} (policy : P) (rules : Rules) (net : Net) (u : ℕ) (carried : Carried) (past : Chronicle) (k : Entry) (old new : Node P)
+    → Keeps policy rules net u old past → kept ≡ old.parts.value → new.parts.value ≡ record kept { counts = more }
+    → LogStandsFor policy rules net u new.log.value (k ∷ log_of u past) → dropped_of new.log.value ≡ dropped_of old.log.value → AreCounts rules net u (k ∷ log_of u past) more
     → Keeps policy rules net u new (write rules net carried u k past)
-entered policy rules net u carried past k old new was kept_is written log drops updates =
+entered {more = more} policy rules net u carried past k old new was kept_is written log drops counted =
     let same = sym (log_own rules net carried u k past) in
     record {
       same_net = ap (λ (p : NodeParts). p.topology.value) written ∙ (ap (λ (p : NodeParts). p.topology.value) kept_is ∙ was.same_net);
       same_id = ap (λ (p : NodeParts). p.id) written ∙ (ap (λ (p : NodeParts). p.id) kept_is ∙ was.same_id);
       log = subst (LogStandsFor policy rules net u new.log.value) same log;
       drops = drops ∙ (was.drops ∙ sym (dropped_write rules net carried u k past u));
-      listed = ap (λ (p : NodeParts). p.updates) written ∙ (updates ∙ ap (λ h. length (sent_of rules net u h)) same);
+      counted = subst (AreCounts rules net u (log_of u (write rules net carried u k past))) (sym (ap (λ (p : NodeParts). p.counts) written)) (subst (λ h. AreCounts rules net u h more) same counted);
       acts = was.acts;
       snapshots = subst (λ kept. SnapshotsStandFor net u kept was.acts) (sym (ap (λ (p : NodeParts). p.snapshots) written ∙ ap (λ (p : NodeParts). p.snapshots) kept_is)) was.snapshots;
       alike = same_alike was.acts u past (write rules net carried u k past) (epoch_write rules net carried u k past u) (cut_write rules net carried u k past u)
@@ -130,9 +132,9 @@ entered_hands rules net u carried past first k old new list was =
     hands_more first past (write rules net carried u k past) old new (Logged (suc (length (log_of u past))) ∷ map Send (going_by rules net u (log_of u past) k))
     list (outputs_write rules net u carried past k) was
 
--- the trigger of an own entry is the next one
-pub with_next : (Q : Entry → Type 0) (u : ℕ) (h : List Entry) (t : Trigger) (scope : Scope) (cause : Cause) → t ≡ next_trigger u h → Q (entry (t ∷ []) scope cause) → Q (local u h scope cause)
-with_next Q u h t scope cause is made = subst (λ x. Q (entry (x ∷ []) scope cause)) is made
+-- an own entry lists the next trigger
+pub with_next : (Q : Entry → Type 0) (u : ℕ) (h : List Entry) (ts : List Trigger) (scope : Scope) (cause : Cause) → ts ≡ next_trigger u h ∷ [] → Q (entry ts scope cause) → Q (local u h scope cause)
+with_next Q u h ts scope cause is made = subst (λ x. Q (entry x scope cause)) is made
 
 -- ---- an opening
 

@@ -1,4 +1,4 @@
-pub mod Rows
+pub mod Totals
 pub mod Counting
 pub mod Answering
 pub mod Handing

@@ -1,6 +1,11 @@
 -- What a log lists.
-use Rattle.std.proofs.Common.{ℕ, suc, ◌+◌, ◌-◌, ◌<◌, ◌≤◌, ◌⊎◌, ⊎_elim, Option, Some, List, [], ◌∷◌, ◌++◌, ◌≡◌, refl, sym, subst, ◌∙◌, ap, arith, length, slice_get}
-use Rattle.std.specs.Option.{SomeIff}
+use Rattle.std.proofs.Common.{ℕ, suc, ◌+◌, ◌-◌, ◌<◌, ◌≤◌, ◌⊎◌, ⊎_elim, Bool, true, false, ◌||◌, Some, List, [], ◌∷◌, ◌++◌, ◌≡◌, refl, sym, subst, ◌∙◌, ap, ap₂, arith, length, slice_get}
+use Rattle.std.specs.List.{list_any}
+use Rattle.topology.specs.declared.items.Sent.{Sent}
+use Rattle.node_core.specs.declared.counts.Counts.{Counts}
+use Rattle.node_core.specs.Counted.{is_long, is_long_item, item_marks}
+use Rattle.node_core.specs.Counting.{Adds, AreCounts}
+use Rattle.node_core.proofs.Totals.{total_append}
 use Rattle.std.proofs.lemmas.List.{length-append}
 use Rattle.topology.specs.Net.{Net}
 use Rattle.path_vector.specs.Rules.{Rules}
@@ -12,17 +17,6 @@ use Rattle.trigger_log.specs.Entered.{Entered, all_entered, Shows}
 -- what is there is one thing
 same_some : (x y : Entered) → Some x ≡ Some y → x ≡ y
 same_some x y e = cc
-
--- nothing is listed at the start
-pub none_sent : (rules : Rules) (net : Net) (u : ℕ) → length (sent_of rules net u []) ≡ 0
-unfolding sent_of
-none_sent rules net u = refl
-
--- an entry adds what it lists
-pub length_sent : (rules : Rules) (net : Net) (u : ℕ) (k : Entry) (h : List Entry)
-    → length (sent_of rules net u (k ∷ h)) ≡ length (sent_of rules net u h) + length (sent_by rules net u h k)
-unfolding sent_of
-length_sent rules net u k h = length-append (sent_of rules net u h) (sent_by rules net u h k)
 
 -- there is one for each entry
 length_steps : (h : List Entry) → length (all_entered h) ≡ length h
@@ -42,14 +36,75 @@ newest k h = ap (slice_get (all_entered (k ∷ h))) (sym (length_steps h)) ∙ a
 pub has_newest : (index n dropped : ℕ) → index ≡ suc n → dropped ≤ n → (index ≤ dropped) ⊎ (suc n < index) → ⊥
 has_newest index n dropped is few none = ⊎_elim (λ (e : index ≤ dropped). omega (arith, e, is, few)) (λ (l : suc n < index). omega arith) none
 
--- what is kept of the newest entry shows what that lists
-pub shown_newest : (rules : Rules) (net : Net) (u : ℕ) (k : Entry) (h : List Entry) (index : ℕ) (at : Entered) (shown : Shown) → index ≡ suc (length h)
-    → slice_get (all_entered (k ∷ h)) (index - 1) ≡ Some at → Shows rules net u at shown → shown.sent ≡ sent_by rules net u h k
-shown_newest rules net u k h index at shown is here shows =
+-- what is kept of the newest entry shows it
+pub shows_newest : (rules : Rules) (net : Net) (u : ℕ) (k : Entry) (h : List Entry) (index : ℕ) (at : Entered) (shown : Shown) → index ≡ suc (length h)
+    → slice_get (all_entered (k ∷ h)) (index - 1) ≡ Some at → Shows rules net u at shown → Shows rules net u (record { before = h; entry = k }) shown
+shows_newest rules net u k h index at shown is here shows =
     let place : index - 1 ≡ length h = omega arith in
     let same : at ≡ record { before = h; entry = k } = same_some at (record { before = h; entry = k }) (sym here ∙ (ap (slice_get (all_entered (k ∷ h))) place ∙ newest k h)) in
-    shows.sent ∙ ap (λ (s : Entered). sent_by rules net u s.before s.entry) same
+    subst (λ (s : Entered). Shows rules net u s shown) same shows
 
--- a sum that does not wrap
-pub added : (P : Type 0) (a b n : ℕ) (sum : Option ℕ) → sum ≡ Some n → SomeIff sum P (a + b) → n ≡ a + b
-added P a b n sum is sums = (subst (λ o. SomeIff o P (a + b)) is sums).1
+-- ---- what entries come to
+
+-- a test of one of them, and of the others
+any_append : (xs ys : List Sent) → list_any is_long_item (xs ++ ys) ≡ (list_any is_long_item xs || list_any is_long_item ys)
+any_append [] ys = refl
+any_append (x ∷ xs) ys = ap (λ b. is_long_item x || b) (any_append xs ys) ∙ or_assoc (is_long_item x) (list_any is_long_item xs) (list_any is_long_item ys)
+  where
+    or_assoc : (a b c : Bool) → (a || (b || c)) ≡ ((a || b) || c)
+    or_assoc true b c = refl
+    or_assoc false b c = refl
+
+marks_append : (xs ys : List Sent) → item_marks (xs ++ ys) ≡ item_marks xs + item_marks ys
+marks_append xs ys = total_append (λ (item : Sent). length item.triggers) xs ys
+
+-- nothing at the start
+pub none_counted : (rules : Rules) (net : Net) (u : ℕ) (counts : Counts) → counts.updates ≡ 0 → counts.marks ≡ 0 → counts.has_long ≡ false → AreCounts rules net u [] counts
+unfolding sent_of
+none_counted rules net u counts updates marks long = record { updates = updates; marks = marks; long = long }
+
+-- with an entry and its items
+pub counted_more : (rules : Rules) (net : Net) (u : ℕ) (k : Entry) (h : List Entry) (old mid new : Counts) (shown : Shown) (n : ℕ) → AreCounts rules net u h old → Shows rules net u (record { before = h; entry = k }) shown
+    → Adds shown.sent old mid → new.updates ≡ mid.updates → n ≡ length shown.triggers → new.marks ≡ mid.marks + n → new.has_long ≡ mid.has_long → AreCounts rules net u (k ∷ h) new
+unfolding sent_of
+counted_more rules net u k h old mid new shown n was shows adds updates many marks long = record {
+  updates = updates ∙ (adds.updates ∙ (ap₂ (λ a (items : List Sent). a + length items) was.updates shows.sent ∙ sym (length-append (sent_of rules net u h) (sent_by rules net u h k))));
+  marks =
+      let listed : n ≡ length k.triggers = many ∙ ap length shows.triggers in
+      let added : mid.marks ≡ old.marks + item_marks (sent_by rules net u h k) = adds.marks ∙ ap (λ items. old.marks + item_marks items) shows.sent in
+      let so_far = was.marks in
+      let both = marks_append (sent_of rules net u h) (sent_by rules net u h k) in
+      omega (arith, marks, listed, added, so_far, both);
+  long = long ∙ (adds.long ∙ (ap₂ (λ a (items : List Sent). a || list_any is_long_item items) was.long shows.sent ∙ sym (any_append (sent_of rules net u h) (sent_by rules net u h k))));
+}
+
+-- no item, one, and one more
+pub adds_none : (counts : Counts) → Adds [] counts counts
+adds_none counts = record { updates = omega arith; marks = omega arith; long = or_false counts.has_long }
+  where
+    or_false : (b : Bool) → b ≡ (b || false)
+    or_false true = refl
+    or_false false = refl
+
+pub adds_one : (item : Sent) (old new : Counts) (n : ℕ) (b : Bool) → n ≡ length item.triggers → b ≡ is_long item.triggers → new.updates ≡ old.updates + 1 → new.marks ≡ old.marks + n → new.has_long ≡ (old.has_long || b)
+    → Adds (item ∷ []) old new
+adds_one item old new n b many long updates marks either = record {
+  updates = updates;
+  marks = omega (arith, many, marks);
+  long = either ∙ ap (λ x. old.has_long || x) (long ∙ or_false (is_long item.triggers));
+}
+  where
+    or_false : (b : Bool) → b ≡ (b || false)
+    or_false true = refl
+    or_false false = refl
+
+pub adds_more : (xs ys : List Sent) (old mid new : Counts) → Adds xs old mid → Adds ys mid new → Adds (xs ++ ys) old new
+adds_more xs ys old mid new first then' = record {
+  updates = let a = first.updates in let b = then'.updates in let both = length-append xs ys in omega (arith, a, b, both);
+  marks = let a = first.marks in let b = then'.marks in let both = marks_append xs ys in omega (arith, a, b, both);
+  long = then'.long ∙ (ap (λ b. b || list_any is_long_item ys) first.long ∙ (or_assoc old.has_long (list_any is_long_item xs) (list_any is_long_item ys) ∙ ap (λ b. old.has_long || b) (sym (any_append xs ys))));
+}
+  where
+    or_assoc : (a b c : Bool) → ((a || b) || c) ≡ (a || (b || c))
+    or_assoc true b c = refl
+    or_assoc false b c = refl

@@ -1,10 +1,9 @@
 -- Lists whose elements stand in order, and how many items rows have.
 use Rattle.std.proofs.Common.{ℕ, zero, suc, ◌+◌, ◌-◌, ◌<◌, ◌≤◌, Bool, true, false, ◌&&◌, nat_le, List, [], ◌∷◌, drop, get_or, map, length, ◌≡◌, refl, sym, ◌∙◌, ap, subst, arith, length-append}
 use Rattle.std.proofs.lemmas.Bool.Decides.{nat_tests}
-use Rattle.std.specs.List.{list_all}
-use Rattle.std.proofs.lemmas.List.{drop_more, drop_all, length-map}
+use Rattle.std.proofs.lemmas.List.{drop_more, drop_all}
 use Rattle.incomplete_closure.specs.declared.cut_rows.Row.{Row}
-use Rattle.incomplete_closure.specs.Seen.{item_seen, row_seen}
+use Rattle.incomplete_closure.specs.Seen.{row_seen}
 use Rattle.node_core.specs.ControlFits.{leads, in_order, items_of}
 
 module _ {A : Type 0} (e : A → A → Bool) (xs : List A) where
@@ -55,28 +54,11 @@ order_mapped f e [] = refl
 order_mapped f e (x ∷ []) = refl
 order_mapped f e (x ∷ y ∷ ys) = ap (λ b. e (f x) (f y) && b) (order_mapped f e (y ∷ ys))
 
--- ---- a test of each element
-
-module _ {A B : Type 0} (f : A → B) (test : B → Bool) (xs : List A) (i : ℕ) (x : A) (inside : i < length xs) (is : x ≡ get_or xs i x) where
-  -- those from a place on
-  tested : list_all test (map f (drop i xs)) ≡ (test (f x) && list_all test (map f (drop (i + 1) xs)))
-  tested = ap (λ l. list_all test (map f l)) (drop_more xs i x inside ∙ ap (λ z. z ∷ drop (i + 1) xs) (sym is))
-
-  -- one that does not pass
-  pub one_fails : false ≡ test (f x) → list_all test (map f (drop i xs)) ≡ list_all test (map f xs) → false ≡ list_all test (map f xs)
-  one_fails off was = sym (tested ∙ ap (λ b. b && list_all test (map f (drop (i + 1) xs))) (sym off)) ∙ was
-
-  -- one more that does
-  pub one_passes : true ≡ test (f x) → list_all test (map f (drop i xs)) ≡ list_all test (map f xs) → list_all test (map f (drop (i + 1) xs)) ≡ list_all test (map f xs)
-  one_passes so was = sym (tested ∙ ap (λ b. b && list_all test (map f (drop (i + 1) xs))) (sym so)) ∙ was
-
 -- ---- how many items rows have
 
 -- those of one row, and of the others
 count_more : (row : Row) (rows : List Row) → length (items_of (map row_seen (row ∷ rows))) ≡ length row.sent + length (items_of (map row_seen rows))
-count_more row rows =
-    length-append (map (item_seen (row.trigger ∷ [])) row.sent) (items_of (map row_seen rows))
-    ∙ ap (λ n. n + length (items_of (map row_seen rows))) (length-map row.sent (item_seen (row.trigger ∷ [])))
+count_more row rows = length-append row.sent (items_of (map row_seen rows))
 
 module _ (rows : List Row) (i left : ℕ) (row : Row) (inside : i < length rows) (is : row ≡ get_or rows i row) where
   -- those from a place on

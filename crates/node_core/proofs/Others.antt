@@ -1,8 +1,9 @@
 -- What others do, and a crash, leave a node as it is.
-use Rattle.std.proofs.Common.{ℕ, false, ◌==◌, ◌∷◌, ◌≡◌, refl, ◌∙◌, arith}
+use Rattle.std.proofs.Common.{ℕ, false, ◌==◌, ◌∷◌, ◌≡◌, refl, sym, ◌∙◌, subst, arith}
 use Rattle.topology.specs.Net.{Net}
 use Rattle.path_vector.specs.Rules.{Rules}
 use Rattle.consolidator.specs.Beside as agreeing
+use Rattle.consolidator.specs.Keeping.{Kept as Part}
 use Rattle.consolidator.specs.Standing.{StandsFor as PartStandsFor}
 use Rattle.consolidator.proofs.Beside.{stands_beside}
 use Rattle.chronicle.specs.Facts.{Fact, Chronicle, Log, Sent, Took, Fail, Restore, Raise, Start, Mail, Heard, Crash, Restart, Publish, Visit, End}
@@ -11,14 +12,15 @@ use Rattle.chronicle.specs.Inputs.{Input}
 use Rattle.chronicle.specs.Steps.{Carried}
 use Rattle.chronicle.specs.Giving.{give}
 use Rattle.chronicle.specs.Run.{chronicle_of}
+use Rattle.chronicle.proofs.OwnFacts.{IsOf, given_by_facts}
 use Rattle.cut_laws.specs.Own as cuts
 use Rattle.cut_laws.specs.Own.{SameNode}
-use Rattle.cut_laws.proofs.Beside.{same_by_fact, give_same, give_agreeing}
+use Rattle.cut_laws.proofs.Beside.{same_by_fact, give_same}
 use Rattle.cut_laws.proofs.Owning.{own_same}
 use Rattle.node_core.specs.declared.node.Node.{Node}
 use Rattle.node_core.specs.Beside.{IsBeside}
 use Rattle.node_core.specs.Keeping.{Keeps}
-use Rattle.node_core.specs.NodeLimits.{has_large_value, node_above}
+use Rattle.node_core.specs.NodeLimits.{has_large_value, has_long_list, node_above}
 use Rattle.node_core.specs.Standing.{StandsFor}
 use Rattle.node_core.proofs.Agreements.{agrees_on}
 use Rattle.node_core.proofs.Entering.{same_keeps}
@@ -59,9 +61,28 @@ control_beside u (Restart node) q = tt
 control_beside u (Visit node packet) q = tt
 control_beside u (End packet ending) q = tt
 
+-- the number of another node is another number
+another : (u v node : ℕ) → (v == u) ≡ false → node ≡ v → (node == u) ≡ false
+another u v node off is = subst (λ n. (n == u) ≡ false) (sym is) off
+
+-- nor is a fact of another node
+of_another : (u v : ℕ) (f : Fact) → (v == u) ≡ false → IsOf v f → agreeing.IsBeside u (control_by f)
+of_another u v (Start node e ballot) off of = another u v node off of
+of_another u v (Mail from to message) off of = another u v from off of
+of_another u v (Heard node from message) off of = another u v node off of
+of_another u v (Crash node) off of = absurd of
+of_another u v other off of = tt
+
+-- all that another node does with an input leaves what u keeps of agreements
+give_agreeing : (rules : Rules) (net : Net) (u v : ℕ) → (v == u) ≡ false → (past : Chronicle) (kept : Part) (carried : Carried) (i : Input) → PartStandsFor net kept (control past) u
+    → PartStandsFor net kept (control (chronicle_of past (give rules net carried v past i))) u
+give_agreeing rules net u v off past kept carried i before =
+    given_by_facts rules net v (λ now. PartStandsFor net kept (control now) u)
+    (λ f now of stands. stands_beside net kept (control now) u (control_by f) (of_another u v f off of) stands) carried past i before
+
 -- the counts
 same_above : (rules : Rules) (net : Net) (u : ℕ) (past now : Chronicle) → SameNode u past now → has_large_value u now ≡ has_large_value u past → node_above rules net u now ≡ node_above rules net u past
-unfolding node_above
+unfolding node_above has_long_list
 same_above rules net u past now same large = rw (same.same_epoch, large, same.same_log) refl
 
 module _ {P : Type 0} (policy : P) (rules : Rules) (net : Net) (u : ℕ) (past : Chronicle) where

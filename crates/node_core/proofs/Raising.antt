@@ -9,9 +9,12 @@ use Rattle.path_vector.specs.Rules.{Rules}
 use Rattle.path_vector.specs.History.{held}
 use Rattle.trigger_log.specs.declared.log.NodeLog.{NodeLog}
 use Rattle.trigger_log.specs.Dropping.{Trimmed, trimmed}
-use Rattle.trigger_log.specs.Entries.{Entry, reads}
+use Rattle.topology.specs.declared.names.Trigger.{Trigger}
+use Rattle.path_vector.specs.declared.causes.Cause.{Cause}
+use Rattle.path_vector.specs.declared.causes.Cause.TheVariants.{Down}
+use Rattle.trigger_log.specs.Entries.{Entry, closes, closing, reads}
+use Rattle.trigger_log.specs.Fits.{AllInherit, Inherits}
 use Rattle.trigger_log.specs.Going.{Item, Marker, Going, mark_of, going_in, spread}
-use Rattle.trigger_log.specs.Sending.{sent_of}
 use Rattle.trigger_log.specs.Standing.{StandsFor as LogStandsFor, dropped_of}
 use Rattle.marker_snapshot.specs.Acts.{Acts, Takes, Meets}
 use Rattle.marker_snapshot.specs.Cuts.{epoch_of}
@@ -26,10 +29,12 @@ use Rattle.chronicle.specs.Steps.{Carried, markers, meet_mark, raise, reporting}
 use Rattle.chronicle.proofs.Blocks.{same_number, log_raise, epoch_raise, cut_raise, took_raise}
 use Rattle.chronicle.proofs.Dropping.{dropped_raise, reported_raise}
 use Rattle.cut_laws.specs.Own.{Own}
+use Rattle.epoch_report.specs.Downs.{DownsListOne}
 use Rattle.epoch_report.specs.Trimming.{trimmed_report}
 use Rattle.node_core.specs.declared.node.Node.{Node}
 use Rattle.node_core.specs.declared.outputs.Output.{Output as Given}
 use Rattle.node_core.specs.Alike.{Alike}
+use Rattle.node_core.specs.Counting.{AreCounts}
 use Rattle.node_core.specs.Keeping.{Keeps, KeepsAllBut}
 use Rattle.incomplete_closure.specs.Reports.{Report}
 use Rattle.consolidator.specs.Messages.{Reports}
@@ -87,7 +92,7 @@ told_keeps policy rules net u past now old new acts was rest logs drops snapshot
   same_id = rest.id ∙ was.same_id;
   log = subst (LogStandsFor policy rules net u new.log.value) (sym logs) (subst (λ l. LogStandsFor policy rules net u l.value (log_of u past)) (sym rest.log) was.log);
   drops = ap (λ l. dropped_of l.value) rest.log ∙ (was.drops ∙ sym drops);
-  listed = rest.updates ∙ (was.listed ∙ ap (λ h. length (sent_of rules net u h)) (sym logs));
+  counted = subst (AreCounts rules net u (log_of u now)) (sym rest.counts) (subst (λ h. AreCounts rules net u h old.parts.value.counts) (sym logs) was.counted);
   acts = acts;
   snapshots = snapshots;
   alike = alike;
@@ -206,3 +211,18 @@ module _ {P : Type 0} (policy : P) (rules : Rules) (net : Net) (u : ℕ) (carrie
   met_below same low =
       meets_below rules net u carried past v s e x (Keeps policy rules net u new) low
       (marked_keeps past (subst (λ n. Keeps policy rules net u n past) (sym same) was))
+
+-- ---- what a report tells of a Down
+
+one_listed : (u : ℕ) (h : List Entry) (cause : Cause) (ts : List Trigger) (w s : ℕ) → Inherits u h cause ts → closes cause w s ≡ true → length ts ≡ 1
+one_listed u h (Down v t) ts w s is same = ap length is
+one_listed u h other ts w s is same = absurd (cc same)
+
+-- where each entry lists what it has to, each Down lists one trigger
+pub downs_list_one : (u : ℕ) (h : List Entry) → AllInherit u h → DownsListOne h
+downs_list_one u [] all w s ts e = absurd (cc e)
+downs_list_one u (k ∷ h) all w s ts e =
+    (elim (closes k.read.cause w s) as (λ b. closes k.read.cause w s ≡ b → (if b then Some k.triggers else closing h w s) ≡ Some ts → length ts ≡ 1) [
+      | true ↦ λ same e. let is : k.triggers ≡ ts = cc e in ap length (sym is) ∙ one_listed u h k.read.cause k.triggers w s all.0 same
+      | false ↦ λ other e. downs_list_one u h all.1 w s ts e
+    ]) refl e

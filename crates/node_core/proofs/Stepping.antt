@@ -1,6 +1,7 @@
 -- What an act comes to.
-use Rattle.std.proofs.Common.{ℕ, ◌<◌, Option, None, [], ◌≡◌, refl, sym, ap, subst}
+use Rattle.std.proofs.Common.{ℕ, ◌<◌, true, false, Option, None, [], ◌≡◌, refl, sym, ◌∙◌, ap, subst}
 use Rattle.std.specs.Prelude.{Result, Ok, Err, IfOk, IfErr, List}
+use Rattle.topology.specs.declared.status.LimitKind.TheVariants.{Marks}
 use Rattle.topology.specs.declared.status.Reason.{Reason}
 use Rattle.topology.specs.Net.{Net}
 use Rattle.path_vector.specs.Rules.{Rules}
@@ -9,7 +10,7 @@ use Rattle.chronicle.specs.Facts.{Chronicle}
 use Rattle.chronicle.specs.Epochs.{epoch}
 use Rattle.chronicle.specs.Publications.{publish}
 use Rattle.chronicle.specs.Giving.{answer, concluded, give}
-use Rattle.chronicle.specs.Inputs.{Input, Originate, Withdraw, Prefer, Arrive, Notice, OpenSession, Snap, Propose, Control, Inject, Hop}
+use Rattle.chronicle.specs.Inputs.{Input, Originate, Withdraw, Prefer, Arrive, Notice, OpenSession, Flush, Snap, Propose, Control, Inject, Hop}
 use Rattle.chronicle.specs.Run.{chronicle_of}
 use Rattle.chronicle.proofs.Publishing.{epoch_publish, log_publish}
 use Rattle.chronicle.specs.Steps.{Step, Carried, Goes, Idle, raise}
@@ -22,19 +23,22 @@ use Rattle.node_core.specs.declared.answers.Answer.TheVariants as told
 use Rattle.node_core.specs.declared.node.Node.{Node}
 use Rattle.node_core.specs.declared.outputs.Output.{Output as Given}
 use Rattle.node_core.specs.declared.outputs.Outputs.TheVariants.{Did, Idle as Declines}
+use Rattle.node_core.specs.declared.limits.TheConstants.{MOST_MARKS}
 use Rattle.node_core.specs.declared.outputs.Stop.{Stop}
+use Rattle.node_core.specs.declared.outputs.Stop.TheVariants.{NoMemory, Limit}
 use Rattle.node_core.specs.Coming.{MayCome}
 use Rattle.node_core.specs.Deciding.{MayDo, acted}
 use Rattle.node_core.specs.Answering.{MayComplete, Says}
-use Rattle.node_core.specs.NodeLimits.{node_above, node_limit, StopsAt}
+use Rattle.node_core.specs.NodeLimits.{has_long_list, has_more_marks, limit_before_marks, node_above, node_limit, or_marks, StopsAt}
 use Rattle.node_core.specs.Outputs.{Hands, Answers}
 use Rattle.node_core.specs.Standing.{Follows, StandsFor}
+use Rattle.trigger_log.proofs.Collected.{none_at_first}
 use Rattle.node_core.proofs.Proposing.{large_publish}
 
 -- a node that has done nothing has no count above its number
 pub start_within : (rules : Rules) (net : Net) (u : ℕ) → node_above rules net u [] ≡ None
-unfolding node_above sent_of
-start_within rules net u = refl
+unfolding node_above has_long_list sent_of
+start_within rules net u = rw (none_at_first rules net u) refl
 
 -- an error that is handed on
 pub handed_on : {T E : Type 0} (r : Result T E) (Q : E → Type 0) (why : E) → r ≡ Err why → Q why → IfErr r Q
@@ -58,6 +62,7 @@ may_reach net u (Withdraw p) may = tt
 may_reach net u (Prefer v value) may = tt
 may_reach net u (Notice v) may = tt
 may_reach net u (OpenSession v s) may = tt
+may_reach net u (Flush v) may = tt
 may_reach net u Snap may = tt
 may_reach net u (Propose e) may = tt
 may_reach net u (Control from m) may = tt
@@ -94,7 +99,7 @@ follows_now policy rules net u past step now node goes follows = subst (λ s. Fo
 
 -- the counts after a table is published
 above_publish : (rules : Rules) (net : Net) (u : ℕ) (past now : Chronicle) → node_above rules net u (publish rules net u past now) ≡ node_above rules net u now
-unfolding node_above
+unfolding node_above has_long_list
 above_publish rules net u past now = rw (epoch_publish rules net u past now u, large_publish rules net u u past now, log_publish rules net u past now u) refl
 
 module _ {P : Type 0} (policy : P) (rules : Rules) (net : Net) (u : ℕ) (carried : Carried) (past : Chronicle) (input : Input) where
@@ -109,12 +114,12 @@ module _ {P : Type 0} (policy : P) (rules : Rules) (net : Net) (u : ℕ) (carrie
   given_idle why is = ap (concluded rules net u past) is
 
   -- a table that is published takes no count above its number
-  same_limit : (s : Step) → node_limit rules net u (concluded rules net u past s) ≡ node_limit rules net u s
+  same_limit : (s : Step) → limit_before_marks rules net u (concluded rules net u past s) ≡ limit_before_marks rules net u s
   same_limit (Idle why) = refl
   same_limit (Goes now) = above_publish rules net u past now
 
   -- so the node stops where the step does without it
-  pub stops_before : (stop : Stop) → StopsAt (node_limit rules net u (answer rules net carried u past input)) stop → StopsAt (node_limit rules net u (give rules net carried u past input)) stop
+  pub stops_before : (stop : Stop) → StopsAt (limit_before_marks rules net u (answer rules net carried u past input)) stop → StopsAt (limit_before_marks rules net u (give rules net carried u past input)) stop
   unfolding give
   stops_before stop stops = subst (λ limit. StopsAt limit stop) (sym (same_limit (answer rules net carried u past input))) stops
 
@@ -138,8 +143,24 @@ module _ {P : Type 0} (policy : P) (rules : Rules) (net : Net) (u : ℕ) (carrie
     then_answers list hands = subst (λ s. Answers past s (Did list)) (sym (given_goes now goes)) hands
 
     -- it stops where a count is above its number
-    pub then_stops : (stop : Stop) → StopsAt (node_above rules net u (publish rules net u past now)) stop → StopsAt (node_limit rules net u (give rules net carried u past input)) stop
-    then_stops stop stops = subst (λ s. StopsAt (node_limit rules net u s) stop) (sym (given_goes now goes)) stops
+    pub then_stops : (stop : Stop) → StopsAt (node_above rules net u (publish rules net u past now)) stop → StopsAt (limit_before_marks rules net u (give rules net carried u past input)) stop
+    then_stops stop stops = subst (λ s. StopsAt (limit_before_marks rules net u s) stop) (sym (given_goes now goes)) stops
+
+  module _ (now : Chronicle) (goes : give rules net carried u past input ≡ Goes now) where
+    -- where no other count is above its number, the marks alone may be
+    pub marks_stop : (node : Node P) → StandsFor policy rules net u node (chronicle_of past (give rules net carried u past input)) → has_more_marks rules net u (chronicle_of past (give rules net carried u past input)) ≡ true
+        → StopsAt (node_limit rules net u (give rules net carried u past input)) (Limit Marks MOST_MARKS)
+    marks_stop node stands more =
+        let within = subst (λ s. node_above rules net u (chronicle_of past s) ≡ None) goes stands.within in
+        let above = subst (λ s. has_more_marks rules net u (chronicle_of past s) ≡ true) goes more in
+        ap (node_limit rules net u) goes ∙ rw (within, above) refl
+
+    pub marks_within : (node : Node P) → StandsFor policy rules net u node (chronicle_of past (give rules net carried u past input)) → has_more_marks rules net u (chronicle_of past (give rules net carried u past input)) ≡ false
+        → node_limit rules net u (give rules net carried u past input) ≡ None
+    marks_within node stands few =
+        let within = subst (λ s. node_above rules net u (chronicle_of past s) ≡ None) goes stands.within in
+        let below = subst (λ s. has_more_marks rules net u (chronicle_of past s) ≡ false) goes few in
+        ap (node_limit rules net u) goes ∙ rw (within, below) refl
 
   module _ (why : Reason) (idle : answer rules net carried u past input ≡ Idle why) where
     -- the node stands for what it stood for
@@ -152,3 +173,21 @@ module _ {P : Type 0} (policy : P) (rules : Rules) (net : Net) (u : ℕ) (carrie
     -- it answers the reason
     pub then_declines : Answers past (give rules net carried u past input) (Declines why)
     then_declines = subst (λ s. Answers past s (Declines why)) (sym (given_idle why idle)) refl
+
+-- ---- the limits with the marks
+
+-- what was answered with outputs went on
+pub answered_goes : (past : Chronicle) (step : Step) (list : List Given) → Answers past step (Did list) → (now : Chronicle) × (step ≡ Goes now)
+answered_goes past (Goes now) list is = (now, refl)
+answered_goes past (Idle why) list none = absurd none
+
+-- nothing was done where a reason was answered
+pub answered_idle : (rules : Rules) (net : Net) (u : ℕ) (past : Chronicle) (step : Step) (why : Reason) → Answers past step (Declines why) → node_limit rules net u step ≡ None
+answered_idle rules net u past (Idle reason) why is = refl
+answered_idle rules net u past (Goes now) why none = absurd none
+
+-- a stop before the marks is one
+pub stops_with_marks : (rules : Rules) (net : Net) (u : ℕ) (step : Step) (stop : Stop) → StopsAt (limit_before_marks rules net u step) stop → StopsAt (node_limit rules net u step) stop
+stops_with_marks rules net u step NoMemory at = tt
+stops_with_marks rules net u (Idle why) (Limit kind number) at = at
+stops_with_marks rules net u (Goes now) (Limit kind number) at = ap (λ o. or_marks o (has_more_marks rules net u now)) at

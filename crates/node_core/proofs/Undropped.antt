@@ -1,5 +1,5 @@
 -- What a node dropped, and what it dropped of its cuts, where a step drops nothing.
-use Rattle.std.proofs.Common.{ℕ, ◌≡◌, refl, ◌∙◌, ap₂}
+use Rattle.std.proofs.Common.{ℕ, ◌≡◌, refl, ap₂}
 use Rattle.std.specs.Prelude.{Option, List, option_map}
 use Rattle.topology.specs.Net.{Net}
 use Rattle.trigger_log.specs.Dropping.{trimmed}

@@ -3,7 +3,7 @@ use Rattle.std.specs.Prelude.{ℕ, ◌≡◌, ◌<◌, true, length}
 use Rattle.topology.specs.Lists.{has}
 use Rattle.topology.specs.Net.{Net, neighbours}
 use Rattle.trigger_log.specs.Going.{Item, News, Marker, Hello}
-use Rattle.chronicle.specs.Inputs.{Input, Originate, Withdraw, Prefer, Arrive, Notice, OpenSession, Snap, Propose, Control, Inject, Hop}
+use Rattle.chronicle.specs.Inputs.{Input, Originate, Withdraw, Prefer, Arrive, Notice, OpenSession, Flush, Snap, Propose, Control, Inject, Hop}
 use Rattle.cut_laws.specs.Own.{MayHear}
 
 -- the prefix of an update is one of the network
@@ -13,7 +13,7 @@ IsPlaced net (Marker e) = Unit {0}
 IsPlaced net (Hello e) = Unit {0}
 
 -- its names are those of the network: prefixes, and neighbours of u; and the path of an update begins
--- with its sender, repeats no node and stays in the network. Of ballots and control messages nothing need be
+-- with its sender, repeats no node and stays in the network, and it lists something. Of ballots and control messages nothing need be
 -- known, and of a packet only that its prefix is one of the network
 abbrev pub MayCome : Net → ℕ → Input → Type 0
 MayCome net u (Originate p) = p < length net.prefixes
@@ -22,6 +22,7 @@ MayCome net u (Prefer v value) = has (neighbours net u) v ≡ true
 MayCome net u (Arrive v s item) = (has (neighbours net u) v ≡ true) × IsPlaced net item × MayHear net v item
 MayCome net u (Notice v) = has (neighbours net u) v ≡ true
 MayCome net u (OpenSession v s) = has (neighbours net u) v ≡ true
+MayCome net u (Flush v) = has (neighbours net u) v ≡ true
 MayCome net u Snap = Unit {0}
 MayCome net u (Propose e) = Unit {0}
 MayCome net u (Control from m) = Unit {0}

@@ -1,19 +1,22 @@
 -- Which ballots and control messages a node admits.
-use Rattle.std.specs.Prelude.{ℕ, ◌^◌, Bool, true, ◌&&◌, ◌||◌, ◌==◌, nat_lt, nat_le, Option, Some, None, List, [], ◌∷◌, length}
+use Rattle.std.specs.Prelude.{ℕ, ◌+◌, ◌^◌, Bool, true, ◌&&◌, ◌||◌, ◌==◌, nat_lt, nat_le, Option, Some, None, List, [], ◌∷◌, length}
 use Rattle.std.specs.List.{list_all, flat_map}
 use Rattle.topology.specs.declared.ballots.Ballot.{Ballot}
+use Rattle.topology.specs.declared.items.Pending.{Pending}
+use Rattle.topology.specs.declared.items.Sent.{Sent}
 use Rattle.topology.specs.declared.names.Scope.{Scope}
-use Rattle.topology.specs.declared.names.Scope.TheVariants.{One, All}
+use Rattle.topology.specs.declared.names.Scope.TheVariants.{One, All, Nothing}
 use Rattle.topology.specs.declared.names.Trigger.{Trigger}
 use Rattle.topology.specs.Lists.{has}
 use Rattle.topology.specs.Triggers.{earlier}
 use Rattle.topology.specs.Net.{Net}
-use Rattle.incomplete_closure.specs.Reports.{Listed, Row, SessionRow}
+use Rattle.incomplete_closure.specs.Reports.{Row, SessionRow, Report}
 use Rattle.incomplete_closure.specs.declared.values.Value.{Value}
 use Rattle.paxos_core.specs.Facts.{Message as Ballots, Prepare, Promise, Accept, Accepted, Decision}
 use Rattle.consolidator.specs.Messages.{Message, Reports, Agrees, epoch_of}
-use Rattle.node_core.specs.declared.limits.TheConstants.{MOST_EPOCHS, MOST_TRIGGERS, MOST_ENTRIES, MOST_UPDATES, MOST_SESSIONS}
-use Rattle.node_core.specs.Names.{are_nodes, is_number, trigger_fits, triggers_fit}
+use Rattle.node_core.specs.declared.limits.TheConstants.{MOST_EPOCHS, MOST_TRIGGERS, MOST_ENTRIES, MOST_UPDATES, MOST_SESSIONS, MOST_PENDING, MOST_MARKS}
+use Rattle.node_core.specs.Counted.{item_marks, row_marks, total}
+use Rattle.node_core.specs.Names.{are_nodes, is_number, list_fits, trigger_fits, triggers_fit}
 
 -- an epoch that a cut may be of
 abbrev pub epoch_fits : ℕ → Bool
@@ -69,27 +72,29 @@ ballots_fit net from (Decision v) = value_fits net v
 
 -- ---- reports
 
--- a prefix of the network, or all
+-- a prefix of the network, all, or none
 abbrev pub scope_fits : Net → Scope → Bool
 scope_fits net (One p) = nat_lt p (length net.prefixes)
 scope_fits net All = true
+scope_fits net Nothing = true
 
--- an item for a node of the network, in a session and with a number from 1
-abbrev pub listed_fits : Net → Listed → Bool
-listed_fits net item = has net.nodes item.to && (is_number item.session && is_number item.seq)
+-- an item for a node of the network, in a session and with a number from 1, with a list of triggers
+abbrev pub listed_fits : Net → Sent → Bool
+listed_fits net item = has net.nodes item.to && (is_number item.session && (is_number item.seq && list_fits net item.triggers))
 
--- what an item lists
-abbrev pub item_lists_fit : Net → Listed → Bool
-item_lists_fit net item = triggers_fit net item.triggers
+-- what a row lists: nothing where it concerns no prefix, else a list of triggers
+abbrev pub row_lists_fit : Net → Scope → List Trigger → Bool
+row_lists_fit net (One p) triggers = list_fits net triggers
+row_lists_fit net All triggers = list_fits net triggers
+row_lists_fit net Nothing triggers = length triggers == 0
 
--- the row of an entry: its triggers, its scope and its items name what the network has, and so do the triggers of the items
+-- the row of an entry: its triggers, its scope and its items name what the network has
 abbrev pub row_fits : Net → Row → Bool
 row_fits net row =
-    triggers_fit net row.triggers
-    && ((scope_fits net row.scope && list_all (listed_fits net) row.sent) && list_all (item_lists_fit net) row.sent)
+    row_lists_fit net row.scope row.triggers && (scope_fits net row.scope && list_all (listed_fits net) row.sent)
 
 -- all items of the rows
-abbrev pub items_of : List Row → List Listed
+abbrev pub items_of : List Row → List Sent
 items_of rows = flat_map (λ (row : Row). row.sent) rows
 
 -- the rows and their items are no more than a node may have
@@ -120,11 +125,45 @@ sessions_ascend rows = in_order sooner rows && nat_le (length rows) MOST_SESSION
 abbrev pub sessions_fit : Net → List SessionRow → Bool
 sessions_fit net rows = list_all (session_fits net) rows && sessions_ascend rows
 
+-- what is held back from a node of the network: an update of a prefix of the network, in a session from 1, with a list of
+-- triggers
+abbrev pub waiting_fits : Net → Pending → Bool
+waiting_fits net row =
+    has net.nodes row.to && (nat_lt row.prefix (length net.prefixes) && (is_number row.session && list_fits net row.triggers))
+
+-- by neighbour, then by prefix
+abbrev pub waits_sooner : Pending → Pending → Bool
+waits_sooner a b = nat_lt a.to b.to || (a.to == b.to && nat_lt a.prefix b.prefix)
+
+-- these rows ascend, and are no more than there may be
+abbrev pub waiting_ascends : List Pending → Bool
+waiting_ascends rows = in_order waits_sooner rows && nat_le (length rows) MOST_PENDING
+
+abbrev pub pending_fits : Net → List Pending → Bool
+pending_fits net rows = list_all (waiting_fits net) rows && waiting_ascends rows
+
+-- the triggers that a row and its items list, counted once for each list
+abbrev pub marks_of_row : Row → ℕ
+marks_of_row row = length row.triggers + item_marks row.sent
+
+-- those of all rows of entries
+abbrev pub marks_of_rows : List Row → ℕ
+marks_of_rows rows = total marks_of_row rows
+
+-- those that a report lists
+abbrev pub report_marks : Report → ℕ
+report_marks r = marks_of_rows r.rows + row_marks r.pending
+
+-- the rows of each sort fit, and together they list no more triggers than a report may
+abbrev pub report_fits : Net → Report → Bool
+report_fits net r =
+    rows_fit net r.rows && (sessions_fit net r.sessions && (pending_fits net r.pending && nat_le (report_marks r) MOST_MARKS))
+
 -- ---- messages
 
 -- a report is one of its sender
 abbrev pub body_fits : Net → ℕ → Message → Bool
-body_fits net from (Reports r) = r.node == from && (rows_fit net r.rows && sessions_fit net r.sessions)
+body_fits net from (Reports r) = r.node == from && report_fits net r
 body_fits net from (Agrees e m) = ballots_fit net from m
 
 -- a message of a node of the network, about an epoch that a cut may be of

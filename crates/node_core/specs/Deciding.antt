@@ -6,7 +6,7 @@ use Rattle.topology.specs.Lists.{has}
 use Rattle.topology.specs.Net.{Net, neighbours}
 use Rattle.path_vector.specs.declared.causes.Cause.TheVariants.{Up}
 use Rattle.path_vector.specs.Rules.{Rules}
-use Rattle.trigger_log.specs.Entries.{inbox, local}
+use Rattle.trigger_log.specs.Entries.{flush, inbox, local}
 use Rattle.trigger_log.specs.Going.{Item, News, Marker, Hello, item_of}
 use Rattle.consolidator.specs.Seen.{message_seen}
 use Rattle.cut_laws.specs.Own.{MayHear}
@@ -18,7 +18,7 @@ use Rattle.chronicle.specs.Run.{held_with}
 use Rattle.chronicle.specs.Giving.{answer}
 use Rattle.chronicle.specs.Steps.{Carried, Goes, Idle, open_session, raise, take_item, write}
 use Rattle.node_core.specs.declared.deciding.Act.{Act}
-use Rattle.node_core.specs.declared.deciding.Act.TheVariants.{Enter, Open, Take, Rise}
+use Rattle.node_core.specs.declared.deciding.Act.TheVariants.{Enter, Open, Take, Flush, Rise}
 use Rattle.node_core.specs.declared.deciding.Asked.{Asked}
 use Rattle.node_core.specs.declared.deciding.Asked.TheVariants as asked
 use Rattle.node_core.specs.declared.deciding.Passing.{Passing}
@@ -43,9 +43,10 @@ pub record MayTake (net : Net) (u : ℕ) (past : Chronicle) (v s : ℕ) (item : 
 
 -- u may do it
 abbrev pub MayDo : Net → ℕ → Chronicle → Act → Type 0
-MayDo net u past (Enter scope cause) = MayEnter net u (log_of u past) scope cause
-MayDo net u past (Open v s) = MayEnter net u (log_of u past) All (Up v s)
+MayDo net u past (Enter scope cause) = MayEnter net u (log_of u past) (local u (log_of u past) scope cause)
+MayDo net u past (Open v s) = MayEnter net u (log_of u past) (local u (log_of u past) All (Up v s))
 MayDo net u past (Take v s item) = MayTake net u past v s (item_of item)
+MayDo net u past (Flush v) = MayEnter net u (log_of u past) (flush v)
 MayDo net u past (Rise e) = epoch u past < e
 
 -- the chronicle goes on so where u does it
@@ -53,6 +54,7 @@ abbrev pub acted : Rules → Net → Carried → ℕ → Chronicle → Act → C
 acted rules net carried u past (Enter scope cause) = write rules net carried u (local u (log_of u past) scope cause) past
 acted rules net carried u past (Open v s) = open_session carried u v s past
 acted rules net carried u past (Take v s item) = take_item rules net carried u (arrival v s (item_of item)) past
+acted rules net carried u past (Flush v) = write rules net carried u (flush v) past
 acted rules net carried u past (Rise e) = raise rules net carried u e past
 
 -- the input that its part in the agreements is asked about

@@ -4,9 +4,9 @@ use Rattle.topology.specs.Lists.{has}
 use Rattle.topology.specs.Paths.{differ}
 use Rattle.topology.specs.Net.{Net, neighbours}
 use Rattle.trigger_log.specs.Going.{Item, News, Marker, Hello}
-use Rattle.chronicle.specs.Inputs.{Input, Originate, Withdraw, Prefer, Arrive, Notice, OpenSession, Snap, Propose, Control, Inject, Hop}
+use Rattle.chronicle.specs.Inputs.{Input, Originate, Withdraw, Prefer, Arrive, Notice, OpenSession, Flush, Snap, Propose, Control, Inject, Hop}
 use Rattle.node_core.specs.ControlFits.{epoch_fits, message_fits}
-use Rattle.node_core.specs.Names.{are_nodes, is_number, triggers_fit}
+use Rattle.node_core.specs.Names.{are_nodes, is_number, list_fits}
 use Rattle.node_core.specs.PacketFits.{packet_fits, are_links}
 use Rattle.node_core.specs.declared.limits.TheConstants.{MOST_EPOCHS, MOST_PREFERENCE}
 
@@ -24,7 +24,7 @@ path_fits net v (Some path) = begins_with v path && (differ path && are_nodes ne
 -- an epoch that there may be, where a greeting may also come before the first epoch
 abbrev pub item_fits : Net → ℕ → Item → Bool
 item_fits net v (News number x) =
-    is_number number && (nat_lt x.prefix (length net.prefixes) && (triggers_fit net x.triggers && path_fits net v x.path))
+    is_number number && (nat_lt x.prefix (length net.prefixes) && (list_fits net x.triggers && path_fits net v x.path))
 item_fits net v (Marker e) = nat_le 1 e && nat_le e MOST_EPOCHS
 item_fits net v (Hello e) = nat_le e MOST_EPOCHS
 
@@ -38,6 +38,7 @@ fits net u (Prefer v value) = has (neighbours net u) v && nat_le value MOST_PREF
 fits net u (Arrive v s item) = has (neighbours net u) v && (is_number s && item_fits net v item)
 fits net u (Notice v) = has (neighbours net u) v
 fits net u (OpenSession v s) = has (neighbours net u) v && is_number s
+fits net u (Flush v) = has (neighbours net u) v
 fits net u Snap = true
 fits net u (Propose e) = epoch_fits e
 fits net u (Control from m) = message_fits net from m

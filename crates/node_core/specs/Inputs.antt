@@ -1,7 +1,7 @@
 -- Inputs, as definitions see them.
 use Rattle.trigger_log.specs.Going.{item_of}
 use Rattle.consolidator.specs.Seen.{message_seen}
-use Rattle.chronicle.specs.Inputs.{Input, Originate, Withdraw, Prefer, Arrive, Notice, OpenSession, Snap, Propose, Control, Inject, Hop}
+use Rattle.chronicle.specs.Inputs.{Input, Originate, Withdraw, Prefer, Arrive, Notice, OpenSession, Flush, Snap, Propose, Control, Inject, Hop}
 use Rattle.node_core.specs.declared.inputs.Input.{Input as Given}
 use Rattle.node_core.specs.declared.inputs.Input.TheVariants as given
 
@@ -12,6 +12,7 @@ input_of (given.Prefer nbr value) = Prefer nbr value
 input_of (given.Arrive from session item) = Arrive from session (item_of item)
 input_of (given.Notice nbr) = Notice nbr
 input_of (given.OpenSession nbr session) = OpenSession nbr session
+input_of (given.Flush nbr) = Flush nbr
 input_of given.Snap = Snap
 input_of (given.Propose epoch) = Propose epoch
 input_of (given.Control from message) = Control from (message_seen message)

@@ -1,8 +1,9 @@
 -- Names of a network, and numbers.
-use Rattle.std.specs.Prelude.{ℕ, ◌^◌, Bool, true, false, ◌&&◌, nat_le, nat_lt, List, [], ◌∷◌}
+use Rattle.std.specs.Prelude.{ℕ, ◌^◌, Bool, true, false, ◌&&◌, nat_le, nat_lt, List, [], ◌∷◌, length}
 use Rattle.topology.specs.declared.names.Trigger.{Trigger}
 use Rattle.topology.specs.Lists.{has}
 use Rattle.topology.specs.Net.{Net}
+use Rattle.node_core.specs.declared.limits.TheConstants.{MOST_TRIGGERS}
 
 -- all of them are nodes of the network
 abbrev pub are_nodes : Net → List ℕ → Bool
@@ -22,3 +23,7 @@ abbrev pub triggers_fit : Net → List Trigger → Bool
 triggers_fit net [] = false
 triggers_fit net (t ∷ []) = trigger_fits net t
 triggers_fit net (t ∷ s ∷ ts) = trigger_fits net t && triggers_fit net (s ∷ ts)
+
+-- such triggers, no more than a list may have
+abbrev pub list_fits : Net → List Trigger → Bool
+list_fits net ts = nat_le (length ts) MOST_TRIGGERS && triggers_fit net ts

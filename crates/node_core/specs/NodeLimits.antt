@@ -1,10 +1,12 @@
 -- How much one node may have.
-use Rattle.std.specs.Prelude.{ℕ, ◌≡◌, Bool, false, ◌==◌, ◌&&◌, Option, Some, None, nat_lt, length, if◌then◌else◌}
+use Rattle.std.specs.Prelude.{ℕ, ◌+◌, ◌≡◌, Bool, false, ◌==◌, ◌&&◌, ◌||◌, List, Option, Some, None, nat_lt, length, if◌then◌else◌}
 use Rattle.std.specs.List.{list_any}
 use Rattle.topology.specs.declared.status.LimitKind.{LimitKind}
-use Rattle.topology.specs.declared.status.LimitKind.TheVariants.{Epochs, Triggers, Entries, Updates}
+use Rattle.topology.specs.declared.status.LimitKind.TheVariants.{Epochs, Triggers, Entries, Updates, Marks}
 use Rattle.topology.specs.Net.{Net}
 use Rattle.path_vector.specs.Rules.{Rules}
+use Rattle.trigger_log.specs.Entries.{Entry}
+use Rattle.trigger_log.specs.Pending.{pending_rows}
 use Rattle.trigger_log.specs.Sending.{sent_of}
 use Rattle.incomplete_closure.specs.declared.values.Value.{Value}
 use Rattle.paxos_core.specs.Facts.{Message as Ballots, Accept}
@@ -17,7 +19,8 @@ use Rattle.chronicle.specs.Facts.{Fact, Chronicle, Mail}
 use Rattle.chronicle.specs.Logs.{log_of}
 use Rattle.chronicle.specs.Epochs.{epoch}
 use Rattle.chronicle.specs.Steps.{Step, Idle, Goes}
-use Rattle.node_core.specs.declared.limits.TheConstants.{MOST_EPOCHS, MOST_TRIGGERS, MOST_ENTRIES, MOST_UPDATES}
+use Rattle.node_core.specs.declared.limits.TheConstants.{MOST_EPOCHS, MOST_TRIGGERS, MOST_ENTRIES, MOST_UPDATES, MOST_MARKS}
+use Rattle.node_core.specs.Counted.{entry_marks, is_long_item, is_long_row, item_marks, row_marks}
 use Rattle.node_core.specs.declared.outputs.Stop.{Stop}
 use Rattle.node_core.specs.declared.outputs.Stop.TheVariants as stop
 
@@ -50,6 +53,11 @@ is_too_large u other = false
 abbrev pub has_large_value : ℕ → Chronicle → Bool
 has_large_value u now = list_any (is_too_large u) now
 
+-- an item that u's log lists, or a row of what u holds back, has more triggers than a list may have
+unfoldable pub has_long_list : Rules → Net → ℕ → Chronicle → Bool
+has_long_list rules net u now =
+    list_any is_long_item (sent_of rules net u (log_of u now)) || list_any is_long_row (pending_rows rules net u (log_of u now))
+
 -- the first of the four counts that is above its number, in this order
 abbrev pub first_of_node : (epochs triggers entries updates : Bool) → Option Reached
 first_of_node epochs triggers entries updates =
@@ -59,16 +67,35 @@ first_of_node epochs triggers entries updates =
     else if updates then Some (record { kind = Updates; number = MOST_UPDATES })
     else None
 
--- the first count of node u that is above its number
+-- the first of these counts of node u that is above its number: that of triggers is above where u proposed a value with more
+-- than one may have, or has a list with more
 unfoldable pub node_above : Rules → Net → ℕ → Chronicle → Option Reached
 node_above rules net u now =
-    first_of_node (nat_lt MOST_EPOCHS (epoch u now)) (has_large_value u now) (nat_lt MOST_ENTRIES (length (log_of u now)))
+    first_of_node (nat_lt MOST_EPOCHS (epoch u now)) (has_large_value u now || has_long_list rules net u now) (nat_lt MOST_ENTRIES (length (log_of u now)))
     (nat_lt MOST_UPDATES (length (sent_of rules net u (log_of u now))))
 
+-- the triggers that entries of u, their items and the rows of what they hold back list, counted once for each list
+unfoldable pub marks_of : Rules → Net → ℕ → List Entry → ℕ
+marks_of rules net u h = entry_marks h + item_marks (sent_of rules net u h) + row_marks (pending_rows rules net u h)
+
+-- there are more of u than there may be
+unfoldable pub has_more_marks : Rules → Net → ℕ → Chronicle → Bool
+has_more_marks rules net u now = nat_lt MOST_MARKS (marks_of rules net u (log_of u now))
+
 -- the same of what an input comes to: an idle one takes no count above its number
+abbrev pub limit_before_marks : Rules → Net → ℕ → Step → Option Reached
+limit_before_marks rules net u (Idle reason) = None
+limit_before_marks rules net u (Goes now) = node_above rules net u now
+
+-- the marks come last, where no other count is above its number
+abbrev pub or_marks : Option Reached → Bool → Option Reached
+or_marks (Some reached) more = Some reached
+or_marks None more = if more then Some (record { kind = Marks; number = MOST_MARKS }) else None
+
+-- the same of all counts of u
 abbrev pub node_limit : Rules → Net → ℕ → Step → Option Reached
 node_limit rules net u (Idle reason) = None
-node_limit rules net u (Goes now) = node_above rules net u now
+node_limit rules net u (Goes now) = or_marks (node_above rules net u now) (has_more_marks rules net u now)
 
 -- a stop at a limit is at this one; want of memory may come with any input
 abbrev pub StopsAt : Option Reached → Stop → Type 0

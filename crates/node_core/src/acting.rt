@@ -5,9 +5,8 @@ ghost use Rattle.topology.specs.Lists.{has};
 ghost use Rattle.topology.specs.Net.{Net, neighbours};
 ghost use Rattle.path_vector.specs.declared.causes.Cause.TheVariants.{Ready, Up};
 ghost use Rattle.path_vector.specs.History.{ready};
-ghost use Rattle.trigger_log.specs.Entries.{Entry, entry, local, reads};
+ghost use Rattle.trigger_log.specs.Entries.{Entry, entry, flush, local, reads};
 ghost use Rattle.trigger_log.specs.Going.{item_of};
-ghost use Rattle.trigger_log.specs.Sending.{sent_by, sent_of};
 ghost use Rattle.trigger_log.specs.Standing.{StandsFor as LogStandsFor, dropped_of};
 ghost use Rattle.chronicle.specs.Facts.{Chronicle};
 ghost use Rattle.chronicle.specs.Inputs.{arrival};
@@ -15,68 +14,57 @@ ghost use Rattle.chronicle.specs.Logs.{log_of};
 ghost use Rattle.chronicle.specs.Run.{held_with};
 ghost use Rattle.chronicle.specs.Steps.{Carried, open_session, take_item, unless_ready, write};
 ghost use Rattle.node_core.specs.Agreeing.{AgreesAs};
+ghost use Rattle.node_core.specs.Counting.{AreCounts};
 ghost use Rattle.node_core.specs.Deciding.{MayDo, MayTake, acted};
 ghost use Rattle.node_core.specs.Keeping.{Keeps, MayEnter};
 ghost use Rattle.node_core.specs.Outputs.{Hands, Send};
 ghost use Rattle.node_core.specs.Standing.{StandsFor};
 
+use crate::counts::Counts;
 use crate::deciding::Act;
 use crate::node::Node;
 use crate::outputs::{Output, OutputList};
 use path_vector::{Cause, Policy};
-use topology::{Item, NoMemory, NodeId, Scope, Session, Trigger};
+use topology::{Item, NoMemory, NodeId, Scope, Session, Triggers};
 use trigger_log::{NodeLog, Outgoing};
 
-// How many items the newest entry of the log lists, which was not dropped.
+// What the entries come to with the newest one of the log, which was not dropped. Want of memory where a count ends.
 #[inline(always)]
-fn listed<P: Policy + Copy>(log: &NodeLog<P>) -> usize
-    ensures { (policy : P) (net : Net) (u : ℕ) (k : Entry) (h : List Entry) →
-        LogStandsFor policy (P.rules policy) net u log.now (k ∷ h) → dropped_of log.now ≤ length h →
-        result ≡ length (sent_by (P.rules policy) net u h k) }
-{
-    match log.entry(log.len()) {
-        None => 0,
-        Some(entry) => entry.sent.len(),
-    }
-}
-
-// The number of items with those of the newest entry, or want of memory where the count ends.
-#[inline(always)]
-fn more<P: Policy + Copy>(updates: usize, log: &NodeLog<P>) -> Result<usize, NoMemory>
+fn counted<P: Policy + Copy>(counts: Counts, log: &NodeLog<P>) -> Result<Counts, NoMemory>
     ensures { IfOk result (λ more. (policy : P) (net : Net) (u : ℕ) (k : Entry) (h : List Entry) →
         LogStandsFor policy (P.rules policy) net u log.now (k ∷ h) → dropped_of log.now ≤ length h →
-        updates ≡ length (sent_of (P.rules policy) net u h) →
-        more ≡ length (sent_of (P.rules policy) net u (k ∷ h))) }
+        AreCounts (P.rules policy) net u h counts → AreCounts (P.rules policy) net u (k ∷ h) more) }
 {
-    match updates.checked_add(listed(log)) {
-        None => Err(NoMemory),
-        Some(more) => Ok(more),
+    match log.entry(log.len()) {
+        None => Ok(counts),
+        Some(entry) => Ok(counts.after(entry)?),
     }
 }
 
 impl<P: Policy + Copy> Node<P> {
-    /// The node makes an entry, which fits its log, and hands out what that says.
+    /// The node makes an entry, which fits its log and lists something but where it concerns nothing, and hands out what
+    /// that says.
     #[inline(always)]
     fn enter(
         self,
-        trigger: Trigger,
+        triggers: Triggers,
         scope: Scope,
         cause: Cause,
         outputs: &mut OutputList,
     ) -> Result<Node<P>, NoMemory>
         ensures agreement { IfOk result (λ node. AgreesAs self.parts.value.agreement node.parts.value.agreement) }
         ensures node { IfOk result (λ node. (policy : P) (net : Net) (u : ℕ) (carried : Carried) (past : Chronicle) →
-            Keeps policy (P.rules policy) net u self past → MayEnter net u (log_of u past) scope cause →
+            Keeps policy (P.rules policy) net u self past → MayEnter net u (log_of u past) (entry triggers scope cause) →
             Keeps policy (P.rules policy) net u node
-            (write (P.rules policy) net carried u (entry (trigger ∷ []) scope cause) past)) }
+            (write (P.rules policy) net carried u (entry triggers scope cause) past)) }
         ensures outputs { OnOk result ((policy : P) (net : Net) (u : ℕ) (carried : Carried) (past first : Chronicle) →
-            Keeps policy (P.rules policy) net u self past → MayEnter net u (log_of u past) scope cause →
+            Keeps policy (P.rules policy) net u self past → MayEnter net u (log_of u past) (entry triggers scope cause) →
             Hands first outputs.old past → Hands first outputs.new
-            (write (P.rules policy) net carried u (entry (trigger ∷ []) scope cause) past)) }
+            (write (P.rules policy) net carried u (entry triggers scope cause) past)) }
     {
         let Node { log, mut parts } = self;
-        let log = outputs.enter(log, &parts.topology, trigger, scope, cause)?;
-        parts.updates = more(parts.updates, &log)?;
+        let log = outputs.enter(log, &parts.topology, triggers, scope, cause)?;
+        parts.counts = counted(parts.counts, &log)?;
         Ok(Node { log, parts })
     }
 
@@ -90,16 +78,16 @@ impl<P: Policy + Copy> Node<P> {
     ) -> Result<Node<P>, NoMemory>
         ensures agreement { IfOk result (λ node. AgreesAs self.parts.value.agreement node.parts.value.agreement) }
         ensures node { IfOk result (λ node. (policy : P) (net : Net) (u : ℕ) (carried : Carried) (past : Chronicle) →
-            Keeps policy (P.rules policy) net u self past → MayEnter net u (log_of u past) scope cause →
+            Keeps policy (P.rules policy) net u self past → MayEnter net u (log_of u past) (local u (log_of u past) scope cause) →
             Keeps policy (P.rules policy) net u node
             (write (P.rules policy) net carried u (local u (log_of u past) scope cause) past)) }
         ensures outputs { OnOk result ((policy : P) (net : Net) (u : ℕ) (carried : Carried) (past first : Chronicle) →
-            Keeps policy (P.rules policy) net u self past → MayEnter net u (log_of u past) scope cause →
+            Keeps policy (P.rules policy) net u self past → MayEnter net u (log_of u past) (local u (log_of u past) scope cause) →
             Hands first outputs.old past → Hands first outputs.new
             (write (P.rules policy) net carried u (local u (log_of u past) scope cause) past)) }
     {
-        let trigger = self.log.next_trigger();
-        self.enter(trigger, scope, cause, outputs)
+        let triggers = Triggers::one(self.log.next_trigger());
+        self.enter(triggers, scope, cause, outputs)
     }
 
     // The node opens a session, and greets its neighbour in it with its epoch.
@@ -112,10 +100,10 @@ impl<P: Policy + Copy> Node<P> {
     ) -> Result<Node<P>, NoMemory>
         ensures agreement { IfOk result (λ node. AgreesAs self.parts.value.agreement node.parts.value.agreement) }
         ensures node { IfOk result (λ node. (policy : P) (net : Net) (u : ℕ) (carried : Carried) (past : Chronicle) →
-            StandsFor policy (P.rules policy) net u self past → MayEnter net u (log_of u past) All (Up nbr session) →
+            StandsFor policy (P.rules policy) net u self past → MayEnter net u (log_of u past) (local u (log_of u past) All (Up nbr session)) →
             Keeps policy (P.rules policy) net u node (open_session carried u nbr session past)) }
         ensures outputs { OnOk result ((policy : P) (net : Net) (u : ℕ) (carried : Carried) (past first : Chronicle) →
-            StandsFor policy (P.rules policy) net u self past → MayEnter net u (log_of u past) All (Up nbr session) →
+            StandsFor policy (P.rules policy) net u self past → MayEnter net u (log_of u past) (local u (log_of u past) All (Up nbr session)) →
             Hands first outputs.old past →
             Hands first outputs.new (open_session carried u nbr session past)) }
     {
@@ -161,7 +149,24 @@ impl<P: Policy + Copy> Node<P> {
         self.enter_own(scope, Cause::Ready { nbr, session }, outputs)
     }
 
-    // The node takes an item in the session that it holds. An update is entered with its own trigger;
+    // The node sends what it holds back from the neighbour, and enters that, with no trigger.
+    #[inline(always)]
+    fn flush(self, nbr: NodeId, outputs: &mut OutputList) -> Result<Node<P>, NoMemory>
+        ensures agreement { IfOk result (λ node. AgreesAs self.parts.value.agreement node.parts.value.agreement) }
+        ensures node { IfOk result (λ node. (policy : P) (net : Net) (u : ℕ) (carried : Carried) (past : Chronicle) →
+            Keeps policy (P.rules policy) net u self past → MayEnter net u (log_of u past) (flush nbr) →
+            Keeps policy (P.rules policy) net u node (write (P.rules policy) net carried u (flush nbr) past)) }
+        ensures outputs { OnOk result ((policy : P) (net : Net) (u : ℕ) (carried : Carried) (past first : Chronicle) →
+            Keeps policy (P.rules policy) net u self past → MayEnter net u (log_of u past) (flush nbr) →
+            Hands first outputs.old past →
+            Hands first outputs.new (write (P.rules policy) net carried u (flush nbr) past)) }
+    {
+        let triggers = Triggers::none();
+        let scope = Scope::Nothing;
+        self.enter(triggers, scope, Cause::Flush { nbr }, outputs)
+    }
+
+    // The node takes an item in the session that it holds. An update is entered with its own triggers;
     // a marker is met, and so is a greeting before it greets.
     #[inline(always)]
     fn take(
@@ -185,7 +190,7 @@ impl<P: Policy + Copy> Node<P> {
             Item::Update {
                 prefix,
                 seq,
-                trigger,
+                triggers,
                 path,
             } => {
                 let mut node = self;
@@ -197,7 +202,7 @@ impl<P: Policy + Copy> Node<P> {
                     seq,
                     path,
                 };
-                node.enter(trigger, scope, cause, outputs)
+                node.enter(triggers, scope, cause, outputs)
             }
             Item::Marker(epoch) => self.meet(from, session, epoch, outputs),
             Item::Hello(epoch) => {
@@ -226,6 +231,7 @@ impl<P: Policy + Copy> Node<P> {
                 session,
                 item,
             } => self.take(from, session, item, outputs),
+            Act::Flush { nbr } => self.flush(nbr, outputs),
             Act::Rise { epoch } => self.raise(epoch, outputs),
         }
     }

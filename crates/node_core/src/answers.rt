@@ -14,7 +14,7 @@ ghost use Rattle.node_core.specs.Answering.{Consults, Says, decided_by, posts};
 ghost use Rattle.node_core.specs.Coming.{MayCome};
 ghost use Rattle.node_core.specs.Deciding.{IsDecided, MayDo, acted, asked_of};
 ghost use Rattle.node_core.specs.Inputs.{input_of};
-ghost use Rattle.node_core.specs.NodeLimits.{node_limit, StopsAt};
+ghost use Rattle.node_core.specs.NodeLimits.{limit_before_marks, StopsAt};
 ghost use Rattle.node_core.specs.Outputs.{output_of};
 ghost use Rattle.node_core.specs.Standing.{Follows, StandsFor};
 
@@ -104,7 +104,7 @@ fn consult_parts(parts: NodeParts, asked: Asked) -> Result<(NodeParts, Reply), N
         alloc,
         topology,
         id,
-        updates,
+        counts,
         snapshots,
         agreement,
     } = parts;
@@ -123,7 +123,7 @@ fn consult_parts(parts: NodeParts, asked: Asked) -> Result<(NodeParts, Reply), N
         alloc,
         topology,
         id,
-        updates,
+        counts,
         snapshots,
         agreement,
     };
@@ -209,7 +209,7 @@ impl<P: Policy + Copy> Node<P> {
             Says u past (answer (P.rules policy) net carried u past (asked_of asked)) r.1 outputs.new) }
         ensures stopped { IfErr result (λ stop. (policy : P) (net : Net) (u : ℕ) (carried : Carried) (past : Chronicle) →
             StandsFor policy (P.rules policy) net u self past →
-            StopsAt (node_limit (P.rules policy) net u (answer (P.rules policy) net carried u past (asked_of asked))) stop) }
+            StopsAt (limit_before_marks (P.rules policy) net u (answer (P.rules policy) net carried u past (asked_of asked))) stop) }
     {
         let due = asked.decides();
         let Node { log, parts } = self;
@@ -244,7 +244,7 @@ impl<P: Policy + Copy> Node<P> {
             Says u past (answer (P.rules policy) net carried u past (input_of input)) r.1 outputs.new) }
         ensures stopped { IfErr result (λ stop. (policy : P) (net : Net) (u : ℕ) (carried : Carried) (past : Chronicle) →
             StandsFor policy (P.rules policy) net u self past → MayCome net u (input_of input) →
-            StopsAt (node_limit (P.rules policy) net u (answer (P.rules policy) net carried u past (input_of input))) stop) }
+            StopsAt (limit_before_marks (P.rules policy) net u (answer (P.rules policy) net carried u past (input_of input))) stop) }
     {
         match input {
             Input::Arrive {
@@ -275,6 +275,10 @@ impl<P: Policy + Copy> Node<P> {
             }
             Input::OpenSession { nbr, session } => {
                 let decided = self.decide_opening(nbr, session);
+                Ok(self.follow(decided, outputs)?)
+            }
+            Input::Flush(nbr) => {
+                let decided = self.decide_flushing(nbr);
                 Ok(self.follow(decided, outputs)?)
             }
             Input::Snap => {

@@ -1,20 +1,27 @@
 //! Which ballots and control messages a node admits.
-ghost use Rattle.std.specs.Prelude.{◌≡◌, ◌^◌, ◌&&◌, nat_lt, nat_le, List, length, map};
+ghost use Rattle.std.specs.Prelude.{◌≡◌, ◌+◌, ◌<◌, ◌^◌, ◌&&◌, nat_lt, nat_le, length, map, IfNone, IfSome};
 ghost use Rattle.std.specs.List.{list_all};
 ghost use Rattle.topology.specs.Lists.{has};
 ghost use Rattle.topology.specs.Triggers.{earlier};
-ghost use Rattle.topology.specs.declared.names.Trigger.{Trigger as AnyTrigger};
-ghost use Rattle.incomplete_closure.specs.Seen.{item_seen, report_seen, row_seen, session_seen};
+ghost use Rattle.incomplete_closure.specs.Seen.{report_seen, row_seen, session_seen};
 ghost use Rattle.consolidator.specs.Messages.{Reports, epoch_of};
 ghost use Rattle.consolidator.specs.Seen.{message_seen};
-ghost use Rattle.node_core.specs.ControlFits.{all_fit, ballot_fits, body_fits, down_fits, epoch_fits, in_order, incomplete_fits, items_of, listed_fits, message_fits, named_fits, nodes_fit, row_fits, rows_are_few, rows_fit, scope_fits, sender_fits, session_fits, sessions_ascend, sessions_fit, sooner, value_fits};
-ghost use Rattle.node_core.specs.Names.{is_number, trigger_fits};
+ghost use Rattle.node_core.specs.Counted.{item_marks};
+ghost use Rattle.node_core.specs.ControlFits.{all_fit, ballot_fits, body_fits, down_fits, epoch_fits, in_order, incomplete_fits, items_of, listed_fits, marks_of_row, marks_of_rows, message_fits, named_fits, nodes_fit, pending_fits, report_fits, report_marks, row_fits, row_lists_fit, rows_are_few, rows_fit, scope_fits, sender_fits, session_fits, sessions_ascend, sessions_fit, sooner, value_fits, waiting_ascends, waiting_fits, waits_sooner};
+ghost use Rattle.node_core.specs.Names.{is_number, list_fits, trigger_fits};
 
-use crate::fitting::{are_nodes, is_among, is_node, is_number, trigger_fits};
-use crate::limits::{MOST_ENTRIES, MOST_EPOCHS, MOST_SESSIONS, MOST_TRIGGERS, MOST_UPDATES};
+use crate::counts::{less, less_items, less_pending};
+use crate::fitting::{
+    are_nodes, are_triggers, is_among, is_node, is_number, list_fits, trigger_fits,
+};
+use crate::limits::{
+    MOST_ENTRIES, MOST_EPOCHS, MOST_MARKS, MOST_PENDING, MOST_SESSIONS, MOST_TRIGGERS, MOST_UPDATES,
+};
 use consolidator::Message;
 use incomplete_closure::{Report, Row, SessionRow, Value};
-use topology::{Ballot, Epoch, NodeId, Scope, Sent, Topology, Trigger};
+use topology::{
+    Ballot, Epoch, NodeId, Pending, Scope, Sent, SentItems, Topology, Trigger, Triggers,
+};
 
 /// Whether a cut may be of the epoch.
 pub(crate) fn epoch_fits(epoch: Epoch) -> bool
@@ -47,31 +54,16 @@ fn nodes_fit(topology: &Topology, nodes: &[NodeId]) -> bool
     are_nodes(topology, nodes) && nodes_ascend(nodes)
 }
 
-fn is_earlier(a: &Trigger, b: &Trigger) -> bool
-    ensures { result ≡ earlier a.now b.now }
-{
-    a.node < b.node || (a.node == b.node && a.count < b.count)
-}
-
 // Whether the triggers ascend.
 fn triggers_ascend(triggers: &[Trigger]) -> bool
     ensures { result ≡ in_order earlier triggers.now }
 {
     for place in 1..triggers.len() {
-        if !is_earlier(&triggers[place - 1], &triggers[place]) {
+        if !triggers[place - 1].is_earlier(triggers[place]) {
             return false;
         }
     }
     true
-}
-
-// Whether each is a trigger of the network.
-fn are_triggers(topology: &Topology, triggers: &[Trigger]) -> bool
-    ensures { result ≡ list_all (trigger_fits topology.now) triggers.now }
-{
-    triggers
-        .iter()
-        .all(|trigger| trigger_fits(topology, trigger))
 }
 
 fn all_fit(topology: &Topology, triggers: &[Trigger]) -> bool
@@ -125,55 +117,74 @@ fn sender_fits(topology: &Topology, from: NodeId, ballot: Ballot) -> bool
     is_consolidator(topology, from) && ballot_fits(topology, ballot)
 }
 
-// Whether it is a prefix of the network, or all.
+// Whether it is a prefix of the network, all, or none.
 fn scope_fits(topology: &Topology, scope: &Scope) -> bool
     ensures { result ≡ scope_fits topology.now scope.now }
 {
     match scope {
         Scope::One(prefix) => prefix.place() < topology.prefix_count(),
         Scope::All => true,
+        Scope::Nothing => true,
     }
 }
 
-fn is_numbered(item: &Sent) -> bool
-    ensures { result ≡ (is_number item.now.session && is_number item.now.seq) }
+// Whether an item is numbered from 1 and lists what it may.
+fn is_listed(topology: &Topology, item: &Sent) -> bool
+    ensures { result ≡ (is_number item.now.seq && list_fits topology.now item.now.triggers) }
 {
-    is_number(item.session.number()) && is_number(item.seq)
+    is_number(item.seq) && list_fits(topology, &item.triggers)
 }
 
-// Whether an item is for a node of the network, and numbered from 1.
-fn sent_fits(topology: &Topology, item: &Sent) -> bool
-    ensures { (triggers : List AnyTrigger) → result ≡ listed_fits topology.now (item_seen triggers item.now) }
+fn is_in_session(topology: &Topology, item: &Sent) -> bool
+    ensures { result ≡ (is_number item.now.session && (is_number item.now.seq && list_fits topology.now item.now.triggers)) }
 {
-    is_node(topology, item.to) && is_numbered(item)
+    is_number(item.session.number()) && is_listed(topology, item)
+}
+
+// Whether an item is for a node of the network, numbered from 1, and lists what it may.
+fn sent_fits(topology: &Topology, item: &Sent) -> bool
+    ensures { result ≡ listed_fits topology.now item.now }
+{
+    is_node(topology, item.to) && is_in_session(topology, item)
 }
 
 // Whether all items do.
 fn all_sent_fit(topology: &Topology, sent: &[Sent]) -> bool
-    ensures { (triggers : List AnyTrigger) →
-        result ≡ list_all (listed_fits topology.now) (map (item_seen triggers) sent.now) }
+    ensures { result ≡ list_all (listed_fits topology.now) sent.now }
 {
-    for item in sent {
-        if !sent_fits(topology, item) {
-            return false;
-        }
+    sent.iter().all(|item| sent_fits(topology, item))
+}
+
+// Whether all items of an entry do.
+fn items_fit(topology: &Topology, sent: &SentItems) -> bool
+    ensures { result ≡ list_all (listed_fits topology.now) sent.now }
+{
+    all_sent_fit(topology, sent.laid_out().as_slice())
+}
+
+// Whether a row lists what one of its scope may.
+fn row_lists_fit(topology: &Topology, scope: &Scope, triggers: &Triggers) -> bool
+    ensures { result ≡ row_lists_fit topology.now scope.now triggers.now }
+{
+    match scope {
+        Scope::One(_) => list_fits(topology, triggers),
+        Scope::All => list_fits(topology, triggers),
+        Scope::Nothing => triggers.is_empty(),
     }
-    true
 }
 
 // Whether the scope and the items of a row name what the network has.
 fn entry_fits(topology: &Topology, row: &Row) -> bool
-    ensures { (triggers : List AnyTrigger) → result ≡ (scope_fits topology.now row.now.scope
-        && list_all (listed_fits topology.now) (map (item_seen triggers) row.now.sent)) }
+    ensures { result ≡ (scope_fits topology.now row.now.scope && list_all (listed_fits topology.now) row.now.sent) }
 {
-    scope_fits(topology, &row.scope) && all_sent_fit(topology, row.sent.laid_out().as_slice())
+    scope_fits(topology, &row.scope) && items_fit(topology, &row.sent)
 }
 
 // Whether the row of an entry names what the network has.
 fn row_fits(topology: &Topology, row: &Row) -> bool
     ensures { result ≡ row_fits topology.now (row_seen row.now) }
 {
-    trigger_fits(topology, &row.trigger) && entry_fits(topology, row)
+    row_lists_fit(topology, &row.scope, &row.triggers) && entry_fits(topology, row)
 }
 
 // Whether all rows do.
@@ -285,11 +296,132 @@ fn sessions_fit(topology: &Topology, rows: &[SessionRow]) -> bool
     all_sessions_fit(topology, rows) && sessions_ascend(rows)
 }
 
-fn parts_fit(topology: &Topology, report: &Report) -> bool
-    ensures { result ≡ (rows_fit topology.now (report_seen report.now).rows
-        && sessions_fit topology.now (report_seen report.now).sessions) }
+// Whether what is held back is of a session from 1, and lists what it may.
+fn is_held_back(topology: &Topology, row: &Pending) -> bool
+    ensures { result ≡ (is_number row.now.session && list_fits topology.now row.now.triggers) }
 {
-    rows_fit(topology, report.rows.as_slice()) && sessions_fit(topology, report.sessions.as_slice())
+    is_number(row.session.number()) && list_fits(topology, &row.triggers)
+}
+
+fn is_placed(topology: &Topology, row: &Pending) -> bool
+    ensures { result ≡ (nat_lt row.now.prefix (length topology.now.prefixes)
+        && (is_number row.now.session && list_fits topology.now row.now.triggers)) }
+{
+    row.prefix.place() < topology.prefix_count() && is_held_back(topology, row)
+}
+
+// Whether the row of what is held back names what the network has.
+fn waiting_fits(topology: &Topology, row: &Pending) -> bool
+    ensures { result ≡ waiting_fits topology.now row.now }
+{
+    is_node(topology, row.to) && is_placed(topology, row)
+}
+
+// Whether all rows of what is held back do.
+fn all_waiting_fit(topology: &Topology, rows: &[Pending]) -> bool
+    ensures { result ≡ list_all (waiting_fits topology.now) rows.now }
+{
+    rows.iter().all(|row| waiting_fits(topology, row))
+}
+
+// Whether the one row stands before the other.
+fn waits_sooner(a: &Pending, b: &Pending) -> bool
+    ensures { result ≡ waits_sooner a.now b.now }
+{
+    a.to < b.to || (a.to == b.to && a.prefix < b.prefix)
+}
+
+// Whether the rows of what is held back stand in order.
+fn wait_in_order(rows: &[Pending]) -> bool
+    ensures { result ≡ in_order waits_sooner rows.now }
+{
+    for place in 1..rows.len() {
+        if !waits_sooner(&rows[place - 1], &rows[place]) {
+            return false;
+        }
+    }
+    true
+}
+
+fn waiting_ascends(rows: &[Pending]) -> bool
+    ensures { result ≡ waiting_ascends rows.now }
+{
+    wait_in_order(rows) && rows.len() <= MOST_PENDING as usize
+}
+
+// Whether the rows of what is held back fit, and ascend.
+fn pending_fits(topology: &Topology, rows: &[Pending]) -> bool
+    ensures { result ≡ pending_fits topology.now rows.now }
+{
+    all_waiting_fit(topology, rows) && waiting_ascends(rows)
+}
+
+// What is left of a number after the triggers that the row lists. None where it lists more.
+fn less_row(number: usize, row: &Row) -> Option<usize>
+    ensures some { IfSome result (λ left. left + marks_of_row (row_seen row.now) ≡ number) }
+    ensures none { IfNone result (number < marks_of_row (row_seen row.now)) }
+{
+    let Some(left) = less(number, row.triggers.len()) else {
+        return None;
+    };
+    less_sent(left, &row.sent)
+}
+
+// What is left of a number after the triggers that the items list. None where they list more.
+fn less_sent(number: usize, sent: &SentItems) -> Option<usize>
+    ensures some { IfSome result (λ left. left + item_marks sent.now ≡ number) }
+    ensures none { IfNone result (number < item_marks sent.now) }
+{
+    less_items(number, sent.laid_out().as_slice())
+}
+
+// What is left of a number after the triggers that the rows list. None where they list more.
+fn less_rows(number: usize, rows: &[Row]) -> Option<usize>
+    ensures some { IfSome result (λ left. left + marks_of_rows (map row_seen rows.now) ≡ number) }
+    ensures none { IfNone result (number < marks_of_rows (map row_seen rows.now)) }
+{
+    let mut left = number;
+    for row in rows {
+        let Some(rest) = less_row(left, row) else {
+            return None;
+        };
+        left = rest;
+    }
+    Some(left)
+}
+
+// Whether a report lists no more triggers than it may.
+fn lists_few(report: &Report) -> bool
+    ensures { result ≡ nat_le (report_marks (report_seen report.now)) MOST_MARKS }
+{
+    let Some(left) = less_rows(MOST_MARKS as usize, report.rows.as_slice()) else {
+        return false;
+    };
+    let Some(_) = less_pending(left, report.pending.as_slice()) else {
+        return false;
+    };
+    true
+}
+
+fn end_fits(topology: &Topology, report: &Report) -> bool
+    ensures { result ≡ (pending_fits topology.now report.now.pending
+        && nat_le (report_marks (report_seen report.now)) MOST_MARKS) }
+{
+    pending_fits(topology, report.pending.as_slice()) && lists_few(report)
+}
+
+fn rest_fits(topology: &Topology, report: &Report) -> bool
+    ensures { result ≡ (sessions_fit topology.now (report_seen report.now).sessions
+        && (pending_fits topology.now report.now.pending
+        && nat_le (report_marks (report_seen report.now)) MOST_MARKS)) }
+{
+    sessions_fit(topology, report.sessions.as_slice()) && end_fits(topology, report)
+}
+
+fn parts_fit(topology: &Topology, report: &Report) -> bool
+    ensures { result ≡ report_fits topology.now (report_seen report.now) }
+{
+    rows_fit(topology, report.rows.as_slice()) && rest_fits(topology, report)
 }
 
 // Whether it is a report of its sender.

@@ -5,7 +5,7 @@ ghost use Rattle.trigger_log.specs.Going.{item_of};
 ghost use Rattle.chronicle.specs.Epochs.{epoch};
 ghost use Rattle.chronicle.specs.Facts.{Chronicle};
 ghost use Rattle.chronicle.specs.Giving.{answer};
-ghost use Rattle.chronicle.specs.Inputs.{Arrive, Notice, OpenSession, Originate, Withdraw};
+ghost use Rattle.chronicle.specs.Inputs.{Arrive, Flush, Notice, OpenSession, Originate, Withdraw};
 ghost use Rattle.chronicle.specs.Steps.{Carried, Idle};
 ghost use Rattle.node_core.specs.declared.deciding.Act.TheVariants.{Take};
 ghost use Rattle.node_core.specs.Coming.{MayCome};
@@ -36,6 +36,10 @@ pub enum Act {
         from: NodeId,
         session: Session,
         item: Item,
+    },
+    /// To send what is held back from the neighbour.
+    Flush {
+        nbr: NodeId,
     },
     /// To raise its epoch to this one.
     Rise {
@@ -149,6 +153,22 @@ impl<P: Policy + Copy> Node<P> {
             return Err(Reason::OldSession);
         }
         Ok(Act::Open { nbr, session })
+    }
+
+    /// What is held back from the neighbour is sent, where a session is held with it and something is held back.
+    pub(crate) fn decide_flushing(&self, nbr: NodeId) -> Result<Act, Reason>
+        ensures { (policy : P) (net : Net) (u : ℕ) (past : Chronicle) →
+            StandsFor policy (P.rules policy) net u self.now past → MayCome net u (Flush nbr) →
+            IsDecided (P.rules policy) net u past (Flush nbr) result }
+    {
+        if self.log.held(nbr).is_none() {
+            return Err(Reason::NotOpen);
+        }
+        let flush = Cause::Flush { nbr };
+        if !self.log.fits(Scope::Nothing, &flush) {
+            return Err(Reason::NothingPending);
+        }
+        Ok(Act::Flush { nbr })
     }
 
     /// The epoch after this one. No epoch is so high that there is none.

@@ -1,21 +1,22 @@
 //! Which inputs a node admits.
 ghost use Rattle.std.specs.Prelude.{◌≡◌, ℕ};
+ghost use Rattle.std.specs.List.{list_all};
 ghost use Rattle.topology.specs.Lists.{has};
 ghost use Rattle.topology.specs.Net.{Net, neighbours};
 ghost use Rattle.trigger_log.specs.Going.{item_of};
 ghost use Rattle.chronicle.specs.Facts.{Chronicle};
 ghost use Rattle.node_core.specs.Fits.{fits, item_fits, path_fits};
 ghost use Rattle.node_core.specs.Inputs.{input_of};
-ghost use Rattle.node_core.specs.Names.{are_nodes, is_number, trigger_fits};
+ghost use Rattle.node_core.specs.Names.{are_nodes, is_number, list_fits, trigger_fits, triggers_fit};
 ghost use Rattle.node_core.specs.Standing.{StandsFor};
 
 use crate::control_fitting::{epoch_fits, message_fits};
 use crate::inputs::Input;
-use crate::limits::{MOST_EPOCHS, MOST_PREFERENCE};
+use crate::limits::{MOST_EPOCHS, MOST_PREFERENCE, MOST_TRIGGERS};
 use crate::node::Node;
 use crate::packet_fitting::{are_links, packet_fits};
 use path_vector::Policy;
-use topology::{Item, NodeId, Path, Topology, Trigger};
+use topology::{Item, NodeId, Path, Topology, Trigger, Triggers};
 
 pub(crate) fn is_among(nodes: &[NodeId], node: NodeId) -> bool
     ensures { result ≡ has nodes.now node }
@@ -63,6 +64,29 @@ pub(crate) fn trigger_fits(topology: &Topology, trigger: &Trigger) -> bool
     is_node(topology, trigger.node) && is_number(trigger.count)
 }
 
+// Whether each is a trigger of the network.
+pub(crate) fn are_triggers(topology: &Topology, triggers: &[Trigger]) -> bool
+    ensures { result ≡ list_all (trigger_fits topology.now) triggers.now }
+{
+    triggers
+        .iter()
+        .all(|trigger| trigger_fits(topology, trigger))
+}
+
+// Whether there are some, each of the network.
+fn triggers_fit(topology: &Topology, triggers: &[Trigger]) -> bool
+    ensures { result ≡ triggers_fit topology.now triggers.now }
+{
+    !triggers.is_empty() && are_triggers(topology, triggers)
+}
+
+// Whether there are some, each of the network, and no more than a list may have.
+pub(crate) fn list_fits(topology: &Topology, triggers: &Triggers) -> bool
+    ensures { result ≡ list_fits topology.now triggers.now }
+{
+    triggers.len() <= MOST_TRIGGERS as usize && triggers_fit(topology, triggers.as_slice())
+}
+
 // Whether an item of a neighbour has names of the network, and numbers in their ranges.
 fn item_fits(topology: &Topology, from: NodeId, item: &Item) -> bool
     ensures { result ≡ item_fits topology.now from (item_of item.now) }
@@ -71,12 +95,12 @@ fn item_fits(topology: &Topology, from: NodeId, item: &Item) -> bool
         Item::Update {
             prefix,
             seq,
-            trigger,
+            triggers,
             path,
         } => {
             is_number(*seq)
                 && prefix.place() < topology.prefix_count()
-                && trigger_fits(topology, trigger)
+                && list_fits(topology, triggers)
                 && path_fits(topology, from, path)
         }
         Item::Marker(epoch) => epoch.number() >= 1 && epoch.number() <= MOST_EPOCHS,
@@ -86,7 +110,8 @@ fn item_fits(topology: &Topology, from: NodeId, item: &Item) -> bool
 
 impl<P: Policy + Copy> Node<P> {
     /// Whether the names of the input are in the network, its other node and those at the ends of the links that are
-    /// up are neighbours, these ascending, the path of an update begins with its sender, and each number is in its
+    /// up are neighbours, these ascending, the path of an update begins with its sender, it lists triggers, 8,192 at most, and
+    /// each number is in its
     /// range: sessions, numbers of updates and of packets from 1, preferences up to a million, epochs from 1 to 32, in
     /// a greeting and on a packet from 0; a packet carries lists of 64 nodes at most. Takes no memory.
     pub fn fits(&self, input: &Input) -> bool
@@ -109,6 +134,7 @@ impl<P: Policy + Copy> Node<P> {
             Input::Notice(nbr) => self.is_near(*nbr),
             Input::OpenSession { nbr, session } => self.is_near(*nbr)
                 && is_number(session.number()),
+            Input::Flush(nbr) => self.is_near(*nbr),
             Input::Snap => true,
             Input::Propose(epoch) => epoch_fits(*epoch),
             Input::Control { from, message } => message_fits(&self.parts.topology, *from, message),

@@ -29,6 +29,8 @@ pub enum Input {
         nbr: NodeId,
         session: Session,
     },
+    /// What is held back from the neighbour is to be sent.
+    Flush(NodeId),
     /// The node is to begin a snapshot.
     Snap,
     /// The node is to start a ballot for the value of the epoch.

@@ -5,6 +5,7 @@ mod acting;
 pub mod agreement;
 pub mod answers;
 mod control_fitting;
+pub mod counts;
 mod deciding;
 mod fitting;
 mod forwarding;
@@ -21,6 +22,8 @@ mod reports;
 
 #[doc(hidden)]
 pub use agreement::Agreement;
+#[doc(hidden)]
+pub use counts::Counts;
 pub use inputs::Input;
 pub use node::Node;
 pub use outputs::{First, Output, OutputList, Outputs, Stop};

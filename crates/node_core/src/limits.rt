@@ -1,12 +1,15 @@
 //! How much one node may have.
-ghost use Rattle.std.specs.Prelude.{◌≡◌, ℕ, None, IfSome, IfNone};
+ghost use Rattle.std.specs.Prelude.{◌≡◌, ℕ, None, true, false, IfErr, IfNone, IfSome, OnErr, OnOk};
 ghost use Rattle.std.specs.List.{list_any};
+ghost use Rattle.topology.specs.declared.status.LimitKind.TheVariants.{Marks};
 ghost use Rattle.topology.specs.Net.{Net};
 ghost use Rattle.chronicle.specs.Facts.{Chronicle};
 ghost use Rattle.consolidator.specs.Seen.{message_seen};
-ghost use Rattle.node_core.specs.NodeLimits.{is_large, proposes_large, node_above, StopsAt};
-ghost use Rattle.node_core.specs.Standing.{Follows};
+ghost use Rattle.node_core.specs.NodeLimits.{has_long_list, has_more_marks, is_large, proposes_large, node_above, StopsAt};
+ghost use Rattle.node_core.specs.Standing.{Follows, StandsFor};
+ghost use Rattle.node_core.specs.declared.outputs.Stop.TheVariants.{Limit};
 
+use crate::counts::{any_long, are_more};
 use crate::node::Node;
 use crate::outputs::Stop;
 use consolidator::{Mail, Message, Reply};
@@ -19,8 +22,15 @@ pub const MOST_PREFERENCE: u32 = 1_000_000;
 /// The highest epoch of a node.
 pub const MOST_EPOCHS: u32 = 32;
 
-/// The most incomplete triggers of a value.
+/// The most incomplete triggers of a value, and the most triggers of a list.
 pub const MOST_TRIGGERS: u32 = 8_192;
+
+/// The most rows of what is held back in a report: one for each prefix and each other node.
+pub const MOST_PENDING: u32 = 16_128;
+
+/// The most triggers that the entries of a node, its items and the rows of what it holds back list, counted once for each
+/// list. A report lists no more.
+pub const MOST_MARKS: u32 = 65_536;
 
 /// The most rows of sessions in a report.
 pub const MOST_SESSIONS: u32 = 65_535;
@@ -63,8 +73,24 @@ pub(crate) fn proposes_large(reply: &Reply) -> bool
     }
 }
 
+// The stop at the number of marks.
+fn at_marks() -> Stop
+    ensures { result ≡ Limit Marks MOST_MARKS }
+{
+    Stop::Limit(LimitKind::Marks, MOST_MARKS)
+}
+
 impl<P: Policy + Copy> Node<P> {
-    /// The stop at the first count that is above its number, where one is: the epoch, the entries or their items.
+    // Whether an item of the log, or a row of what is held back, lists more triggers than a list may have.
+    fn has_long_list(&self) -> bool
+        ensures { (policy : P) (net : Net) (u : ℕ) (past : Chronicle) →
+            Follows policy (P.rules policy) net u self.now past → result ≡ has_long_list (P.rules policy) net u past }
+    {
+        self.parts.counts.has_long | any_long(self.log.pending())
+    }
+
+    /// The stop at the first count that is above its number, where one is: the epoch, a list of triggers, the entries or
+    /// their items. Takes no memory.
     pub(crate) fn limit(&self) -> Option<Stop>
         ensures some { IfSome result (λ stop. (policy : P) (net : Net) (u : ℕ) (past : Chronicle) →
             Follows policy (P.rules policy) net u self.now past → StopsAt (node_above (P.rules policy) net u past) stop) }
@@ -74,12 +100,40 @@ impl<P: Policy + Copy> Node<P> {
         if self.parts.snapshots.epoch().number() > MOST_EPOCHS {
             return Some(Stop::Limit(LimitKind::Epochs, MOST_EPOCHS));
         }
+        if self.has_long_list() {
+            return Some(Stop::Limit(LimitKind::Triggers, MOST_TRIGGERS));
+        }
         if self.log.len() > MOST_ENTRIES {
             return Some(Stop::Limit(LimitKind::Entries, MOST_ENTRIES));
         }
-        if self.parts.updates > MOST_UPDATES as usize {
+        if self.parts.counts.updates > MOST_UPDATES as usize {
             return Some(Stop::Limit(LimitKind::Updates, MOST_UPDATES));
         }
         None
+    }
+
+    // Whether the entries, their items and what is held back list more triggers than there may be.
+    fn has_more_marks(&self) -> bool
+        ensures { (policy : P) (net : Net) (u : ℕ) (past : Chronicle) →
+            StandsFor policy (P.rules policy) net u self.now past → result ≡ has_more_marks (P.rules policy) net u past }
+    {
+        are_more(self.parts.counts.marks, self.log.pending())
+    }
+
+    /// Whether the lists of triggers of the node come to no more than 65,536: those of all entries and of all items that it
+    /// sent, dropped ones too, and those of what it holds back, as that stands; each trigger counts once for each list that
+    /// has it. Where they come to more, the stop is that at this number. It stands last of all counts, so `handle_into`
+    /// leaves it to its caller. Takes no memory.
+    pub fn check_marks(&self) -> Result<(), Stop>
+        ensures ok { OnOk result ((policy : P) (net : Net) (u : ℕ) (past : Chronicle) →
+            StandsFor policy (P.rules policy) net u self.now past → has_more_marks (P.rules policy) net u past ≡ false) }
+        ensures stop { IfErr result (λ stop. stop ≡ Limit Marks MOST_MARKS) }
+        ensures stopped { OnErr result ((policy : P) (net : Net) (u : ℕ) (past : Chronicle) →
+            StandsFor policy (P.rules policy) net u self.now past → has_more_marks (P.rules policy) net u past ≡ true) }
+    {
+        if self.has_more_marks() {
+            return Err(at_marks());
+        }
+        Ok(())
     }
 }

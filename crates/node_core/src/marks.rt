@@ -10,6 +10,7 @@ ghost use Rattle.marker_snapshot.specs.Acts.{Acts, Takes};
 ghost use Rattle.marker_snapshot.specs.Cuts.{epoch_of};
 ghost use Rattle.marker_snapshot.specs.Standing.{StandsFor as SnapshotsStandFor};
 ghost use Rattle.incomplete_closure.specs.Seen.{report_seen};
+ghost use Rattle.epoch_report.specs.Downs.{DownsListOne};
 ghost use Rattle.epoch_report.specs.Trimming.{trimmed_report};
 ghost use Rattle.consolidator.specs.Messages.{Reports};
 ghost use Rattle.chronicle.specs.Drops.{dropped};
@@ -80,12 +81,12 @@ impl<P: Policy + Copy> Node<P> {
             SnapshotsStandFor net u self.parts.value.snapshots acts → epoch_of acts < epoch →
             SnapshotsStandFor net u node.parts.value.snapshots (Takes epoch h ∷ acts)) }
         ensures reports { IfOk result (λ node. (policy : P) (net : Net) (u : ℕ) (h : List Entry) →
-            LogStandsFor policy (P.rules policy) net u self.log.value h →
+            LogStandsFor policy (P.rules policy) net u self.log.value h → DownsListOne h →
             node.parts.value.agreement.reports ≡ self.parts.value.agreement.reports
             ++ trimmed_report (P.rules policy) net u epoch (trimmed (dropped_of self.log.value) h) ∷ []) }
         ensures outputs { OnOk result ((policy : P) (net : Net) (u : ℕ) (carried : Carried) (first past : Chronicle) →
             self.parts.value.topology.value ≡ net → self.parts.value.id ≡ u →
-            LogStandsFor policy (P.rules policy) net u self.log.value (log_of u past) →
+            LogStandsFor policy (P.rules policy) net u self.log.value (log_of u past) → DownsListOne (log_of u past) →
             dropped_of self.log.value ≡ dropped net u past → Hands first outputs.old past →
             Hands first outputs.new (raise (P.rules policy) net carried u epoch past)) }
     {
@@ -101,7 +102,7 @@ impl<P: Policy + Copy> Node<P> {
             alloc,
             topology,
             id,
-            updates,
+            counts,
             snapshots,
             mut agreement,
         } = Box::into_inner(parts);
@@ -111,7 +112,7 @@ impl<P: Policy + Copy> Node<P> {
             alloc,
             topology,
             id,
-            updates,
+            counts,
             snapshots,
             agreement,
         };

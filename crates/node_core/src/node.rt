@@ -1,5 +1,5 @@
 //! A node: its log, its snapshots, and what it keeps of epochs.
-ghost use Rattle.std.specs.Prelude.{◌≡◌, ◌∷◌, ℕ, [], option_copied, option_map, IfOk, IfErr};
+ghost use Rattle.std.specs.Prelude.{◌≡◌, ◌∷◌, ℕ, [], None, option_copied, option_map, IfOk, IfErr, OnOk};
 ghost use Rattle.topology.specs.Net.{Net};
 ghost use Rattle.trigger_log.specs.Standing.{StandsFor as LogStandsFor, dropped_of};
 ghost use Rattle.incomplete_closure.specs.Seen.{report_seen};
@@ -14,13 +14,14 @@ ghost use Rattle.chronicle.specs.Run.{chronicle_of};
 ghost use Rattle.chronicle.specs.Steps.{Carried};
 ghost use Rattle.node_core.specs.Coming.{MayCome};
 ghost use Rattle.node_core.specs.Inputs.{input_of};
-ghost use Rattle.node_core.specs.NodeLimits.{node_limit, StopsAt};
+ghost use Rattle.node_core.specs.NodeLimits.{limit_before_marks, node_limit, StopsAt};
 ghost use Rattle.node_core.specs.Outputs.{Answers, told_by};
 ghost use Rattle.node_core.specs.Standing.{HasSnapshots, StandsFor};
 ghost use Rattle.node_core.specs.Views.{views};
 
 use crate::agreement::Agreement;
 use crate::answers::Answer;
+use crate::counts::Counts;
 use crate::inputs::Input;
 use crate::outputs::{OutputList, Outputs, Stop};
 use crate::parts::NodeParts;
@@ -66,7 +67,7 @@ impl<P: Policy + Copy> Node<P> {
             alloc,
             topology,
             id,
-            updates: 0,
+            counts: Counts::none(),
             snapshots: Snapshots::new(alloc),
             agreement,
         };
@@ -76,8 +77,9 @@ impl<P: Policy + Copy> Node<P> {
 
     /// What the node does with an input. Where it does nothing it answers the reason, and is as it
     /// was. A table that the input completes is published last. It stops at a limit exactly where the input would take
-    /// a count of its own above its number, or have it propose a value with more triggers than one may have, unless
-    /// memory is wanted first. Which links carry what it sends changes nothing of what it answers.
+    /// a count of its own above its number, or have it propose a value or make a list with more triggers than one may have,
+    /// unless memory is wanted first. The count of the triggers of all its lists stands last. Which links carry what it sends
+    /// changes nothing of what it answers.
     pub fn handle(self, input: Input) -> Result<(Node<P>, Outputs), Stop>
         ensures node { IfOk result (λ r. (policy : P) (net : Net) (u : ℕ) (carried : Carried) (past : Chronicle) →
             StandsFor policy (P.rules policy) net u self past → MayCome net u (input_of input) →
@@ -85,6 +87,9 @@ impl<P: Policy + Copy> Node<P> {
         ensures outputs { IfOk result (λ r. (policy : P) (net : Net) (u : ℕ) (carried : Carried) (past : Chronicle) →
             StandsFor policy (P.rules policy) net u self past → MayCome net u (input_of input) →
             Answers past (give (P.rules policy) net carried u past (input_of input)) r.1) }
+        ensures within { OnOk result ((policy : P) (net : Net) (u : ℕ) (carried : Carried) (past : Chronicle) →
+            StandsFor policy (P.rules policy) net u self past → MayCome net u (input_of input) →
+            node_limit (P.rules policy) net u (give (P.rules policy) net carried u past (input_of input)) ≡ None) }
         ensures stopped { IfErr result (λ stop. (policy : P) (net : Net) (u : ℕ) (carried : Carried) (past : Chronicle) →
             StandsFor policy (P.rules policy) net u self past → MayCome net u (input_of input) →
             StopsAt (node_limit (P.rules policy) net u (give (P.rules policy) net carried u past (input_of input))) stop) }
@@ -92,13 +97,17 @@ impl<P: Policy + Copy> Node<P> {
         let mut outputs = OutputList::new(self.parts.alloc);
         let (node, idle) = self.handle_into(input, &mut outputs)?;
         match idle {
-            None => Ok((node, Outputs::Did(outputs))),
+            None => {
+                node.check_marks()?;
+                Ok((node, Outputs::Did(outputs)))
+            }
             Some(reason) => Ok((node, Outputs::Idle(reason))),
         }
     }
 
     /// The same, with the outputs in this list, in the place of whatever was in it: its memory is used again. Where the
-    /// node does nothing, the reason is answered. What is in the list after a stop means nothing.
+    /// node does nothing, the reason is answered. What is in the list after a stop means nothing. The count of the triggers
+    /// of all lists is left to the caller, who asks for it by `check_marks`, after counts of its own.
     #[inline(always)]
     pub fn handle_into(
         self,
@@ -113,7 +122,7 @@ impl<P: Policy + Copy> Node<P> {
             Answers past (give (P.rules policy) net carried u past (input_of input)) (told_by r.1 outputs.new)) }
         ensures stopped { IfErr result (λ stop. (policy : P) (net : Net) (u : ℕ) (carried : Carried) (past : Chronicle) →
             StandsFor policy (P.rules policy) net u self past → MayCome net u (input_of input) →
-            StopsAt (node_limit (P.rules policy) net u (give (P.rules policy) net carried u past (input_of input))) stop) }
+            StopsAt (limit_before_marks (P.rules policy) net u (give (P.rules policy) net carried u past (input_of input))) stop) }
     {
         outputs.clear();
         let (node, answer) = self.answer(input, outputs)?;

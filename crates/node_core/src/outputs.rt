@@ -2,7 +2,7 @@
 ghost use Rattle.std.specs.Prelude.{ℕ, suc, ◌≡◌, ◌↔◌, [], ◌∷◌, ◌++◌, Some, List, length, map, IsTrue, IfOk, OnOk};
 ghost use Rattle.path_vector.specs.Kept.{IsOfNeighbour};
 ghost use Rattle.trigger_log.specs.Entries.{Entry as Logged, entry};
-ghost use Rattle.trigger_log.specs.Fits.{CauseFits};
+ghost use Rattle.trigger_log.specs.Fits.{CauseFits, ListsFor};
 ghost use Rattle.trigger_log.specs.Going.{going_by};
 ghost use Rattle.trigger_log.specs.Offered.{IsPlaced};
 ghost use Rattle.trigger_log.specs.Standing.{StandsFor as LogStandsFor, dropped_of};
@@ -19,7 +19,7 @@ use std::alloc::Global;
 use std::marker::Model;
 use std::mem;
 use std::rc::Rc;
-use topology::{Epoch, LimitKind, NoMemory, NodeId, Reason, Scope, Topology, Trigger};
+use topology::{Epoch, LimitKind, NoMemory, NodeId, Reason, Scope, Topology, Triggers};
 use trigger_log::{NodeLog, Outgoing};
 
 /// Something that a node did, in the order in which it did it.
@@ -127,31 +127,32 @@ impl OutputList {
         Ok(())
     }
 
-    /// The log makes an entry, which fits it: the entry is added, and what goes out with it.
+    /// The log makes an entry, which fits it and lists something but where it concerns nothing: the entry is added, and what goes
+    /// out with it.
     #[inline(always)]
     pub(crate) fn enter<P: Policy + Copy>(
         &mut self,
         log: Box<NodeLog<P>>,
         topology: &Topology,
-        trigger: Trigger,
+        triggers: Triggers,
         scope: Scope,
         cause: Cause,
     ) -> Result<Box<NodeLog<P>>, NoMemory>
         ensures log { IfOk result (λ longer. (policy : P) (u : ℕ) (h : List Logged) →
             LogStandsFor policy (P.rules policy) topology.now u log.value h → IsOfNeighbour topology.now u cause →
-            IsPlaced topology.now scope → CauseFits h scope cause →
-            LogStandsFor policy (P.rules policy) topology.now u longer.value (entry (trigger ∷ []) scope cause ∷ h)) }
+            IsPlaced topology.now scope → CauseFits h scope cause → ListsFor scope triggers →
+            LogStandsFor policy (P.rules policy) topology.now u longer.value (entry triggers scope cause ∷ h)) }
         ensures outputs { OnOk result ((policy : P) (u : ℕ) (h : List Logged) →
             LogStandsFor policy (P.rules policy) topology.now u log.value h → IsOfNeighbour topology.now u cause →
-            IsPlaced topology.now scope → CauseFits h scope cause →
+            IsPlaced topology.now scope → CauseFits h scope cause → ListsFor scope triggers →
             map output_of self.new ≡ map output_of self.old
-            ++ Enters (suc (length h)) ∷ map Sends (going_by (P.rules policy) topology.now u h (entry (trigger ∷ []) scope cause))) }
+            ++ Enters (suc (length h)) ∷ map Sends (going_by (P.rules policy) topology.now u h (entry triggers scope cause))) }
         ensures dropped { IfOk result (λ longer. dropped_of longer.value ≡ dropped_of log.value) }
     {
         if !self.is_empty() {
-            return Ok(self.enter_behind(log, topology, trigger, scope, cause)?);
+            return Ok(self.enter_behind(log, topology, triggers, scope, cause)?);
         }
-        let longer = NodeLog::append_boxed(log, topology, trigger, scope, cause, &mut self.sent)?;
+        let longer = NodeLog::append_boxed(log, topology, triggers, scope, cause, &mut self.sent)?;
         self.logged = Some(longer.len());
         Ok(longer)
     }
@@ -162,23 +163,23 @@ impl OutputList {
         &mut self,
         log: Box<NodeLog<P>>,
         topology: &Topology,
-        trigger: Trigger,
+        triggers: Triggers,
         scope: Scope,
         cause: Cause,
     ) -> Result<Box<NodeLog<P>>, NoMemory>
         ensures log { IfOk result (λ longer. (policy : P) (u : ℕ) (h : List Logged) →
             LogStandsFor policy (P.rules policy) topology.now u log.value h → IsOfNeighbour topology.now u cause →
-            IsPlaced topology.now scope → CauseFits h scope cause →
-            LogStandsFor policy (P.rules policy) topology.now u longer.value (entry (trigger ∷ []) scope cause ∷ h)) }
+            IsPlaced topology.now scope → CauseFits h scope cause → ListsFor scope triggers →
+            LogStandsFor policy (P.rules policy) topology.now u longer.value (entry triggers scope cause ∷ h)) }
         ensures outputs { OnOk result ((policy : P) (u : ℕ) (h : List Logged) →
             LogStandsFor policy (P.rules policy) topology.now u log.value h → IsOfNeighbour topology.now u cause →
-            IsPlaced topology.now scope → CauseFits h scope cause →
+            IsPlaced topology.now scope → CauseFits h scope cause → ListsFor scope triggers →
             map output_of self.new ≡ map output_of self.old
-            ++ Enters (suc (length h)) ∷ map Sends (going_by (P.rules policy) topology.now u h (entry (trigger ∷ []) scope cause))) }
+            ++ Enters (suc (length h)) ∷ map Sends (going_by (P.rules policy) topology.now u h (entry triggers scope cause))) }
         ensures dropped { IfOk result (λ longer. dropped_of longer.value ≡ dropped_of log.value) }
     {
         let mut sent = Vec::new(self.alloc);
-        let longer = NodeLog::append_boxed(log, topology, trigger, scope, cause, &mut sent)?;
+        let longer = NodeLog::append_boxed(log, topology, triggers, scope, cause, &mut sent)?;
         enter_all(longer.len(), sent, &mut self.more)?;
         Ok(longer)
     }

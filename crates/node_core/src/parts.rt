@@ -2,6 +2,7 @@
 ghost use Rattle.std.specs.Prelude.{◌≡◌, IfOk};
 
 use crate::agreement::Agreement;
+use crate::counts::Counts;
 use marker_snapshot::Snapshots;
 use std::alloc::Global;
 use std::rc::Rc;
@@ -13,8 +14,8 @@ pub struct NodeParts {
     pub(crate) alloc: Global,
     pub(crate) topology: Rc<Topology>,
     pub(crate) id: NodeId,
-    // How many items the entries of the log list.
-    pub(crate) updates: usize,
+    // What the log comes to so far.
+    pub(crate) counts: Counts,
     pub(crate) snapshots: Snapshots,
     pub(crate) agreement: Agreement,
 }

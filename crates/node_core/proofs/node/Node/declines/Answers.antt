@@ -28,7 +28,7 @@ returns-then-got-expected-clause-none g c policy net u past was may =
     let adds = c.saturating_add-expected.ensures in
     let after : c.saturating_add-expected.result ≡ suc c.in-Some.count = omega (arith, got, low, adds) in
     takes rules net u past c.args.from may.0 c.args.session c.args.item.now c.received_in_held.result received c.in-Some.count c.in-Some.is may
-    (its_turn c.in-Some.count c.saturating_add-expected.result c.in-Update.prefix c.in-Update.seq c.in-Update.trigger c.in-Update.path c.args.item.now c.in-Update.is after c.if-got-expected.true)
+    (its_turn c.in-Some.count c.saturating_add-expected.result c.in-Update.prefix c.in-Update.seq c.in-Update.triggers c.in-Update.path c.args.item.now c.in-Update.is after c.if-got-expected.true)
 
 pub returns-clause-some : goal.returns-clause-some
 returns-clause-some g c policy net u carried past was may =
@@ -39,4 +39,4 @@ returns-clause-some g c policy net u carried past was may =
     let adds = c.saturating_add-expected.ensures in
     let after : c.saturating_add-expected.result ≡ suc c.in-Some.count = omega (arith, got, low, adds) in
     wrong_turn rules net u past c.args.from may.0 c.args.session c.args.item.now c.received_in_held.result received c.in-Some.count c.in-Some.is _
-    (not_its_turn c.in-Some.count c.saturating_add-expected.result c.in-Update.prefix c.in-Update.seq c.in-Update.trigger c.in-Update.path c.args.item.now c.in-Update.is after c.if-got-expected.false) carried
+    (not_its_turn c.in-Some.count c.saturating_add-expected.result c.in-Update.prefix c.in-Update.seq c.in-Update.triggers c.in-Update.path c.args.item.now c.in-Update.is after c.if-got-expected.false) carried

@@ -1,5 +1,5 @@
 use Rattle.std.proofs.Common.{◌∙◌, sym, true≢false}
-use Rattle.node_core.proofs.Admitting.{fits_originate, fits_withdraw, fits_prefer, fits_prefer_far, fits_notice, fits_opening, fits_opening_far, fits_snap, fits_propose, fits_control, fits_inject, fits_inject_zero, fits_hop, fits_hop_not, fits_arrive, fits_arrive_zero, fits_arrive_far}
+use Rattle.node_core.proofs.Admitting.{fits_originate, fits_withdraw, fits_prefer, fits_prefer_far, fits_flush, fits_notice, fits_opening, fits_opening_far, fits_snap, fits_propose, fits_control, fits_inject, fits_inject_zero, fits_hop, fits_hop_not, fits_arrive, fits_arrive_zero, fits_arrive_far}
 use Rattle.node_core.proofs.Unboxed.{net_of, id_of}
 use Rattle.node_core.proofs.node.Node.fits.Goals as goal
 use Rattle.node_core.proofs.node.Node.fits.Goals.{then-is_near-2, else-is_near-2}
@@ -74,6 +74,12 @@ returns-else-is_near-3 g c = record {
   fits = λ policy net u past was.
       fits_opening_far net u c.args.input.now c.in-OpenSession.nbr c.in-OpenSession.session c.is_near-in-OpenSession.result c.in-OpenSession.is
       (c.is_near-in-OpenSession.ensures policy net u past was) c.if-is_near-3.false;
+}
+
+pub returns-in-Flush : goal.returns-in-Flush
+returns-in-Flush g c = record {
+  fits = λ policy net u past was.
+      fits_flush net u c.args.input.now c.in-Flush.nbr c.is_near-in-Flush.result c.in-Flush.is (c.is_near-in-Flush.ensures policy net u past was);
 }
 
 pub returns-in-Snap : goal.returns-in-Snap

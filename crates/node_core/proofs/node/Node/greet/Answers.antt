@@ -29,7 +29,7 @@ returns-clause-node g c = IfOk-weaker c.enter_own.result _ _
     let v = c.args.nbr in
     let unknown : is_some (ready (reads (log_of u past)) v) ≡ false = sym ((rw c.deref.ensures at c.ready.ensures) policy net u (log_of u past) was.log near) ∙ c.if-ready.false in
     subst (Keeps policy rules net u node) (sym (greeted_first rules net carried v u c.args.session past (ready (reads (log_of u past)) v) unknown))
-    (h policy net u carried past was (record { near = near; placed = tt; fits = (holds, unopened (reads (log_of u past)) v c.args.session holds unknown) })))
+    (h policy net u carried past was (record { near = near; placed = tt; fits = (holds, unopened (reads (log_of u past)) v c.args.session holds unknown); lists = λ none. absurd (cc none) })))
     c.enter_own.ensures.node
 
 pub returns-clause-outputs : goal.returns-clause-outputs
@@ -39,5 +39,5 @@ returns-clause-outputs g c = on_ok_weaker c.enter_own.result
     let v = c.args.nbr in
     let unknown : is_some (ready (reads (log_of u past)) v) ≡ false = sym ((rw c.deref.ensures at c.ready.ensures) policy net u (log_of u past) was.log near) ∙ c.if-ready.false in
     subst (Hands first c.enter_own.new.outputs) (sym (greeted_first rules net carried v u c.args.session past (ready (reads (log_of u past)) v) unknown))
-    (h policy net u carried past first was (record { near = near; placed = tt; fits = (holds, unopened (reads (log_of u past)) v c.args.session holds unknown) }) hands))
+    (h policy net u carried past first was (record { near = near; placed = tt; fits = (holds, unopened (reads (log_of u past)) v c.args.session holds unknown); lists = λ none. absurd (cc none) }) hands))
     c.enter_own.ensures.outputs

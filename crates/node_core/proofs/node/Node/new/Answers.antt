@@ -5,10 +5,10 @@ use Rattle.consolidator.specs.Standing.{StandsFor as PartStandsFor}
 use Rattle.stable_table.specs.TwoTables.{StandsFor as TablesStandFor}
 use Rattle.cut_laws.proofs.Owning.{start_own}
 use Rattle.node_core.specs.declared.parts.NodeParts.{NodeParts}
+use Rattle.node_core.specs.Counting.{AreCounts}
 use Rattle.node_core.specs.Reports.{AreReports}
 use Rattle.node_core.proofs.Agreements.{start_agrees}
 use Rattle.node_core.proofs.Alike.{start_alike}
-use Rattle.node_core.proofs.Listed.{none_sent}
 use Rattle.node_core.proofs.Reporting.{no_reports}
 use Rattle.node_core.proofs.Stepping.{start_within}
 use Rattle.node_core.proofs.node.Node.new.Goals as goal
@@ -26,7 +26,7 @@ returns g c =
         same_id = ap (λ (k : NodeParts). k.id) made;
         log = subst (λ l. LogStandsFor c.args.policy rules net u l []) (sym c.in_ok-log-2.ensures.ok) (subst (λ n. LogStandsFor c.args.policy rules n u c.in_ok-log.log []) c.deref.ensures c.in_ok-log.ensures.stands);
         drops = ap (λ l. dropped_of l) c.in_ok-log-2.ensures.ok ∙ c.in_ok-log.ensures.dropped;
-        listed = ap (λ (k : NodeParts). k.updates) made ∙ sym (none_sent rules net u);
+        counted = subst (λ (k : NodeParts). AreCounts rules net u [] k.counts) (sym made) (c.none.ensures rules net u);
         acts = [];
         snapshots = subst (λ (k : NodeParts). SnapshotsStandFor net u k.snapshots []) (sym made) (c.new-6.ensures net u);
         alike = start_alike u;

@@ -1,4 +1,4 @@
-use Rattle.std.proofs.Common.{◌≡◌, [], ◌∷◌, Some, refl, sym, ap, subst}
+use Rattle.std.proofs.Common.{◌≡◌, ◌∷◌, Some, refl, sym, ap, subst}
 use Rattle.std.proofs.lemmas.Result.{IfOk-weaker, on_ok_weaker}
 use Rattle.path_vector.specs.History.{held}
 use Rattle.trigger_log.specs.Entries.{reads}
@@ -22,13 +22,13 @@ returns-in-Update-clause-node g c = IfOk-weaker c.enter.result _ _
     let s = c.args.session in
     let p = c.in-Update.prefix in
     let n = c.in-Update.seq in
-    let t = c.in-Update.trigger in
+    let ts = c.in-Update.triggers in
     let path = c.in-Update.path in
-    news_taken rules net u carried past v s (Keeps policy rules net u node) c.args.item p n t path c.in-Update.is
-    (h policy net u carried (Took v u s (News n (record { prefix = p; triggers = t ∷ []; path = path })) ∷ past)
-    (heard_keeps policy rules net u past v s c.args.item p n t path c.in-Update.is may c.args.self _ was.own was.keeps (but_snapshots c.args.self _ c.deref_mut.ensures.value refl refl) (ap (λ (k : NodeParts). k.agreement.reports) c.deref_mut.ensures.value)
+    news_taken rules net u carried past v s (Keeps policy rules net u node) c.args.item p n ts path c.in-Update.is
+    (h policy net u carried (Took v u s (News n (record { prefix = p; triggers = ts; path = path })) ∷ past)
+    (heard_keeps policy rules net u past v s c.args.item p n ts path c.in-Update.is may c.args.self _ was.own was.keeps (but_snapshots c.args.self _ c.deref_mut.ensures.value refl refl) (ap (λ (k : NodeParts). k.agreement.reports) c.deref_mut.ensures.value)
     (rw c.deref_mut.ensures.value at c.on_update.ensures net u))
-    (may_enter policy rules net u past v s c.args.item p n t path c.in-Update.is may)))
+    (may_enter policy rules net u past v s c.args.item p n ts path c.in-Update.is may)))
     c.enter.ensures.node
 
 pub returns-in-Update-clause-outputs : goal.returns-in-Update-clause-outputs
@@ -39,14 +39,14 @@ returns-in-Update-clause-outputs g c = on_ok_weaker c.enter.result
     let s = c.args.session in
     let p = c.in-Update.prefix in
     let n = c.in-Update.seq in
-    let t = c.in-Update.trigger in
+    let ts = c.in-Update.triggers in
     let path = c.in-Update.path in
-    news_taken rules net u carried past v s (Hands first c.enter.new.outputs) c.args.item p n t path c.in-Update.is
-    (h policy net u carried (Took v u s (News n (record { prefix = p; triggers = t ∷ []; path = path })) ∷ past) first
-    (heard_keeps policy rules net u past v s c.args.item p n t path c.in-Update.is may c.args.self _ was.own was.keeps (but_snapshots c.args.self _ c.deref_mut.ensures.value refl refl) (ap (λ (k : NodeParts). k.agreement.reports) c.deref_mut.ensures.value)
+    news_taken rules net u carried past v s (Hands first c.enter.new.outputs) c.args.item p n ts path c.in-Update.is
+    (h policy net u carried (Took v u s (News n (record { prefix = p; triggers = ts; path = path })) ∷ past) first
+    (heard_keeps policy rules net u past v s c.args.item p n ts path c.in-Update.is may c.args.self _ was.own was.keeps (but_snapshots c.args.self _ c.deref_mut.ensures.value refl refl) (ap (λ (k : NodeParts). k.agreement.reports) c.deref_mut.ensures.value)
     (rw c.deref_mut.ensures.value at c.on_update.ensures net u))
-    (may_enter policy rules net u past v s c.args.item p n t path c.in-Update.is may)
-    (hands_took first past c.args.outputs.now v u s (News n (record { prefix = p; triggers = t ∷ []; path = path })) hands)))
+    (may_enter policy rules net u past v s c.args.item p n ts path c.in-Update.is may)
+    (hands_took first past c.args.outputs.now v u s (News n (record { prefix = p; triggers = ts; path = path })) hands)))
     c.enter.ensures.outputs
 
 pub returns-in-Marker-clause-node : goal.returns-in-Marker-clause-node

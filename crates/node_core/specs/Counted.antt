@@ -1,0 +1,36 @@
+-- How many triggers the lists of a node have, and whether one of them is too long.
+use Rattle.std.specs.Prelude.{ℕ, ◌+◌, Bool, nat_lt, List, [], ◌∷◌, length}
+use Rattle.topology.specs.declared.items.Pending.{Pending}
+use Rattle.topology.specs.declared.items.Sent.{Sent}
+use Rattle.topology.specs.declared.names.Trigger.{Trigger}
+use Rattle.trigger_log.specs.Entries.{Entry}
+use Rattle.node_core.specs.declared.limits.TheConstants.{MOST_TRIGGERS}
+
+-- there are more triggers than a list may have
+abbrev pub is_long : List Trigger → Bool
+is_long triggers = nat_lt MOST_TRIGGERS (length triggers)
+
+-- an item lists so many
+abbrev pub is_long_item : Sent → Bool
+is_long_item item = is_long item.triggers
+
+-- what is held back does
+abbrev pub is_long_row : Pending → Bool
+is_long_row row = is_long row.triggers
+
+-- the sum of a number of each
+abbrev pub total : {A : Type 0} → (A → ℕ) → List A → ℕ
+total count [] = 0
+total count (x ∷ xs) = count x + total count xs
+
+-- the triggers that entries list, counted once for each list
+abbrev pub entry_marks : List Entry → ℕ
+entry_marks h = total (λ (k : Entry). length k.triggers) h
+
+-- those that items list
+abbrev pub item_marks : List Sent → ℕ
+item_marks items = total (λ (item : Sent). length item.triggers) items
+
+-- those that rows of what is held back list
+abbrev pub row_marks : List Pending → ℕ
+row_marks rows = total (λ (row : Pending). length row.triggers) rows
