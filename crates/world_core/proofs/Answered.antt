@@ -39,7 +39,7 @@ use Rattle.world_core.specs.Accounts.{AccountView}
 use Rattle.world_core.specs.Effects.{effects, Tells}
 use Rattle.world_core.specs.Happening.{AreSending, GoesWhere, KeepsNodes, Since, away_with, handed}
 use Rattle.world_core.specs.Publications.{PublicationView, all_published}
-use Rattle.world_core.specs.Limits.{triggers_of, makes_local}
+use Rattle.world_core.specs.Limits.{triggers_of, has_more_marks, makes_local}
 use Rattle.world_core.specs.Matching.{AreCrashed, AreLinks, AreMails, AreNodes, Counts, IsCounted, Stands}
 use Rattle.world_core.specs.declared.bounds.TheConstants.{MOST_TRIGGERS, MOST_CONTROL, MOST_PACKETS}
 use Rattle.world_core.specs.Telling.{AreTold}
@@ -64,6 +64,7 @@ outputs_begun u (input.Withdraw p) past = refl
 outputs_begun u (input.Prefer v value) past = refl
 outputs_begun u (input.Notice v) past = refl
 outputs_begun u (input.OpenSession v s) past = refl
+outputs_begun u (input.Flush v) past = refl
 outputs_begun u input.Snap past = refl
 outputs_begun u (input.Inject id p) past = refl
 outputs_begun u (input.Hop packet up) past = refl
@@ -78,6 +79,7 @@ effects_begun u (input.Withdraw p) past = refl
 effects_begun u (input.Prefer v value) past = refl
 effects_begun u (input.Notice v) past = refl
 effects_begun u (input.OpenSession v s) past = refl
+effects_begun u (input.Flush v) past = refl
 effects_begun u input.Snap past = refl
 effects_begun u (input.Inject id p) past = refl
 effects_begun u (input.Hop packet up) past = refl
@@ -92,6 +94,7 @@ links_begun net u (input.Withdraw p) past links was = was
 links_begun net u (input.Prefer v value) past links was = was
 links_begun net u (input.Notice v) past links was = was
 links_begun net u (input.OpenSession v s) past links was = was
+links_begun net u (input.Flush v) past links was = was
 links_begun net u input.Snap past links was = was
 links_begun net u (input.Inject id p) past links was = was
 links_begun net u (input.Hop packet up) past links was = was
@@ -106,6 +109,7 @@ quiet_begun u (input.Withdraw p) past = (refl, λ w. refl, refl)
 quiet_begun u (input.Prefer v value) past = (refl, λ w. refl, refl)
 quiet_begun u (input.Notice v) past = (refl, λ w. refl, refl)
 quiet_begun u (input.OpenSession v s) past = (refl, λ w. refl, refl)
+quiet_begun u (input.Flush v) past = (refl, λ w. refl, refl)
 quiet_begun u input.Snap past = (refl, λ w. refl, refl)
 quiet_begun u (input.Inject id p) past = (refl, λ w. refl, refl)
 quiet_begun u (input.Hop packet up) past = (refl, λ w. refl, refl)
@@ -120,6 +124,7 @@ packets_begun u (input.Withdraw p) past = same_now past
 packets_begun u (input.Prefer v value) past = same_now past
 packets_begun u (input.Notice v) past = same_now past
 packets_begun u (input.OpenSession v s) past = same_now past
+packets_begun u (input.Flush v) past = same_now past
 packets_begun u input.Snap past = same_now past
 packets_begun u (input.Inject id p) past = same_now past
 packets_begun u (input.Hop packet up) past = same_now past
@@ -168,15 +173,16 @@ given_sent net past counts u i (Goes now) list items old new none told is adds b
 pub sent_stands : {P : Type 0} (rules : Rules) (past : Chronicle) (s : Step) (counts : Counts) (old new : Network P) (told : AccountView) (first : Chronicle) → KeepsNodes old new
     → AreNodes old.policy rules old.topology.value (chronicle_of past s) old.nodes.items → AreCrashed old.topology.value (chronicle_of past s) old.crashed.items
     → old.triggers ≡ triggers_of old.topology.value (chronicle_of past s) → old.triggers ≤ MOST_TRIGGERS → length (mailed (chronicle_of past s)) ≤ MOST_CONTROL
-    → packets (chronicle_of past s) ≤ MOST_PACKETS → AreSending (λ k. false) first (chronicle_of past s) counts new told → Stands rules (chronicle_of past s) counts new
-sent_stands rules past s counts old new told first kept nodes flags total few few_mails few_packets sent = record {
+    → packets (chronicle_of past s) ≤ MOST_PACKETS → has_more_marks rules old.topology.value (chronicle_of past s) ≡ false
+    → AreSending (λ k. false) first (chronicle_of past s) counts new told → Stands rules (chronicle_of past s) counts new
+sent_stands rules past s counts old new told first kept nodes flags total few few_mails few_packets few_marks sent = record {
   are_nodes = rw (kept.policy, kept.topology, kept.nodes) nodes;
   are_crashed = rw (kept.topology, kept.crashed) flags;
   are_links = sent.are_links;
   are_mails = sent.are_mails;
   are_published = sent.are_published;
   are_walks = sent.are_walks;
-  counted = rw (kept.topology, kept.triggers) (record { total = total; few = few; few_mails = few_mails; few_packets = few_packets });
+  counted = rw (kept.topology, kept.triggers) (record { total = total; few = few; few_mails = few_mails; few_packets = few_packets; few_marks = few_marks });
 }
 
 -- the effects are those of the step
@@ -198,6 +204,7 @@ links_declined net past u (input.Withdraw p) why links goes was = was
 links_declined net past u (input.Prefer v value) why links goes was = was
 links_declined net past u (input.Notice v) why links goes was = was
 links_declined net past u (input.OpenSession v s) why links goes was = was
+links_declined net past u (input.Flush v) why links goes was = was
 links_declined net past u input.Snap why links goes was = was
 links_declined net past u (input.Propose e) why links goes was = was
 links_declined net past u (input.Control from m) why links goes was = was
@@ -212,8 +219,8 @@ idle_links net past u i s why links answers goes was =
     subst (λ c. AreLinks net c links) (sym (ap (chronicle_of past) is)) (links_declined net past u i why links (subst (GoesWhere i) is goes) was)
 
 -- so is the count of triggers
-pub idle_counted : (net : Net) (past : Chronicle) (s : Step) (why : Reason) (triggers : ℕ) → Answers past s (Declines why) → IsCounted net past triggers → IsCounted net (chronicle_of past s) triggers
-idle_counted net past s why triggers answers was = subst (λ c. IsCounted net c triggers) (sym (ap (chronicle_of past) (declined past s why answers))) was
+pub idle_counted : (rules : Rules) (net : Net) (past : Chronicle) (s : Step) (why : Reason) (triggers : ℕ) → Answers past s (Declines why) → IsCounted rules net past triggers → IsCounted rules net (chronicle_of past s) triggers
+idle_counted rules net past s why triggers answers was = subst (λ c. IsCounted rules net c triggers) (sym (ap (chronicle_of past) (declined past s why answers))) was
 
 -- of the control messages
 pub idle_mails : (net : Net) (past : Chronicle) (counts : Counts) (s : Step) (why : Reason) (mails : Office) → Answers past s (Declines why) → AreMails net past counts mails → AreMails net (chronicle_of past s) counts mails
@@ -228,6 +235,7 @@ walks_declined net past (input.Withdraw p) why walks goes was = was
 walks_declined net past (input.Prefer v value) why walks goes was = was
 walks_declined net past (input.Notice v) why walks goes was = was
 walks_declined net past (input.OpenSession v s) why walks goes was = was
+walks_declined net past (input.Flush v) why walks goes was = was
 walks_declined net past input.Snap why walks goes was = was
 walks_declined net past (input.Propose e) why walks goes was = was
 walks_declined net past (input.Control from m) why walks goes was = was

@@ -14,14 +14,15 @@ use Rattle.topology.proofs.Neighbours.{linked_sym, neighbours_linked}
 use Rattle.path_vector.specs.declared.causes.Cause.TheVariants as cause
 use Rattle.path_vector.specs.Rules.{Rules}
 use Rattle.path_vector.specs.History.{held, held_by, last, owns, ready}
-use Rattle.trigger_log.specs.Entries.{Entry, inbox, local, reads, is_session}
+use Rattle.trigger_log.specs.Entries.{Entry, flush, inbox, local, reads, is_session}
+use Rattle.trigger_log.specs.Pending.{holds_some}
 use Rattle.trigger_log.specs.Going.{Going, Item, News, Marker, Hello, going_by}
 use Rattle.control_mail.specs.Readings.{Letter}
 use Rattle.epoch_packet.specs.declared.walks.End.{End as Ending}
 use Rattle.consolidator.specs.Answers.{refusal_of, proposal_refusal, ballot_of, asks, replies}
 use Rattle.consolidator.specs.Messages.{Message}
 use Rattle.chronicle.specs.declared.events.Event.{Event}
-use Rattle.chronicle.specs.declared.events.Event.TheVariants.{Originate, Withdraw, Prefer, Deliver, Fail, Restore, Notice, OpenSession, Snap, Propose, Control, Crash, Restart, Inject, Hop}
+use Rattle.chronicle.specs.declared.events.Event.TheVariants.{Originate, Withdraw, Prefer, Deliver, Fail, Restore, Notice, OpenSession, Flush, Snap, Propose, Control, Crash, Restart, Inject, Hop}
 use Rattle.chronicle.specs.declared.ways.Way.{Way}
 use Rattle.chronicle.specs.Drops.{kept_log}
 use Rattle.chronicle.specs.Facts.{Fact, Chronicle, Log, Raise, Sent, Took, Start, Heard, Mail, Publish, Visit, End, happen}
@@ -30,7 +31,7 @@ use Rattle.chronicle.specs.Crashes.{crashed}
 use Rattle.world_core.proofs.Opened.{sends_open}
 use Rattle.chronicle.specs.Control.{control, mail_with}
 use Rattle.chronicle.specs.Epochs.{epoch}
-use Rattle.chronicle.specs.Giving.{unless, out_of_turn, closes, opens, proposes, hears, answer, concluded, give}
+use Rattle.chronicle.specs.Giving.{unless, out_of_turn, closes, opens, flushes, proposes, hears, answer, concluded, give}
 use Rattle.chronicle.specs.Channels.{channel}
 use Rattle.chronicle.specs.Links.{link}
 use Rattle.chronicle.specs.Logs.{log_of}
@@ -42,7 +43,7 @@ use Rattle.chronicle.proofs.Quieting.{IsOfPacket}
 use Rattle.chronicle.specs.Inputs.{Input, arrival}
 use Rattle.chronicle.specs.Inputs as input
 use Rattle.topology.specs.declared.status.Reason.{Reason}
-use Rattle.topology.specs.declared.status.Reason.TheVariants.{AlreadyOrigin, NotOrigin, StillUp, WrongSession, OldSession, Crashed, NotCrashed}
+use Rattle.topology.specs.declared.status.Reason.TheVariants.{AlreadyOrigin, NotOrigin, StillUp, WrongSession, OldSession, NothingPending, Crashed, NotCrashed}
 use Rattle.world_core.specs.Fits.{fits}
 use Rattle.world_core.specs.OpenWays.{AreOpen, is_joined, is_open}
 use Rattle.world_core.specs.Refreshing.{AreLinked, AreOpenBut, turned_ways, way, ways_to}
@@ -256,6 +257,15 @@ module _ (rules : Rules) (net : Net) (carried : Carried) (past : Chronicle) wher
         | false ↦ unchanged net (way v u ∷ []) past
       ]
 
+  -- a flush
+  flushes_keep : (u v : ℕ) (session : Option ℕ) → KeepsBy net [] past (flushes rules net carried u past v session)
+  flushes_keep u v None = unchanged net [] past
+  flushes_keep u v (Some s) =
+      elim (holds_some rules net u (log_of u past) v) as (λ t. KeepsBy net [] past (if t then Goes (write rules net carried u (flush v) past) else Idle NothingPending)) [
+        | true ↦ write_keep rules net carried u [] past (flush v) (λ one session misses at. refl)
+        | false ↦ unchanged net [] past
+      ]
+
 module _ (rules : Rules) (net : Net) (past : Chronicle) where
   -- the table that is due opens no way, and closes none
   concluded_keep : (u : ℕ) (ways : List Way) (s : Step) → KeepsBy net ways past s → KeepsBy net ways past (concluded rules net u past s)
@@ -359,6 +369,7 @@ module _ (rules : Rules) (net : Net) (past : Chronicle) where
         | false ↦ notice_keep u v
       ]
   does_keep (OpenSession u v) valid = opening_keep u v (held_with u v past) (link u v past)
+  does_keep (Flush u v) valid = given_keep u (input.Flush v) [] (flushes_keep rules net (carried_by u past) past u v (held (reads (log_of u past)) v))
   does_keep (Snap u) valid = given_keep u input.Snap [] (risen_keep rules net (carried_by u past) u [] past (suc (epoch u past)))
   does_keep (Propose u e) valid = given_keep u (input.Propose e) [] (proposal_keep u e)
   does_keep (Control number) valid = handed_keep (mail_with number past)
@@ -403,6 +414,7 @@ ways_linked net (Fail a b) fit = two_linked net a b fit
 ways_linked net (Restore a b) fit = two_linked net a b fit
 ways_linked net (Notice u v) fit = (linked_sym net v u ∙ fit, tt)
 ways_linked net (OpenSession u v) fit = (linked_sym net v u ∙ fit, tt)
+ways_linked net (Flush u v) fit = tt
 ways_linked net (Snap u) fit = tt
 ways_linked net (Propose u e) fit = tt
 ways_linked net (Control number) fit = tt

@@ -36,7 +36,7 @@ use Rattle.world_core.specs.declared.outcomes.Outcome.{Outcome}
 use Rattle.world_core.specs.declared.outcomes.Outcome.TheVariants as outcome
 use Rattle.world_core.specs.declared.outcomes.Effect.{Effect}
 use Rattle.world_core.specs.Effects.{effects}
-use Rattle.world_core.specs.Limits.{triggers_of}
+use Rattle.world_core.specs.Limits.{triggers_of, has_more_marks}
 use Rattle.link_model.specs.declared.links.Links.{Links}
 use Rattle.world_core.specs.Matching.{AreLinks, Counts, IsCounted, Stands}
 
@@ -58,23 +58,23 @@ pub did : {P : Type 0} (rules : Rules) (past : Chronicle) (counts : Counts) (s :
 did rules past counts s now network list is stands tells = comes_so rules past counts s (Goes now) network (outcome.Did list) is (record { stands = stands; tells = tells })
 
 -- a link that changes gives no trigger
-pub fail_counted : (net : Net) (past : Chronicle) (a b triggers : ℕ) → IsCounted net past triggers → IsCounted net (fact.Fail a b ∷ past) triggers
-unfolding triggers_of
-fail_counted net past a b triggers was = record { total = was.total; few = was.few; few_mails = was.few_mails; few_packets = was.few_packets }
+pub fail_counted : (rules : Rules) (net : Net) (past : Chronicle) (a b triggers : ℕ) → IsCounted rules net past triggers → IsCounted rules net (fact.Fail a b ∷ past) triggers
+unfolding triggers_of has_more_marks
+fail_counted rules net past a b triggers was = record { total = was.total; few = was.few; few_mails = was.few_mails; few_packets = was.few_packets; few_marks = was.few_marks }
 
 -- nor does one that comes up
-pub restore_counted : (net : Net) (past : Chronicle) (a b triggers : ℕ) → IsCounted net past triggers → IsCounted net (fact.Restore a b ∷ past) triggers
-unfolding triggers_of
-restore_counted net past a b triggers was = record { total = was.total; few = was.few; few_mails = was.few_mails; few_packets = was.few_packets }
+pub restore_counted : (rules : Rules) (net : Net) (past : Chronicle) (a b triggers : ℕ) → IsCounted rules net past triggers → IsCounted rules net (fact.Restore a b ∷ past) triggers
+unfolding triggers_of has_more_marks
+restore_counted rules net past a b triggers was = record { total = was.total; few = was.few; few_mails = was.few_mails; few_packets = was.few_packets; few_marks = was.few_marks }
 
 -- nor a node that crashes, or comes back
-pub crash_counted : (net : Net) (past : Chronicle) (u triggers : ℕ) → IsCounted net past triggers → IsCounted net (fact.Crash u ∷ past) triggers
-unfolding triggers_of
-crash_counted net past u triggers was = record { total = was.total; few = was.few; few_mails = was.few_mails; few_packets = was.few_packets }
+pub crash_counted : (rules : Rules) (net : Net) (past : Chronicle) (u triggers : ℕ) → IsCounted rules net past triggers → IsCounted rules net (fact.Crash u ∷ past) triggers
+unfolding triggers_of has_more_marks
+crash_counted rules net past u triggers was = record { total = was.total; few = was.few; few_mails = was.few_mails; few_packets = was.few_packets; few_marks = was.few_marks }
 
-pub restart_counted : (net : Net) (past : Chronicle) (u triggers : ℕ) → IsCounted net past triggers → IsCounted net (fact.Restart u ∷ past) triggers
-unfolding triggers_of
-restart_counted net past u triggers was = record { total = was.total; few = was.few; few_mails = was.few_mails; few_packets = was.few_packets }
+pub restart_counted : (rules : Rules) (net : Net) (past : Chronicle) (u triggers : ℕ) → IsCounted rules net past triggers → IsCounted rules net (fact.Restart u ∷ past) triggers
+unfolding triggers_of has_more_marks
+restart_counted rules net past u triggers was = record { total = was.total; few = was.few; few_mails = was.few_mails; few_packets = was.few_packets; few_marks = was.few_marks }
 
 -- no link and no channel changes by it
 pub crash_links : (net : Net) (past : Chronicle) (u : ℕ) (links : Links) → AreLinks net past links → AreLinks net (fact.Crash u ∷ past) links

@@ -1,5 +1,5 @@
 -- What an input of one node changes of the counts of all.
-use Rattle.std.proofs.Common.{ℕ, suc, Bool, true, false, not, ◌+◌, ◌-◌, ◌==◌, ◌&&◌, nat_lt, Option, Some, None, List, [], ◌∷◌, ◌≡◌, ◌<◌, ◌≤◌, ◌⊎◌, inl, inr, refl, sym, ◌∙◌, ap, ap₂, subst, arith, length}
+use Rattle.std.proofs.Common.{ℕ, suc, Bool, true, false, not, ◌+◌, ◌-◌, ◌==◌, ◌&&◌, ◌||◌, nat_lt, Option, Some, None, List, [], ◌∷◌, ◌≡◌, ◌<◌, ◌≤◌, ◌⊎◌, inl, inr, refl, sym, ◌∙◌, ap, ap₂, subst, arith, length}
 use Rattle.std.specs.Prelude.{if◌then◌else◌}
 use Rattle.std.specs.List.{list_any, sum_by}
 use Rattle.std.proofs.lemmas.Bool.Decides.{nat_tests}
@@ -14,7 +14,8 @@ use Rattle.topology.specs.Net.{Net, IsValid}
 use Rattle.path_vector.specs.declared.causes.Cause.TheVariants as cause
 use Rattle.path_vector.specs.Rules.{Rules}
 use Rattle.path_vector.specs.History.{held, last, owns, ready}
-use Rattle.trigger_log.specs.Entries.{Entry, inbox, local, reads, is_local, is_session, locals}
+use Rattle.trigger_log.specs.Entries.{Entry, flush, inbox, local, reads, is_local, is_session, locals}
+use Rattle.trigger_log.specs.Pending.{holds_some}
 use Rattle.trigger_log.specs.Sending.{sent_of}
 use Rattle.trigger_log.specs.Going.{Item, News, Marker, Hello}
 use Rattle.chronicle.specs.Epochs.{epoch}
@@ -22,7 +23,7 @@ use Rattle.chronicle.specs.Facts.{Chronicle, Took, Start, Heard}
 use Rattle.consolidator.specs.Answers.{refusal_of, proposal_refusal, ballot_of, asks, replies}
 use Rattle.consolidator.specs.Messages.{Message}
 use Rattle.chronicle.specs.Control.{control, mailed}
-use Rattle.chronicle.specs.Giving.{unless, out_of_turn, closes, opens, proposes, hears, answer, concluded, give}
+use Rattle.chronicle.specs.Giving.{unless, out_of_turn, closes, opens, flushes, proposes, hears, answer, concluded, give}
 use Rattle.chronicle.specs.Inputs.{Input, arrival}
 use Rattle.chronicle.specs.Inputs as input
 use Rattle.chronicle.specs.Logs.{log_of}
@@ -33,10 +34,11 @@ use Rattle.chronicle.specs.Walks.{packets}
 use Rattle.chronicle.proofs.Forwarding.{forwards_keep, injects_keep}
 use Rattle.chronicle.proofs.Quieting.{log_mails, log_quiet, quiet_packet}
 use Rattle.cut_laws.specs.Own.{SameNode}
-use Rattle.node_core.specs.declared.limits.TheConstants.{MOST_EPOCHS, MOST_ENTRIES, MOST_UPDATES}
-use Rattle.node_core.specs.NodeLimits.{has_large_value, node_above, first_of_node}
+use Rattle.node_core.specs.declared.limits.TheConstants.{MOST_EPOCHS, MOST_ENTRIES, MOST_UPDATES, MOST_MARKS}
+use Rattle.node_core.specs.NodeLimits.{has_large_value, has_long_list, marks_of, node_above, first_of_node}
+use Rattle.node_core.specs.NodeLimits.{has_more_marks as node_has_more_marks}
 use Rattle.world_core.specs.declared.bounds.TheConstants.{MOST_TRIGGERS, MOST_CONTROL, MOST_PACKETS}
-use Rattle.world_core.specs.Limits.{triggers_of, has_more_epochs, has_more_entries, has_more_updates, has_more_control, has_more_packets, first_above, above, makes_local}
+use Rattle.world_core.specs.Limits.{triggers_of, has_more_epochs, has_more_entries, has_more_updates, has_more_control, has_more_packets, has_more_marks, first_above, above, makes_local}
 
 -- ---- sums and tests over all nodes, where what is read of one has changed
 
@@ -84,7 +86,7 @@ module _ (p q : ℕ → Bool) (u : ℕ) (others : (v : ℕ) → (u == v) ≡ fal
   any_at xs none there = any_only xs none ∙ rw there refl
 
 -- a test that no number of the list passes
-any_none : (p : ℕ → Bool) (xs : List ℕ) → ((v : ℕ) → has xs v ≡ true → p v ≡ false) → list_any p xs ≡ false
+pub any_none : (p : ℕ → Bool) (xs : List ℕ) → ((v : ℕ) → has xs v ≡ true → p v ≡ false) → list_any p xs ≡ false
 any_none p [] off = refl
 any_none p (x ∷ xs) off =
     let here : has (x ∷ xs) x ≡ true = rw (same_number x) refl in
@@ -163,6 +165,15 @@ module _ (rules : Rules) (net : Net) (carried : Carried) (u : ℕ) (past : Chron
         | false ↦ tt
       ]
 
+  -- a flush makes one, or none
+  flushes_logs : (v : ℕ) (session : Option ℕ) → LogsBy u false past (flushes rules net carried u past v session)
+  flushes_logs v None = tt
+  flushes_logs v (Some s) =
+      elim (holds_some rules net u (log_of u past) v) as (λ t. LogsBy u false past (if t then Goes (write rules net carried u (flush v) past) else Idle reason.NothingPending)) [
+        | true ↦ write_logs rules net carried u false (flush v) past past refl refl
+        | false ↦ tt
+      ]
+
   -- a ballot that starts makes none
   proposal_logs : (e : ℕ) → log_of u (proposes net u past e) ≡ log_of u past
   unfolding proposes
@@ -192,6 +203,7 @@ module _ (rules : Rules) (net : Net) (carried : Carried) (u : ℕ) (past : Chron
   answer_logs (input.Arrive v s x) = comes_logs rules net carried u (makes_local (input.Arrive v s x)) v s x (held (reads (log_of u past)) v) past (take_logs v s x)
   answer_logs (input.Notice v) = notices_logs v (held (reads (log_of u past)) v)
   answer_logs (input.OpenSession v s) = opens_logs v s (held (reads (log_of u past)) v)
+  answer_logs (input.Flush v) = flushes_logs v (held (reads (log_of u past)) v)
   answer_logs input.Snap = inl (log_raise rules net carried u (suc (epoch u past)) past u)
   answer_logs (input.Propose e) =
       unless_logs rules net carried u true past (proposes net u past e) (proposal_refusal net (control past) u e) (inl (proposal_logs e))
@@ -255,10 +267,10 @@ none_of_node false false false false e = (refl, refl, refl, refl)
 
 -- a node that is within its counts
 pub within_counts : (rules : Rules) (net : Net) (u : ℕ) (past : Chronicle) → node_above rules net u past ≡ None
-    → (nat_lt MOST_EPOCHS (epoch u past) ≡ false) × (has_large_value u past ≡ false) × (nat_lt MOST_ENTRIES (length (log_of u past)) ≡ false) × (nat_lt MOST_UPDATES (length (sent_of rules net u (log_of u past))) ≡ false)
+    → (nat_lt MOST_EPOCHS (epoch u past) ≡ false) × ((has_large_value u past || has_long_list rules net u past) ≡ false) × (nat_lt MOST_ENTRIES (length (log_of u past)) ≡ false) × (nat_lt MOST_UPDATES (length (sent_of rules net u (log_of u past))) ≡ false)
 unfolding node_above
 within_counts rules net u past within =
-    none_of_node (nat_lt MOST_EPOCHS (epoch u past)) (has_large_value u past) (nat_lt MOST_ENTRIES (length (log_of u past))) (nat_lt MOST_UPDATES (length (sent_of rules net u (log_of u past)))) within
+    none_of_node (nat_lt MOST_EPOCHS (epoch u past)) (has_large_value u past || has_long_list rules net u past) (nat_lt MOST_ENTRIES (length (log_of u past))) (nat_lt MOST_UPDATES (length (sent_of rules net u (log_of u past)))) within
 
 module _ (rules : Rules) (net : Net) (past : Chronicle) (within : (u : ℕ) → has net.nodes u ≡ true → node_above rules net u past ≡ None) where
   -- no epoch is too high
@@ -277,13 +289,13 @@ module _ (rules : Rules) (net : Net) (past : Chronicle) (within : (u : ℕ) → 
   no_updates = any_none (λ u. nat_lt MOST_UPDATES (length (sent_of rules net u (log_of u past)))) net.nodes (λ u node. (within_counts rules net u past (within u node)).3)
 
   -- where all nodes are within their counts, and the triggers are not too many, nothing is above its number
-  pub above_none : triggers_of net past ≤ MOST_TRIGGERS → length (mailed past) ≤ MOST_CONTROL → packets past ≤ MOST_PACKETS → above rules net past ≡ None
+  pub above_none : triggers_of net past ≤ MOST_TRIGGERS → length (mailed past) ≤ MOST_CONTROL → packets past ≤ MOST_PACKETS → has_more_marks rules net past ≡ false → above rules net past ≡ None
   unfolding above has_more_control has_more_packets
-  above_none few few_mails few_packets =
+  above_none few few_mails few_packets few_marks =
       let low : nat_lt MOST_TRIGGERS (triggers_of net past) ≡ false = grind (arith, nat_tests, few) in
       let least : nat_lt MOST_CONTROL (length (mailed past)) ≡ false = grind (arith, nat_tests, few_mails) in
       let last : nat_lt MOST_PACKETS (packets past) ≡ false = grind (arith, nat_tests, few_packets) in
-      rw (no_epochs, low, no_entries, no_updates, least, last) refl
+      rw (no_epochs, low, no_entries, no_updates, least, last, few_marks) refl
 
   -- where they are so but for the control messages, these are
   pub above_control : triggers_of net past ≤ MOST_TRIGGERS → MOST_CONTROL < length (mailed past) → above rules net past ≡ Some (record { kind = LimitKind.Control; number = MOST_CONTROL })
@@ -302,10 +314,26 @@ module _ (rules : Rules) (net : Net) (past : Chronicle) (within : (u : ℕ) → 
       let high : nat_lt MOST_PACKETS (packets past) ≡ true = grind (arith, nat_tests, many) in
       rw (no_epochs, low, no_entries, no_updates, least, high) refl
 
+  -- where they are so but for the marks, these are
+  pub above_marks : triggers_of net past ≤ MOST_TRIGGERS → length (mailed past) ≤ MOST_CONTROL → packets past ≤ MOST_PACKETS → has_more_marks rules net past ≡ true → above rules net past ≡ Some (record { kind = LimitKind.Marks; number = MOST_MARKS })
+  unfolding above has_more_control has_more_packets
+  above_marks few few_mails few_packets many =
+      let low : nat_lt MOST_TRIGGERS (triggers_of net past) ≡ false = grind (arith, nat_tests, few) in
+      let least : nat_lt MOST_CONTROL (length (mailed past)) ≡ false = grind (arith, nat_tests, few_mails) in
+      let last : nat_lt MOST_PACKETS (packets past) ≡ false = grind (arith, nat_tests, few_packets) in
+      rw (no_epochs, low, no_entries, no_updates, least, last, many) refl
+
   -- where one node has changed, its own counts decide
   pub above_own : (now : Chronicle) (u : ℕ) → has net.nodes u ≡ true → ((v : ℕ) → (u == v) ≡ false → SameNode v past now)
-      → above rules net now ≡ first_above (nat_lt MOST_EPOCHS (epoch u now)) (nat_lt MOST_TRIGGERS (triggers_of net now)) (nat_lt MOST_ENTRIES (length (log_of u now)))
-      (nat_lt MOST_UPDATES (length (sent_of rules net u (log_of u now)))) (has_more_control now) (has_more_packets now)
+      → above rules net now ≡ first_above (record {
+        epochs = nat_lt MOST_EPOCHS (epoch u now);
+        triggers = nat_lt MOST_TRIGGERS (triggers_of net now);
+        entries = nat_lt MOST_ENTRIES (length (log_of u now));
+        updates = nat_lt MOST_UPDATES (length (sent_of rules net u (log_of u now)));
+        control = has_more_control now;
+        packets = has_more_packets now;
+        marks = has_more_marks rules net now;
+      })
   unfolding above has_more_epochs has_more_entries has_more_updates
   above_own now u node others =
       let epochs = any_at (λ v. nat_lt MOST_EPOCHS (epoch v past)) (λ v. nat_lt MOST_EPOCHS (epoch v now)) u
@@ -315,3 +343,11 @@ module _ (rules : Rules) (net : Net) (past : Chronicle) (within : (u : ℕ) → 
       let updates = any_at (λ v. nat_lt MOST_UPDATES (length (sent_of rules net v (log_of v past)))) (λ v. nat_lt MOST_UPDATES (length (sent_of rules net v (log_of v now)))) u
       (λ v off. ap (λ h. nat_lt MOST_UPDATES (length (sent_of rules net v h))) (others v off).same_log) net.nodes no_updates node in
       rw (epochs, entries, updates) refl
+
+-- where one node has changed, and no other had more marks than it may, its own marks decide
+pub marks_at : (rules : Rules) (net : Net) (past now : Chronicle) (u : ℕ) → has net.nodes u ≡ true → ((v : ℕ) → (u == v) ≡ false → SameNode v past now) → has_more_marks rules net past ≡ false
+    → has_more_marks rules net now ≡ node_has_more_marks rules net u now
+unfolding has_more_marks node_has_more_marks
+marks_at rules net past now u node others few =
+    any_at (λ v. nat_lt MOST_MARKS (marks_of rules net v (log_of v past))) (λ v. nat_lt MOST_MARKS (marks_of rules net v (log_of v now))) u
+    (λ v off. ap (λ h. nat_lt MOST_MARKS (marks_of rules net v h)) (others v off).same_log) net.nodes few node

@@ -8,7 +8,7 @@ use Rattle.topology.specs.Net.{Net, IsValid, linked}
 use Rattle.topology.proofs.Neighbours.{linked_nodes}
 use Rattle.path_vector.specs.Rules.{Rules}
 use Rattle.chronicle.specs.declared.events.Event.{Event}
-use Rattle.chronicle.specs.declared.events.Event.TheVariants.{Originate, Withdraw, Prefer, Deliver, Fail, Restore, Notice, OpenSession, Snap, Propose, Control, Crash, Restart, Inject, Hop}
+use Rattle.chronicle.specs.declared.events.Event.TheVariants.{Originate, Withdraw, Prefer, Deliver, Fail, Restore, Notice, OpenSession, Flush, Snap, Propose, Control, Crash, Restart, Inject, Hop}
 use Rattle.chronicle.specs.Control.{mail_with}
 use Rattle.chronicle.specs.Facts.{Fact, Chronicle}
 use Rattle.chronicle.specs.Facts as fact
@@ -52,6 +52,7 @@ actor_is_node net past (Fail a b) u valid stay packets fit is = absurd (cc is)
 actor_is_node net past (Restore a b) u valid stay packets fit is = absurd (cc is)
 actor_is_node net past (Notice n v) u valid stay packets fit is = subst (λ y. has net.nodes y ≡ true) (same_Some n u is) (linked_nodes net n v valid fit).0
 actor_is_node net past (OpenSession n v) u valid stay packets fit is = subst (λ y. has net.nodes y ≡ true) (same_Some n u is) (linked_nodes net n v valid fit).0
+actor_is_node net past (Flush n v) u valid stay packets fit is = subst (λ y. has net.nodes y ≡ true) (same_Some n u is) (linked_nodes net n v valid fit).0
 actor_is_node net past (Snap n) u valid stay packets fit is = subst (λ y. has net.nodes y ≡ true) (same_Some n u is) fit
 actor_is_node net past (Propose n e) u valid stay packets fit is =
     (elim (has net.consolidators n) as (λ t. (if t then Some n else None) ≡ Some u → has net.nodes u ≡ true) [
@@ -118,7 +119,7 @@ crash_stands rules past counts u old set forgot mails same kept as_set rest node
           rw (as_set.topology, same.topology) (stopped_mails net past counts forgot.mails mails here u (told net here.acts here.stands node));
       are_published = rw (rest.publications, kept.publications) was.are_published;
       are_walks = rw (as_set.topology, same.topology, rest.walks, kept.walks) (walks_stay net past now old.walks (same_more (fact.Crash u) past past (λ t. t) (same_now past)) was.are_walks);
-      counted = rw (as_set.topology, same.topology, rest.triggers, kept.triggers) (crash_counted net past u old.triggers was.counted);
+      counted = rw (as_set.topology, same.topology, rest.triggers, kept.triggers) (crash_counted (rules old.policy) net past u old.triggers was.counted);
     }
 
 -- so it is after a node came back
@@ -140,5 +141,5 @@ restart_stands rules past counts u old set mails stays same kept node was flags 
           rw same.topology (started_mails net past counts set.mails mails here u (told net here.acts here.stands node));
       are_published = rw kept.publications was.are_published;
       are_walks = rw (same.topology, kept.walks) (walks_stay net past now old.walks (same_more (fact.Restart u) past past (λ t. t) (same_now past)) was.are_walks);
-      counted = rw (same.topology, kept.triggers) (restart_counted net past u old.triggers was.counted);
+      counted = rw (same.topology, kept.triggers) (restart_counted (rules old.policy) net past u old.triggers was.counted);
     }

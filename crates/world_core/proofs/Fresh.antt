@@ -1,11 +1,17 @@
 -- A world in which nothing has happened.
-use Rattle.std.proofs.Common.{ℕ, zero, suc, Bool, true, false, Some, List, [], ◌∷◌, ◌++◌, ◌≡◌, ◌⊎◌, inl, inr, ⊎_elim, refl, sym, ◌∙◌, ap, arith, length, slice_get, ◌&&◌}
+use Rattle.std.proofs.Common.{ℕ, zero, suc, Bool, true, false, Some, List, [], ◌∷◌, ◌++◌, ◌≡◌, ◌+◌, ◌⊎◌, inl, inr, ⊎_elim, refl, sym, ◌∙◌, ap, arith, length, nat_lt, slice_get, ◌&&◌}
 use Rattle.std.specs.List.{sum_by}
 use Rattle.std.proofs.lemmas.List.Sums.{sum_by-cons}
 use Rattle.topology.specs.Net.{Net}
 use Rattle.trigger_log.specs.Entries.{locals}
+use Rattle.trigger_log.specs.Sending.{sent_of}
+use Rattle.trigger_log.proofs.Collected.{none_at_first}
+use Rattle.node_core.specs.declared.limits.TheConstants.{MOST_MARKS}
+use Rattle.node_core.specs.Counted.{entry_marks, item_marks, row_marks}
+use Rattle.node_core.specs.NodeLimits.{marks_of}
+use Rattle.world_core.proofs.Counts.{any_none}
 use Rattle.chronicle.specs.Logs.{log_of}
-use Rattle.world_core.specs.Limits.{triggers_of}
+use Rattle.world_core.specs.Limits.{triggers_of, has_more_marks}
 use Rattle.path_vector.specs.Rules.{Rules}
 use Rattle.link_model.specs.declared.links.Links.{Links}
 use Rattle.link_model.specs.Standing.{StandsFor as LinksStandFor}
@@ -51,10 +57,17 @@ no_sum (x ∷ xs) =
     let rest = no_sum xs in
     omega (arith, all, first, rest)
 
+-- no node has marks
+no_marks : (rules : Rules) (net : Net) → has_more_marks rules net [] ≡ false
+unfolding has_more_marks marks_of sent_of
+no_marks rules net =
+    any_none (λ u. nat_lt MOST_MARKS (marks_of rules net u (log_of u []))) net.nodes
+    (λ u node. ap (λ rows. nat_lt MOST_MARKS (entry_marks [] + item_marks (sent_of rules net u []) + row_marks rows)) (none_at_first rules net u))
+
 -- the count at the start
-pub fresh_counted : (net : Net) → IsCounted net [] 0
+pub fresh_counted : (rules : Rules) (net : Net) → IsCounted rules net [] 0
 unfolding triggers_of
-fresh_counted net = record { total = sym (no_sum net.nodes); few = omega arith; few_mails = omega arith; few_packets = omega arith }
+fresh_counted rules net = record { total = sym (no_sum net.nodes); few = omega arith; few_mails = omega arith; few_packets = omega arith; few_marks = no_marks rules net }
 
 -- each way over a link is open
 pub fresh_open : (net : Net) (has : Way → Bool) → ((way : Way) → has way ≡ linked net way.from way.to) → AreOpen net [] has

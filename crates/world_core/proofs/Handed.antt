@@ -13,7 +13,7 @@ use Rattle.chronicle.specs.declared.events.Event.TheVariants as event
 use Rattle.chronicle.specs.Channels.{channel}
 use Rattle.chronicle.specs.Facts.{Chronicle, Took}
 use Rattle.chronicle.specs.Giving.{answer, give}
-use Rattle.chronicle.specs.Inputs.{Input, Originate, Withdraw, Prefer, Arrive, Notice, OpenSession, Snap, Propose, Control, Inject, Hop}
+use Rattle.chronicle.specs.Inputs.{Input, Originate, Withdraw, Prefer, Arrive, Notice, OpenSession, Flush, Snap, Propose, Control, Inject, Hop}
 use Rattle.chronicle.specs.Links.{link}
 use Rattle.chronicle.specs.Run.{chronicle_of, does, given, handed, held_with, hopped, injected, is_carried, up_links}
 use Rattle.chronicle.specs.Walks.{Standing, standing}
@@ -199,6 +199,26 @@ module _ {P : Type 0} (rules : Rules) (past : Chronicle) (counts : Counts) (netw
     same = open_step rules network.topology.value past u v None (Up s) none is;
   }
 
+  -- a flush
+  pub flushes : (u v : ℕ) → linked network.topology.value u v ≡ true → Hands rules past counts (event.Flush u v) u (Flush v) network
+  unfolding does
+  flushes u v near = record {
+    may = record {
+      are_nodes = was.are_nodes;
+      are_crashed = was.are_crashed;
+      are_links = was.are_links;
+      are_mails = was.are_mails;
+      are_published = was.are_published;
+      are_walks = was.are_walks;
+      counted = was.counted;
+      may_come = near_of network.topology.value u v was.are_nodes.valid near;
+      sender = tt;
+      passing = tt;
+      goes = tt;
+    };
+    same = refl;
+  }
+
   -- a ballot
   pub proposes : (u e : ℕ) → Hands rules past counts (event.Propose u e) u (Propose e) network
   unfolding does
@@ -276,7 +296,7 @@ no_letter rules net past number none = ap (handed rules net past) none
 
 -- an item that is taken from its way arrives
 pub delivers : {P : Type 0} (rules : Rules) (past : Chronicle) (counts : Counts) (network : Network P) (v u s : ℕ) (x : Item) (rest : List Item) → AreNodes network.policy rules network.topology.value past network.nodes.items
-    → AreCrashed network.topology.value past network.crashed.items → AreMails network.topology.value past counts network.mails → network.publications.items ≡ all_published past → AreWalks network.topology.value past network.walks → IsCounted network.topology.value past network.triggers → IsRegular network.topology.value past → linked network.topology.value v u ≡ true → MayArrive past v u s → channel v u past ≡ x ∷ rest
+    → AreCrashed network.topology.value past network.crashed.items → AreMails network.topology.value past counts network.mails → network.publications.items ≡ all_published past → AreWalks network.topology.value past network.walks → IsCounted rules network.topology.value past network.triggers → IsRegular network.topology.value past → linked network.topology.value v u ≡ true → MayArrive past v u s → channel v u past ≡ x ∷ rest
     → AreLinks network.topology.value (Took v u s x ∷ past) network.links → Hands rules past counts (event.Deliver v u) u (Arrive v s x) network
 delivers rules past counts network v u s x rest nodes flags mails published walks counted regular near arrives front links =
     let net = network.topology.value in

@@ -16,6 +16,8 @@ pub mod Shown
 pub mod Counts
 pub mod Fresh
 pub mod Proposing
+pub mod Ascending
+pub mod ShortLists
 pub mod Stopping
 pub mod Returning
 pub mod Answered

@@ -1,12 +1,17 @@
--- What the triggers of all nodes say of the values that are proposed.
-use Rattle.std.proofs.Common.{ℕ, true, false, ◌==◌, ◌||◌, List, [], ◌∷◌, ◌++◌, ◌≡◌, ◌<◌, ◌≤◌, inl, inr, refl, subst, arith, length}
-use Rattle.std.specs.List.{sum_by}
+-- What the triggers of all nodes say of the values that are proposed, and of lists.
+use Rattle.std.proofs.Common.{ℕ, true, false, ◌==◌, ◌||◌, List, [], ◌∷◌, ◌++◌, ◌≡◌, ◌<◌, ◌≤◌, ⊎_elim, inl, inr, refl, subst, arith, length}
+use Rattle.std.specs.List.{list_any, sum_by}
 use Rattle.std.proofs.lemmas.Bool.Decides.{nat_tests}
 use Rattle.topology.specs.declared.ballots.Ballot.{Ballot}
-use Rattle.topology.specs.Lists.{Among}
+use Rattle.topology.specs.declared.items.Pending.{Pending}
+use Rattle.topology.specs.declared.items.Sent.{Sent}
+use Rattle.topology.specs.Lists.{has, Among}
 use Rattle.topology.specs.Net.{Net}
 use Rattle.path_vector.specs.Rules.{Rules}
 use Rattle.trigger_log.specs.Entries.{locals}
+use Rattle.trigger_log.specs.Pending.{pending_rows}
+use Rattle.trigger_log.specs.Sending.{sent_of}
+use Rattle.incomplete_closure.proofs.Listing.{some_passes, or_either}
 use Rattle.incomplete_closure.specs.declared.values.Value.{Value}
 use Rattle.paxos_core.specs.Facts.{Prepare, Promise, Accept, Accepted, Decision}
 use Rattle.consolidator.specs.Messages.{Message, Reports, Agrees}
@@ -14,10 +19,11 @@ use Rattle.chronicle.specs.declared.events.Event.{Event}
 use Rattle.chronicle.specs.Facts.{Fact, Chronicle, Mail}
 use Rattle.chronicle.specs.Logs.{log_of}
 use Rattle.chronicle.specs.Run.{after, chronicle_of, run, step}
-use Rattle.node_core.specs.NodeLimits.{is_large, is_too_large, has_large_value}
+use Rattle.node_core.specs.Counted.{is_long_item, is_long_row}
+use Rattle.node_core.specs.NodeLimits.{is_large, is_too_large, has_large_value, has_long_list}
 use Rattle.agreement_laws.specs.Given.{HasFewTriggers}
 use Rattle.world_core.specs.declared.bounds.TheConstants.{MOST_TRIGGERS}
-use Rattle.world_core.specs.Happening.{ValuesAreSmall}
+use Rattle.world_core.specs.Happening.{ListsAreShort, ValuesAreSmall}
 use Rattle.world_core.specs.Limits.{triggers_of}
 use Rattle.world_core.proofs.Comes.{run-push}
 use Rattle.world_core.proofs.Handed.{both_of}
@@ -58,6 +64,34 @@ module _ (u n : ℕ) where
         | false ↦ λ off any. large_facts facts (λ from to e b value a. few from to e b value (inr a)) any
       ]) refl is
 
--- where a node proposed one, the triggers of all are too many
-pub too_many_triggers : (net : Net) (u : ℕ) (now : Chronicle) → ValuesAreSmall net now → has_large_value u now ≡ true → MOST_TRIGGERS < triggers_of net now
-too_many_triggers net u now small is = large_facts u (triggers_of net now) now small is
+-- ---- a list that is too long
+
+-- one of some is too long
+long_item : (n : ℕ) (items : List Sent) → ((item : Sent) → Among item items → length item.triggers ≤ n) → list_any is_long_item items ≡ true → MOST_TRIGGERS < n
+long_item n items few is =
+    let one = some_passes is_long_item items is in
+    let most = few one.0 one.1 in
+    let long = one.2 in
+    grind (arith, nat_tests, most, long)
+
+long_row : (n : ℕ) (rows : List Pending) → ((row : Pending) → Among row rows → length row.triggers ≤ n) → list_any is_long_row rows ≡ true → MOST_TRIGGERS < n
+long_row n rows few is =
+    let one = some_passes is_long_row rows is in
+    let most = few one.0 one.1 in
+    let long = one.2 in
+    grind (arith, nat_tests, most, long)
+
+-- an item that a node sent, or an update that it holds back
+long_list : (rules : Rules) (net : Net) (u : ℕ) (now : Chronicle) → has net.nodes u ≡ true → ListsAreShort rules net now → has_long_list rules net u now ≡ true → MOST_TRIGGERS < triggers_of net now
+unfolding has_long_list
+long_list rules net u now node short is = ⊎_elim
+    (λ (item : list_any is_long_item (sent_of rules net u (log_of u now)) ≡ true). long_item (triggers_of net now) (sent_of rules net u (log_of u now)) (λ item a. short.sent u item node a) item)
+    (λ (row : list_any is_long_row (pending_rows rules net u (log_of u now)) ≡ true). long_row (triggers_of net now) (pending_rows rules net u (log_of u now)) (λ row a. short.waiting u row node a) row)
+    (or_either (list_any is_long_item (sent_of rules net u (log_of u now))) (list_any is_long_row (pending_rows rules net u (log_of u now))) is)
+
+-- where a node proposed such a value, or has such a list, the triggers of all are too many
+pub too_many_triggers : (rules : Rules) (net : Net) (u : ℕ) (now : Chronicle) → has net.nodes u ≡ true → ListsAreShort rules net now → (has_large_value u now || has_long_list rules net u now) ≡ true → MOST_TRIGGERS < triggers_of net now
+too_many_triggers rules net u now node short is = ⊎_elim
+    (λ (value : has_large_value u now ≡ true). large_facts u (triggers_of net now) now short.values value)
+    (λ (list : has_long_list rules net u now ≡ true). long_list rules net u now node short list)
+    (or_either (has_large_value u now) (has_long_list rules net u now) is)

@@ -130,6 +130,7 @@ comes_back rules net u past (input.Prefer v value) = none_back (input.Prefer v v
 comes_back rules net u past (input.Arrive v s x) = none_back (input.Arrive v s x) (begun u (input.Arrive v s x) past) (given rules net past u (input.Arrive v s x)) (λ k. refl)
 comes_back rules net u past (input.Notice v) = none_back (input.Notice v) past (given rules net past u (input.Notice v)) (λ k. refl)
 comes_back rules net u past (input.OpenSession v s) = none_back (input.OpenSession v s) past (given rules net past u (input.OpenSession v s)) (λ k. refl)
+comes_back rules net u past (input.Flush v) = none_back (input.Flush v) past (given rules net past u (input.Flush v)) (λ k. refl)
 comes_back rules net u past input.Snap = none_back input.Snap past (given rules net past u input.Snap) (λ k. refl)
 comes_back rules net u past (input.Propose e) = none_back (input.Propose e) (begun u (input.Propose e) past) (given rules net past u (input.Propose e)) (λ k. refl)
 comes_back rules net u past (input.Control from m) = none_back (input.Control from m) (begun u (input.Control from m) past) (given rules net past u (input.Control from m)) (λ k. refl)

@@ -13,7 +13,8 @@ use Rattle.topology.proofs.Neighbours.{has-neighbours}
 use Rattle.path_vector.specs.declared.causes.Cause.TheVariants as cause
 use Rattle.path_vector.specs.Rules.{Rules}
 use Rattle.path_vector.specs.History.{held, last, owns, ready}
-use Rattle.trigger_log.specs.Entries.{Entry, inbox, local, reads, is_session}
+use Rattle.trigger_log.specs.Entries.{Entry, flush, inbox, local, reads, is_session}
+use Rattle.trigger_log.specs.Pending.{holds_some}
 use Rattle.trigger_log.specs.Making.{making}
 use Rattle.trigger_log.specs.Going.{Going, Item, News, Marker, Hello, going_by, going_in, going_to, spread, told}
 use Rattle.chronicle.specs.Epochs.{epoch}
@@ -35,7 +36,7 @@ use Rattle.transient_mode.specs.TransientHops as transient
 use Rattle.transient_mode.proofs.EachHop.{is_move}
 use Rattle.consolidator.specs.Answers.{refusal_of, proposal_refusal, ballot_of, asks, replies}
 use Rattle.consolidator.specs.Messages.{Message}
-use Rattle.chronicle.specs.Giving.{unless, out_of_turn, closes, opens, proposes, hears, answer, concluded, give, on_tables, off_tables, sight, hops_on_tables, hops_off_tables, by_mode, injects, forwards}
+use Rattle.chronicle.specs.Giving.{unless, out_of_turn, closes, opens, flushes, proposes, hears, answer, concluded, give, on_tables, off_tables, sight, hops_on_tables, hops_off_tables, by_mode, injects, forwards}
 use Rattle.chronicle.specs.Inputs.{Input, arrival}
 use Rattle.chronicle.specs.Inputs as input
 use Rattle.chronicle.specs.Links.{link}
@@ -295,6 +296,7 @@ begun u (input.Withdraw p) past = past
 begun u (input.Prefer v value) past = past
 begun u (input.Notice v) past = past
 begun u (input.OpenSession v s) past = past
+begun u (input.Flush v) past = past
 begun u input.Snap past = past
 begun u (input.Inject id p) past = past
 begun u (input.Hop packet up) past = past
@@ -334,6 +336,15 @@ module _ (rules : Rules) (net : Net) (carried : Carried) (u : ℕ) (past : Chron
         | false ↦ tt
       ]
 
+  -- a flush
+  flushes_adds : (v : ℕ) (session : Option ℕ) → AddsBy net u past (flushes rules net carried u past v session)
+  flushes_adds v None = tt
+  flushes_adds v (Some s) =
+      elim (holds_some rules net u (log_of u past) v) as (λ t. AddsBy net u past (if t then Goes (write rules net carried u (flush v) past) else Idle reason.NothingPending)) [
+        | true ↦ write_adds net u carried valid node rules (flush v) past are
+        | false ↦ tt
+      ]
+
   -- a ballot that starts, after it has started
   proposal_adds : (e : ℕ) → AddsBy net u (begun u (input.Propose e) past) (unless (proposal_refusal net (control past) u e) (proposes net u past e))
   unfolding proposes
@@ -367,6 +378,7 @@ module _ (rules : Rules) (net : Net) (carried : Carried) (u : ℕ) (past : Chron
   answer_adds (input.Arrive v s x) may sender passing = comes_adds v s x (held (reads (log_of u past)) v)
   answer_adds (input.Notice v) may sender passing = notices_adds v (held (reads (log_of u past)) v)
   answer_adds (input.OpenSession v s) may sender passing = opens_adds v s (held (reads (log_of u past)) v) (neighbour_linked net u v may)
+  answer_adds (input.Flush v) may sender passing = flushes_adds v (held (reads (log_of u past)) v)
   answer_adds input.Snap may sender passing = raise_adds net u carried valid node rules (suc (epoch u past)) past are
   answer_adds (input.Propose e) may sender passing = proposal_adds e
   answer_adds (input.Control from m) may sender passing = hearing_adds from m sender

@@ -4,7 +4,7 @@ use Rattle.topology.specs.Lists.{has}
 use Rattle.topology.specs.Net.{Net, linked}
 use Rattle.node_core.specs.declared.limits.TheConstants.{MOST_EPOCHS, MOST_PREFERENCE}
 use Rattle.chronicle.specs.declared.events.Event.{Event}
-use Rattle.chronicle.specs.declared.events.Event.TheVariants.{Originate, Withdraw, Prefer, Deliver, Fail, Restore, Notice, OpenSession, Snap, Propose, Control, Crash, Restart, Inject, Hop}
+use Rattle.chronicle.specs.declared.events.Event.TheVariants.{Originate, Withdraw, Prefer, Deliver, Fail, Restore, Notice, OpenSession, Flush, Snap, Propose, Control, Crash, Restart, Inject, Hop}
 use Rattle.world_core.specs.declared.bounds.TheConstants.{HIGHEST_MESSAGE}
 
 -- the names of the event are in the network: its node and prefix, or the link of its two ends; a preference is a
@@ -18,6 +18,7 @@ fits net (Fail a b) = linked net a b
 fits net (Restore a b) = linked net a b
 fits net (Notice node nbr) = linked net node nbr
 fits net (OpenSession node nbr) = linked net node nbr
+fits net (Flush node nbr) = linked net node nbr
 fits net (Snap node) = has net.nodes node
 fits net (Propose node epoch) = has net.nodes node && (nat_le 1 epoch && nat_le epoch MOST_EPOCHS)
 fits net (Control number) = nat_le 1 number && nat_le number HIGHEST_MESSAGE

@@ -1,17 +1,22 @@
 -- What an event leaves of a network, and what came of it.
 use Rattle.std.specs.Prelude.{ℕ, ◌≡◌, ◌<◌, ◌≤◌, ◌-◌, ◌^◌, ◌==◌, Bool, true, false, is_some, Some, List, ◌∷◌, ◌++◌, length, if◌then◌else◌}
 use Rattle.topology.specs.declared.ballots.Ballot.{Ballot}
+use Rattle.topology.specs.declared.items.Pending.{Pending}
+use Rattle.topology.specs.declared.items.Sent.{Sent}
 use Rattle.topology.specs.declared.links.LinkState.TheVariants.{Up}
 use Rattle.topology.specs.LinkStates.{number_of}
 use Rattle.topology.specs.Lists.{has, Among}
 use Rattle.topology.specs.Net.{Net}
 use Rattle.path_vector.specs.Rules.{Rules}
 use Rattle.trigger_log.specs.Going.{Item}
+use Rattle.trigger_log.specs.Pending.{pending_rows}
+use Rattle.trigger_log.specs.Sending.{sent_of}
 use Rattle.incomplete_closure.specs.declared.values.Value.{Value}
 use Rattle.paxos_core.specs.Facts.{Accept}
 use Rattle.consolidator.specs.Messages.{Agrees}
 use Rattle.chronicle.specs.Facts.{Chronicle, Took, Mail}
 use Rattle.chronicle.specs.Links.{link}
+use Rattle.chronicle.specs.Logs.{log_of}
 use Rattle.chronicle.specs.Channels.{channel}
 use Rattle.chronicle.specs.Crashes.{crashed}
 use Rattle.chronicle.specs.Inputs.{Input}
@@ -48,9 +53,15 @@ ValuesAreSmall net now =
     (from to e : ℕ) (b : Ballot) (value : Value) → Among (Mail from to (Agrees e (Accept b value))) now
     → length value.incomplete ≤ triggers_of net now
 
+-- nor does an item that a node of the network sent list more, or an update that it holds back
+pub record ListsAreShort (rules : Rules) (net : Net) (now : Chronicle) : Type 0 where
+  pub values : ValuesAreSmall net now
+  pub sent : (u : ℕ) (item : Sent) → has net.nodes u ≡ true → Among item (sent_of rules net u (log_of u now)) → length item.triggers ≤ triggers_of net now
+  pub waiting : (u : ℕ) (row : Pending) → has net.nodes u ≡ true → Among row (pending_rows rules net u (log_of u now)) → length row.triggers ≤ triggers_of net now
+
 -- the stop is at the limit that the step reaches, where that is so after it
 abbrev pub Stops : Rules → Net → Chronicle → Step → Stop → Type 0
-Stops rules net past step stop = ValuesAreSmall net (chronicle_of past step) → StopsAt (above_by rules net step) stop
+Stops rules net past step stop = ListsAreShort rules net (chronicle_of past step) → StopsAt (above_by rules net step) stop
 
 -- an item stands in front of the way from v to u, and would arrive in session s
 pub record MayArrive (past : Chronicle) (v u s : ℕ) : Type 0 where
@@ -79,6 +90,7 @@ handed u (input.Withdraw p) past = past
 handed u (input.Prefer v value) past = past
 handed u (input.Notice v) past = past
 handed u (input.OpenSession v s) past = past
+handed u (input.Flush v) past = past
 handed u input.Snap past = past
 handed u (input.Propose e) past = past
 handed u (input.Control from m) past = past
@@ -116,7 +128,7 @@ pub record MayHand {P : Type 0} (rules : Rules) (past : Chronicle) (counts : Cou
   pub are_mails : AreMails network.topology.value past counts network.mails
   pub are_published : network.publications.items ≡ all_published past
   pub are_walks : AreWalksBut (away_with input) network.topology.value past network.walks
-  pub counted : IsCounted network.topology.value past network.triggers
+  pub counted : IsCounted rules network.topology.value past network.triggers
   pub may_come : MayCome network.topology.value u input
   pub sender : SenderIsIn network.topology.value input
   pub passing : PacketIsIn network.topology.value past input

@@ -1,4 +1,4 @@
--- How many events, epochs, triggers, entries, items, control messages and packets a run may have.
+-- How many events, epochs, triggers, entries, items, control messages, packets and marks a run may have.
 use Rattle.std.specs.Prelude.{ℕ, ◌≡◌, Bool, true, false, not, ◌&&◌, Option, Some, None, List, nat_lt, nat_le, length, if◌then◌else◌}
 use Rattle.std.specs.List.{list_any, sum_by}
 use Rattle.topology.specs.declared.status.LimitKind.{LimitKind}
@@ -18,8 +18,8 @@ use Rattle.chronicle.specs.Inputs as input
 use Rattle.chronicle.specs.Run.{step, run}
 use Rattle.chronicle.specs.Steps.{Step, Idle, Goes}
 use Rattle.chronicle.specs.Walks.{packets}
-use Rattle.node_core.specs.declared.limits.TheConstants.{MOST_EPOCHS, MOST_ENTRIES, MOST_UPDATES}
-use Rattle.node_core.specs.NodeLimits.{Reached}
+use Rattle.node_core.specs.declared.limits.TheConstants.{MOST_EPOCHS, MOST_ENTRIES, MOST_UPDATES, MOST_MARKS}
+use Rattle.node_core.specs.NodeLimits.{Reached, marks_of}
 use Rattle.node_core.specs.declared.outputs.Stop.{Stop as NodeStop}
 use Rattle.node_core.specs.declared.outputs.Stop.TheVariants as node_stop
 use Rattle.world_core.specs.declared.bounds.TheConstants.{MOST_EVENTS, MOST_TRIGGERS, MOST_CONTROL, MOST_PACKETS}
@@ -50,22 +50,45 @@ has_more_control past = nat_lt MOST_CONTROL (length (mailed past))
 unfoldable pub has_more_packets : Chronicle → Bool
 has_more_packets past = nat_lt MOST_PACKETS (packets past)
 
--- the first of the six counts that is above its number, in this order
-abbrev pub first_above : (epochs triggers entries updates control packets : Bool) → Option Reached
-first_above epochs triggers entries updates control packets =
-    if epochs then Some (record { kind = Epochs; number = MOST_EPOCHS })
-    else if triggers then Some (record { kind = Triggers; number = MOST_TRIGGERS })
-    else if entries then Some (record { kind = Entries; number = MOST_ENTRIES })
-    else if updates then Some (record { kind = Updates; number = MOST_UPDATES })
-    else if control then Some (record { kind = Control; number = MOST_CONTROL })
-    else if packets then Some (record { kind = Packets; number = MOST_PACKETS })
+-- some node of the network has lists that name more triggers than they may, counted once for each list: those of its
+-- entries, of their items and of what it holds back
+unfoldable pub has_more_marks : Rules → Net → Chronicle → Bool
+has_more_marks rules net past = list_any (λ u. nat_lt MOST_MARKS (marks_of rules net u (log_of u past))) net.nodes
+
+-- which counts are above their numbers
+pub record Exceeded : Type 0 where
+  pub epochs : Bool
+  pub triggers : Bool
+  pub entries : Bool
+  pub updates : Bool
+  pub control : Bool
+  pub packets : Bool
+  pub marks : Bool
+
+-- the first of them, in this order
+abbrev pub first_above : Exceeded → Option Reached
+first_above is =
+    if is.epochs then Some (record { kind = Epochs; number = MOST_EPOCHS })
+    else if is.triggers then Some (record { kind = Triggers; number = MOST_TRIGGERS })
+    else if is.entries then Some (record { kind = Entries; number = MOST_ENTRIES })
+    else if is.updates then Some (record { kind = Updates; number = MOST_UPDATES })
+    else if is.control then Some (record { kind = Control; number = MOST_CONTROL })
+    else if is.packets then Some (record { kind = Packets; number = MOST_PACKETS })
+    else if is.marks then Some (record { kind = Marks; number = MOST_MARKS })
     else None
 
 -- the first count of the chronicle that is above its number
 unfoldable pub above : Rules → Net → Chronicle → Option Reached
 above rules net now =
-    first_above (has_more_epochs net now) (nat_lt MOST_TRIGGERS (triggers_of net now))
-    (has_more_entries net now) (has_more_updates rules net now) (has_more_control now) (has_more_packets now)
+    first_above (record {
+      epochs = has_more_epochs net now;
+      triggers = nat_lt MOST_TRIGGERS (triggers_of net now);
+      entries = has_more_entries net now;
+      updates = has_more_updates rules net now;
+      control = has_more_control now;
+      packets = has_more_packets now;
+      marks = has_more_marks rules net now;
+    })
 
 -- the same of what an event comes to: an idle one takes no count above its number
 abbrev pub above_by : Rules → Net → Step → Option Reached
@@ -84,7 +107,7 @@ abbrev pub StopsAt : Option Reached → Stop → Type 0
 StopsAt limit stop.NoMemory = Unit {0}
 StopsAt limit (stop.Limit kind number) = limit ≡ Some (record { kind = kind; number = number })
 
--- an entry that comes of the input gets a trigger of its node: any but that of an update
+-- an entry that comes of the input gets a trigger of its node: any but that of an update, or of a flush
 abbrev pub makes_local : Input → Bool
 makes_local (input.Arrive v s (News number x)) = false
 makes_local (input.Arrive v s (Marker e)) = true
@@ -94,6 +117,7 @@ makes_local (input.Withdraw p) = true
 makes_local (input.Prefer v value) = true
 makes_local (input.Notice v) = true
 makes_local (input.OpenSession v s) = true
+makes_local (input.Flush v) = false
 makes_local input.Snap = true
 makes_local (input.Propose e) = true
 makes_local (input.Control from m) = true

@@ -1,5 +1,5 @@
 -- When all that a world keeps is what is read of its run.
-use Rattle.std.specs.Prelude.{ℕ, ◌≡◌, ◌≤◌, Bool, true, Some, List, length, map, slice_get}
+use Rattle.std.specs.Prelude.{ℕ, ◌≡◌, ◌≤◌, Bool, true, false, Some, List, length, map, slice_get}
 use Rattle.std.specs.List.{AllByRecursion}
 use Rattle.topology.specs.Lists.{has, ascending}
 use Rattle.topology.specs.Net.{Net, IsValid}
@@ -22,7 +22,7 @@ use Rattle.node_core.specs.declared.node.Node.{Node}
 use Rattle.node_core.specs.Standing.{StandsFor}
 use Rattle.world_core.specs.declared.network.Network.{Network}
 use Rattle.world_core.specs.declared.bounds.TheConstants.{MOST_TRIGGERS, MOST_CONTROL, MOST_PACKETS}
-use Rattle.world_core.specs.Limits.{triggers_of}
+use Rattle.world_core.specs.Limits.{triggers_of, has_more_marks}
 use Rattle.chronicle.specs.Walks.{packets}
 use Rattle.world_core.specs.Publications.{all_published}
 use Rattle.world_core.specs.Walks.{AreWalks}
@@ -67,12 +67,14 @@ pub record AreMails (net : Net) (past : Chronicle) (counts : Counts) (mails : Of
   pub deliveries : (k : ℕ) → deliveries k acts ≡ counts k
   pub inside : AllByRecursion (IsInside net) (mailed past)
 
--- so many triggers were given, and no more than may be; nor were more control messages sent, nor did more packets enter
-pub record IsCounted (net : Net) (past : Chronicle) (triggers : ℕ) : Type 0 where
+-- so many triggers were given, and no more than may be; nor were more control messages sent, nor did more packets enter;
+-- and no node has more marks than it may
+pub record IsCounted (rules : Rules) (net : Net) (past : Chronicle) (triggers : ℕ) : Type 0 where
   pub total : triggers ≡ triggers_of net past
   pub few : triggers ≤ MOST_TRIGGERS
   pub few_mails : length (mailed past) ≤ MOST_CONTROL
   pub few_packets : packets past ≤ MOST_PACKETS
+  pub few_marks : has_more_marks rules net past ≡ false
 
 -- nodes, which of them are crashed, links, control messages with their counts, publications, packets and the count of
 -- triggers are as the run has them
@@ -83,4 +85,4 @@ pub record Stands {P : Type 0} (rules : Rules) (past : Chronicle) (counts : Coun
   pub are_mails : AreMails network.topology.value past counts network.mails
   pub are_published : network.publications.items ≡ all_published past
   pub are_walks : AreWalks network.topology.value past network.walks
-  pub counted : IsCounted network.topology.value past network.triggers
+  pub counted : IsCounted rules network.topology.value past network.triggers

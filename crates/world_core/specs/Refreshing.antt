@@ -3,7 +3,7 @@ use Rattle.std.specs.Prelude.{ℕ, ◌≡◌, Bool, true, false, ◌&&◌, List,
 use Rattle.std.specs.List.{list_any, AllByRecursion}
 use Rattle.topology.specs.Net.{Net, linked, neighbours}
 use Rattle.chronicle.specs.declared.events.Event.{Event}
-use Rattle.chronicle.specs.declared.events.Event.TheVariants.{Originate, Withdraw, Prefer, Deliver, Fail, Restore, Notice, OpenSession, Snap, Propose, Control, Crash, Restart, Inject, Hop}
+use Rattle.chronicle.specs.declared.events.Event.TheVariants.{Originate, Withdraw, Prefer, Deliver, Fail, Restore, Notice, OpenSession, Flush, Snap, Propose, Control, Crash, Restart, Inject, Hop}
 use Rattle.chronicle.specs.declared.ways.Way.{Way}
 use Rattle.chronicle.specs.Facts.{Chronicle}
 use Rattle.world_core.specs.OpenWays.{is_open}
@@ -22,6 +22,7 @@ is_outage (Fail a b) = true
 is_outage (Restore a b) = true
 is_outage (Notice node nbr) = false
 is_outage (OpenSession node nbr) = false
+is_outage (Flush node nbr) = false
 is_outage (Snap node) = false
 is_outage (Propose node epoch) = false
 is_outage (Control number) = false
@@ -41,6 +42,7 @@ link_ways (Fail a b) = way a b ∷ way b a ∷ []
 link_ways (Restore a b) = way a b ∷ way b a ∷ []
 link_ways (Notice node nbr) = way nbr node ∷ []
 link_ways (OpenSession node nbr) = way nbr node ∷ []
+link_ways (Flush node nbr) = []
 link_ways (Snap node) = []
 link_ways (Propose node epoch) = []
 link_ways (Control number) = []
@@ -63,6 +65,7 @@ node_ways net (Fail a b) = []
 node_ways net (Restore a b) = []
 node_ways net (Notice node nbr) = []
 node_ways net (OpenSession node nbr) = []
+node_ways net (Flush node nbr) = []
 node_ways net (Snap node) = []
 node_ways net (Propose node epoch) = []
 node_ways net (Control number) = []

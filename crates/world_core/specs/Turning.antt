@@ -12,7 +12,7 @@ use Rattle.node_core.specs.declared.outputs.Outputs.{Outputs}
 use Rattle.node_core.specs.declared.outputs.Stop.{Stop}
 use Rattle.node_core.specs.Coming.{MayCome}
 use Rattle.node_core.specs.Inputs.{input_of}
-use Rattle.node_core.specs.NodeLimits.{node_limit, StopsAt}
+use Rattle.node_core.specs.NodeLimits.{limit_before_marks, StopsAt}
 use Rattle.node_core.specs.Outputs.{Answers}
 use Rattle.node_core.specs.Standing.{StandsFor}
 
@@ -27,12 +27,12 @@ pub record Handles {P : Type 0} (rules : P → Rules) (old : Node P) (input : In
       → Answers past (give (rules policy) net carried u past (input_of input)) outputs
 
 -- for every chronicle that the node stands for: it stops where the step would take a count of its own above
--- its number
+-- its number, but for its marks
 abbrev pub IsStopped : {P : Type 0} → (P → Rules) → Node P → Input → Stop → Type 0
 IsStopped {P} rules old input stop =
     (policy : P) (net : Net) (u : ℕ) (carried : Carried) (past : Chronicle)
     → StandsFor policy (rules policy) net u old past → MayCome net u (input_of input)
-    → StopsAt (node_limit (rules policy) net u (give (rules policy) net carried u past (input_of input))) stop
+    → StopsAt (limit_before_marks (rules policy) net u (give (rules policy) net carried u past (input_of input))) stop
 
 abbrev pub returned_by : {A : Type 0} → List A → ℕ → A → Option A → List A
 returned_by xs i x None = xs ++ x ∷ []

@@ -1,12 +1,15 @@
 //! A node of the network is given an input.
-ghost use Rattle.std.specs.Prelude.{◌≡◌, ◌<◌, ◌≤◌, true, length, OnOk, IfOk, IfErr};
-ghost use Rattle.topology.specs.Lists.{has};
+ghost use Rattle.std.specs.Prelude.{ℕ, ◌≡◌, ◌<◌, ◌≤◌, true, false, Some, length, slice_get, OnOk, IfOk, IfErr};
+ghost use Rattle.topology.specs.Lists.{ascending, has};
+ghost use Rattle.topology.specs.Net.{Net};
 ghost use Rattle.chronicle.specs.Control.{mailed};
 ghost use Rattle.chronicle.specs.Facts.{Chronicle};
 ghost use Rattle.chronicle.specs.Run.{chronicle_of, given};
+ghost use Rattle.node_core.specs.declared.limits.TheConstants.{MOST_MARKS};
 ghost use Rattle.node_core.specs.Inputs.{input_of};
+ghost use Rattle.node_core.specs.NodeLimits.{has_more_marks};
 ghost use Rattle.world_core.specs.Happening.{Comes, IsAsWas, MayHand, Stops};
-ghost use Rattle.world_core.specs.Matching.{AreMails, Counts, Stands};
+ghost use Rattle.world_core.specs.Matching.{AreMails, AreNodes, Counts, Stands};
 ghost use Rattle.world_core.specs.Places.{HasPlaces};
 ghost use Rattle.chronicle.specs.Walks.{packets};
 ghost use Rattle.world_core.specs.Walks.{AreWalks};
@@ -18,6 +21,7 @@ use crate::network::Network;
 use crate::outcomes::{Effects, Outcome, Stop};
 use crate::turning::turn;
 use node_core::Input;
+use node_core::limits::MOST_MARKS;
 use path_vector::Policy;
 use topology::{LimitKind, NodeId};
 
@@ -45,6 +49,22 @@ impl<P: Policy + Copy> Network<P> {
             return Err(Stop::Limit(LimitKind::Packets, MOST_PACKETS));
         }
         Ok(())
+    }
+
+    // Stops where the node at this rank has more marks than it may.
+    fn check_marks(&self, rank: usize) -> Result<(), Stop>
+        requires { rank < length self.now.nodes.items }
+        ensures ok { OnOk result ((policy : P) (net : Net) (past : Chronicle) (u : ℕ) →
+            AreNodes policy (P.rules policy) net past self.now.nodes.items → slice_get (ascending net.nodes) rank ≡ Some u →
+            has_more_marks (P.rules policy) net u past ≡ false) }
+        ensures stopped { IfErr result (λ stop. (stop ≡ Stop.Limit LimitKind.Marks MOST_MARKS) × ((policy : P) (net : Net) (past : Chronicle) (u : ℕ) →
+            AreNodes policy (P.rules policy) net past self.now.nodes.items → slice_get (ascending net.nodes) rank ≡ Some u →
+            has_more_marks (P.rules policy) net u past ≡ true)) }
+    {
+        match self.nodes[rank].check_marks() {
+            Ok(()) => Ok(()),
+            Err(_) => Err(Stop::Limit(LimitKind::Marks, MOST_MARKS)),
+        }
     }
 
     /// The node handles the input: what it hands out goes over the links, or is lost there. What it did is told where
@@ -82,6 +102,7 @@ impl<P: Policy + Copy> Network<P> {
         let effects = self.hand_all(node, asked)?;
         self.check_control()?;
         self.check_packets()?;
+        self.check_marks(rank)?;
         Ok(Outcome::Did(Effects::new(effects)))
     }
 }

@@ -7,7 +7,7 @@ ghost use Rattle.chronicle.specs.Run.{chronicle_of, run, step};
 ghost use Rattle.world_core.specs.declared.bounds.TheConstants.{MOST_EVENTS};
 ghost use Rattle.world_core.specs.declared.outcomes.Outcome.{Outcome};
 ghost use Rattle.world_core.specs.Effects.{Tells};
-ghost use Rattle.world_core.specs.Happening.{IsRegular, ValuesAreSmall};
+ghost use Rattle.world_core.specs.Happening.{IsRegular, ListsAreShort};
 ghost use Rattle.world_core.specs.Limits.{limit_of};
 ghost use Rattle.world_core.specs.Sound.{IsNoStray, IsSound};
 ghost use Rattle.world_core.specs.Stepping.{IsStep};
@@ -51,13 +51,13 @@ pub fn a_run_holds_throughout()
 }
 
 /// What one more event may rest on, while there are fewer than there may be: what stands in front of a way is what its
-/// receiver may enter, and no value is too large. And what holds of it, whatever it is: a reason that only a node alone
-/// meets is not its outcome, and within the limits it is as each step is.
+/// receiver may enter, and no list of triggers is too long. And what holds of it, whatever it is: a reason that only a
+/// node alone meets is not its outcome, and within the limits it is as each step is.
 pub fn a_step_is_lawful()
     ensures regular { (rules : Rules) (net : Net) (events : List Event) → IsValid net → length events < MOST_EVENTS →
         IsRegular net (run rules net events) }
-    ensures values { (rules : Rules) (net : Net) (events : List Event) (event : Event) → IsValid net →
-        let past = run rules net events in ValuesAreSmall net (chronicle_of past (step rules net past event)) }
+    ensures lists { (rules : Rules) (net : Net) (events : List Event) (event : Event) → IsValid net →
+        let past = run rules net events in ListsAreShort rules net (chronicle_of past (step rules net past event)) }
     ensures reasons { (rules : Rules) (net : Net) (events : List Event) (event : Event) (what : Outcome) → IsValid net →
         length events < MOST_EVENTS →
         let past = run rules net events in Tells past (step rules net past event) what → IsNoStray what }
@@ -71,5 +71,6 @@ pub fn a_step_is_lawful()
     laws::no_world_is_out_of_turn();
     of_agreement::rounds_are_few();
     of_agreement::values_have_few_triggers();
+    of_agreement::triggers_are_given();
     of_agreement::a_table_is_published_in_time();
 }

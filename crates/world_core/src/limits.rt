@@ -9,7 +9,7 @@ use crate::outcomes::Stop;
 use node_core::{Input, Stop as NodeStop};
 use topology::{Item, LimitKind};
 
-/// Whether an entry that the input makes gets a trigger of its node: any but that of an update.
+/// Whether an entry that the input makes gets a trigger of its node: any but that of an update, or of a flush.
 pub fn is_local(input: &Input) -> bool
     ensures { result ≡ makes_local (input_of input.now) }
 {
@@ -18,7 +18,7 @@ pub fn is_local(input: &Input) -> bool
         Input::Arrive {
             item: Item::Update { .. },
             ..
-        }
+        } | Input::Flush(_)
     )
 }
 

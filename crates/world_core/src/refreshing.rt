@@ -27,7 +27,7 @@ fn way_of(event: &Event) -> Option<Way>
         Event::Deliver { .. } => return None,
         Event::Originate { .. } | Event::Withdraw { .. } => return None,
         Event::Prefer { .. } | Event::Snap { .. } => return None,
-        Event::Propose { .. } | Event::Control { .. } => return None,
+        Event::Propose { .. } | Event::Control { .. } | Event::Flush { .. } => return None,
         Event::Crash { .. } | Event::Restart { .. } => return None,
         Event::Inject { .. } | Event::Hop { .. } => return None,
         Event::Fail { a, b } => (*a, *b),
@@ -53,7 +53,7 @@ fn node_of(event: &Event) -> Option<NodeId>
     match event {
         Event::Originate { .. } | Event::Withdraw { .. } => None,
         Event::Prefer { .. } | Event::Snap { .. } => None,
-        Event::Propose { .. } | Event::Control { .. } => None,
+        Event::Propose { .. } | Event::Control { .. } | Event::Flush { .. } => None,
         Event::Deliver { .. } | Event::Fail { .. } | Event::Restore { .. } => None,
         Event::Notice { .. } | Event::OpenSession { .. } => None,
         Event::Inject { .. } | Event::Hop { .. } => None,

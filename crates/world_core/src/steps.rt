@@ -113,6 +113,7 @@ impl<P: Policy + Copy> Network<P> {
             Event::Deliver { to, .. } => Some(*to),
             Event::Notice { node, .. } => Some(*node),
             Event::OpenSession { node, .. } => Some(*node),
+            Event::Flush { node, .. } => Some(*node),
             Event::Snap { node } => Some(*node),
             Event::Propose { node, .. } => self.proposer(*node),
             Event::Control { number } => self.addressee(*number),
@@ -173,6 +174,7 @@ impl<P: Policy + Copy> Network<P> {
             Event::Restore { a, b } => Ok(self.restore(*a, *b)),
             Event::Notice { node, nbr } => self.notice(*node, *nbr),
             Event::OpenSession { node, nbr } => self.open_session(*node, *nbr),
+            Event::Flush { node, nbr } => self.flush(*node, *nbr),
             Event::Snap { node } => self.give(*node, Input::Snap, true),
             Event::Propose { node, epoch } => self.give(*node, Input::Propose(*epoch), true),
             Event::Control { number } => self.control(*number),
@@ -284,6 +286,22 @@ impl<P: Policy + Copy> Network<P> {
             return Ok(Outcome::Idle(Reason::StillUp));
         }
         self.give(node, Input::Notice(nbr), true)
+    }
+
+    // The node sends its neighbour what it holds back from it.
+    fn flush(&mut self, node: NodeId, nbr: NodeId) -> Result<Outcome, Stop>
+        requires near { linked self.old.topology.value node nbr ≡ true }
+        requires places { HasPlaces self.old.topology.value (length self.old.nodes.items) }
+        ensures others { OnOk result (IsAsWas self.old self.new) }
+        ensures comes { IfOk result (λ outcome. (past : Chronicle) (counts : Counts) →
+            Stands (P.rules self.old.policy) past counts self.old → IsRegular self.old.topology.value past →
+            Comes (P.rules self.old.policy) past counts (does (P.rules self.old.policy) self.old.topology.value past (Event.Flush node nbr)) self.new outcome) }
+        ensures stopped { IfErr result (λ stop. (past : Chronicle) (counts : Counts) →
+            Stands (P.rules self.old.policy) past counts self.old → IsRegular self.old.topology.value past →
+            Stops (P.rules self.old.policy) self.old.topology.value past
+            (does (P.rules self.old.policy) self.old.topology.value past (Event.Flush node nbr)) stop) }
+    {
+        self.give(node, Input::Flush(nbr), true)
     }
 
     // A copy of the control message comes to its addressee.

@@ -133,6 +133,7 @@ impl<P: Policy + Copy> World<P> {
             Event::Restore { a, b } => joined(topology, *a, *b),
             Event::Notice { node, nbr } => joined(topology, *node, *nbr),
             Event::OpenSession { node, nbr } => joined(topology, *node, *nbr),
+            Event::Flush { node, nbr } => joined(topology, *node, *nbr),
             Event::Snap { node } => topology.rank_of(*node).is_some(),
             Event::Propose { node, epoch } => proposes(topology, *node, *epoch),
             Event::Control { number } => *number >= 1 && *number <= HIGHEST_MESSAGE,

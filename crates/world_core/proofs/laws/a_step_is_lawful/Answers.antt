@@ -2,6 +2,7 @@ use Rattle.std.proofs.Common.{◌∷◌, ◌++◌, [], length}
 use Rattle.chronicle.specs.Run.{run, step}
 use Rattle.world_core.proofs.Lawful.{no_stray, regular_of, rounds_left}
 use Rattle.world_core.proofs.Proposing.{values_after}
+use Rattle.world_core.proofs.ShortLists.{lists_after}
 use Rattle.world_core.proofs.Stepped.{completed_last, published_then}
 use Rattle.world_core.proofs.laws.a_step_is_lawful.Goals as goal
 
@@ -11,9 +12,11 @@ returns-clause-regular c rules net events valid short =
     (λ v u s x rest. c.what_arrives_may_be_heard.ensures rules net events v u s x rest valid)
     (c.every_run_is_sound.ensures rules net events valid).order (c.sessions_are_few.ensures rules net events)
 
-pub returns-clause-values : goal.returns-clause-values
-returns-clause-values c rules net events event valid =
-    values_after rules net events event (λ from to e b value. c.values_have_few_triggers.ensures.accepts rules net (events ++ event ∷ []) from to e b value valid)
+pub returns-clause-lists : goal.returns-clause-lists
+returns-clause-lists c rules net events event valid =
+    lists_after rules net events event valid
+    (values_after rules net events event (λ from to e b value. c.values_have_few_triggers.ensures.accepts rules net (events ++ event ∷ []) from to e b value valid))
+    (λ u. ((c.every_run_is_sound.ensures rules net (events ++ event ∷ []) valid).said u).fits) (λ u t. c.triggers_are_given.ensures.listed rules net (events ++ event ∷ []) u t valid)
 
 pub returns-clause-reasons : goal.returns-clause-reasons
 returns-clause-reasons c rules net events event what valid short tells =

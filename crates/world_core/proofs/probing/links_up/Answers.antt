@@ -1,4 +1,4 @@
-use Rattle.std.proofs.Common.{◌≡◌, ◌∙◌, ◌++◌, [], ◌∷◌, List, ℕ, Some, None, option_to_list, refl, sym, ap}
+use Rattle.std.proofs.Common.{◌∙◌, ◌++◌, option_to_list, sym, ap}
 use Rattle.std.proofs.lemmas.List.{append-nil}
 use Rattle.world_core.proofs.Listed.{up_more, is_none}
 use Rattle.world_core.proofs.probing.links_up.Goals as goal

@@ -1,4 +1,4 @@
-use Rattle.std.proofs.Common.{◌≡◌, ◌∙◌, sym, ap}
+use Rattle.std.proofs.Common.{◌∙◌, sym, ap}
 use Rattle.std.specs.Prelude.{if◌then◌else◌, Some, None}
 use Rattle.topology.specs.LinkStates.{is_up}
 use Rattle.world_core.proofs.Listed.{told_up}

@@ -93,6 +93,16 @@ returns-in-OpenSession-clause-stopped g c = IfErr-weaker c.open_session.result _
     (λ why h past counts was regular. rw c.in-OpenSession.is (h past counts was regular))
     c.open_session.ensures.stopped
 
+pub returns-in-Flush-clause-comes : goal.returns-in-Flush-clause-comes
+returns-in-Flush-clause-comes g c = IfOk-weaker c.flush.result _ _
+    (λ r h past counts was regular. rw c.in-Flush.is (h past counts was regular))
+    c.flush.ensures.comes
+
+pub returns-in-Flush-clause-stopped : goal.returns-in-Flush-clause-stopped
+returns-in-Flush-clause-stopped g c = IfErr-weaker c.flush.result _ _
+    (λ why h past counts was regular. rw c.in-Flush.is (h past counts was regular))
+    c.flush.ensures.stopped
+
 pub returns-in-Fail-clause-comes : goal.returns-in-Fail-clause-comes
 returns-in-Fail-clause-comes g c past counts was regular = rw c.in-Fail.is (c.fail.ensures.comes past counts was)
 

@@ -44,6 +44,6 @@ returns-clause-comes g c past counts was =
       are_mails = same_mails net past (fact.Fail a b ∷ past) counts c.args.self.now.mails refl (λ v. refl) was.are_mails;
       are_published = was.are_published;
       are_walks = walks_stay net past (fact.Fail a b ∷ past) c.args.self.now.walks (same_more (fact.Fail a b) past past (λ t. t) (same_now past)) was.are_walks;
-      counted = fail_counted net past a b c.args.self.now.triggers was.counted;
+      counted = fail_counted rules net past a b c.args.self.now.triggers was.counted;
     })
     (rw (c.new-unseen.ensures, c.new.ensures.items) refl)

@@ -6,9 +6,11 @@ use Rattle.node_core.specs.Inputs.{input_of}
 use Rattle.node_core.specs.Outputs.{Answers, told_by}
 use Rattle.world_core.specs.declared.bounds.TheConstants.{MOST_TRIGGERS}
 use Rattle.world_core.specs.Limits.{makes_local, above_by, StopsAt}
+use Rattle.world_core.specs.Matching.{AreNodes}
+use Rattle.world_core.proofs.Counts.{marks_at}
 use Rattle.world_core.proofs.Near.{is_ranked}
 use Rattle.world_core.proofs.Nodes.{inside_places, all_within, node_at}
-use Rattle.world_core.proofs.Stopping.{handed_on, stops_with, stops_at_triggers, stops_at_control, stops_at_packets}
+use Rattle.world_core.proofs.Stopping.{handed_on, stops_with, stops_at_triggers, stops_at_control, stops_at_packets, stops_at_marks}
 use Rattle.world_core.proofs.Answered.{sending_begun, sent_stands, given_sent, given_tells, idle_links, idle_mails, idle_published, idle_walks, idle_counted, idle_tells, logs, others_same, stay, what, new_stands, new_answers, nodes_given, total_given}
 use Rattle.world_core.proofs.Returning.{comes_back}
 use Rattle.world_core.proofs.Steady.{given_flags}
@@ -70,7 +72,7 @@ returns-in-Some-clause-stands g c past counts may =
       are_mails = idle_mails net past counts s c.in-Some.reason c.args.self.now.mails answers may.are_mails;
       are_published = idle_published past s c.in-Some.reason c.args.self.now.publications.items answers may.are_published;
       are_walks = idle_walks net past (input_of i) s c.in-Some.reason c.args.self.now.walks answers may.goes may.are_walks;
-      counted = idle_counted net past s c.in-Some.reason c.args.self.now.triggers answers may.counted;
+      counted = idle_counted (g.P.Policy.rules policy) net past s c.in-Some.reason c.args.self.now.triggers answers may.counted;
     }
 
 pub returns-in-Some-clause-comes : goal.returns-in-Some-clause-comes
@@ -187,6 +189,50 @@ returns-in_err-check_packets-clause-stopped g c =
     rw (out.2, stopped.0)
     (stops_at_packets policy rules net past c.turn.new.nodes.items s c.turn.new.outputs now (subst (λ n. n ≤ MOST_TRIGGERS) (counted.0 ∙ sum) counted.1) few answers (stopped.1 (chronicle_of past s) sent.are_walks)))
 
+pub check_marks-requires : goal.check_marks-requires
+check_marks-requires g c =
+    let at = rw (c.unwrap-rank.ensures, c.deref.ensures) at c.rank_of.ensures.some in
+    let inside = inside_places c.args.self.now.topology.value (length c.args.self.now.nodes.items) c.unwrap-rank.result c.args.node c.requires.places at in
+    let turned = c.in-Ok.ensures.turned in
+    let same = ap length turned.3 ∙ length-set c.args.self.now.nodes.items c.unwrap-rank.result turned.1 in
+    let kept = ap (λ nodes. length nodes.items) c.in_ok-effects.ensures.kept.nodes in
+    omega (arith, inside, same, kept)
+
+pub returns-in_err-check_marks-clause-stopped : goal.returns-in_err-check_marks-clause-stopped
+returns-in_err-check_marks-clause-stopped g c =
+    let out = err_from_is_err_and c.from_residual-in_err-check_marks.result c.from_residual-in_err-check_marks.ensures.1 in
+    handed_on c.from_residual-in_err-check_marks.result _ out.0 out.1
+    (λ past counts may values.
+    let policy = c.args.self.now.policy in
+    let rules = g.P.Policy.rules policy in
+    let net = c.args.self.now.topology.value in
+    let u = c.args.node in
+    let i = c.args.input in
+    let s = what policy g.P.Policy.rules net past u i in
+    let rank = c.unwrap-rank.result in
+    let items = c.args.self.now.nodes.items in
+    let at = rw (c.unwrap-rank.ensures, c.deref.ensures) at c.rank_of.ensures.some in
+    let turned = c.in-Ok.ensures.turned in
+    let now = nodes_given policy g.P.Policy.rules net past u i items c.turn.new.nodes.items rank turned.0 turned.1 (told_by c.in-Ok.idle c.turn.new.outputs) may.are_nodes at may.may_come turned.2 turned.4 (stay policy g.P.Policy.rules net past u i c.others_change_nothing_of_what_a_node_stands_for.ensures.given) turned.3 in
+    let answers = subst (λ idle. Answers past s (told_by idle c.turn.new.outputs)) c.in_default.is (new_answers policy g.P.Policy.rules net past u i items c.turn.new.nodes.items rank turned.0 turned.1 (told_by c.in-Ok.idle c.turn.new.outputs) may.are_nodes at may.may_come turned.2 turned.4) in
+    let before = c.next_trigger-before.ensures policy net u (log_of u past) (c.log.ensures.log policy net u past (node_at policy rules net past items may.are_nodes rank u c.index.result.now at c.index.ensures)) in
+    let after = c.next_trigger-after.ensures policy net u (log_of u (chronicle_of past s)) (c.log-2.ensures.log policy net u (chronicle_of past s) (node_at policy rules net (chronicle_of past s) c.turn.new.nodes.items now rank u c.index-2.result.now at c.index-2.ensures)) in
+    let sum = total_given net past u (makes_local (input_of i)) s c.args.self.now.triggers c.next_trigger-before.result.count c.next_trigger-after.result.count may.are_nodes.valid c.requires.node
+    (others_same policy g.P.Policy.rules net past u i) (logs policy g.P.Policy.rules net past u i) may.counted.total (ap (λ t. t.count) before) (ap (λ t. t.count) after) in
+    let counted = c.in_ok-self.ensures.ok in
+    let net_kept = c.in_ok-effects.ensures.kept in
+    let start = sending_begun past counts u (input_of i) (record c.args.self.now { nodes = c.turn.new.nodes; outputs = c.turn.new.outputs; triggers = c.in_ok-self.field-0 }) c.args.asked may.are_links may.are_mails may.are_published may.are_walks in
+    let adds = give_adds rules net (carried_by u past) u past (λ w t. refl) may.are_nodes.valid c.requires.node (input_of i) may.may_come may.sender may.passing in
+    let sent = given_sent net past counts u (input_of i) s c.turn.new.outputs c.turn.new.outputs (record c.args.self.now { nodes = c.turn.new.nodes; outputs = c.turn.new.outputs; triggers = c.in_ok-self.field-0 }) c.hand_all.new.self (record { asked = c.args.asked; list = [] }) (record { asked = c.args.asked; list = c.in_ok-effects.effects.items }) refl adds (comes_back rules net u past (input_of i)) answers start
+    (λ away first mid facts told hands sending. c.in_ok-effects.ensures.sending away first mid counts facts told hands sending) in
+    let few = c.in_ok-check_control.ensures.ok (chronicle_of past s) counts sent.are_mails in
+    let few_packets = c.in_ok-check_packets.ensures.ok (chronicle_of past s) sent.are_walks in
+    let kept = subst (λ nodes. AreNodes policy rules net (chronicle_of past s) nodes.items) (sym net_kept.nodes) now in
+    let stopped = c.in_err-check_marks.ensures.stopped in
+    let many = marks_at rules net past (chronicle_of past s) u c.requires.node (others_same policy g.P.Policy.rules net past u i) may.counted.few_marks ∙ stopped.1 policy net (chronicle_of past s) u kept at in
+    rw (out.2, stopped.0)
+    (stops_at_marks policy rules net past c.turn.new.nodes.items s c.turn.new.outputs now (subst (λ n. n ≤ MOST_TRIGGERS) (counted.0 ∙ sum) counted.1) few few_packets answers many))
+
 pub returns-clause-stands : goal.returns-clause-stands
 returns-clause-stands g c past counts may =
     let policy = c.args.self.now.policy in
@@ -213,8 +259,10 @@ returns-clause-stands g c past counts may =
     (λ away first mid facts told hands sending. c.in_ok-effects.ensures.sending away first mid counts facts told hands sending) in
     let few = c.in_ok-check_control.ensures.ok (chronicle_of past s) counts sent.are_mails in
     let few_packets = c.in_ok-check_packets.ensures.ok (chronicle_of past s) sent.are_walks in
+    let kept = subst (λ nodes. AreNodes policy rules net (chronicle_of past s) nodes.items) (sym net_kept.nodes) now in
+    let few_marks = marks_at rules net past (chronicle_of past s) u c.requires.node (others_same policy g.P.Policy.rules net past u i) may.counted.few_marks ∙ c.in_ok-check_marks.ensures.ok policy net (chronicle_of past s) u kept at in
     sent_stands rules past s counts (record c.args.self.now { nodes = c.turn.new.nodes; outputs = c.turn.new.outputs; triggers = c.in_ok-self.field-0 }) c.hand_all.new.self (record { asked = c.args.asked; list = c.in_ok-effects.effects.items }) (begun u (input_of i) past) net_kept now
-    (given_flags rules net past u (input_of i) c.args.self.now.crashed.items may.are_crashed) (counted.0 ∙ sum) counted.1 few few_packets sent
+    (given_flags rules net past u (input_of i) c.args.self.now.crashed.items may.are_crashed) (counted.0 ∙ sum) counted.1 few few_packets few_marks sent
 
 pub returns-clause-comes : goal.returns-clause-comes
 returns-clause-comes g c asked past counts may =

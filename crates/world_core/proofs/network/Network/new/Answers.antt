@@ -16,5 +16,5 @@ returns-clause-stands g c =
       are_mails = fresh_mails net c.in_ok-mails.mails (rw c.deref-3.ensures at c.in_ok-mails.ensures);
       are_published = c.new-3.ensures.items;
       are_walks = subst (AreWalks net []) (sym c.new-4.ensures) (fresh_walks net);
-      counted = fresh_counted net;
+      counted = fresh_counted (g.P.Policy.rules c.args.policy) net;
     }

@@ -74,10 +74,10 @@ returns-in_err-take-clause-stopped g c =
     let valid = c.requires.stands.are_nodes.valid in
     let short = c.in_ok-check_events.ensures.ok in
     let regular = c.a_step_is_lawful.ensures.regular rules net events valid short in
-    let values = c.a_step_is_lawful.ensures.values rules net events event valid in
+    let lists = c.a_step_is_lawful.ensures.lists rules net events event valid in
     let runs = step_runs rules net past event (runs_still past ends.from ends.to over.waits) in
     let why = c.in_err-take.field-0.0 in
-    let stops = subst (λ s. Stops rules net past s why) (sym runs) (c.in_err-take.ensures.stopped past (deliveries rules net events) c.requires.stands regular over.waits) values in
+    let stops = subst (λ s. Stops rules net past s why) (sym runs) (c.in_err-take.ensures.stopped past (deliveries rules net events) c.requires.stands regular over.waits) lists in
     let out = err_from_is_err_and c.from_residual-in_err-take.result c.from_residual-in_err-take.ensures.1 in
     handed_on c.from_residual-in_err-take.result _ out.0 out.1 (way ends.from ends.to, over.first, rw out.2 (stops_later rules net events event why short stops))
 

@@ -56,8 +56,8 @@ returns-in_err-outcome-clause-stopped g c =
     let valid = c.requires.holds.stands.are_nodes.valid in
     let short = c.in_ok-check_events.ensures.ok in
     let regular = c.a_step_is_lawful.ensures.regular rules net events valid short in
-    let values = c.a_step_is_lawful.ensures.values rules net events c.args.event valid in
-    let stops = c.in_err-outcome.ensures.stopped past (deliveries rules net events) c.requires.holds.stands regular (few_deliveries rules net events short) c.requires.holds.open_ways values in
+    let lists = c.a_step_is_lawful.ensures.lists rules net events c.args.event valid in
+    let stops = c.in_err-outcome.ensures.stopped past (deliveries rules net events) c.requires.holds.stands regular (few_deliveries rules net events short) c.requires.holds.open_ways lists in
     let out = err_from_is_err_and c.from_residual-in_err-outcome.result c.from_residual-in_err-outcome.ensures.1 in
     handed_on c.from_residual-in_err-outcome.result _ out.0 out.1 (rw out.2 (stops_later rules net events c.args.event c.in_err-outcome.field-0.0 short stops))
 
