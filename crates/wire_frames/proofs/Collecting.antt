@@ -2,7 +2,7 @@
 use Rattle.std.proofs.Common.{◌≡◌, ℕ, suc, ◌-◌, ◌+◌, ◌≤◌, ◌<◌, true, List, [], ◌∷◌, ◌++◌, Result, Ok, Err, refl, sym, ap, ◌∙◌, append_assoc, arith}
 use Rattle.std.proofs.lemmas.List.{append-nil}
 use Rattle.topology.specs.declared.frame_faults.FrameKind.{FrameKind}
-use Rattle.wire_frames.specs.Formats.{Format, ◌>>=◌, Series, many_at}
+use Rattle.wire_frames.specs.Formats.{Format, ◌>>=◌, Series, many_at, reached}
 use Rattle.wire_frames.proofs.Formats.{IsFormat, ok_is}
 
 -- what was read before, and what is still read
@@ -26,6 +26,11 @@ all_read {S} {A} series front count i s bytes total le so_far =
     let k : count - i ≡ 0 = omega arith in
     let one : with_front front (many_at series s (count - i) bytes) ≡ Ok (front, bytes) = rw k (ap (λ (ys : List A). Ok (ys, bytes)) (append-nil front)) in
     sym so_far ∙ one
+
+-- what counts behind one more element
+pub reached_more : {S A : Type 0} (series : Series S A) (s : S) (front : List A) (x : A) → reached series s (front ++ x ∷ []) ≡ series.step (reached series s front) x
+reached_more series s [] x = refl
+reached_more series s (y ∷ ys) x = reached_more series (series.step s y) ys x
 
 -- what is read where a value is spelled is that value
 pub read_back : {A : Type 0} (f : Format A) → IsFormat f → (bytes rest : List ℕ) (x y : A) → f.reads bytes ≡ Ok (x, rest) → f.fits y ≡ true → bytes ≡ f.spells y → x ≡ y

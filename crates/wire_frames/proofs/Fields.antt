@@ -1,21 +1,26 @@
 -- Each field reads what it spells, and nothing else.
-use Rattle.std.proofs.Common.{◌≡◌, ℕ, zero, suc, ◌^◌, ◌+◌, ◌<◌, ◌≤◌, Bool, true, false, ◌&&◌, ◌||◌, not, List, [], ◌∷◌, Option, Some, None, refl, sym, arith, inl, inr}
+use Rattle.std.proofs.Common.{◌≡◌, ℕ, zero, suc, ◌^◌, ◌+◌, ◌<◌, ◌≤◌, Bool, true, false, ◌&&◌, ◌||◌, not, List, [], ◌∷◌, Option, Some, None, length, refl, sym, ap, arith, inl, inr}
 use Rattle.std.specs.Prelude.{◌==◌, nat_lt, nat_le, if◌then◌else◌}
 use Rattle.std.specs.Int.{w8, w16, w32, w64}
 use Rattle.std.proofs.lemmas.Bool.{leb-true, ne_eqb, or_cases, eqb-true, and_parts}
 use Rattle.topology.specs.Lists.{has}
 use Rattle.topology.specs.Triggers.{earlier}
+use Rattle.topology.specs.declared.names.Trigger.{Trigger}
+use Rattle.topology.specs.declared.items.Sent.{Sent}
+use Rattle.topology.specs.declared.items.Pending.{Pending}
 use Rattle.topology.specs.declared.names.Scope.{Scope}
-use Rattle.topology.specs.declared.names.Scope.TheVariants.{One, All}
+use Rattle.topology.specs.declared.names.Scope.TheVariants.{One, All, Nothing}
 use Rattle.epoch_packet.specs.declared.walks.Mode.{Mode}
 use Rattle.epoch_packet.specs.declared.walks.Mode.TheVariants.{Stable, Transient}
 use Rattle.incomplete_closure.specs.declared.cut_rows.Row.{Row}
 use Rattle.incomplete_closure.specs.declared.session_rows.SessionRow.{SessionRow}
+use Rattle.incomplete_closure.specs.declared.reports.Report.{Report as TheReport}
 use Rattle.epoch_packet.specs.declared.walks.End.{End}
 use Rattle.epoch_packet.specs.declared.walks.End.TheVariants.{Delivered, Expired, Stuck}
-use Rattle.wire_frames.specs.Formats.{tested, number, ordered, pair, optional, listed}
-use Rattle.wire_frames.specs.Fields.{scope_number, is_scope, path_of, nodes_of, is_path, flag_meaning, scope_meaning, mode_meaning, end_meaning, trigger_meaning, ballot_meaning, sent_meaning, path_meaning, value_meaning, row_meaning, session_row_meaning, report_meaning, packet_meaning, node, prefix, positive, epoch, epoch_or_none, preference, any16, any32, any64, few, many, flag, scope, mode, end, trigger, ballot, sent, in_any_order, rising, different, nodes, links, path, paths_in_order, paths, no_trigger, rising_triggers, value, named, items, more_items, row, rows, session_key, above, session_row, session_rows, report, carried, packet}
-use Rattle.wire_frames.proofs.Formats.{IsFormat, IsSeries, wide8, wide16, wide32, wide64, tested_law, number_law, ordered_law, pair_law, meant_law, optional_law, listed_law}
+use Rattle.incomplete_closure.proofs.Listing.{same_is, is_same}
+use Rattle.wire_frames.specs.Formats.{tested, number, ordered, pair, led, optional, listed}
+use Rattle.wire_frames.specs.Fields.{scope_number, is_scope, path_of, nodes_of, is_path, flag_meaning, scope_meaning, mode_meaning, end_meaning, first_of, is_one, is_alone, one_meaning, one_trigger, trigger_meaning, ballot_meaning, sent_meaning, path_meaning, value_meaning, row_meaning, session_row_meaning, report_meaning, packet_meaning, node, prefix, positive, epoch, epoch_or_none, preference, any16, any32, any64, few, many, flag, scope, mode, end, trigger, ballot, sent, in_any_order, rising, different, nodes, links, path, paths_in_order, paths, no_trigger, rising_triggers, value, named, items, more_items, row, rows, session_key, above, session_row, session_rows, report, carried, packet}
+use Rattle.wire_frames.proofs.Formats.{IsFormat, IsSeries, wide8, wide16, wide32, wide64, tested_law, number_law, ordered_law, pair_law, led_law, meant_law, optional_law, listed_law}
 
 -- ---- numbers
 
@@ -138,6 +143,7 @@ scope_good n h = go (n == 65535) refl
 scope_back : (s : Scope) → is_scope s ≡ true → scope_meaning.make (scope_number s) ≡ s
 scope_back (One p) h = let below : p ≤ 255 = leb-true p 255 h in rw (ne_eqb p 65535 (λ e. omega arith)) refl
 scope_back All h = refl
+scope_back Nothing h = absurd cc
 
 scope_small : (n : ℕ) → (nat_le n 255 || n == 65535) ≡ true → n < 2 ^ 16
 scope_small n h = elim (or_cases (nat_le n 255) (n == 65535) h) [
@@ -160,10 +166,28 @@ pub ballot_law : IsFormat ballot
 unfolding ballot
 ballot_law = meant_law (pair positive node) ballot_meaning (pair_law positive node positive_law node_law) (record { back = λ b h. refl; there = λ p h. refl; good = λ p h. refl })
 
-pub sent_law : IsFormat sent
+one_back : (ts : List Trigger) → is_one ts ≡ true → first_of ts ∷ [] ≡ ts
+one_back [] h = absurd cc
+one_back (t ∷ []) h = refl
+one_back (t ∷ s ∷ ts) h = absurd cc
+
+pub one_trigger_law : IsFormat one_trigger
+unfolding one_trigger
+one_trigger_law = meant_law trigger one_meaning trigger_law (record { back = one_back; there = λ t h. refl; good = λ t h. refl })
+
+alone_is : (t : Trigger) (ts : List Trigger) → is_alone t ts ≡ true → t ∷ [] ≡ ts
+alone_is t [] h = absurd cc
+alone_is t (s ∷ []) h = ap (λ (u : Trigger). u ∷ []) (sym (same_is s t h))
+alone_is t (s ∷ u ∷ ts) h = absurd cc
+
+-- the item with another list
+abbrev item_with : Sent → List Trigger → Sent
+item_with item ts = record { to = item.to; session = item.session; seq = item.seq; triggers = ts }
+
+pub sent_law : (t : Trigger) → IsFormat (sent t)
 unfolding sent
-sent_law = meant_law (pair node (pair positive positive)) sent_meaning (pair_law node (pair positive positive) node_law (pair_law positive positive positive_law positive_law))
-    (record { back = λ b h. refl; there = λ p h. refl; good = λ p h. refl })
+sent_law t = meant_law (pair node (pair positive positive)) (sent_meaning t) (pair_law node (pair positive positive) node_law (pair_law positive positive positive_law positive_law))
+    (record { back = λ item h. ap (item_with item) (alone_is t item.triggers h); there = λ p h. refl; good = λ p h. is_same t })
 
 -- ---- lists of nodes
 
@@ -228,19 +252,27 @@ named_law = optional_law (pair ballot value) (pair_law ballot value ballot_law v
 
 -- ---- reports
 
-pub items_laws : {S : Type 0} → IsSeries (items {S = S})
-items_laws = record { law = λ s. sent_law; same = λ s p. refl }
+sent_spells : (t : Trigger) (item : Sent) → (sent t).spells item ≡ (sent no_trigger).spells item
+unfolding sent
+sent_spells t item = refl
 
-more_items_law : (before : ℕ) → IsFormat (more_items before)
+pub items_laws : IsSeries items
+items_laws = record { law = sent_law; same = sent_spells }
+
+pub more_items_law : (before : ℕ) → IsFormat (more_items before)
 unfolding more_items
 more_items_law before = tested_law w16 (2 ^ 16) (λ n. nat_le (before + n) 16384) wide16 (λ n h. let below : before + n ≤ 16384 = leb-true (before + n) 16384 h in omega arith)
 
+-- the row with another list
+abbrev row_with : Row → List Trigger → Row
+row_with r ts = record { triggers = ts; scope = r.scope; sent = r.sent }
+
 pub row_law : (before : ℕ) → IsFormat (row before)
 unfolding row
-row_law before = meant_law (pair trigger (pair scope (listed (more_items before) (items {S = ℕ}) 0))) row_meaning
-    (pair_law trigger (pair scope (listed (more_items before) (items {S = ℕ}) 0)) trigger_law
-    (pair_law scope (listed (more_items before) (items {S = ℕ}) 0) scope_law (listed_law (more_items before) (items {S = ℕ}) 0 (more_items_law before) items_laws)))
-    (record { back = λ b h. refl; there = λ p h. refl; good = λ p h. refl })
+row_law before = meant_law (led trigger (λ t. pair scope (listed (more_items before) items t))) row_meaning
+    (led_law trigger (λ t. pair scope (listed (more_items before) items t)) trigger_law
+    (λ t. pair_law scope (listed (more_items before) items t) scope_law (listed_law (more_items before) items t (more_items_law before) items_laws)))
+    (record { back = λ r h. ap (row_with r) (one_back r.triggers h); there = λ p h. refl; good = λ p h. refl })
 
 pub session_row_law : (last : ℕ × ℕ) → IsFormat (session_row last)
 unfolding session_row
@@ -264,6 +296,14 @@ session_rows_laws = record { law = session_row_law; same = session_row_spells }
 pub rows_laws : IsSeries rows
 rows_laws = record { law = row_law; same = row_spells }
 
+none_back : (ps : List Pending) → length ps == 0 ≡ true → [] ≡ ps
+none_back [] h = refl
+none_back (p ∷ ps) h = let none : length (p ∷ ps) ≡ 0 = eqb-true (length (p ∷ ps)) 0 h in absurd (omega arith)
+
+-- the report with other pending rows
+abbrev report_with : TheReport → List Pending → TheReport
+report_with r ps = record { node = r.node; epoch = r.epoch; rows = r.rows; sessions = r.sessions; pending = ps }
+
 pub report_law : IsFormat report
 unfolding report
 report_law =
@@ -273,7 +313,7 @@ report_law =
     meant_law (pair node (pair epoch (pair (listed (many 2048) rows 0) (listed (many 65535) session_rows (0, 0))))) report_meaning
     (pair_law node (pair epoch (pair (listed (many 2048) rows 0) (listed (many 65535) session_rows (0, 0)))) node_law
     (pair_law epoch (pair (listed (many 2048) rows 0) (listed (many 65535) session_rows (0, 0))) epoch_law lists_law))
-    (record { back = λ b h. refl; there = λ p h. refl; good = λ p h. refl })
+    (record { back = λ r h. ap (report_with r) (none_back r.pending h); there = λ p h. refl; good = λ p h. refl })
 
 -- ---- packets
 

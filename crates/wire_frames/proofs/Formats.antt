@@ -8,7 +8,7 @@ use Rattle.std.proofs.lemmas.List.{take_at, drop_at, take-append-drop, length-ap
 use Rattle.std.proofs.lemmas.Nat.{be_bytes_2, be_bytes_4, be_bytes_8, from_be_bytes-to_be_bytes_2, from_be_bytes-to_be_bytes_4, from_be_bytes-to_be_bytes_8}
 use Rattle.topology.specs.declared.frame_faults.FrameKind.{FrameKind}
 use Rattle.topology.specs.declared.frame_faults.FrameKind.TheVariants as fault
-use Rattle.wire_frames.specs.Formats.{Format, IsBytes, ◌>>=◌, held, word_at, tested, number, ordered, pair, Meaning, meant, behind, optional, Series, many_at, many_fit, listed}
+use Rattle.wire_frames.specs.Formats.{Format, IsBytes, ◌>>=◌, held, word_at, tested, number, guarded, ordered, pair, led, Meaning, meant, behind, optional, Series, many_at, many_fit, listed}
 
 IsBytes-drop : (n : ℕ) (bytes : List ℕ) → IsBytes bytes → IsBytes (drop n bytes)
 IsBytes-drop n bytes h i = rw get_or-drop (h (n + i))
@@ -127,15 +127,18 @@ number_law w limit low high wide small =
 
 -- ---- fields made of fields
 
-pub ordered_law : {A : Type 0} (f : Format A) (test : A → Bool) → IsFormat f → IsFormat (ordered f test)
-ordered_law {A} f test law = record {
+pub guarded_law : {A : Type 0} (wrong : FrameKind) (f : Format A) (test : A → Bool) → IsFormat f → IsFormat (guarded wrong f test)
+guarded_law {A} wrong f test law = record {
   takes = λ bytes x rest fits e.
-      let a = bind_ok (f.reads bytes) (λ (y : A × List ℕ). held (test y.0) fault.Order y) (x, rest) e in
-      let g = held_ok (test a.0.0) fault.Order a.0 (x, rest) a.2 in
+      let a = bind_ok (f.reads bytes) (λ (y : A × List ℕ). held (test y.0) wrong y) (x, rest) e in
+      let g = held_ok (test a.0.0) wrong a.0 (x, rest) a.2 in
       let t = law.takes bytes a.0.0 a.0.1 fits a.1 in
       subst (λ (y : A × List ℕ). Takes bytes (f.spells y.0) y.1 × ((f.fits y.0 && test y.0) ≡ true)) g.1 (t.0, and_from _ _ t.1 g.0);
-  again = λ x rest h. let p = and_parts (f.fits x) (test x) h in rw (law.again x rest p.0) (held_true _ fault.Order (x, rest) p.1);
+  again = λ x rest h. let p = and_parts (f.fits x) (test x) h in rw (law.again x rest p.0) (held_true _ wrong (x, rest) p.1);
 }
+
+pub ordered_law : {A : Type 0} (f : Format A) (test : A → Bool) → IsFormat f → IsFormat (ordered f test)
+ordered_law f test law = guarded_law fault.Order f test law
 
 pub pair_law : {A B : Type 0} (f : Format A) (g : Format B) → IsFormat f → IsFormat g → IsFormat (pair f g)
 pair_law {A} {B} f g law_f law_g = record {
@@ -150,6 +153,21 @@ pair_law {A} {B} f g law_f law_g = record {
   again = λ x rest h.
       let p = and_parts (f.fits x.0) (g.fits x.1) h in
       ap (pair f g).reads (append_assoc (f.spells x.0) (g.spells x.1) rest) ∙ rw (law_f.again x.0 (g.spells x.1 ++ rest) p.0, law_g.again x.1 rest p.1) refl;
+}
+
+pub led_law : {A B : Type 0} (f : Format A) (g : A → Format B) → IsFormat f → ((x : A) → IsFormat (g x)) → IsFormat (led f g)
+led_law {A} {B} f g law_f law_g = record {
+  takes = λ bytes x rest fits e.
+      let a = bind_ok (f.reads bytes) (λ (y : A × List ℕ). (g y.0).reads y.1 >>= λ (z : B × List ℕ). Ok ((y.0, z.0), z.1)) (x, rest) e in
+      let b = bind_ok ((g a.0.0).reads a.0.1) (λ (z : B × List ℕ). Ok ((a.0.0, z.0), z.1)) (x, rest) a.2 in
+      let t = law_f.takes bytes a.0.0 a.0.1 fits a.1 in
+      let u = (law_g a.0.0).takes a.0.1 b.0.0 b.0.1 t.0.rest_fits b.1 in
+      let made : (A × B) × List ℕ = ((a.0.0, b.0.0), b.0.1) in
+      subst (λ (y : (A × B) × List ℕ). Takes bytes (f.spells y.0.0 ++ (g y.0.0).spells y.0.1) y.1 × ((f.fits y.0.0 && (g y.0.0).fits y.0.1) ≡ true)) (ok_is made (x, rest) b.2)
+      (Takes-then bytes (f.spells a.0.0) a.0.1 ((g a.0.0).spells b.0.0) b.0.1 t.0 u.0, and_from _ _ t.1 u.1);
+  again = λ x rest h.
+      let p = and_parts (f.fits x.0) ((g x.0).fits x.1) h in
+      ap (led f g).reads (append_assoc (f.spells x.0) ((g x.0).spells x.1) rest) ∙ rw (law_f.again x.0 ((g x.0).spells x.1 ++ rest) p.0, (law_g x.0).again x.1 rest p.1) refl;
 }
 
 -- reading and back come to the same

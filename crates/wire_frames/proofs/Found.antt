@@ -1,5 +1,5 @@
 -- What stands at the front of bytes is a frame exactly where they begin with its spelling.
-use Rattle.std.proofs.Common.{◌≡◌, ℕ, suc, ◌+◌, ◌^◌, ◌<◌, ◌≤◌, Bool, true, false, cond, ltb, List, [], ◌∷◌, ◌++◌, length, take, drop, Option, Some, None, Result, Ok, Err, refl, sym, ap, ◌∙◌, append_assoc, arith}
+use Rattle.std.proofs.Common.{◌≡◌, ℕ, suc, ◌+◌, ◌^◌, ◌<◌, ◌≤◌, Bool, true, false, ◌&&◌, cond, ltb, List, [], ◌∷◌, ◌++◌, length, take, drop, Option, Some, None, Result, Ok, Err, refl, sym, ap, ap₂, ◌∙◌, append_assoc, arith}
 use Rattle.std.specs.Prelude.{nat_le, ◌==◌, find}
 use Rattle.std.specs.Int.{w32, to_be_bytes}
 use Rattle.std.proofs.lemmas.List.{append-nil, take_at, take-append-drop, length-append, length-take, nil_from_length}
@@ -7,11 +7,11 @@ use Rattle.std.proofs.lemmas.Bool.{leb-true, and_parts, and_from, eqb-true, ltb-
 use Rattle.topology.specs.declared.frame_faults.FrameKind.{FrameKind}
 use Rattle.topology.specs.declared.frame_faults.FrameKind.TheVariants as fault
 use Rattle.wire_frames.specs.declared.tags.Tag.{Tag}
-use Rattle.wire_frames.specs.declared.tags.Tag.TheVariants.{Originate, Withdraw, Prefer, Notice, OpenSession, Snap, Propose, Update, Marker, Hello, Report, Prepare, Promise, Accept, Accepted, Decision, Hop, Forward, Ended, Published, Inject}
+use Rattle.wire_frames.specs.declared.tags.Tag.TheVariants.{Originate, Withdraw, Prefer, Notice, OpenSession, Snap, Propose, Update, Marker, Hello, Report, Prepare, Promise, Accept, Accepted, Decision, Hop, Forward, Ended, Published, Inject, ListedUpdate, ListedReport, Flush}
 use Rattle.wire_frames.specs.declared.frames.Frame.{Frame}
 use Rattle.wire_frames.specs.Formats.{IsBytes, word_at}
-use Rattle.wire_frames.specs.Frames.{number_of, tags, tag_in, limit_of, tag_of, fields_fit, body, fits, spell}
-use Rattle.wire_frames.specs.Reading.{body_at, Found, Whole, Partial, Wrong, found_by, sized, behind_kind, of_kind, behind_version, found}
+use Rattle.wire_frames.specs.Frames.{number_of, version_of, tags, tag_in, limit_of, tag_of, fields_fit, body, fits, spell}
+use Rattle.wire_frames.specs.Reading.{body_at, Found, Whole, Partial, Wrong, found_by, sized, behind_kind, of_kind, behind_version, is_version, found}
 use Rattle.wire_frames.proofs.Formats.{IsBytes-take, wide32, word_takes, word_again}
 use Rattle.wire_frames.proofs.Spelled.{body_takes, body_again}
 
@@ -24,11 +24,13 @@ find_passes test (y ∷ ys) x e = go (test y) refl (λ same. find_passes test ys
     go true passed later same = let is : y ≡ x = cc in rw (← is) passed
     go false passed later same = later same
 
-tag_number : (b : ℕ) (tag : Tag) → tag_in b ≡ Some tag → number_of tag ≡ b
+tag_number : (v b : ℕ) (tag : Tag) → tag_in v b ≡ Some tag → (version_of tag ≡ v) × (number_of tag ≡ b)
 unfolding tag_in
-tag_number b tag e = eqb-true (number_of tag) b (find_passes (λ t. number_of t == b) tags tag e)
+tag_number v b tag e =
+    let p = and_parts (version_of tag == v) (number_of tag == b) (find_passes (λ t. version_of t == v && number_of t == b) tags tag e) in
+    (eqb-true (version_of tag) v p.0, eqb-true (number_of tag) b p.1)
 
-pub number_tag : (tag : Tag) → tag_in (number_of tag) ≡ Some tag
+pub number_tag : (tag : Tag) → tag_in (version_of tag) (number_of tag) ≡ Some tag
 unfolding tag_in
 number_tag Originate = refl
 number_tag Withdraw = refl
@@ -51,6 +53,16 @@ number_tag Forward = refl
 number_tag Ended = refl
 number_tag Published = refl
 number_tag Inject = refl
+number_tag ListedUpdate = refl
+number_tag ListedReport = refl
+number_tag Flush = refl
+
+-- each kind stands in one of the two versions
+pub version_is : (tag : Tag) → is_version (version_of tag) ≡ true
+version_is ListedUpdate = refl
+version_is ListedReport = refl
+version_is Flush = refl
+version_is _ = refl
 
 pub limit_small : (tag : Tag) → limit_of tag ≤ 1048576
 limit_small Report = omega arith
@@ -83,9 +95,9 @@ sized_whole tag k bytes f n e =
     let c = found_by_whole k (body_at tag (take k bytes)) f n b.1 in
     (ltb-false _ _ a.0, ltb-false _ _ b.0, c.0, c.1)
 
-spelled_by : (tag : Tag) (head : ℕ) (bytes : List ℕ) (k : ℕ) (rest : List ℕ) (f : Frame) (n : ℕ) → IsBytes bytes → number_of tag ≡ head → word_at w32 bytes ≡ Ok (k, rest) → sized tag k rest ≡ Whole f n → BeginsWith (1 ∷ head ∷ bytes) f n
+spelled_by : (tag : Tag) (v head : ℕ) (bytes : List ℕ) (k : ℕ) (rest : List ℕ) (f : Frame) (n : ℕ) → IsBytes bytes → version_of tag ≡ v → number_of tag ≡ head → word_at w32 bytes ≡ Ok (k, rest) → sized tag k rest ≡ Whole f n → BeginsWith (v ∷ head ∷ bytes) f n
 unfolding spell fits
-spelled_by tag head bytes k rest f n are number read e =
+spelled_by tag v head bytes k rest f n are version number read e =
     let t = word_takes w32 (2 ^ 32) wide32 bytes k rest are read in
     let s = sized_whole tag k rest f n e in
     let text = take k rest in
@@ -94,6 +106,7 @@ spelled_by tag head bytes k rest f n are number read e =
     let body_long : length (body f) ≡ k = ap length (sym is.spelled) ∙ len in
     let small : length (body f) ≤ limit_of (tag_of f) = rw (body_long, is.kind) s.0 in
     let tagged : number_of (tag_of f) ≡ head = ap number_of is.kind ∙ number in
+    let versioned : version_of (tag_of f) ≡ v = ap version_of is.kind ∙ version in
     let cut : rest ≡ body f ++ drop k rest = sym (take-append-drop k rest) ∙ ap (λ (x : List ℕ). x ++ drop k rest) is.spelled in
     let whole : bytes ≡ (to_be_bytes w32 (length (body f)) ++ body f) ++ drop k rest =
     t.parts ∙ ap (λ (x : List ℕ). to_be_bytes w32 k ++ x) cut ∙ sym (append_assoc (to_be_bytes w32 k) (body f) (drop k rest)) ∙ ap (λ (m : ℕ). (to_be_bytes w32 m ++ body f) ++ drop k rest) (sym body_long) in
@@ -102,29 +115,29 @@ spelled_by tag head bytes k rest f n are number read e =
       fit = and_from _ _ is.fit (le-leb _ _ small);
       long = s.3 ∙ omega arith;
       rest = drop k rest;
-      parts = ap (λ (x : List ℕ). 1 ∷ head ∷ x) whole ∙ ap (λ (m : ℕ). 1 ∷ m ∷ (to_be_bytes w32 (length (body f)) ++ body f) ++ drop k rest) (sym tagged);
+      parts = ap (λ (x : List ℕ). v ∷ head ∷ x) whole ∙ ap₂ (λ (w m : ℕ). w ∷ m ∷ (to_be_bytes w32 (length (body f)) ++ body f) ++ drop k rest) (sym versioned) (sym tagged);
     }
 
-by_word : (tag : Tag) (head : ℕ) (bytes : List ℕ) (r : Result (ℕ × List ℕ) FrameKind) (f : Frame) (n : ℕ) → IsBytes bytes → number_of tag ≡ head → word_at w32 bytes ≡ r → behind_kind tag r ≡ Whole f n → BeginsWith (1 ∷ head ∷ bytes) f n
-by_word tag head bytes (Ok x) f n are number read e = spelled_by tag head bytes x.0 x.1 f n are number read e
-by_word tag head bytes (Err wrong) f n are number read e = absurd cc
+by_word : (tag : Tag) (v head : ℕ) (bytes : List ℕ) (r : Result (ℕ × List ℕ) FrameKind) (f : Frame) (n : ℕ) → IsBytes bytes → version_of tag ≡ v → number_of tag ≡ head → word_at w32 bytes ≡ r → behind_kind tag r ≡ Whole f n → BeginsWith (v ∷ head ∷ bytes) f n
+by_word tag v head bytes (Ok x) f n are version number read e = spelled_by tag v head bytes x.0 x.1 f n are version number read e
+by_word tag v head bytes (Err wrong) f n are version number read e = absurd cc
 
-by_tag : (head : ℕ) (bytes : List ℕ) (found_tag : Option Tag) (f : Frame) (n : ℕ) → IsBytes bytes → tag_in head ≡ found_tag → of_kind found_tag bytes ≡ Whole f n → BeginsWith (1 ∷ head ∷ bytes) f n
-by_tag head bytes None f n are read e = absurd cc
-by_tag head bytes (Some tag) f n are read e = by_word tag head bytes (word_at w32 bytes) f n are (tag_number head tag read) refl e
+by_tag : (v head : ℕ) (bytes : List ℕ) (found_tag : Option Tag) (f : Frame) (n : ℕ) → IsBytes bytes → tag_in v head ≡ found_tag → of_kind found_tag bytes ≡ Whole f n → BeginsWith (v ∷ head ∷ bytes) f n
+by_tag v head bytes None f n are read e = absurd cc
+by_tag v head bytes (Some tag) f n are read e = let is = tag_number v head tag read in by_word tag v head bytes (word_at w32 bytes) f n are is.0 is.1 refl e
 
-by_version : (bytes : List ℕ) (f : Frame) (n : ℕ) → IsBytes bytes → behind_version bytes ≡ Whole f n → BeginsWith (1 ∷ bytes) f n
-by_version [] f n are e = absurd cc
-by_version (head ∷ bytes) f n are e = by_tag head bytes (tag_in head) f n (λ i. are (suc i)) refl e
+by_version : (v : ℕ) (bytes : List ℕ) (f : Frame) (n : ℕ) → IsBytes bytes → behind_version v bytes ≡ Whole f n → BeginsWith (v ∷ bytes) f n
+by_version v [] f n are e = absurd cc
+by_version v (head ∷ bytes) f n are e = by_tag v head bytes (tag_in v head) f n (λ i. are (suc i)) refl e
 
 pub found_spelled : (bytes : List ℕ) (f : Frame) (n : ℕ) → IsBytes bytes → found bytes ≡ Whole f n → BeginsWith bytes f n
 unfolding found
 found_spelled [] f n are e = absurd cc
-found_spelled (v ∷ bytes) f n are e = go (v == 1) refl e
+found_spelled (v ∷ bytes) f n are e = go (is_version v) e
   where
-    go : (b : Bool) → (v == 1) ≡ b → cond b (behind_version bytes) (Wrong fault.Version) ≡ Whole f n → BeginsWith (v ∷ bytes) f n
-    go true same read = let is : v ≡ 1 = eqb-true v 1 same in rw is (by_version bytes f n (λ i. are (suc i)) read)
-    go false same read = absurd cc
+    go : (b : Bool) → cond b (behind_version v bytes) (Wrong fault.Version) ≡ Whole f n → BeginsWith (v ∷ bytes) f n
+    go true read = by_version v bytes f n (λ i. are (suc i)) read
+    go false read = absurd cc
 
 -- ---- what is spelled is found
 
@@ -141,7 +154,7 @@ spelled_found f rest fit =
     let all_there : ltb (length (body f ++ rest)) (length (body f)) ≡ false = le-ltb _ _ (omega (arith, length-append (body f) rest)) in
     let front : take (length (body f)) (body f ++ rest) ≡ body f = take_at (body f) rest (length (body f)) refl in
     let long : length (body f) + 6 ≡ length (spell f) = omega (arith, length-append (to_be_bytes w32 (length (body f))) (body f)) in
-    rw (number_tag (tag_of f), read, fits_in, all_there, front, body_again f parts.0) (ap (λ (m : ℕ). Whole f m) long)
+    rw (version_is (tag_of f), number_tag (tag_of f), read, fits_in, all_there, front, body_again f parts.0) (ap (λ (m : ℕ). Whole f m) long)
 
 pub fit_fields : (f : Frame) → fits f ≡ true → fields_fit f ≡ true
 unfolding fits

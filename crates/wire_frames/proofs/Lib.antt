@@ -1,12 +1,16 @@
 pub mod Formats
 pub mod Fields
+pub mod Listing
+pub mod Versions
 pub mod Spelled
 pub mod Found
 pub mod Skipping
 pub mod Passing
+pub mod Reporting
 pub mod Answering
 pub mod Written
 pub mod Collecting
+pub mod Rising
 pub mod Different
 pub mod Named
 pub mod Short

@@ -5,19 +5,32 @@ use Rattle.std.proofs.lemmas.List.{take_at, length-append}
 use Rattle.topology.specs.Lists.{has}
 use Rattle.topology.specs.declared.frame_faults.FrameKind.{FrameKind}
 use Rattle.topology.specs.declared.frame_faults.FrameKind.TheVariants as fault
-use Rattle.wire_frames.specs.Formats.{Format, IsBytes, pair, Meaning, meant, Series, listed, stepped, skipped}
+use Rattle.wire_frames.specs.Formats.{Format, IsBytes, pair, Meaning, meant, Series, listed, stepped, skipped, passed}
 use Rattle.wire_frames.specs.Fields.{node, different}
 use Rattle.wire_frames.specs.Shown.{Gives, Passes, Cuts}
 use Rattle.wire_frames.proofs.Formats.{IsFormat}
-use Rattle.wire_frames.proofs.Skipping.{skipped_ok, skipped_err}
+use Rattle.wire_frames.proofs.Skipping.{skipped_ok, skipped_err, passed_ok, passed_err}
 
 -- a count, and so many elements that were gone over, are a list
-pub list_passes : {S A T : Type 0} (count : Format ℕ) (series : Series S A) (s : S) (n : ℕ) (b0 b1 b2 : List ℕ) (r : Result T FrameKind) → count.reads b0 ≡ Ok (n, b1) → Gives (λ _. b2) r (skipped series s n b1)
+pub list_passes : {S A T : Type 0} (count : Format ℕ) (series : Series S A) (s t : S) (n : ℕ) (b0 b1 b2 : List ℕ) (r : Result T FrameKind) → count.reads b0 ≡ Ok (n, b1) → Gives (λ _. (t, b2)) r (skipped series s n b1)
     → Passes (listed count series s) b0 r b2
-list_passes count series s n b0 b1 b2 (Ok x) counted gone =
-    let a = skipped_ok series s n b1 b2 gone in
-    (a.0, rw (counted, a.1) refl)
-list_passes count series s n b0 b1 b2 (Err wrong) counted gone = rw (counted, skipped_err series s n b1 wrong gone) refl
+list_passes count series s t n b0 b1 b2 (Ok x) counted gone =
+    let a = skipped_ok series s t n b1 b2 gone in
+    (a.list, rw (counted, a.read) refl)
+list_passes count series s t n b0 b1 b2 (Err wrong) counted gone = rw (counted, skipped_err series s n b1 wrong gone) refl
+
+pub list_fails : {S A : Type 0} (count : Format ℕ) (series : Series S A) (s : S) (n : ℕ) (b0 b1 : List ℕ) (wrong : FrameKind) → count.reads b0 ≡ Ok (n, b1) → skipped series s n b1 ≡ Err wrong
+    → (listed count series s).reads b0 ≡ Err wrong
+list_fails count series s n b0 b1 wrong counted gone = rw (counted, skipped_err series s n b1 wrong gone) refl
+
+-- the same, where the bytes that are left are told alone
+pub list_passed : {S A T : Type 0} (count : Format ℕ) (series : Series S A) (s : S) (n : ℕ) (b0 b1 b2 : List ℕ) (r : Result T FrameKind) → count.reads b0 ≡ Ok (n, b1) → Gives (λ _. b2) r (passed series s n b1)
+    → Passes (listed count series s) b0 r b2
+list_passed count series s n b0 b1 b2 (Ok x) counted gone =
+    let p = passed_ok series s n b1 b2 gone in
+    let a = skipped_ok series s p.0 n b1 b2 p.1 in
+    (a.list, rw (counted, a.read) refl)
+list_passed count series s n b0 b1 b2 (Err wrong) counted gone = rw (counted, skipped_err series s n b1 wrong (passed_err series s n b1 wrong gone)) refl
 
 pub pair_passes : {A B T : Type 0} (f : Format A) (g : Format B) (x : A) (b0 b1 b2 : List ℕ) (r : Result T FrameKind) → f.reads b0 ≡ Ok (x, b1) → Passes g b1 r b2 → Passes (pair f g) b0 r b2
 pair_passes f g x b0 b1 b2 (Ok y) read gone = ((x, gone.0), rw (read, gone.1) refl)
@@ -34,7 +47,7 @@ part_is f law b0 b1 text y are read cut =
     let t = law.takes b0 y b1 are read in
     let len : length (f.spells y) ≡ length b0 - length b1 = omega (arith, ap length t.0.parts, length-append (f.spells y) b1) in
     let front : take (length b0 - length b1) b0 ≡ f.spells y = ap (λ (b : List ℕ). take (length b0 - length b1) b) t.0.parts ∙ take_at (f.spells y) b1 (length b0 - length b1) len in
-    (y, read, cut ∙ front)
+    (y, read, cut ∙ front, t.1)
 
 -- ---- different nodes
 

@@ -1,12 +1,13 @@
 -- No body but that of a report can be longer than its kind allows.
-use Rattle.std.proofs.Common.{◌≡◌, ℕ, suc, ◌+◌, ◌*◌, ◌≤◌, ◌<◌, Bool, true, List, [], ◌∷◌, ◌++◌, length, Option, Some, None, get_or, take, inl, inr, refl, sym, ap, ◌∙◌, arith}
+use Rattle.std.proofs.Common.{◌≡◌, ℕ, suc, ◌+◌, ◌*◌, ◌≤◌, ◌<◌, Bool, true, false, ◌&&◌, cond, List, [], ◌∷◌, ◌++◌, length, Option, Some, None, get_or, take, inl, inr, refl, sym, ap, ◌∙◌, arith}
 use Rattle.std.specs.Prelude.{nat_le, min}
 use Rattle.std.specs.List.{flat_map}
-use Rattle.std.specs.Int.{w8, w16, w32, w64, to_be_bytes}
+use Rattle.std.specs.Int.{w8, w16, w32, w64, to_be_bytes, is_in_range}
 use Rattle.std.proofs.lemmas.Bool.{leb-true, and_parts, cases_lt, lt-leb, le-leb}
 use Rattle.std.proofs.lemmas.List.{length-append, take_more, flat_map_more}
 use Rattle.std.proofs.Math.Nat.{mul-suc, mul-le-mul_left}
 use Rattle.topology.specs.declared.items.Sent.{Sent}
+use Rattle.topology.specs.declared.items.Pending.{Pending}
 use Rattle.topology.specs.declared.names.Trigger.{Trigger}
 use Rattle.incomplete_closure.specs.declared.cut_rows.Row.{Row}
 use Rattle.incomplete_closure.specs.declared.session_rows.SessionRow.{SessionRow}
@@ -14,8 +15,11 @@ use Rattle.incomplete_closure.specs.declared.reports.Report.{Report as TheReport
 use Rattle.wire_frames.specs.declared.frames.Frame.{Frame}
 use Rattle.wire_frames.specs.declared.frames.Frame.TheVariants as frame
 use Rattle.wire_frames.specs.Formats.{Format, tested, number, ordered, pair, Meaning, meant, optional, spelled_behind, Series, many_fit, listed}
-use Rattle.wire_frames.specs.Fields.{node, prefix, positive, epoch, epoch_or_none, preference, any16, any32, any64, few, many, more_items, flag, scope, mode, end, trigger, ballot, sent, in_any_order, rising, different, nodes, links, path_meaning, path, paths_in_order, paths, no_trigger, rising_triggers, value_meaning, value, named, row, rows, session_row, report, carried, packet_meaning, packet, flag_meaning, mode_meaning, ballot_meaning}
-use Rattle.wire_frames.specs.Frames.{limit_of, update, promise, accept, decision, hop, forward, published, tag_of, fields_fit, body}
+use Rattle.wire_frames.specs.Fields.{node, prefix, positive, epoch, epoch_or_none, preference, any16, any32, any64, few, many, more_items, flag, scope, mode, end, trigger, scope_number, is_one, one_meaning, one_trigger, ballot, sent, items, in_any_order, rising, different, nodes, links, path_meaning, path, paths_in_order, paths, no_trigger, rising_triggers, value_meaning, value, named, row, rows, session_row, report, carried, packet_meaning, packet, flag_meaning, mode_meaning, ballot_meaning}
+use Rattle.wire_frames.specs.Listing.{more_triggers, triggers, item, listed_row, no_rows, scope_beside, pending_row, nothing_pending, is_plain, listed_report, spelled_report}
+use Rattle.wire_frames.specs.declared.tags.Tag.{Tag}
+use Rattle.wire_frames.specs.declared.tags.Tag.TheVariants.{Report, ListedReport}
+use Rattle.wire_frames.specs.Frames.{limit_of, update, listed_update, promise, accept, decision, hop, forward, published, tag_of, fields_fit, body}
 
 -- what has a spelling has one of so many bytes at most
 pub record IsShort {A : Type 0} (f : Format A) (most : ℕ) : Type 0 where
@@ -92,9 +96,9 @@ node_wide : (n : ℕ) → length (node.spells n) ≤ 2
 unfolding node
 node_wide n = omega arith
 
-trigger_wide : (t : Trigger) → length (trigger.spells t) ≤ 6
+pub trigger_wide : (t : Trigger) → length (trigger.spells t) ≡ 6
 unfolding trigger node positive
-trigger_wide t = omega arith
+trigger_wide t = refl
 
 -- ---- parts
 
@@ -118,7 +122,7 @@ value_short : IsShort value 49283
 unfolding value
 value_short =
     let responding = listed_short (few 64) rising 0 1 64 2 (few_wide 64) (few_most 64) (λ t n fit. node_wide n) in
-    let incomplete = listed_short (many 8192) rising_triggers no_trigger 2 8192 6 (many_wide 8192) (many_most 8192) (λ s t fit. trigger_wide t) in
+    let incomplete = listed_short (many 8192) rising_triggers no_trigger 2 8192 6 (many_wide 8192) (many_most 8192) (λ s t fit. omega (arith, trigger_wide t)) in
     meant_short (pair (listed (few 64) rising 0) (listed (many 8192) rising_triggers no_trigger)) value_meaning 49283
     (pair_short (listed (few 64) rising 0) (listed (many 8192) rising_triggers no_trigger) 129 49154 responding incomplete)
 
@@ -140,8 +144,21 @@ packet_short =
 
 -- ---- bodies
 
-trigger_short : IsShort trigger 6
-trigger_short = record { short = λ t fit. trigger_wide t }
+one_trigger_short : IsShort one_trigger 6
+unfolding one_trigger
+one_trigger_short = meant_short trigger one_meaning 6 (record { short = λ t fit. omega (arith, trigger_wide t) })
+
+more_most : (low n : ℕ) → (more_triggers low 0).fits n ≡ true → n ≤ 8192
+unfolding more_triggers
+more_most low n fit = leb-true n 8192 (and_parts (nat_le low n) (nat_le n 8192) (and_parts (is_in_range low 8192 n) (nat_le (0 + n) 65536) fit).0).1
+
+more_wide : (low before n : ℕ) → length ((more_triggers low before).spells n) ≡ 2
+unfolding more_triggers
+more_wide low before n = refl
+
+several_short : IsShort (triggers 2 0) 49154
+unfolding triggers
+several_short = listed_short (more_triggers 2 0) rising_triggers no_trigger 2 8192 6 (more_wide 2 0) (more_most 2) (λ s t fit. omega (arith, trigger_wide t))
 
 node_short : IsShort node 2
 node_short = record { short = λ n fit. node_wide n }
@@ -163,10 +180,16 @@ unfolding ballot node positive
 ballot_short = meant_short (pair positive node) ballot_meaning 6 (pair_short positive node 4 2 (short32 _) (short16 _))
 
 update_short : IsShort update 147
-update_short = pair_short node (pair positive (pair positive (pair trigger (pair prefix path)))) 2 145 node_short
-    (pair_short positive (pair positive (pair trigger (pair prefix path))) 4 141 positive_short
-    (pair_short positive (pair trigger (pair prefix path)) 4 137 positive_short
-    (pair_short trigger (pair prefix path) 6 131 trigger_short (pair_short prefix path 2 129 prefix_short path_short))))
+update_short = pair_short node (pair positive (pair positive (pair one_trigger (pair prefix path)))) 2 145 node_short
+    (pair_short positive (pair positive (pair one_trigger (pair prefix path))) 4 141 positive_short
+    (pair_short positive (pair one_trigger (pair prefix path)) 4 137 positive_short
+    (pair_short one_trigger (pair prefix path) 6 131 one_trigger_short (pair_short prefix path 2 129 prefix_short path_short))))
+
+listed_update_short : IsShort listed_update 49295
+listed_update_short = pair_short node (pair positive (pair positive (pair (triggers 2 0) (pair prefix path)))) 2 49293 node_short
+    (pair_short positive (pair positive (pair (triggers 2 0) (pair prefix path))) 4 49289 positive_short
+    (pair_short positive (pair (triggers 2 0) (pair prefix path)) 4 49285 positive_short
+    (pair_short (triggers 2 0) (pair prefix path) 49154 131 several_short (pair_short prefix path 2 129 prefix_short path_short))))
 
 promise_short : IsShort promise 49302
 promise_short = pair_short node (pair epoch (pair ballot named)) 2 49300 node_short
@@ -191,6 +214,16 @@ published_short = pair_short epoch paths 4 33026 epoch_short paths_short
 at_most_limit : {a : ℕ} (m n : ℕ) → a ≤ m → m ≤ n → a ≤ n
 at_most_limit m n first second = omega arith
 
+update_in_time : (a b c : ℕ) (ts : List Trigger) (e : ℕ) (f : Option (List ℕ)) (one : Bool) → is_one ts ≡ one → fields_fit (frame.Update a b c ts e f) ≡ true
+    → length (body (frame.Update a b c ts e f)) ≤ limit_of (tag_of (frame.Update a b c ts e f))
+unfolding body
+update_in_time a b c ts e f true one fit =
+    let text : length (update.spells (a, (b, (c, (ts, (e, f)))))) ≤ 147 = update_short.short (a, (b, (c, (ts, (e, f))))) (rw one at fit) in
+    rw one (at_most_limit 147 65536 text (omega arith))
+update_in_time a b c ts e f false one fit =
+    let text : length (listed_update.spells (a, (b, (c, (ts, (e, f)))))) ≤ 49295 = listed_update_short.short (a, (b, (c, (ts, (e, f))))) (rw one at fit) in
+    rw one (at_most_limit 49295 65536 text (omega arith))
+
 -- a body of fields that fit is no longer than its kind allows, but for that of a report
 pub short_unless_report : (f : Frame) → ((n : ℕ) (r : TheReport) → f ≡ frame.Report n r → ⊥) → fields_fit f ≡ true → length (body f) ≤ limit_of (tag_of f)
 unfolding body node prefix positive epoch epoch_or_none preference any32 end trigger ballot
@@ -201,7 +234,7 @@ short_unless_report (frame.Notice a) other fit = omega arith
 short_unless_report (frame.OpenSession a b) other fit = omega arith
 short_unless_report frame.Snap other fit = omega arith
 short_unless_report (frame.Propose a) other fit = omega arith
-short_unless_report (frame.Update a b c d e f) other fit = at_most_limit _ _ (update_short.short (a, (b, (c, (d, (e, f))))) fit) (omega arith)
+short_unless_report (frame.Update a b c d e f) other fit = update_in_time a b c d e f (is_one d) refl fit
 short_unless_report (frame.Marker a b c) other fit = omega arith
 short_unless_report (frame.Hello a b c) other fit = omega arith
 short_unless_report (frame.Report a b) other fit = absurd (other a b refl)
@@ -215,18 +248,33 @@ short_unless_report (frame.Forward a b) other fit = at_most_limit _ _ (forward_s
 short_unless_report (frame.Ended a b) other fit = omega arith
 short_unless_report (frame.Published a b) other fit = at_most_limit _ _ (published_short.short (a, b) fit) (omega arith)
 short_unless_report (frame.Inject a b) other fit = omega arith
+short_unless_report (frame.Flush a) other fit = omega arith
 
 -- ---- reports
 
-items_wide : (xs : List Sent) → length (flat_map sent.spells xs) ≡ 10 * length xs
+-- how many bytes an item of a row with one trigger takes, and how many such a row
+pub item_wide : (x : Sent) → length (items.spells x) ≡ 10
 unfolding sent node positive
-items_wide [] = refl
-items_wide (x ∷ xs) = let later = items_wide xs in omega arith
+item_wide x = refl
 
--- how many bytes a row takes
-pub row_wide : (r : Row) → length ((row 0).spells r) ≡ 10 + 10 * length r.sent
+pub row_wide : (r : Row) → length ((row 0).spells r) ≡ length (flat_map items.spells r.sent) + 10
 unfolding row trigger scope node positive more_items
-row_wide r = omega (arith, items_wide r.sent)
+row_wide r = omega arith
+
+-- how many bytes what lists any number of triggers takes: an item, a row and a pending row
+pub listed_item_wide : (x : Sent) → length ((item 0).spells x) ≡ length (flat_map trigger.spells x.triggers) + 12
+unfolding item triggers more_triggers node positive
+listed_item_wide x = omega arith
+
+pub listed_row_wide : (r : Row) → length ((listed_row no_rows).spells r) ≡ (length (flat_map trigger.spells r.triggers) + length (flat_map (item 0).spells r.sent)) + 6
+unfolding listed_row scope_beside triggers more_triggers more_items
+listed_row_wide r =
+    let lists = length-append (flat_map trigger.spells r.triggers) (to_be_bytes w16 (scope_number r.scope) ++ (to_be_bytes w16 (length r.sent) ++ flat_map (item 0).spells r.sent)) in
+    omega arith
+
+pub pending_wide : (r : Pending) → length ((pending_row (nothing_pending 0)).spells r) ≡ length (flat_map trigger.spells r.triggers) + 10
+unfolding pending_row triggers more_triggers node prefix positive
+pending_wide r = omega arith
 
 session_wide : (r : SessionRow) → length ((session_row (0, 0)).spells r) ≡ 10 + length (spelled_behind trigger.spells r.down)
 unfolding session_row node positive any32
@@ -249,19 +297,51 @@ grow {A} spells list i n total x lt is one so_far =
     let long : length (flat_map spells (take (i + 1) list)) ≡ length (flat_map spells (take i list)) + length (spells x) = ap length text ∙ length-append (flat_map spells (take i list)) (spells x) in
     omega arith
 
--- how many bytes the body of a report takes
-pub report_wide : (n : ℕ) (r : TheReport) → length (body (frame.Report n r)) ≡ 12 + (length (flat_map (row 0).spells r.rows) + length (flat_map (session_row (0, 0)).spells r.sessions))
-unfolding body report node epoch many
-report_wide n r =
+-- how many bytes a report takes, in each version
+pub plain_wide : (r : TheReport) → 2 + length (report.spells r) ≡ 12 + (length (flat_map (row 0).spells r.rows) + length (flat_map (session_row (0, 0)).spells r.sessions))
+unfolding report node epoch many
+plain_wide r =
     let lists = length-append (flat_map (row 0).spells r.rows) (to_be_bytes w16 (length r.sessions) ++ flat_map (session_row (0, 0)).spells r.sessions) in
     omega arith
 
--- the test of a report is that of its body
-pub report_test : (n : ℕ) (r : TheReport) (rows sessions : ℕ) → rows ≡ min (length (flat_map (row 0).spells r.rows)) 18446744073709551615 → sessions ≡ min (length (flat_map (session_row (0, 0)).spells r.sessions)) 18446744073709551615
-    → nat_le (min (rows + sessions) 18446744073709551615) 1048564 ≡ nat_le (length (body (frame.Report n r))) 1048576
-report_test n r rows sessions first second =
-    let wide = report_wide n r in
-    elim (cases_lt 1048576 (length (body (frame.Report n r)))) [
+pub listed_wide : (r : TheReport) → 2 + length (listed_report.spells r)
+    ≡ 14 + ((length (flat_map (listed_row no_rows).spells r.rows) + length (flat_map (session_row (0, 0)).spells r.sessions)) + length (flat_map (pending_row (nothing_pending 0)).spells r.pending))
+unfolding listed_report node epoch many
+listed_wide r =
+    let pending = to_be_bytes w16 (length r.pending) ++ flat_map (pending_row (nothing_pending 0)).spells r.pending in
+    let sessions = (to_be_bytes w16 (length r.sessions) ++ flat_map (session_row (0, 0)).spells r.sessions) ++ pending in
+    let first = length-append (flat_map (listed_row no_rows).spells r.rows) sessions in
+    let second = length-append (to_be_bytes w16 (length r.sessions) ++ flat_map (session_row (0, 0)).spells r.sessions) pending in
+    omega arith
+
+-- the tests of a report are that of its body
+pub plain_test : (r : TheReport) (rows sessions : ℕ) → is_plain r ≡ true → rows ≡ min (length (flat_map (row 0).spells r.rows)) 18446744073709551615 → sessions ≡ min (length (flat_map (session_row (0, 0)).spells r.sessions)) 18446744073709551615
+    → nat_le (min (rows + sessions) 18446744073709551615) 1048564 ≡ nat_le (2 + length (spelled_report r)) 1048576
+plain_test r rows sessions plain first second =
+    let wide = plain_wide r in
+    rw plain (elim (cases_lt 1048576 (2 + length (report.spells r))) [
       | inl long ↦ lt-leb _ _ (omega arith) ∙ sym (lt-leb _ _ long)
       | inr short ↦ le-leb _ _ (omega arith) ∙ sym (le-leb _ _ short)
-    ]
+    ])
+
+pub listed_test : (r : TheReport) (rows sessions pending : ℕ) → is_plain r ≡ false → rows ≡ min (length (flat_map (listed_row no_rows).spells r.rows)) 18446744073709551615
+    → sessions ≡ min (length (flat_map (session_row (0, 0)).spells r.sessions)) 18446744073709551615 → pending ≡ min (length (flat_map (pending_row (nothing_pending 0)).spells r.pending)) 18446744073709551615
+    → nat_le (min (min (rows + sessions) 18446744073709551615 + pending) 18446744073709551615) 1048562 ≡ nat_le (2 + length (spelled_report r)) 1048576
+listed_test r rows sessions pending plain first second third =
+    let wide = listed_wide r in
+    rw plain (elim (cases_lt 1048576 (2 + length (listed_report.spells r))) [
+      | inl long ↦ lt-leb _ _ (omega arith) ∙ sym (lt-leb _ _ long)
+      | inr short ↦ le-leb _ _ (omega arith) ∙ sym (le-leb _ _ short)
+    ])
+
+-- the body of a report, and how long it may be
+pub report_body : (n : ℕ) (r : TheReport) → length (body (frame.Report n r)) ≡ 2 + length (spelled_report r)
+unfolding body node
+report_body n r = omega arith
+
+pub report_limit : (n : ℕ) (r : TheReport) → limit_of (tag_of (frame.Report n r)) ≡ 1048576
+report_limit n r = go (is_plain r)
+  where
+    go : (b : Bool) → limit_of (cond b Report ListedReport) ≡ 1048576
+    go true = refl
+    go false = refl

@@ -5,7 +5,7 @@ use Rattle.wire_frames.specs.declared.frames.Frame.{Frame}
 use Rattle.wire_frames.specs.declared.frames.Frame.TheVariants as frame
 use Rattle.wire_frames.specs.Frames.{body, body_within, fields_fit, fit_within}
 
-pub five_parts : (out : List ℕ) (f : Frame) → ((((out ++ body_within 1 7 f) ++ body_within 8 10 f) ++ body_within 11 13 f) ++ body_within 14 16 f) ++ body_within 17 21 f ≡ out ++ body f
+pub five_parts : (out : List ℕ) (f : Frame) → ((((out ++ body_within 1 7 f) ++ body_within 8 10 f) ++ body_within 11 13 f) ++ body_within 14 16 f) ++ body_within 17 22 f ≡ out ++ body f
 unfolding body_within
 five_parts out (frame.Originate a) = simp append-nil
 five_parts out (frame.Withdraw a) = simp append-nil
@@ -28,6 +28,7 @@ five_parts out (frame.Forward a b) = simp append-nil
 five_parts out (frame.Ended a b) = simp append-nil
 five_parts out (frame.Published a b) = simp append-nil
 five_parts out (frame.Inject a b) = simp append-nil
+five_parts out (frame.Flush a) = simp append-nil
 
 and_true : (b : Bool) → (b && true) ≡ b
 and_true true = refl
@@ -35,7 +36,7 @@ and_true false = refl
 
 -- the five tests together
 abbrev all_five : Frame → Bool
-all_five f = fit_within 1 7 f && (fit_within 8 10 f && (fit_within 11 13 f && (fit_within 14 16 f && fit_within 17 21 f)))
+all_five f = fit_within 1 7 f && (fit_within 8 10 f && (fit_within 11 13 f && (fit_within 14 16 f && fit_within 17 22 f)))
 
 five_fit : (f : Frame) → all_five f ≡ fields_fit f
 unfolding fit_within
@@ -60,6 +61,7 @@ five_fit (frame.Forward a b) = refl
 five_fit (frame.Ended a b) = refl
 five_fit (frame.Published a b) = refl
 five_fit (frame.Inject a b) = refl
+five_fit (frame.Flush a) = refl
 
 pub fails_first : (f : Frame) → fit_within 1 7 f ≡ false → false ≡ fields_fit f
 fails_first f a = let no : all_five f ≡ false = rw a refl in sym no ∙ five_fit f
@@ -73,5 +75,5 @@ fails_third f a b c = let no : all_five f ≡ false = rw (a, b, c) refl in sym n
 pub fails_fourth : (f : Frame) → fit_within 1 7 f ≡ true → fit_within 8 10 f ≡ true → fit_within 11 13 f ≡ true → fit_within 14 16 f ≡ false → false ≡ fields_fit f
 fails_fourth f a b c d = let no : all_five f ≡ false = rw (a, b, c, d) refl in sym no ∙ five_fit f
 
-pub rests_on_last : (f : Frame) → fit_within 1 7 f ≡ true → fit_within 8 10 f ≡ true → fit_within 11 13 f ≡ true → fit_within 14 16 f ≡ true → fit_within 17 21 f ≡ fields_fit f
-rests_on_last f a b c d = let last : all_five f ≡ fit_within 17 21 f = rw (a, b, c, d) refl in sym last ∙ five_fit f
+pub rests_on_last : (f : Frame) → fit_within 1 7 f ≡ true → fit_within 8 10 f ≡ true → fit_within 11 13 f ≡ true → fit_within 14 16 f ≡ true → fit_within 17 22 f ≡ fields_fit f
+rests_on_last f a b c d = let last : all_five f ≡ fit_within 17 22 f = rw (a, b, c, d) refl in sym last ∙ five_fit f

@@ -2,10 +2,10 @@
 use Rattle.std.specs.Prelude.{ℕ, Bool, true, false, not, ◌&&◌, ◌||◌, ◌==◌, ◌+◌, nat_lt, nat_le, List, [], ◌∷◌, ◌++◌, length, Option, Some, None, if◌then◌else◌}
 use Rattle.std.specs.Int.{w8, w16, w32, w64}
 use Rattle.topology.specs.Lists.{has}
-use Rattle.topology.specs.Triggers.{earlier}
+use Rattle.topology.specs.Triggers.{earlier, same_trigger}
 use Rattle.topology.specs.declared.names.Trigger.{Trigger}
 use Rattle.topology.specs.declared.names.Scope.{Scope}
-use Rattle.topology.specs.declared.names.Scope.TheVariants.{One, All}
+use Rattle.topology.specs.declared.names.Scope.TheVariants.{One, All, Nothing}
 use Rattle.topology.specs.declared.ballots.Ballot.{Ballot}
 use Rattle.topology.specs.declared.items.Sent.{Sent}
 use Rattle.incomplete_closure.specs.declared.cut_rows.Row.{Row}
@@ -17,7 +17,7 @@ use Rattle.epoch_packet.specs.declared.walks.Mode.{Mode}
 use Rattle.epoch_packet.specs.declared.walks.Mode.TheVariants.{Stable, Transient}
 use Rattle.epoch_packet.specs.declared.walks.End.{End}
 use Rattle.epoch_packet.specs.declared.walks.End.TheVariants.{Delivered, Expired, Stuck}
-use Rattle.wire_frames.specs.Formats.{Format, tested, number, ordered, pair, Meaning, meant, optional, Series, listed}
+use Rattle.wire_frames.specs.Formats.{Format, tested, number, ordered, pair, led, Meaning, meant, optional, Series, listed}
 
 -- ---- numbers
 
@@ -79,15 +79,17 @@ flag_meaning = record { make = λ n. n == 1; parts = λ b. if b then 1 else 0; o
 unfoldable pub flag : Format Bool
 flag = meant (number w8 0 1) flag_meaning
 
--- the number of a scope: its prefix, or 65535 for all
+-- the number of a scope: its prefix, 65535 for all, or 65534 for nothing
 abbrev pub scope_number : Scope → ℕ
 scope_number (One p) = p
 scope_number All = 65535
+scope_number Nothing = 65534
 
--- the prefix has a place that prefixes may have
+-- the scope has a prefix, at a place that prefixes may have, or all
 abbrev pub is_scope : Scope → Bool
 is_scope (One p) = nat_le p 255
 is_scope All = true
+is_scope Nothing = false
 
 -- the number of a scope
 abbrev pub scope_meaning : Meaning ℕ Scope
@@ -134,6 +136,35 @@ trigger_meaning = record { make = λ p. record { node = p.0; count = p.1 }; part
 unfoldable pub trigger : Format Trigger
 trigger = meant (pair node positive) trigger_meaning
 
+-- before all triggers
+abbrev pub no_trigger : Trigger
+no_trigger = record { node = 0; count = 0 }
+
+-- the trigger that a list begins with
+abbrev pub first_of : List Trigger → Trigger
+first_of [] = no_trigger
+first_of (t ∷ ts) = t
+
+-- the list has one trigger
+abbrev pub is_one : List Trigger → Bool
+is_one [] = false
+is_one (t ∷ []) = true
+is_one (t ∷ s ∷ ts) = false
+
+-- the list has this trigger and no other
+abbrev pub is_alone : Trigger → List Trigger → Bool
+is_alone t [] = false
+is_alone t (s ∷ []) = same_trigger s t
+is_alone t (s ∷ u ∷ ts) = false
+
+-- a trigger stands for the list of it alone
+abbrev pub one_meaning : Meaning Trigger (List Trigger)
+one_meaning = record { make = λ t. t ∷ []; parts = first_of; only = is_one }
+
+-- a list of one trigger; no other list has a spelling of this form
+unfoldable pub one_trigger : Format (List Trigger)
+one_trigger = meant trigger one_meaning
+
 -- a round and a node
 abbrev pub ballot_meaning : Meaning (ℕ × ℕ) Ballot
 ballot_meaning = record { make = λ p. record { round = p.0; node = p.1 }; parts = λ b. (b.round, b.node); only = each }
@@ -142,17 +173,17 @@ ballot_meaning = record { make = λ p. record { round = p.0; node = p.1 }; parts
 unfoldable pub ballot : Format Ballot
 ballot = meant (pair positive node) ballot_meaning
 
--- the neighbour, the session and the number of an item
-abbrev pub sent_meaning : Meaning (ℕ × (ℕ × ℕ)) Sent
-sent_meaning = record {
-  make = λ p. record { to = p.0; session = p.1.0; seq = p.1.1 };
+-- the neighbour, the session and the number of an item that lists the trigger alone
+abbrev pub sent_meaning : Trigger → Meaning (ℕ × (ℕ × ℕ)) Sent
+sent_meaning t = record {
+  make = λ p. record { to = p.0; session = p.1.0; seq = p.1.1; triggers = t ∷ [] };
   parts = λ item. (item.to, (item.session, item.seq));
-  only = each;
+  only = λ item. is_alone t item.triggers;
 }
 
--- an item that was sent: the neighbour, the session and the number
-unfoldable pub sent : Format Sent
-sent = meant (pair node (pair positive positive)) sent_meaning
+-- an item that was sent by an entry with the trigger: the neighbour, the session and the number
+unfoldable pub sent : Trigger → Format Sent
+sent t = meant (pair node (pair positive positive)) (sent_meaning t)
 
 -- ---- lists of nodes
 
@@ -210,10 +241,6 @@ paths = listed (many 256) (paths_in_order {S = ℕ}) 0
 
 -- ---- values
 
--- before all triggers
-abbrev pub no_trigger : Trigger
-no_trigger = record { node = 0; count = 0 }
-
 -- each trigger stands behind the one before it
 abbrev pub rising_triggers : Series Trigger Trigger
 rising_triggers = record { at = λ last. ordered trigger (earlier last); step = λ last t. t; spells = trigger.spells }
@@ -236,16 +263,16 @@ named = optional (pair ballot value)
 
 -- ---- reports
 
--- items, one behind the other
-abbrev pub items : {S : Type 0} → Series S Sent
-items = record { at = λ s. sent; step = λ s item. s; spells = sent.spells }
+-- the items of an entry with the trigger, one behind the other
+abbrev pub items : Series Trigger Sent
+items = record { at = sent; step = λ t item. t; spells = (sent no_trigger).spells }
 
--- the trigger, the scope and the items of an entry
+-- the trigger, the scope and the items of an entry that lists one trigger
 abbrev pub row_meaning : Meaning (Trigger × (Scope × List Sent)) Row
 row_meaning = record {
-  make = λ p. record { trigger = p.0; scope = p.1.0; sent = p.1.1 };
-  parts = λ r. (r.trigger, (r.scope, r.sent));
-  only = each;
+  make = λ p. record { triggers = p.0 ∷ []; scope = p.1.0; sent = p.1.1 };
+  parts = λ r. (first_of r.triggers, (r.scope, r.sent));
+  only = λ r. is_one r.triggers;
 }
 
 -- how many items a row has, where the rows before it have so many: 16384 together at most
@@ -254,7 +281,7 @@ more_items before = tested w16 (λ n. nat_le (before + n) 16384)
 
 -- an entry of the cut, behind rows that have so many items
 unfoldable pub row : ℕ → Format Row
-row before = meant (pair trigger (pair scope (listed (more_items before) (items {S = ℕ}) 0))) row_meaning
+row before = meant (led trigger (λ t. pair scope (listed (more_items before) items t))) row_meaning
 
 -- rows: what counts of those before is how many items they have
 abbrev pub rows : Series ℕ Row
@@ -284,15 +311,15 @@ session_row last = meant (pair (ordered session_key (above last)) (pair any32 (o
 abbrev pub session_rows : Series (ℕ × ℕ) SessionRow
 session_rows = record { at = session_row; step = λ last r. (r.nbr, r.session); spells = (session_row (0, 0)).spells }
 
--- the node, the epoch, the rows and the sessions of a report
+-- the node, the epoch, the rows and the sessions of a report of which nothing is pending
 abbrev pub report_meaning : Meaning (ℕ × (ℕ × (List Row × List SessionRow))) Report
 report_meaning = record {
-  make = λ p. record { node = p.0; epoch = p.1.0; rows = p.1.1.0; sessions = p.1.1.1 };
+  make = λ p. record { node = p.0; epoch = p.1.0; rows = p.1.1.0; sessions = p.1.1.1; pending = [] };
   parts = λ r. (r.node, (r.epoch, (r.rows, r.sessions)));
-  only = each;
+  only = λ r. length r.pending == 0;
 }
 
--- the report of a cut
+-- the report of a cut whose rows list one trigger each
 unfoldable pub report : Format Report
 report = meant (pair node (pair epoch (pair (listed (many 2048) rows 0) (listed (many 65535) session_rows (0, 0))))) report_meaning
 

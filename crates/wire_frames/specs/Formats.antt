@@ -42,13 +42,17 @@ tested w test = record {
 abbrev pub number : Width → ℕ → ℕ → Format ℕ
 number w low high = tested w (is_in_range low high)
 
--- the field, and behind it a test of its order
-abbrev pub ordered : {A : Type 0} → Format A → (A → Bool) → Format A
-ordered f test = record {
-  reads = λ bytes. f.reads bytes >>= λ x. held (test x.0) fault.Order x;
+-- the field, and behind it a test; this is wrong where it does not hold
+abbrev pub guarded : {A : Type 0} → FrameKind → Format A → (A → Bool) → Format A
+guarded wrong f test = record {
+  reads = λ bytes. f.reads bytes >>= λ x. held (test x.0) wrong x;
   spells = f.spells;
   fits = λ x. f.fits x && test x;
 }
+
+-- the field, and behind it a test of its order
+abbrev pub ordered : {A : Type 0} → Format A → (A → Bool) → Format A
+ordered f test = guarded fault.Order f test
 
 -- two fields, one behind the other
 abbrev pub pair : {A B : Type 0} → Format A → Format B → Format (A × B)
@@ -56,6 +60,14 @@ pair f g = record {
   reads = λ bytes. f.reads bytes >>= λ x. g.reads x.1 >>= λ y. Ok ((x.0, y.0), y.1);
   spells = λ p. f.spells p.0 ++ g.spells p.1;
   fits = λ p. f.fits p.0 && g.fits p.1;
+}
+
+-- a field, and one behind it whose format the first one tells
+abbrev pub led : {A B : Type 0} → Format A → (A → Format B) → Format (A × B)
+led f g = record {
+  reads = λ bytes. f.reads bytes >>= λ x. (g x.0).reads x.1 >>= λ y. Ok ((x.0, y.0), y.1);
+  spells = λ p. f.spells p.0 ++ (g p.0).spells p.1;
+  fits = λ p. f.fits p.0 && (g p.0).fits p.1;
 }
 
 -- what the value of a field stands for, and back; only tells what is stood for
@@ -125,11 +137,20 @@ listed count series s = record {
 abbrev pub after : {A : Type 0} → Format A → List ℕ → Result (List ℕ) FrameKind
 after f bytes = f.reads bytes >>= λ x. Ok x.1
 
+-- what counts behind elements
+abbrev pub reached : {S A : Type 0} → Series S A → S → List A → S
+reached series s [] = s
+reached series s (x ∷ xs) = reached series (series.step s x) xs
+
 -- what counts behind one more element, and the bytes behind it
 abbrev pub stepped : {S A : Type 0} → Series S A → S → List ℕ → Result (S × List ℕ) FrameKind
 stepped series s bytes = (series.at s).reads bytes >>= λ x. Ok (series.step s x.0, x.1)
 
--- the bytes behind so many elements
-abbrev pub skipped : {S A : Type 0} → Series S A → S → ℕ → List ℕ → Result (List ℕ) FrameKind
-skipped series s zero bytes = Ok bytes
+-- what counts behind so many elements, and the bytes behind them
+abbrev pub skipped : {S A : Type 0} → Series S A → S → ℕ → List ℕ → Result (S × List ℕ) FrameKind
+skipped series s zero bytes = Ok (s, bytes)
 skipped series s (suc n) bytes = stepped series s bytes >>= λ x. skipped series x.0 n x.1
+
+-- the bytes behind so many elements
+abbrev pub passed : {S A : Type 0} → Series S A → S → ℕ → List ℕ → Result (List ℕ) FrameKind
+passed series s n bytes = skipped series s n bytes >>= λ x. Ok x.1

@@ -8,11 +8,12 @@ use Rattle.incomplete_closure.specs.declared.values.Value.{Value}
 use Rattle.epoch_packet.specs.declared.packets.Packet.{Packet}
 use Rattle.epoch_packet.specs.declared.walks.End.{End}
 use Rattle.wire_frames.specs.declared.tags.Tag.{Tag}
-use Rattle.wire_frames.specs.declared.tags.Tag.TheVariants.{Originate, Withdraw, Prefer, Notice, OpenSession, Snap, Propose, Update, Marker, Hello, Report, Prepare, Promise, Accept, Accepted, Decision, Hop, Forward, Ended, Published, Inject}
+use Rattle.wire_frames.specs.declared.tags.Tag.TheVariants.{Originate, Withdraw, Prefer, Notice, OpenSession, Snap, Propose, Update, Marker, Hello, Report, Prepare, Promise, Accept, Accepted, Decision, Hop, Forward, Ended, Published, Inject, ListedUpdate, ListedReport, Flush}
 use Rattle.wire_frames.specs.declared.frames.Frame.{Frame}
 use Rattle.wire_frames.specs.declared.frames.Frame.TheVariants as frame
 use Rattle.wire_frames.specs.Formats.{Format, pair}
-use Rattle.wire_frames.specs.Fields.{node, prefix, positive, epoch, epoch_or_none, preference, any32, end, trigger, ballot, links, path, paths, value, named, report, packet}
+use Rattle.wire_frames.specs.Fields.{node, prefix, positive, epoch, epoch_or_none, preference, any32, end, is_one, one_trigger, ballot, links, path, paths, value, named, report, packet}
+use Rattle.wire_frames.specs.Listing.{triggers, spelled_triggers, triggers_fit, is_plain, listed_report, spelled_report, report_fits}
 
 -- the byte of each kind
 abbrev pub number_of : Tag → ℕ
@@ -37,16 +38,27 @@ number_of Forward = 18
 number_of Ended = 19
 number_of Published = 20
 number_of Inject = 21
+number_of ListedUpdate = 8
+number_of ListedReport = 11
+number_of Flush = 22
 
--- all kinds
+-- the version in which each kind stands: updates and reports in both
+abbrev pub version_of : Tag → ℕ
+version_of ListedUpdate = 2
+version_of ListedReport = 2
+version_of Flush = 2
+version_of _ = 1
+
+-- all kinds of both versions
 abbrev pub tags : List Tag
 tags =
     Originate ∷ Withdraw ∷ Prefer ∷ Notice ∷ OpenSession ∷ Snap ∷ Propose ∷ Update ∷ Marker ∷ Hello ∷ Report
-    ∷ Prepare ∷ Promise ∷ Accept ∷ Accepted ∷ Decision ∷ Hop ∷ Forward ∷ Ended ∷ Published ∷ Inject ∷ []
+    ∷ Prepare ∷ Promise ∷ Accept ∷ Accepted ∷ Decision ∷ Hop ∷ Forward ∷ Ended ∷ Published ∷ Inject
+    ∷ ListedUpdate ∷ ListedReport ∷ Flush ∷ []
 
--- the kind with this byte
-unfoldable pub tag_in : ℕ → Option Tag
-tag_in byte = find (λ tag. number_of tag == byte) tags
+-- the kind of this version with this byte
+unfoldable pub tag_in : ℕ → ℕ → Option Tag
+tag_in version byte = find (λ tag. version_of tag == version && number_of tag == byte) tags
 
 -- how long the body of each kind may be: the kinds that carry reports and values have more room
 abbrev pub limit_of : Tag → ℕ
@@ -54,6 +66,7 @@ limit_of Report = 1048576
 limit_of Promise = 1048576
 limit_of Accept = 1048576
 limit_of Decision = 1048576
+limit_of ListedReport = 1048576
 limit_of _ = 65536
 
 -- ---- the fields of each kind
@@ -66,9 +79,13 @@ session_opened = pair node positive
 abbrev pub preferred : Format (ℕ × ℕ)
 preferred = pair node preference
 
--- an update: the peer, the session, its number, its trigger, the prefix and the path
-abbrev pub update : Format (ℕ × (ℕ × (ℕ × (Trigger × (ℕ × Option (List ℕ))))))
-update = pair node (pair positive (pair positive (pair trigger (pair prefix path))))
+-- an update: the peer, the session, its number, its only trigger, the prefix and the path
+abbrev pub update : Format (ℕ × (ℕ × (ℕ × (List Trigger × (ℕ × Option (List ℕ))))))
+update = pair node (pair positive (pair positive (pair one_trigger (pair prefix path))))
+
+-- an update with several triggers
+abbrev pub listed_update : Format (ℕ × (ℕ × (ℕ × (List Trigger × (ℕ × Option (List ℕ))))))
+listed_update = pair node (pair positive (pair positive (pair (triggers 2 0) (pair prefix path))))
 
 -- a marker: the peer, the session and the epoch
 abbrev pub marker : Format (ℕ × (ℕ × ℕ))
@@ -81,6 +98,10 @@ hello = pair node (pair positive epoch_or_none)
 -- the peer and a report
 abbrev pub reported : Format (ℕ × TheReport)
 reported = pair node report
+
+-- the peer and a report that version 1 does not spell
+abbrev pub listed_reported : Format (ℕ × TheReport)
+listed_reported = pair node listed_report
 
 -- what asks for a ballot, and what answers that the value of a ballot is accepted
 abbrev pub in_ballot : Format (ℕ × (ℕ × Ballot))
@@ -120,7 +141,7 @@ injected = pair positive prefix
 
 -- ---- the spelling of a frame
 
--- the kind of a frame
+-- the kind of a frame: that of version 1 where it has one there
 abbrev pub tag_of : Frame → Tag
 tag_of (frame.Originate p) = Originate
 tag_of (frame.Withdraw p) = Withdraw
@@ -129,10 +150,10 @@ tag_of (frame.Notice n) = Notice
 tag_of (frame.OpenSession n s) = OpenSession
 tag_of frame.Snap = Snap
 tag_of (frame.Propose e) = Propose
-tag_of (frame.Update n s q t p ns) = Update
+tag_of (frame.Update n s q ts p ns) = if is_one ts then Update else ListedUpdate
 tag_of (frame.Marker n s e) = Marker
 tag_of (frame.Hello n s e) = Hello
-tag_of (frame.Report n r) = Report
+tag_of (frame.Report n r) = if is_plain r then Report else ListedReport
 tag_of (frame.Prepare n e b) = Prepare
 tag_of (frame.Promise n e b v) = Promise
 tag_of (frame.Accept n e b v) = Accept
@@ -143,6 +164,7 @@ tag_of (frame.Forward n q) = Forward
 tag_of (frame.Ended i e) = Ended
 tag_of (frame.Published e ps) = Published
 tag_of (frame.Inject i p) = Inject
+tag_of (frame.Flush n) = Flush
 
 -- the spelling of each field of a frame, in their order
 abbrev pub fields : Frame → List (List ℕ)
@@ -153,10 +175,10 @@ fields (frame.Notice n) = node.spells n ∷ []
 fields (frame.OpenSession n s) = node.spells n ∷ positive.spells s ∷ []
 fields frame.Snap = []
 fields (frame.Propose e) = epoch.spells e ∷ []
-fields (frame.Update n s q t p ns) = node.spells n ∷ positive.spells s ∷ positive.spells q ∷ trigger.spells t ∷ prefix.spells p ∷ path.spells ns ∷ []
+fields (frame.Update n s q ts p ns) = node.spells n ∷ positive.spells s ∷ positive.spells q ∷ spelled_triggers ts ∷ prefix.spells p ∷ path.spells ns ∷ []
 fields (frame.Marker n s e) = node.spells n ∷ positive.spells s ∷ epoch.spells e ∷ []
 fields (frame.Hello n s e) = node.spells n ∷ positive.spells s ∷ epoch_or_none.spells e ∷ []
-fields (frame.Report n r) = node.spells n ∷ report.spells r ∷ []
+fields (frame.Report n r) = node.spells n ∷ spelled_report r ∷ []
 fields (frame.Prepare n e b) = node.spells n ∷ epoch.spells e ∷ ballot.spells b ∷ []
 fields (frame.Promise n e b v) = node.spells n ∷ epoch.spells e ∷ ballot.spells b ∷ named.spells v ∷ []
 fields (frame.Accept n e b v) = node.spells n ∷ epoch.spells e ∷ ballot.spells b ∷ value.spells v ∷ []
@@ -167,6 +189,7 @@ fields (frame.Forward n q) = node.spells n ∷ packet.spells q ∷ []
 fields (frame.Ended i e) = any32.spells i ∷ end.spells e ∷ []
 fields (frame.Published e ps) = epoch.spells e ∷ paths.spells ps ∷ []
 fields (frame.Inject i p) = positive.spells i ∷ prefix.spells p ∷ []
+fields (frame.Flush n) = node.spells n ∷ []
 
 -- each field of the frame is in its range, and each list in its order
 abbrev pub fields_fit : Frame → Bool
@@ -177,10 +200,10 @@ fields_fit (frame.Notice n) = node.fits n
 fields_fit (frame.OpenSession n s) = session_opened.fits (n, s)
 fields_fit frame.Snap = true
 fields_fit (frame.Propose e) = epoch.fits e
-fields_fit (frame.Update n s q t p ns) = update.fits (n, (s, (q, (t, (p, ns)))))
+fields_fit (frame.Update n s q ts p ns) = node.fits n && (positive.fits s && (positive.fits q && (triggers_fit ts && (prefix.fits p && path.fits ns))))
 fields_fit (frame.Marker n s e) = marker.fits (n, (s, e))
 fields_fit (frame.Hello n s e) = hello.fits (n, (s, e))
-fields_fit (frame.Report n r) = reported.fits (n, r)
+fields_fit (frame.Report n r) = node.fits n && report_fits r
 fields_fit (frame.Prepare n e b) = in_ballot.fits (n, (e, b))
 fields_fit (frame.Promise n e b v) = promise.fits (n, (e, (b, v)))
 fields_fit (frame.Accept n e b v) = accept.fits (n, (e, (b, v)))
@@ -191,6 +214,7 @@ fields_fit (frame.Forward n q) = forward.fits (n, q)
 fields_fit (frame.Ended i e) = ended.fits (i, e)
 fields_fit (frame.Published e ps) = published.fits (e, ps)
 fields_fit (frame.Inject i p) = injected.fits (i, p)
+fields_fit (frame.Flush n) = node.fits n
 
 -- the lists, one behind the other
 abbrev pub joined : List (List ℕ) → List ℕ
@@ -208,12 +232,18 @@ fits f = fields_fit f && nat_le (length (body f)) (limit_of (tag_of f))
 
 -- version, kind, length and body
 unfoldable pub spell : Frame → List ℕ
-spell f = 1 ∷ number_of (tag_of f) ∷ to_be_bytes w32 (length (body f)) ++ body f
+spell f = version_of (tag_of f) ∷ number_of (tag_of f) ∷ to_be_bytes w32 (length (body f)) ++ body f
+
+-- the number of a frame's kind, the same in both versions
+abbrev pub kind_number : Frame → ℕ
+kind_number (frame.Update n s q ts p ns) = 8
+kind_number (frame.Report n r) = 11
+kind_number f = number_of (tag_of f)
 
 -- the body of a frame whose kind has one of these numbers, nothing for others
 unfoldable pub body_within : ℕ → ℕ → Frame → List ℕ
-body_within low high f = if is_in_range low high (number_of (tag_of f)) then body f else []
+body_within low high f = if is_in_range low high (kind_number f) then body f else []
 
 -- the fields of a frame fit, if its kind has one of these numbers
 unfoldable pub fit_within : ℕ → ℕ → Frame → Bool
-fit_within low high f = if is_in_range low high (number_of (tag_of f)) then fields_fit f else true
+fit_within low high f = if is_in_range low high (kind_number f) then fields_fit f else true

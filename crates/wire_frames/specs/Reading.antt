@@ -1,15 +1,15 @@
 -- What stands at the front of some bytes: a frame, what may become one, or the first thing that is wrong.
-use Rattle.std.specs.Prelude.{ℕ, ◌+◌, ◌==◌, nat_lt, List, [], ◌∷◌, length, take, Option, Some, None, Result, Ok, Err, if◌then◌else◌}
+use Rattle.std.specs.Prelude.{ℕ, ◌+◌, ◌==◌, ◌||◌, Bool, nat_lt, List, [], ◌∷◌, length, take, Option, Some, None, Result, Ok, Err, if◌then◌else◌}
 use Rattle.std.specs.Int.{w32}
 use Rattle.topology.specs.declared.frame_faults.FrameKind.{FrameKind}
 use Rattle.topology.specs.declared.frame_faults.FrameKind.TheVariants as fault
 use Rattle.wire_frames.specs.declared.tags.Tag.{Tag}
-use Rattle.wire_frames.specs.declared.tags.Tag.TheVariants.{Originate, Withdraw, Prefer, Notice, OpenSession, Snap, Propose, Update, Marker, Hello, Report, Prepare, Promise, Accept, Accepted, Decision, Hop, Forward, Ended, Published, Inject}
+use Rattle.wire_frames.specs.declared.tags.Tag.TheVariants.{Originate, Withdraw, Prefer, Notice, OpenSession, Snap, Propose, Update, Marker, Hello, Report, Prepare, Promise, Accept, Accepted, Decision, Hop, Forward, Ended, Published, Inject, ListedUpdate, ListedReport, Flush}
 use Rattle.wire_frames.specs.declared.frames.Frame.{Frame}
 use Rattle.wire_frames.specs.declared.frames.Frame.TheVariants as frame
 use Rattle.wire_frames.specs.Formats.{Format, ◌>>=◌, word_at}
 use Rattle.wire_frames.specs.Fields.{node, prefix, epoch}
-use Rattle.wire_frames.specs.Frames.{tag_in, limit_of, preferred, session_opened, update, marker, hello, reported, in_ballot, promise, accept, decision, hop, forward, ended, published, injected}
+use Rattle.wire_frames.specs.Frames.{tag_in, limit_of, preferred, session_opened, update, listed_update, marker, hello, reported, listed_reported, in_ballot, promise, accept, decision, hop, forward, ended, published, injected}
 
 -- nothing is left over behind the last field
 abbrev pub all_read : {A : Type 0} → A → List ℕ → Result A FrameKind
@@ -43,6 +43,9 @@ body_at Forward bytes = whole forward (λ x. frame.Forward x.0 x.1) bytes
 body_at Ended bytes = whole ended (λ x. frame.Ended x.0 x.1) bytes
 body_at Published bytes = whole published (λ x. frame.Published x.0 x.1) bytes
 body_at Inject bytes = whole injected (λ x. frame.Inject x.0 x.1) bytes
+body_at ListedUpdate bytes = whole listed_update (λ x. frame.Update x.0 x.1.0 x.1.1.0 x.1.1.1.0 x.1.1.1.1.0 x.1.1.1.1.1) bytes
+body_at ListedReport bytes = whole listed_reported (λ x. frame.Report x.0 x.1) bytes
+body_at Flush bytes = whole node (λ n. frame.Flush n) bytes
 
 -- what is found: a frame of so many bytes, a frame that is not all there, or what is wrong
 pub data Found : Type 0 where
@@ -72,12 +75,16 @@ abbrev pub of_kind : Option Tag → List ℕ → Found
 of_kind None bytes = Wrong fault.Kind
 of_kind (Some tag) bytes = behind_kind tag (word_at w32 bytes)
 
--- behind the version
-abbrev pub behind_version : List ℕ → Found
-behind_version [] = Partial
-behind_version (b ∷ bytes) = of_kind (tag_in b) bytes
+-- behind this version
+abbrev pub behind_version : ℕ → List ℕ → Found
+behind_version v [] = Partial
+behind_version v (b ∷ bytes) = of_kind (tag_in v b) bytes
+
+-- the byte is one of the two versions
+abbrev pub is_version : ℕ → Bool
+is_version v = v == 1 || v == 2
 
 -- what stands at the front of the bytes
 unfoldable pub found : List ℕ → Found
 found [] = Partial
-found (v ∷ bytes) = if v == 1 then behind_version bytes else Wrong fault.Version
+found (v ∷ bytes) = if is_version v then behind_version v bytes else Wrong fault.Version

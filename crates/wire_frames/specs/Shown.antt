@@ -1,6 +1,7 @@
 -- Frames that lie in bytes, and what answers come to.
-use Rattle.std.specs.Prelude.{◌≡◌, ◌≤◌, ℕ, true, length, take, List, Option, Some, None, Result, Ok, Err}
+use Rattle.std.specs.Prelude.{◌≡◌, ◌≤◌, ℕ, true, length, take, List, [], ◌∷◌, Option, Some, None, Result, Ok, Err}
 use Rattle.std.specs.Borrow.{Bor}
+use Rattle.topology.specs.declared.names.Trigger.{Trigger}
 use Rattle.topology.specs.declared.ballots.Ballot.{Ballot}
 use Rattle.incomplete_closure.specs.declared.reports.Report.{Report}
 use Rattle.incomplete_closure.specs.declared.values.Value.{Value}
@@ -13,7 +14,8 @@ use Rattle.wire_frames.specs.declared.frames.FrameRef.TheVariants as part
 use Rattle.wire_frames.specs.declared.frames.Decoded.{Decoded}
 use Rattle.wire_frames.specs.declared.frames.Decoded.TheVariants as decoded
 use Rattle.wire_frames.specs.Formats.{Format}
-use Rattle.wire_frames.specs.Fields.{links, path, paths, value, report, packet}
+use Rattle.wire_frames.specs.Fields.{links, path, paths, value, packet}
+use Rattle.wire_frames.specs.Listing.{spelled_triggers, update_version, spelled_report, report_version}
 use Rattle.wire_frames.specs.Frames.{fits, spell}
 use Rattle.wire_frames.specs.Reading.{Found, Whole, Partial, Wrong}
 
@@ -27,9 +29,14 @@ abbrev pub Passes : {A T : Type 0} → Format A → List ℕ → Result T FrameK
 Passes {A} f bytes (Ok x) rest = (y : A) × (f.reads bytes ≡ Ok (y, rest))
 Passes f bytes (Err wrong) rest = f.reads bytes ≡ Err wrong
 
--- what was returned is the part that spells the value which is read, and what is left are the bytes behind it
+-- what was returned is what the view shows of the value that is read, and what is left are the bytes behind it
+abbrev pub PassesAs : {A T : Type 0} → (A → T) → Format A → List ℕ → Result T FrameKind → List ℕ → Type 0
+PassesAs {A} view f bytes (Ok x) rest = (y : A) × (f.reads bytes ≡ Ok (y, rest)) × (x ≡ view y)
+PassesAs view f bytes (Err wrong) rest = f.reads bytes ≡ Err wrong
+
+-- what was returned is the part that spells the value which is read and has a spelling, and what is left are the bytes behind it
 abbrev pub Cuts : {A : Type 0} → Format A → List ℕ → Result (Bor (List ℕ)) FrameKind → List ℕ → Type 0
-Cuts {A} f bytes (Ok text) rest = (y : A) × (f.reads bytes ≡ Ok (y, rest)) × (text.now ≡ f.spells y)
+Cuts {A} f bytes (Ok text) rest = (y : A) × (f.reads bytes ≡ Ok (y, rest)) × (text.now ≡ f.spells y) × (f.fits y ≡ true)
 Cuts f bytes (Err wrong) rest = f.reads bytes ≡ Err wrong
 
 -- a ballot and the part that spells a value name this ballot and this value; nothing names nothing
@@ -48,10 +55,12 @@ IsFrame (part.Notice n) f = f ≡ frame.Notice n
 IsFrame (part.OpenSession n s) f = f ≡ frame.OpenSession n s
 IsFrame part.Snap f = f ≡ frame.Snap
 IsFrame (part.Propose e) f = f ≡ frame.Propose e
-IsFrame (part.Update n s q t p text) f = (ns : Option (List ℕ)) × (f ≡ frame.Update n s q t p ns) × (text.now ≡ path.spells ns)
+IsFrame (part.Update v n s q text p way) f =
+    (ts : List Trigger) × (ns : Option (List ℕ)) × (f ≡ frame.Update n s q ts p ns) × (v ≡ update_version ts) × (text.now ≡ spelled_triggers ts)
+    × (way.now ≡ path.spells ns)
 IsFrame (part.Marker n s e) f = f ≡ frame.Marker n s e
 IsFrame (part.Hello n s e) f = f ≡ frame.Hello n s e
-IsFrame (part.Report n text) f = (r : Report) × (f ≡ frame.Report n r) × (text.now ≡ report.spells r)
+IsFrame (part.Report v n text) f = (r : Report) × (f ≡ frame.Report n r) × (v ≡ report_version r) × (text.now ≡ spelled_report r)
 IsFrame (part.Prepare n e b) f = f ≡ frame.Prepare n e b
 IsFrame (part.Promise n e b x) f = (y : Option (Ballot × Value)) × (f ≡ frame.Promise n e b y) × NamesSame x y
 IsFrame (part.Accept n e b text) f = (v : Value) × (f ≡ frame.Accept n e b v) × (text.now ≡ value.spells v)
@@ -62,6 +71,7 @@ IsFrame (part.Forward n text) f = (q : Packet) × (f ≡ frame.Forward n q) × (
 IsFrame (part.Ended i e) f = f ≡ frame.Ended i e
 IsFrame (part.Published e text) f = (ps : List (Option (List ℕ))) × (f ≡ frame.Published e ps) × (text.now ≡ paths.spells ps)
 IsFrame (part.Inject i p) f = f ≡ frame.Inject i p
+IsFrame (part.Flush n) f = f ≡ frame.Flush n
 
 -- what was returned is what is read of a body
 abbrev pub Shows : Result FrameRef FrameKind → Result Frame FrameKind → Type 0

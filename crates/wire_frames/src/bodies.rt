@@ -101,15 +101,39 @@ fn update(body: &[u8]) -> Result<FrameRef<'_>, FrameKind>
     let peer = fields.node()?;
     let session = fields.session()?;
     let seq = fields.positive()?;
-    let trigger = fields.trigger()?;
+    let triggers = fields.one_trigger_part()?;
     let prefix = fields.prefix()?;
     let path = fields.path_part()?;
     fields.finish()?;
     Ok(FrameRef::Update {
+        version: 1,
         peer,
         session,
         seq,
-        trigger,
+        triggers,
+        prefix,
+        path,
+    })
+}
+
+#[tactic(auto, unfolding(crate::specs::Reading::body_at))]
+fn listed_update(body: &[u8]) -> Result<FrameRef<'_>, FrameKind>
+    ensures { Shows result (body_at of.ListedUpdate body.now) }
+{
+    let mut fields = Fields::new(body);
+    let peer = fields.node()?;
+    let session = fields.session()?;
+    let seq = fields.positive()?;
+    let triggers = fields.triggers_part()?;
+    let prefix = fields.prefix()?;
+    let path = fields.path_part()?;
+    fields.finish()?;
+    Ok(FrameRef::Update {
+        version: 2,
+        peer,
+        session,
+        seq,
+        triggers,
         prefix,
         path,
     })
@@ -155,7 +179,26 @@ fn report(body: &[u8]) -> Result<FrameRef<'_>, FrameKind>
     let peer = fields.node()?;
     let report = fields.report_part()?;
     fields.finish()?;
-    Ok(FrameRef::Report { peer, report })
+    Ok(FrameRef::Report {
+        version: 1,
+        peer,
+        report,
+    })
+}
+
+#[tactic(auto, unfolding(crate::specs::Reading::body_at))]
+fn listed_report(body: &[u8]) -> Result<FrameRef<'_>, FrameKind>
+    ensures { Shows result (body_at of.ListedReport body.now) }
+{
+    let mut fields = Fields::new(body);
+    let peer = fields.node()?;
+    let report = fields.listed_report_part()?;
+    fields.finish()?;
+    Ok(FrameRef::Report {
+        version: 2,
+        peer,
+        report,
+    })
 }
 
 #[tactic(auto, unfolding(crate::specs::Reading::body_at))]
@@ -304,6 +347,16 @@ fn inject(body: &[u8]) -> Result<FrameRef<'_>, FrameKind>
     Ok(FrameRef::Inject { id, prefix })
 }
 
+#[tactic(auto, unfolding(crate::specs::Reading::body_at))]
+fn flush(body: &[u8]) -> Result<FrameRef<'_>, FrameKind>
+    ensures { Shows result (body_at of.Flush body.now) }
+{
+    let mut fields = Fields::new(body);
+    let nbr = fields.node()?;
+    fields.finish()?;
+    Ok(FrameRef::Flush { nbr })
+}
+
 /// The frame of the kind that the body spells, or what is wrong first.
 pub(crate) fn read_body(tag: Tag, body: &[u8]) -> Result<FrameRef<'_>, FrameKind>
     ensures { Shows result (body_at tag body.now) }
@@ -330,5 +383,8 @@ pub(crate) fn read_body(tag: Tag, body: &[u8]) -> Result<FrameRef<'_>, FrameKind
         Tag::Ended => ended(body),
         Tag::Published => published(body),
         Tag::Inject => inject(body),
+        Tag::ListedUpdate => listed_update(body),
+        Tag::ListedReport => listed_report(body),
+        Tag::Flush => flush(body),
     }
 }

@@ -1,12 +1,14 @@
 //! Which frames have a spelling.
-ghost use Rattle.std.specs.Prelude.{◌≡◌, ◌+◌, ◌-◌, ◌^◌, true, nat_le, length, min};
-ghost use Rattle.std.specs.List.{flat_map};
-ghost use Rattle.wire_frames.specs.Fields.{row, session_row};
+ghost use Rattle.std.specs.Prelude.{◌≡◌, ◌+◌, true, nat_le, length};
+ghost use Rattle.wire_frames.specs.Listing.{spelled_report};
 ghost use Rattle.wire_frames.specs.Frames.{body, fields_fit, fit_within, fits, limit_of, tag_of};
 
 use crate::Frame;
 use crate::fitting::*;
-use incomplete_closure::{Row, SessionRow};
+use crate::listed_runs::{ListedRows, PendingRun};
+use crate::plain::is_plain;
+use crate::series::{ReportRows, ReportSessions, length_many};
+use incomplete_closure::Report;
 
 // What happens at the node: kinds 1 to 7.
 #[tactic(auto, unfolding(crate::specs::Frames::fit_within))]
@@ -35,13 +37,13 @@ fn session_frame_fits(frame: &Frame) -> bool
             peer,
             session,
             seq,
-            trigger,
+            triggers,
             prefix,
             path,
         } => node_fits(*peer)
             && session_fits(*session)
             && positive_fits(*seq)
-            && trigger_fits(*trigger)
+            && update_triggers_fit(triggers)
             && prefix_fits(*prefix)
             && path_fits(path),
         Frame::Marker {
@@ -104,10 +106,10 @@ fn choice_fits(frame: &Frame) -> bool
     }
 }
 
-// Packets and tables: kinds 17 to 21.
+// Packets, tables and what is not held back any longer: kinds 17 to 22.
 #[tactic(auto, unfolding(crate::specs::Frames::fit_within))]
 fn packet_frame_fits(frame: &Frame) -> bool
-    ensures { result ≡ fit_within 17 21 frame.now }
+    ensures { result ≡ fit_within 17 22 frame.now }
 {
     match frame {
         Frame::Hop { packet, up } => packet_fits(packet) && links_fits(up.as_slice()),
@@ -115,6 +117,7 @@ fn packet_frame_fits(frame: &Frame) -> bool
         Frame::Ended { id, end } => any32_fits(*id) && end_fits(*end),
         Frame::Published { epoch, paths } => epoch_fits(*epoch) && paths_fits(paths),
         Frame::Inject { id, prefix } => positive_fits(*id) && prefix_fits(*prefix),
+        Frame::Flush { nbr } => node_fits(*nbr),
         _ => true,
     }
 }
@@ -138,44 +141,18 @@ fn all_fit(frame: &Frame) -> bool
     packet_frame_fits(frame)
 }
 
-// How many bytes a row takes, up to the highest number.
-fn row_length(entry: &Row) -> usize
-    ensures { result ≡ min (length ((row 0).spells entry.now)) (2 ^ 64 - 1) }
+// The report is no longer than its kind allows, behind two bytes that name the peer.
+fn report_is_short(report: &Report) -> bool
+    ensures { result ≡ nat_le (2 + length (spelled_report report.now)) 1048576 }
 {
-    let items = entry.sent.len();
-    items.saturating_mul(10).saturating_add(10)
-}
-
-// How many bytes the rows take, up to the highest number.
-fn rows_length(list: &[Row]) -> usize
-    ensures { result ≡ min (length (flat_map (row 0).spells list.now)) (2 ^ 64 - 1) }
-{
-    let mut total: usize = 0;
-    for entry in list {
-        total = total.saturating_add(row_length(entry));
+    let sessions = length_many::<ReportSessions>(report.sessions.as_slice());
+    if is_plain(report) {
+        let rows = length_many::<ReportRows>(report.rows.as_slice());
+        return rows.saturating_add(sessions) <= 1_048_564;
     }
-    total
-}
-
-// How many bytes a session row takes.
-fn session_length(held: &SessionRow) -> usize
-    ensures { result ≡ length ((session_row (0, 0)).spells held.now) }
-{
-    match held.down {
-        None => 11,
-        Some(_) => 17,
-    }
-}
-
-// How many bytes the session rows take, up to the highest number.
-fn sessions_length(list: &[SessionRow]) -> usize
-    ensures { result ≡ min (length (flat_map (session_row (0, 0)).spells list.now)) (2 ^ 64 - 1) }
-{
-    let mut total: usize = 0;
-    for held in list {
-        total = total.saturating_add(session_length(held));
-    }
-    total
+    let rows = length_many::<ListedRows>(report.rows.as_slice());
+    let pending = length_many::<PendingRun>(report.pending.as_slice());
+    rows.saturating_add(sessions).saturating_add(pending) <= 1_048_562
 }
 
 // The body is no longer than its kind allows. Only that of a report can be.
@@ -184,11 +161,7 @@ fn is_short(frame: &Frame) -> bool
         ≡ nat_le (length (body frame.now)) (limit_of (tag_of frame.now)) }
 {
     match frame {
-        Frame::Report { report, .. } => {
-            let rows = rows_length(report.rows.as_slice());
-            let sessions = sessions_length(report.sessions.as_slice());
-            rows.saturating_add(sessions) <= 1_048_564
-        }
+        Frame::Report { report, .. } => report_is_short(report),
         _ => true,
     }
 }

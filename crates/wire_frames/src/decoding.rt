@@ -34,13 +34,13 @@ fn behind_kind(tag: Tag, bytes: &[u8]) -> Decoded<'_>
     }
 }
 
-// Behind the version.
-fn behind_version(bytes: &[u8]) -> Decoded<'_>
-    ensures { Answers result (found_behind_version bytes.now) }
+// Behind this version.
+fn behind_version(version: u8, bytes: &[u8]) -> Decoded<'_>
+    ensures { Answers result (found_behind_version version bytes.now) }
 {
     match bytes {
         [] => Decoded::More,
-        [byte, rest @ ..] => match Tag::with_number(*byte) {
+        [byte, rest @ ..] => match Tag::with_number(version, *byte) {
             Some(tag) => behind_kind(tag, rest),
             None => Decoded::Bad(FrameKind::Kind),
         },
@@ -54,7 +54,8 @@ fn front(input: &[u8]) -> Decoded<'_>
 {
     match input {
         [] => Decoded::More,
-        [1, rest @ ..] => behind_version(rest),
+        [1, rest @ ..] => behind_version(1, rest),
+        [2, rest @ ..] => behind_version(2, rest),
         [_, ..] => Decoded::Bad(FrameKind::Version),
     }
 }

@@ -1,15 +1,39 @@
 //! Frames as bytes.
-ghost use Rattle.std.specs.Prelude.{◌≡◌, ◌++◌, true, OnOk, IfOk};
+ghost use Rattle.std.specs.Prelude.{◌≡◌, ◌++◌, true, OnOk, IfOk, if◌then◌else◌};
+ghost use Rattle.wire_frames.specs.declared.tags.Tag.TheVariants as of;
+ghost use Rattle.wire_frames.specs.Fields.{is_one};
+ghost use Rattle.wire_frames.specs.Listing.{is_plain as plain_report};
 ghost use Rattle.wire_frames.specs.Frames.{tag_of, body, body_within, fits, spell};
 
 use crate::Frame;
+use crate::plain::is_plain;
 use crate::tags::Tag;
 use crate::writing::*;
+use incomplete_closure::Report;
 use std::alloc::Global;
-use topology::NoMemory;
+use topology::{NoMemory, Triggers};
+
+fn update_tag(triggers: &Triggers) -> Tag
+    ensures { result ≡ (if is_one triggers.now then of.Update else of.ListedUpdate) }
+{
+    match triggers.as_slice() {
+        [_] => Tag::Update,
+        _ => Tag::ListedUpdate,
+    }
+}
+
+fn report_tag(report: &Report) -> Tag
+    ensures { result ≡ (if plain_report report.now then of.Report else of.ListedReport) }
+{
+    if is_plain(report) {
+        Tag::Report
+    } else {
+        Tag::ListedReport
+    }
+}
 
 impl Tag {
-    /// The kind of a frame.
+    /// The kind of a frame: that of version 1 where it has one there.
     pub fn of(frame: &Frame) -> Tag
         ensures { result ≡ tag_of frame.now }
     {
@@ -21,10 +45,10 @@ impl Tag {
             Frame::OpenSession { .. } => Tag::OpenSession,
             Frame::Snap => Tag::Snap,
             Frame::Propose { .. } => Tag::Propose,
-            Frame::Update { .. } => Tag::Update,
+            Frame::Update { triggers, .. } => update_tag(triggers),
             Frame::Marker { .. } => Tag::Marker,
             Frame::Hello { .. } => Tag::Hello,
-            Frame::Report { .. } => Tag::Report,
+            Frame::Report { report, .. } => report_tag(report),
             Frame::Prepare { .. } => Tag::Prepare,
             Frame::Promise { .. } => Tag::Promise,
             Frame::Accept { .. } => Tag::Accept,
@@ -35,6 +59,7 @@ impl Tag {
             Frame::Ended { .. } => Tag::Ended,
             Frame::Published { .. } => Tag::Published,
             Frame::Inject { .. } => Tag::Inject,
+            Frame::Flush { .. } => Tag::Flush,
         }
     }
 }
@@ -72,14 +97,14 @@ fn put_session_frame(out: &mut Vec<u8>, frame: &Frame) -> Result<(), NoMemory>
             peer,
             session,
             seq,
-            trigger,
+            triggers,
             prefix,
             path,
         } => {
             put_node(out, *peer)?;
             put_session(out, *session)?;
             put_positive(out, *seq)?;
-            put_trigger(out, *trigger)?;
+            put_update_triggers(out, triggers)?;
             put_prefix(out, *prefix)?;
             put_path(out, path)
         }
@@ -174,10 +199,10 @@ fn put_choice(out: &mut Vec<u8>, frame: &Frame) -> Result<(), NoMemory>
     }
 }
 
-// Packets and tables: kinds 17 to 21.
+// Packets, tables and what is not held back any longer: kinds 17 to 22.
 #[tactic(auto, unfolding(crate::specs::Frames::body, crate::specs::Frames::body_within, crate::specs::Fields::links, crate::specs::Fields::few))]
 fn put_packet_frame(out: &mut Vec<u8>, frame: &Frame) -> Result<(), NoMemory>
-    ensures { OnOk result (out.new.items ≡ out.old.items ++ body_within 17 21 frame.now) }
+    ensures { OnOk result (out.new.items ≡ out.old.items ++ body_within 17 22 frame.now) }
 {
     match frame {
         Frame::Hop { packet, up } => {
@@ -200,6 +225,7 @@ fn put_packet_frame(out: &mut Vec<u8>, frame: &Frame) -> Result<(), NoMemory>
             put_positive(out, *id)?;
             put_prefix(out, *prefix)
         }
+        Frame::Flush { nbr } => put_node(out, *nbr),
         _ => Ok(()),
     }
 }
@@ -215,7 +241,7 @@ fn put_body(out: &mut Vec<u8>, frame: &Frame) -> Result<(), NoMemory>
     put_packet_frame(out, frame)
 }
 
-/// The spelling of a frame.
+/// The spelling of a frame: that of version 1 where it has one there.
 #[tactic(auto, unfolding(crate::specs::Frames::spell))]
 pub fn encode(alloc: Global, frame: &Frame) -> Result<Vec<u8>, NoMemory>
     requires { fits frame.now ≡ true }
@@ -224,8 +250,9 @@ pub fn encode(alloc: Global, frame: &Frame) -> Result<Vec<u8>, NoMemory>
     let mut text = Vec::new(alloc);
     put_body(&mut text, frame)?;
     let mut out = Vec::new(alloc);
-    put_u8(&mut out, 1)?;
-    put_u8(&mut out, Tag::of(frame).number())?;
+    let tag = Tag::of(frame);
+    put_u8(&mut out, tag.version())?;
+    put_u8(&mut out, tag.number())?;
     put_u32(&mut out, text.len() as u32)?;
     out.extend_from_slice(&text)?;
     Ok(out)

@@ -1,15 +1,21 @@
 //! Which fields have a spelling. Takes no memory.
-ghost use Rattle.std.specs.Prelude.{◌≡◌, ◌≤◌, ◌+◌, [], List, ℕ, length, Some, IsTrue};
+ghost use Rattle.std.specs.Prelude.{◌≡◌, ◌≤◌, ◌+◌, ◌==◌, [], List, length, Some, IsTrue};
 ghost use Rattle.wire_frames.specs.Formats.{fits_behind, many_fit, listed, ordered};
-ghost use Rattle.wire_frames.specs.Fields.{node, prefix, positive, epoch, epoch_or_none, preference, any16, any32, any64, few, many, more_items, flag, scope, mode, end, trigger, ballot, sent, different, in_any_order, rising, rising_triggers, no_trigger, nodes, links, path, paths, value, named, row, rows, items, session_key, above, session_row, session_rows, report, carried, packet};
+ghost use Rattle.wire_frames.specs.Fields.{node, prefix, positive, epoch, epoch_or_none, preference, any16, any32, any64, few, many, more_items, flag, scope, mode, end, trigger, first_of, is_alone, one_trigger, ballot, sent, different, in_any_order, rising, rising_triggers, no_trigger, nodes, links, path, paths, value, named, row, rows, items, session_key, above, session_row, session_rows, report, carried, packet};
+ghost use Rattle.wire_frames.specs.Formats.{reached};
+ghost use Rattle.wire_frames.specs.Listing.{more_triggers, triggers as triggers_from, triggers_fit, item, listed_items, scope_beside, listed_rows, no_rows, pending_key, pending_row, pending_rows, nothing_pending, listed_report, report_fits as any_report_fits};
 
+use crate::listed_runs::{ListedItems, ListedRows, PendingRun};
 use crate::paths::Paths;
+use crate::plain::is_plain;
 use crate::series::{
     AnyOrder, Items, PathRun, ReportRows, ReportSessions, Rising, RisingTriggers, fit_many,
 };
 use epoch_packet::{End, Mode, Packet};
 use incomplete_closure::{Report, Row, SessionRow, Value};
-use topology::{Ballot, Epoch, NodeId, Path, PrefixId, Scope, Sent, Session, Trigger};
+use topology::{
+    Ballot, Epoch, NodeId, Path, Pending, PrefixId, Scope, Sent, Session, Trigger, Triggers,
+};
 
 #[tactic(auto, unfolding(crate::specs::Fields::node))]
 pub(crate) fn node_fits(id: NodeId) -> bool
@@ -75,6 +81,7 @@ pub(crate) fn scope_fits(whole: Scope) -> bool
     match whole {
         Scope::One(id) => id.place() <= 255,
         Scope::All => true,
+        Scope::Nothing => false,
     }
 }
 
@@ -96,6 +103,39 @@ pub(crate) fn trigger_fits(mark: Trigger) -> bool
     node_fits(mark.node) && positive_fits(mark.count)
 }
 
+/// The trigger that the list begins with.
+pub(crate) fn first_of(triggers: &Triggers) -> Trigger
+    ensures { result ≡ first_of triggers.now }
+{
+    match triggers.as_slice() {
+        [first, ..] => *first,
+        [] => Trigger {
+            node: NodeId::new(0),
+            count: 0,
+        },
+    }
+}
+
+#[tactic(auto, unfolding(crate::specs::Fields::one_trigger))]
+pub(crate) fn one_trigger_fits(triggers: &Triggers) -> bool
+    ensures { result ≡ one_trigger.fits triggers.now }
+{
+    match triggers.as_slice() {
+        [trigger] => trigger_fits(*trigger),
+        _ => false,
+    }
+}
+
+// Whether the list has this trigger and no other.
+fn stands_alone(triggers: &Triggers, trigger: Trigger) -> bool
+    ensures { result ≡ is_alone trigger triggers.now }
+{
+    match triggers.as_slice() {
+        [only] => *only == trigger,
+        _ => false,
+    }
+}
+
 #[tactic(auto, unfolding(crate::specs::Fields::ballot))]
 pub(crate) fn ballot_fits(attempt: Ballot) -> bool
     ensures { result ≡ ballot.fits attempt }
@@ -104,10 +144,13 @@ pub(crate) fn ballot_fits(attempt: Ballot) -> bool
 }
 
 #[tactic(auto, unfolding(crate::specs::Fields::sent))]
-pub(crate) fn sent_fits(item: Sent) -> bool
-    ensures { result ≡ sent.fits item }
+pub(crate) fn sent_fits(item: &Sent, trigger: Trigger) -> bool
+    ensures { result ≡ (sent trigger).fits item.now }
 {
-    node_fits(item.to) && session_fits(item.session) && positive_fits(item.seq)
+    stands_alone(&item.triggers, trigger)
+        && node_fits(item.to)
+        && session_fits(item.session)
+        && positive_fits(item.seq)
 }
 
 #[tactic(auto, unfolding(crate::specs::Fields::nodes, crate::specs::Fields::few))]
@@ -189,21 +232,27 @@ pub(crate) fn named_fits(accepted: &Option<(Ballot, Value)>) -> bool
 }
 
 #[tactic(auto, unfolding(crate::specs::Fields::more_items))]
-fn items_fits(list: &[Sent], before: u32) -> bool
-    ensures fits { result ≡ (listed (more_items before) (items {S = ℕ}) 0).fits list.now }
+fn items_fits(list: &[Sent], trigger: Trigger, before: u32) -> bool
+    ensures fits { result ≡ (listed (more_items before) items trigger).fits list.now }
     ensures few { IsTrue result → before + length list.now ≤ 16384 }
 {
-    before <= 16_384 && list.len() <= (16_384 - before) as usize && fit_many(&mut Items, list)
+    before <= 16_384
+        && list.len() <= (16_384 - before) as usize
+        && fit_many(&mut Items::of(trigger), list)
 }
 
-#[tactic(auto, unfolding(crate::specs::Fields::row))]
+#[tactic(auto, unfolding(crate::specs::Fields::row, crate::specs::Fields::one_trigger))]
 pub(crate) fn row_fits(entry: &Row, before: u32) -> bool
     ensures fits { result ≡ (row before).fits entry.now }
     ensures few { IsTrue result → before + length entry.now.sent ≤ 16384 }
 {
-    trigger_fits(entry.trigger)
+    one_trigger_fits(&entry.triggers)
         && scope_fits(entry.scope)
-        && items_fits(entry.sent.laid_out().as_slice(), before)
+        && items_fits(
+            entry.sent.laid_out().as_slice(),
+            first_of(&entry.triggers),
+            before,
+        )
 }
 
 fn down_fits(mark: Option<Trigger>) -> bool
@@ -247,11 +296,142 @@ fn sessions_fits(list: &[SessionRow]) -> bool
     list.len() <= 65_535 && fit_many(&mut ReportSessions::first(), list)
 }
 
-#[tactic(auto, unfolding(crate::specs::Fields::report))]
+/// Whether the triggers are a list of at least `low`, behind lists that have so many.
+#[tactic(auto, unfolding(crate::specs::Listing::triggers, crate::specs::Listing::more_triggers))]
+pub(crate) fn list_fits(list: &[Trigger], low: u16, before: u32) -> bool
+    ensures fits { result ≡ (triggers_from low before).fits list.now }
+    ensures few { IsTrue result → before + length list.now ≤ 65536 }
+{
+    if list.len() < low as usize || list.len() > 8192 {
+        return false;
+    }
+    if before > 65_536 || list.len() > (65_536 - before) as usize {
+        return false;
+    }
+    fit_many(&mut RisingTriggers::first(), list)
+}
+
+/// Whether the triggers may stand in an update.
+#[tactic(auto, unfolding(crate::specs::Fields::one_trigger, crate::specs::Listing::triggers, crate::specs::Listing::more_triggers))]
+pub(crate) fn update_triggers_fit(triggers: &Triggers) -> bool
+    ensures { result ≡ triggers_fit triggers.now }
+{
+    match triggers.as_slice() {
+        [trigger] => trigger_fits(*trigger),
+        [] => false,
+        list => list_fits(list, 2, 0),
+    }
+}
+
+/// Whether the item may stand behind lists that have so many triggers.
+#[tactic(auto, unfolding(crate::specs::Listing::item))]
+pub(crate) fn item_fits(one: &Sent, before: u32) -> bool
+    ensures fits { result ≡ (item before).fits one.now }
+    ensures few { IsTrue result → before + length one.now.triggers ≤ 65536 }
+{
+    node_fits(one.to)
+        && session_fits(one.session)
+        && positive_fits(one.seq)
+        && list_fits(one.triggers.as_slice(), 1, before)
+}
+
+/// Whether the items may stand in a row, behind rows that have so many items.
+#[tactic(auto, unfolding(crate::specs::Fields::more_items))]
+pub(crate) fn items_fit(row: &mut ListedItems, list: &[Sent], before: u32) -> bool
+    ensures fits { result ≡ (listed (more_items before) listed_items row.old).fits list.now }
+    ensures reached { IsTrue result → row.new ≡ reached listed_items row.old list.now }
+    ensures few { IsTrue result → before + length list.now ≤ 16384 }
+{
+    if before > 16_384 || list.len() > (16_384 - before) as usize {
+        return false;
+    }
+    fit_many(row, list)
+}
+
+/// Whether the scope may stand in a row that lists no triggers, or some.
+#[tactic(auto, unfolding(crate::specs::Listing::scope_beside))]
+pub(crate) fn scope_fits_beside(whole: Scope, none: bool) -> bool
+    ensures { result ≡ (scope_beside none).fits whole }
+{
+    match whole {
+        Scope::One(id) => !none && id.place() <= 255,
+        Scope::All => !none,
+        Scope::Nothing => none,
+    }
+}
+
+fn pending_key_fits(next: NodeId, place: PrefixId, nbr: NodeId, prefix: PrefixId) -> bool
+    ensures { result ≡ (ordered pending_key (above (nbr, prefix))).fits (next, place) }
+{
+    if !node_fits(next) || !prefix_fits(place) {
+        return false;
+    }
+    nbr < next || (nbr == next && prefix < place)
+}
+
+/// Whether the pending row may stand behind the one of this neighbour and prefix, and behind lists that have so many
+/// triggers.
+#[tactic(auto, unfolding(crate::specs::Listing::pending_row))]
+pub(crate) fn pending_fits(row: &Pending, nbr: NodeId, prefix: PrefixId, before: u32) -> bool
+    ensures fits { result ≡ (pending_row (record { last = (nbr, prefix); marks = before })).fits row.now }
+    ensures few { IsTrue result → before + length row.now.triggers ≤ 65536 }
+{
+    pending_key_fits(row.to, row.prefix, nbr, prefix)
+        && session_fits(row.session)
+        && list_fits(row.triggers.as_slice(), 1, before)
+}
+
+#[tactic(auto, unfolding(crate::specs::Fields::many))]
+fn listed_rows_fit(rows: &mut ListedRows, list: &[Row]) -> bool
+    ensures fits { result ≡ (listed (many 2048) listed_rows rows.old).fits list.now }
+    ensures reached { IsTrue result → rows.new ≡ reached listed_rows rows.old list.now }
+{
+    if list.len() > 2048 {
+        return false;
+    }
+    fit_many(rows, list)
+}
+
+#[tactic(auto, unfolding(crate::specs::Fields::many))]
+fn pending_rows_fit(list: &[Pending], before: u32) -> bool
+    ensures { result ≡ (listed (many 16128) pending_rows (nothing_pending before)).fits list.now }
+{
+    list.len() <= 16_128 && fit_many(&mut PendingRun::behind(before), list)
+}
+
+// A report that version 1 does not spell.
+#[tactic(auto, unfolding(crate::specs::Listing::listed_report))]
+fn listed_report_fits(told: &Report) -> bool
+    ensures { result ≡ listed_report.fits told.now }
+{
+    if !node_fits(told.node) || !epoch_fits(told.epoch) {
+        return false;
+    }
+    let mut rows = ListedRows::first();
+    if !listed_rows_fit(&mut rows, told.rows.as_slice()) {
+        return false;
+    }
+    sessions_fits(told.sessions.as_slice())
+        && pending_rows_fit(told.pending.as_slice(), rows.marks())
+        && !is_plain(told)
+}
+
+/// Whether the report may stand in a frame.
 pub(crate) fn report_fits(told: &Report) -> bool
+    ensures { result ≡ any_report_fits told.now }
+{
+    if is_plain(told) {
+        return plain_report_fits(told);
+    }
+    listed_report_fits(told)
+}
+
+#[tactic(auto, unfolding(crate::specs::Fields::report))]
+fn plain_report_fits(told: &Report) -> bool
     ensures { result ≡ report.fits told.now }
 {
-    node_fits(told.node)
+    told.pending.as_slice().is_empty()
+        && node_fits(told.node)
         && epoch_fits(told.epoch)
         && rows_fits(told.rows.as_slice())
         && sessions_fits(told.sessions.as_slice())

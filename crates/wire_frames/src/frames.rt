@@ -3,7 +3,7 @@ use crate::FrameKind;
 use crate::paths::Paths;
 use epoch_packet::{End, Nodes, Packet};
 use incomplete_closure::{Report, Value};
-use topology::{Ballot, Epoch, NodeId, Path, PrefixId, Session, Trigger};
+use topology::{Ballot, Epoch, NodeId, Path, PrefixId, Session, Triggers};
 
 /// A frame. `peer` is the sender in a frame to the process, and the addressee in a frame from it.
 #[derive(Debug, Drop)]
@@ -33,7 +33,7 @@ pub enum Frame {
         peer: NodeId,
         session: Session,
         seq: u32,
-        trigger: Trigger,
+        triggers: Triggers,
         prefix: PrefixId,
         path: Option<Path>,
     },
@@ -98,9 +98,13 @@ pub enum Frame {
         id: u32,
         prefix: PrefixId,
     },
+    Flush {
+        nbr: NodeId,
+    },
 }
 
-/// A frame that lies in bytes: each path, report, value, packet and list is the part that spells it.
+/// A frame that lies in bytes: each path, report, value, packet and list is the part that spells it. `version`
+/// is that of a frame whose kind stands in both.
 #[derive(Clone, Copy, Debug, PartialEq, Eq)]
 pub enum FrameRef<'a> {
     Originate {
@@ -125,10 +129,11 @@ pub enum FrameRef<'a> {
         epoch: Epoch,
     },
     Update {
+        version: u8,
         peer: NodeId,
         session: Session,
         seq: u32,
-        trigger: Trigger,
+        triggers: &'a [u8],
         prefix: PrefixId,
         path: &'a [u8],
     },
@@ -143,6 +148,7 @@ pub enum FrameRef<'a> {
         epoch: Epoch,
     },
     Report {
+        version: u8,
         peer: NodeId,
         report: &'a [u8],
     },
@@ -192,6 +198,9 @@ pub enum FrameRef<'a> {
     Inject {
         id: u32,
         prefix: PrefixId,
+    },
+    Flush {
+        nbr: NodeId,
     },
 }
 

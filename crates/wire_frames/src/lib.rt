@@ -1,7 +1,7 @@
 //! The frames that a process and its peers send each other, read from bytes and written as bytes.
 //!
-//! A frame is a byte version, 1, a byte kind, four bytes length n, and n bytes of body. Numbers have their
-//! highest byte first. n is at most 65,536, and 1,048,576 for the kinds 11, 13, 14 and 16.
+//! A frame is a byte version, 1 or 2, a byte kind, four bytes length n, and n bytes of body. Numbers have their
+//! highest byte first. n is at most 65,536, and 1,048,576 for the kinds 11, 13, 14 and 16. Version 1:
 //!
 //! | Kind | Frame | Body |
 //! |---|---|---|
@@ -28,6 +28,19 @@
 //! from 1; an epoch four bytes from 1 to 32. A trigger is a node and a counter, a ballot a round and a node.
 //! A path is a byte count up to 64 and that many different nodes; without nodes it is none. Reports, values
 //! and packets are told in `specs/Fields.antt`.
+//!
+//! Version 2 spells what version 1 does not:
+//!
+//! | Kind | Frame | Body |
+//! |---|---|---|
+//! | 8 | update | peer, session, number, two triggers or more, prefix, path |
+//! | 11 | report | peer, report |
+//! | 22 | flush | node |
+//!
+//! Triggers are two bytes count up to 8192 and that many triggers, ascending by node, then counter. An update
+//! of version 1 has one trigger. A report of version 1 lists one trigger in each row, its items list the same
+//! one, and nothing is pending; the lists of any other report are told in `specs/Listing.antt`. A frame that
+//! version 1 spells has no spelling in version 2.
 #![tactic(auto)]
 
 mod bodies;
@@ -38,10 +51,12 @@ mod faults;
 mod fitting;
 pub mod frames;
 pub mod laws;
+mod listed_runs;
 pub mod owned;
 mod owning;
 mod parts;
 pub mod paths;
+mod plain;
 mod reading;
 mod series;
 pub mod tags;

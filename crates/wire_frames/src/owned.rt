@@ -9,7 +9,7 @@ ghost use Rattle.wire_frames.specs.Shown.{IsFrame, NamesSame};
 
 use crate::faults::ReadError;
 use crate::owning::{
-    owned_links, owned_packet, owned_path, owned_paths, owned_report, owned_value,
+    owned_links, owned_packet, owned_path, owned_paths, owned_report, owned_triggers, owned_value,
 };
 use crate::{Frame, FrameKind, FrameRef};
 use incomplete_closure::Value;
@@ -51,6 +51,7 @@ fn owned_rest(alloc: Global, frame: &FrameRef<'_>) -> Result<Frame, ReadError>
             id: *id,
             prefix: *prefix,
         }),
+        FrameRef::Flush { nbr } => Ok(Frame::Flush { nbr: *nbr }),
         _ => Err(ReadError::Bad(FrameKind::Kind)),
     }
 }
@@ -148,8 +149,12 @@ fn owned_report_frame(alloc: Global, frame: &FrameRef<'_>) -> Result<Frame, Read
         → owned ≡ f) }
 {
     match frame {
-        FrameRef::Report { peer, report } => {
-            let report = owned_report(alloc, report)?;
+        FrameRef::Report {
+            version,
+            peer,
+            report,
+        } => {
+            let report = owned_report(alloc, *version, report)?;
             Ok(Frame::Report {
                 peer: *peer,
                 report,
@@ -203,19 +208,21 @@ fn owned_update(alloc: Global, frame: &FrameRef<'_>) -> Result<Frame, ReadError>
 {
     match frame {
         FrameRef::Update {
+            version,
             peer,
             session,
             seq,
-            trigger,
+            triggers,
             prefix,
             path,
         } => {
+            let triggers = owned_triggers(alloc, *version, triggers)?;
             let path = owned_path(alloc, path)?;
             Ok(Frame::Update {
                 peer: *peer,
                 session: *session,
                 seq: *seq,
-                trigger: *trigger,
+                triggers,
                 prefix: *prefix,
                 path,
             })
@@ -247,17 +254,15 @@ fn owned_input(alloc: Global, frame: &FrameRef<'_>) -> Result<Frame, ReadError>
     }
 }
 
-/// The frame that lies in the bytes, with the same fields. It takes a decoded frame, whose parts spell
-/// something. Errs for want of memory.
+/// The frame that lies in the bytes, with the same fields. A frame that `decode` answers spells one; where some
+/// other one has a part that spells nothing, the answer is that of want of memory.
 pub fn to_owned(alloc: Global, frame: &FrameRef<'_>) -> Result<Frame, NoMemory>
-    requires spelled { (f : AnyFrame) × (fits f ≡ true) × IsFrame frame.now f }
     ensures { IfOk result (λ owned. (f : AnyFrame) → fits f ≡ true → IsFrame frame.now f
         → owned ≡ f) }
 {
     match owned_input(alloc, frame) {
         Ok(owned) => Ok(owned),
         Err(ReadError::NoMemory) => Err(NoMemory),
-        // The condition rules out a part that spells nothing.
         Err(ReadError::Bad(_)) => Err(NoMemory),
     }
 }

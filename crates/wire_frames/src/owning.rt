@@ -1,22 +1,26 @@
 //! Parts of frames, read into memory.
-ghost use Rattle.std.specs.Prelude.{◌≡◌, [], ℕ, List, Option, true, IfOk};
+ghost use Rattle.std.specs.Prelude.{◌≡◌, ◌+◌, ◌≤◌, [], ℕ, List, Option, length, true, IfOk};
+ghost use Rattle.topology.specs.declared.names.Trigger.{Trigger as AnyTrigger};
 ghost use Rattle.incomplete_closure.specs.declared.reports.Report.{Report as AnyReport};
 ghost use Rattle.incomplete_closure.specs.declared.values.Value.{Value as AnyValue};
 ghost use Rattle.epoch_packet.specs.declared.packets.Packet.{Packet as AnyPacket};
-ghost use Rattle.wire_frames.specs.Formats.{listed, many_at};
-ghost use Rattle.wire_frames.specs.Fields.{few, many, different, rising, rising_triggers, no_trigger, rows, session_rows, nodes, links, path, paths, value, report, packet, carried};
+ghost use Rattle.wire_frames.specs.Formats.{listed, many_at, reached};
+ghost use Rattle.wire_frames.specs.Fields.{few, many, different, rising, rising_triggers, no_trigger, one_trigger, rows, session_rows, nodes, links, path, paths, value, report, packet, carried};
+ghost use Rattle.wire_frames.specs.Listing.{triggers, triggers_fit, spelled_triggers, update_version, listed_rows, no_rows, pending_rows, nothing_pending, listed_report, report_fits, spelled_report, report_version};
 
 use crate::FrameKind;
 use crate::faults::ReadError;
+use crate::listed_runs::{ListedRows, PendingRun};
 use crate::paths::Paths;
+use crate::plain::is_plain;
 use crate::reading::Fields;
 use crate::series::{
     AnyOrder, PathRun, ReportRows, ReportSessions, Rising, RisingTriggers, read_many,
 };
 use epoch_packet::{Nodes, Packet};
-use incomplete_closure::{Nodes as Responding, Report, Rows, SessionRows, Triggers, Value};
+use incomplete_closure::{Nodes as Responding, PendingRows, Report, Rows, SessionRows, Value};
 use std::alloc::Global;
-use topology::{NodeId, Path};
+use topology::{NodeId, Path, Triggers};
 
 // Reads so many nodes, none of which is there twice.
 fn read_different(
@@ -80,7 +84,7 @@ fn read_incomplete(alloc: Global, fields: &mut Fields<'_>) -> Result<Triggers, R
 {
     let count = fields.many(8192)?;
     let list = read_many(&mut RisingTriggers::first(), alloc, count, fields)?;
-    Ok(Triggers::new(list))
+    Ok(Triggers::from_ascending(list)?)
 }
 
 #[tactic(auto, unfolding(crate::specs::Fields::value))]
@@ -125,7 +129,70 @@ fn read_report(alloc: Global, fields: &mut Fields<'_>) -> Result<Report, ReadErr
         epoch,
         rows,
         sessions,
+        pending: PendingRows::new(Vec::new(alloc)),
     })
+}
+
+/// Reads a list of triggers, at least `low`, behind lists that have so many.
+#[tactic(auto, unfolding(crate::specs::Listing::triggers))]
+pub(crate) fn read_triggers(
+    alloc: Global,
+    low: u16,
+    before: u32,
+    fields: &mut Fields<'_>,
+) -> Result<Triggers, ReadError>
+    ensures list { IfOk result (λ x. (triggers low before).reads fields.old ≡ Ok (x, fields.new)) }
+    ensures few { IfOk result (λ x. before + length x ≤ 65536) }
+{
+    let count = fields.more_triggers(low, before)?;
+    let list = read_many(&mut RisingTriggers::first(), alloc, count, fields)?;
+    Ok(Triggers::from_ascending(list)?)
+}
+
+// Reads rows into memory, and tells how many triggers they and their items list.
+fn read_listed_rows(alloc: Global, fields: &mut Fields<'_>) -> Result<(Rows, u32), ReadError>
+    ensures { IfOk result (λ x. ((listed (many 2048) listed_rows no_rows).reads fields.old
+        ≡ Ok (x.0, fields.new)) × (x.1 ≡ (reached listed_rows no_rows x.0).marks)) }
+{
+    let count = fields.many(2048)?;
+    let mut run = ListedRows::first();
+    let list = read_many(&mut run, alloc, count, fields)?;
+    Ok((Rows::new(list), run.marks()))
+}
+
+fn read_pending(
+    alloc: Global,
+    marks: u32,
+    fields: &mut Fields<'_>,
+) -> Result<PendingRows, ReadError>
+    ensures { IfOk result (λ x. (listed (many 16128) pending_rows (nothing_pending marks)).reads
+        fields.old ≡ Ok (x, fields.new)) }
+{
+    let count = fields.many(16_128)?;
+    let list = read_many(&mut PendingRun::behind(marks), alloc, count, fields)?;
+    Ok(PendingRows::new(list))
+}
+
+// A report that version 1 does not spell.
+fn read_listed_report(alloc: Global, fields: &mut Fields<'_>) -> Result<Report, ReadError>
+    ensures { IfOk result (λ x. listed_report.reads fields.old ≡ Ok (x, fields.new)) }
+{
+    let node = fields.node()?;
+    let epoch = fields.epoch()?;
+    let (rows, marks) = read_listed_rows(alloc, fields)?;
+    let sessions = read_sessions(alloc, fields)?;
+    let pending = read_pending(alloc, marks, fields)?;
+    let report = Report {
+        node,
+        epoch,
+        rows,
+        sessions,
+        pending,
+    };
+    if is_plain(&report) {
+        return Err(ReadError::Bad(FrameKind::Value));
+    }
+    Ok(report)
 }
 
 #[tactic(auto, unfolding(crate::specs::Fields::paths))]
@@ -181,13 +248,36 @@ pub(crate) fn owned_value(alloc: Global, part: &[u8]) -> Result<Value, ReadError
     read_value(alloc, &mut fields)
 }
 
-/// What is spelled by a part that spells a report.
-pub(crate) fn owned_report(alloc: Global, part: &[u8]) -> Result<Report, ReadError>
-    ensures { IfOk result (λ x. (y : AnyReport) → report.fits y ≡ true → part.now
-        ≡ report.spells y → x ≡ y) }
+// The only trigger of an update.
+#[tactic(auto, unfolding(crate::specs::Fields::one_trigger))]
+fn read_one_trigger(fields: &mut Fields<'_>) -> Result<Triggers, ReadError>
+    ensures { IfOk result (λ x. one_trigger.reads fields.old ≡ Ok (x, fields.new)) }
+{
+    Ok(Triggers::one(fields.trigger()?))
+}
+
+/// What is spelled by a part that spells the triggers of an update of this version.
+pub(crate) fn owned_triggers(alloc: Global, version: u8, part: &[u8]) -> Result<Triggers, ReadError>
+    ensures { IfOk result (λ x. (ts : List AnyTrigger) → triggers_fit ts ≡ true → version
+        ≡ update_version ts → part.now ≡ spelled_triggers ts → x ≡ ts) }
 {
     let mut fields = Fields::new(part);
-    read_report(alloc, &mut fields)
+    if version == 1 {
+        return read_one_trigger(&mut fields);
+    }
+    read_triggers(alloc, 2, 0, &mut fields)
+}
+
+/// What is spelled by a part that spells a report of this version.
+pub(crate) fn owned_report(alloc: Global, version: u8, part: &[u8]) -> Result<Report, ReadError>
+    ensures { IfOk result (λ x. (y : AnyReport) → report_fits y ≡ true → version
+        ≡ report_version y → part.now ≡ spelled_report y → x ≡ y) }
+{
+    let mut fields = Fields::new(part);
+    if version == 1 {
+        return read_report(alloc, &mut fields);
+    }
+    read_listed_report(alloc, &mut fields)
 }
 
 /// What is spelled by a part that spells a packet.

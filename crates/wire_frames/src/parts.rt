@@ -1,20 +1,23 @@
 //! The parts of a body that spell paths, reports, values, packets and lists. Takes no memory.
-ghost use Rattle.std.specs.Prelude.{◌≡◌, ◌≤◌, ◌-◌, [], length, take};
-ghost use Rattle.wire_frames.specs.Shown.{Gives, Passes, Cuts};
-ghost use Rattle.wire_frames.specs.Formats.{skipped, listed, pair};
-ghost use Rattle.wire_frames.specs.Fields.{different, few, many, rising, rising_triggers, no_trigger, rows, session_rows, nodes, links, path, paths, value, report, carried, packet};
+ghost use Rattle.std.specs.Prelude.{◌≡◌, ◌≤◌, ◌+◌, ◌-◌, ◌==◌, ◌&&◌, [], List, IfOk, length, take};
+ghost use Rattle.topology.specs.declared.names.Trigger.{Trigger as AnyTrigger};
+ghost use Rattle.wire_frames.specs.Shown.{Gives, Passes, PassesAs, Cuts};
+ghost use Rattle.wire_frames.specs.Formats.{passed, listed, pair, reached};
+ghost use Rattle.wire_frames.specs.Fields.{different, few, many, rising, rising_triggers, no_trigger, one_trigger, rows, session_rows, nodes, links, path, paths, value, report, carried, packet};
+ghost use Rattle.wire_frames.specs.Listing.{triggers, only_of, listed_rows, no_rows, pending_rows, nothing_pending, listed_report};
 
 use crate::FrameKind;
+use crate::listed_runs::{ListedRows, PendingRun};
 use crate::reading::Fields;
 use crate::series::{
     AnyOrder, PathRun, ReportRows, ReportSessions, Rising, RisingTriggers, skip_many,
 };
-use topology::NodeId;
+use topology::{NodeId, Trigger};
 
 // Goes over so many nodes, none of which is there twice.
 pub(crate) fn skip_different(count: u16, fields: &mut Fields<'_>) -> Result<(), FrameKind>
     requires { count ≤ 64 }
-    ensures { Gives (λ _. fields.new) result (skipped different [] count fields.old) }
+    ensures { Gives (λ _. fields.new) result (passed different [] count fields.old) }
 {
     let mut seen = [NodeId::new(0); 64];
     for i in 0..count {
@@ -34,6 +37,24 @@ fn front_of<'a>(bytes: &'a [u8], rest: &[u8]) -> &'a [u8]
 {
     let (front, _) = bytes.split_at(bytes.len().saturating_sub(rest.len()));
     front
+}
+
+// Whether each row and its items list the same one trigger, and nothing is pending.
+fn are_plain(rows: &ListedRows, pending: u16) -> bool
+    ensures { result ≡ (rows.now.plain && pending == 0) }
+{
+    rows.are_plain() && pending == 0
+}
+
+// The only trigger of a list of so many, whose last one is told.
+fn only_seen(count: u16, last: Trigger) -> Option<Trigger>
+    ensures { (ts : List AnyTrigger) → length ts ≡ count
+        → reached rising_triggers no_trigger ts ≡ last → result ≡ only_of ts }
+{
+    if count == 1 {
+        return Some(last);
+    }
+    None
 }
 
 impl<'a> Fields<'a> {
@@ -105,6 +126,67 @@ impl<'a> Fields<'a> {
         self.epoch()?;
         self.skip_rows()?;
         self.skip_sessions()
+    }
+
+    #[tactic(auto, unfolding(crate::specs::Fields::one_trigger))]
+    fn skip_one_trigger(&mut self) -> Result<(), FrameKind>
+        ensures { Passes one_trigger self.old result self.new }
+    {
+        self.trigger()?;
+        Ok(())
+    }
+
+    /// Goes over a list of triggers, at least `low`, behind lists that have so many: how many it has, and its only
+    /// one.
+    #[tactic(auto, unfolding(crate::specs::Listing::triggers))]
+    pub(crate) fn skip_triggers(
+        &mut self,
+        low: u16,
+        before: u32,
+    ) -> Result<(u32, Option<Trigger>), FrameKind>
+        ensures list { PassesAs (λ ts. (length ts, only_of ts)) (triggers low before) self.old
+            result self.new }
+        ensures few { IfOk result (λ seen. before + seen.0 ≤ 65536) }
+    {
+        let count = self.more_triggers(low, before)?;
+        let mut run = RisingTriggers::first();
+        skip_many(&mut run, count, self)?;
+        Ok((count as u32, only_seen(count, run.last())))
+    }
+
+    fn skip_listed_rows(&mut self) -> Result<ListedRows, FrameKind>
+        ensures { PassesAs (reached listed_rows no_rows) (listed (many 2048) listed_rows no_rows)
+            self.old result self.new }
+    {
+        let count = self.many(2048)?;
+        let mut rows = ListedRows::first();
+        skip_many(&mut rows, count, self)?;
+        Ok(rows)
+    }
+
+    // The pending rows, behind lists that have so many triggers: how many rows there are.
+    fn skip_pending(&mut self, marks: u32) -> Result<u16, FrameKind>
+        ensures { PassesAs length (listed (many 16128) pending_rows (nothing_pending marks))
+            self.old result self.new }
+    {
+        let count = self.many(16_128)?;
+        skip_many(&mut PendingRun::behind(marks), count, self)?;
+        Ok(count)
+    }
+
+    #[tactic(auto, unfolding(crate::specs::Listing::listed_report))]
+    fn skip_listed_report(&mut self) -> Result<(), FrameKind>
+        ensures { Passes listed_report self.old result self.new }
+    {
+        self.node()?;
+        self.epoch()?;
+        let rows = self.skip_listed_rows()?;
+        self.skip_sessions()?;
+        let pending = self.skip_pending(rows.marks())?;
+        if are_plain(&rows, pending) {
+            return Err(FrameKind::Value);
+        }
+        Ok(())
     }
 
     #[tactic(auto, unfolding(crate::specs::Fields::paths))]
@@ -188,6 +270,33 @@ impl<'a> Fields<'a> {
     {
         let before = self.rest();
         self.skip_paths()?;
+        Ok(front_of(before, self.rest()))
+    }
+
+    /// The part that spells the only trigger of an update.
+    pub(crate) fn one_trigger_part(&mut self) -> Result<&'a [u8], FrameKind>
+        ensures { Cuts one_trigger self.old result self.new }
+    {
+        let before = self.rest();
+        self.skip_one_trigger()?;
+        Ok(front_of(before, self.rest()))
+    }
+
+    /// The part that spells the triggers of an update, which are two or more.
+    pub(crate) fn triggers_part(&mut self) -> Result<&'a [u8], FrameKind>
+        ensures { Cuts (triggers 2 0) self.old result self.new }
+    {
+        let before = self.rest();
+        self.skip_triggers(2, 0)?;
+        Ok(front_of(before, self.rest()))
+    }
+
+    /// The part that spells a report which version 1 does not spell.
+    pub(crate) fn listed_report_part(&mut self) -> Result<&'a [u8], FrameKind>
+        ensures { Cuts listed_report self.old result self.new }
+    {
+        let before = self.rest();
+        self.skip_listed_report()?;
         Ok(front_of(before, self.rest()))
     }
 }

@@ -4,12 +4,13 @@ ghost use Rattle.std.specs.Int.{w8, w16, w32, w64};
 ghost use Rattle.wire_frames.specs.Shown.{Gives};
 ghost use Rattle.wire_frames.specs.Formats.{IsBytes, word_at, number, ordered, optional, stepped};
 ghost use Rattle.wire_frames.specs.Fields.{node, prefix, positive, epoch, epoch_or_none, preference, any16, any32, any64, few, many, more_items, flag, scope, mode, end, trigger, ballot, sent, session_key, above, session_row, session_rows};
+ghost use Rattle.wire_frames.specs.Listing.{more_triggers, scope_beside, pending_key};
 
 use crate::FrameKind;
 use epoch_packet::{End, Mode};
 use incomplete_closure::SessionRow;
 use std::marker::Model;
-use topology::{Ballot, Epoch, NodeId, PrefixId, Scope, Sent, Session, Trigger};
+use topology::{Ballot, Epoch, NodeId, PrefixId, Scope, Sent, Session, Trigger, Triggers};
 
 /// The bytes that are left of a body. Each call takes its field off the front, or answers what is wrong
 /// there first.
@@ -230,6 +231,23 @@ impl<'a> Fields<'a> {
         Ok(number)
     }
 
+    /// How many triggers a list has, at least `low`, behind lists that have so many.
+    #[tactic(auto, unfolding(crate::specs::Listing::more_triggers))]
+    pub(crate) fn more_triggers(&mut self, low: u16, before: u32) -> Result<u16, FrameKind>
+        ensures number { Gives (λ x. (x, self.new)) result ((more_triggers low before).reads self.old) }
+        ensures small { IfOk result (λ n. before + n ≤ 65536) }
+    {
+        let (number, rest) = u16_at(self.rest)?;
+        self.rest = rest;
+        if number < low || number > 8_192 {
+            return Err(FrameKind::Value);
+        }
+        if before > 65_536 || number as u32 > 65_536 - before {
+            return Err(FrameKind::Value);
+        }
+        Ok(number)
+    }
+
     #[tactic(auto, unfolding(crate::specs::Fields::flag))]
     pub(crate) fn flag(&mut self) -> Result<bool, FrameKind>
         ensures { Gives (λ x. (x, self.new)) result (flag.reads self.old) }
@@ -243,6 +261,28 @@ impl<'a> Fields<'a> {
     {
         let (number, rest) = u16_at(self.rest)?;
         self.rest = rest;
+        if number == 65_535 {
+            return Ok(Scope::All);
+        }
+        if number > 255 {
+            return Err(FrameKind::Value);
+        }
+        Ok(Scope::One(PrefixId::new(number)))
+    }
+
+    /// The scope of a row that lists no triggers, or some.
+    #[tactic(auto, unfolding(crate::specs::Listing::scope_beside))]
+    pub(crate) fn scope_beside(&mut self, none: bool) -> Result<Scope, FrameKind>
+        ensures { Gives (λ x. (x, self.new)) result ((scope_beside none).reads self.old) }
+    {
+        let (number, rest) = u16_at(self.rest)?;
+        self.rest = rest;
+        if none {
+            if number != 65_534 {
+                return Err(FrameKind::Value);
+            }
+            return Ok(Scope::Nothing);
+        }
         if number == 65_535 {
             return Ok(Scope::All);
         }
@@ -294,14 +334,20 @@ impl<'a> Fields<'a> {
         Ok(Ballot { round, node })
     }
 
+    /// An item of an entry that lists the trigger alone.
     #[tactic(auto, unfolding(crate::specs::Fields::sent))]
-    pub(crate) fn sent(&mut self) -> Result<Sent, FrameKind>
-        ensures { Gives (λ x. (x, self.new)) result (sent.reads self.old) }
+    pub(crate) fn sent(&mut self, trigger: Trigger) -> Result<Sent, FrameKind>
+        ensures { Gives (λ x. (x, self.new)) result ((sent trigger).reads self.old) }
     {
         let to = self.node()?;
         let session = self.session()?;
         let seq = self.positive()?;
-        Ok(Sent { to, session, seq })
+        Ok(Sent {
+            to,
+            session,
+            seq,
+            triggers: Triggers::one(trigger),
+        })
     }
 
     // The neighbour and the number of a session, behind those of another one.
@@ -359,5 +405,22 @@ impl<'a> Fields<'a> {
         self.any32()?;
         self.optional_trigger()?;
         Ok((nbr, session))
+    }
+
+    /// The neighbour and the prefix of a pending row, behind those of another one.
+    pub(crate) fn pending_key(
+        &mut self,
+        nbr: NodeId,
+        prefix: PrefixId,
+    ) -> Result<(NodeId, PrefixId), FrameKind>
+        ensures { Gives (λ x. (x, self.new)) result
+            ((ordered pending_key (above (nbr, prefix))).reads self.old) }
+    {
+        let next = self.node()?;
+        let place = self.prefix()?;
+        if next < nbr || (next == nbr && place <= prefix) {
+            return Err(FrameKind::Order);
+        }
+        Ok((next, place))
     }
 }

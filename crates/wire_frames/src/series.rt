@@ -1,8 +1,8 @@
 //! The elements of lists, one behind the other.
-ghost use Rattle.std.specs.Prelude.{◌≡◌, ◌++◌, OnOk, IfOk, IsTrue};
+ghost use Rattle.std.specs.Prelude.{◌≡◌, ◌++◌, ◌-◌, ◌^◌, OnOk, IfOk, IsTrue, length, min};
 ghost use Rattle.std.specs.List.{flat_map};
 ghost use Rattle.wire_frames.specs.Shown.{Gives};
-ghost use Rattle.wire_frames.specs.Formats.{Series, stepped, skipped, many_at, many_fit};
+ghost use Rattle.wire_frames.specs.Formats.{Series, stepped, reached, skipped, many_at, many_fit};
 ghost use Rattle.wire_frames.specs.Fields.{no_trigger};
 
 use crate::FrameKind;
@@ -14,7 +14,7 @@ use crate::writing::{put_node, put_path, put_row, put_sent, put_session_row, put
 use incomplete_closure::{Row, SessionRow};
 use std::alloc::Global;
 use std::marker::Model;
-use topology::{NoMemory, NodeId, Path, Sent, SentItems, Session, Trigger};
+use topology::{NoMemory, NodeId, Path, Sent, SentItems, Session, Trigger, Triggers};
 
 /// Elements of one sort. A value tells what counts of those before.
 pub(crate) trait Run {
@@ -42,6 +42,13 @@ pub(crate) trait Run {
         ensures { OnOk result (out.new.items ≡ out.old.items ++ series.spells item.now) };
 }
 
+/// Elements whose lengths are added up.
+pub(crate) trait Measured: Run {
+    /// How many bytes the element takes, up to the highest number.
+    fn length(item: &Self::Item) -> usize
+        ensures { result ≡ min (length (Self.series.spells item.now)) (2 ^ 64 - 1) };
+}
+
 /// Reads so many elements into memory.
 pub(crate) fn read_many<R: Run>(
     run: &mut R,
@@ -49,8 +56,9 @@ pub(crate) fn read_many<R: Run>(
     count: u16,
     fields: &mut Fields<'_>,
 ) -> Result<Vec<R::Item>, ReadError>
-    ensures { IfOk result (λ list. many_at R.series run.old count fields.old
+    ensures read { IfOk result (λ list. many_at R.series run.old count fields.old
         ≡ Ok (list.items, fields.new)) }
+    ensures reached { IfOk result (λ list. run.new ≡ reached R.series run.old list.items) }
 {
     let mut list = Vec::new(alloc);
     for _ in 0..count {
@@ -62,7 +70,8 @@ pub(crate) fn read_many<R: Run>(
 
 /// Whether the elements have a spelling, one behind the other. Takes no memory.
 pub(crate) fn fit_many<R: Run>(run: &mut R, items: &[R::Item]) -> bool
-    ensures { result ≡ many_fit R.series run.old items.now }
+    ensures fits { result ≡ many_fit R.series run.old items.now }
+    ensures reached { IsTrue result → run.new ≡ reached R.series run.old items.now }
 {
     for item in items {
         if !run.fits(item) {
@@ -82,13 +91,25 @@ pub(crate) fn write_many<R: Run>(items: &[R::Item], out: &mut Vec<u8>) -> Result
     Ok(())
 }
 
+/// How many bytes the elements take, up to the highest number.
+pub(crate) fn length_many<R: Measured>(items: &[R::Item]) -> usize
+    ensures { result ≡ min (length (flat_map R.series.spells items.now)) (2 ^ 64 - 1) }
+{
+    let mut total: usize = 0;
+    for item in items {
+        total = total.saturating_add(R::length(item));
+    }
+    total
+}
+
 /// Goes over so many elements. Takes no memory.
 pub(crate) fn skip_many<R: Run>(
     run: &mut R,
     count: u16,
     fields: &mut Fields<'_>,
 ) -> Result<(), FrameKind>
-    ensures { Gives (λ _. fields.new) result (skipped R.series run.old count fields.old) }
+    ensures { Gives (λ _. (run.new, fields.new)) result
+        (skipped R.series run.old count fields.old) }
 {
     for _ in 0..count {
         run.skip(fields)?;
@@ -224,6 +245,22 @@ impl RisingTriggers {
     }
 }
 
+impl RisingTriggers {
+    /// The last trigger.
+    pub(crate) fn last(&self) -> Trigger
+        ensures { result ≡ self.now }
+    {
+        self.last
+    }
+}
+
+impl Measured for RisingTriggers {
+    #[tactic(auto, using(crate::proofs::Short::trigger_wide))]
+    fn length(_item: &Trigger) -> usize {
+        6
+    }
+}
+
 impl Run for RisingTriggers {
     ghost use Rattle.wire_frames.specs.Fields.{rising_triggers};
 
@@ -265,16 +302,34 @@ impl Run for RisingTriggers {
     }
 }
 
-/// Items that were sent.
+/// Items that were sent by an entry that lists the trigger alone.
 #[derive(Drop)]
-pub(crate) struct Items;
+pub(crate) struct Items {
+    trigger: Trigger,
+}
 
 impl Model for Items {
-    ghost use Rattle.std.specs.Prelude.{ℕ};
+    ghost use Rattle.topology.specs.declared.names.Trigger.{Trigger};
 
-    ghost Value = { ℕ };
+    ghost Value = { Trigger };
 
-    ghost view = { λ _. 0 };
+    ghost view = { λ i. i.trigger };
+}
+
+impl Items {
+    /// Those of an entry with the trigger.
+    pub(crate) fn of(trigger: Trigger) -> Items
+        ensures { result ≡ trigger }
+    {
+        Items { trigger }
+    }
+}
+
+impl Measured for Items {
+    #[tactic(auto, using(crate::proofs::Short::item_wide))]
+    fn length(_item: &Sent) -> usize {
+        10
+    }
 }
 
 impl Run for Items {
@@ -285,20 +340,20 @@ impl Run for Items {
     ghost series = { items };
 
     fn skip(&mut self, fields: &mut Fields<'_>) -> Result<(), FrameKind> {
-        fields.sent()?;
+        fields.sent(self.trigger)?;
         Ok(())
     }
 
     fn read(&mut self, _alloc: Global, fields: &mut Fields<'_>) -> Result<Sent, ReadError> {
-        Ok(fields.sent()?)
+        Ok(fields.sent(self.trigger)?)
     }
 
     fn fits(&mut self, item: &Sent) -> bool {
-        sent_fits(*item)
+        sent_fits(item, self.trigger)
     }
 
     fn write(item: &Sent, out: &mut Vec<u8>) -> Result<(), NoMemory> {
-        put_sent(out, *item)
+        put_sent(out, item)
     }
 }
 
@@ -325,6 +380,13 @@ impl ReportRows {
     }
 }
 
+impl Measured for ReportRows {
+    #[tactic(auto, using(crate::proofs::Short::row_wide))]
+    fn length(item: &Row) -> usize {
+        length_many::<Items>(item.sent.laid_out().as_slice()).saturating_add(10)
+    }
+}
+
 impl Run for ReportRows {
     ghost use Rattle.wire_frames.specs.Fields.{rows};
 
@@ -334,10 +396,10 @@ impl Run for ReportRows {
 
     #[tactic(auto, unfolding(crate::specs::Fields::row))]
     fn skip(&mut self, fields: &mut Fields<'_>) -> Result<(), FrameKind> {
-        fields.trigger()?;
+        let trigger = fields.trigger()?;
         fields.scope()?;
         let count = fields.more_items(self.before)?;
-        skip_many(&mut Items, count, fields)?;
+        skip_many(&mut Items::of(trigger), count, fields)?;
         self.before += count as u32;
         Ok(())
     }
@@ -347,10 +409,10 @@ impl Run for ReportRows {
         let trigger = fields.trigger()?;
         let scope = fields.scope()?;
         let count = fields.more_items(self.before)?;
-        let sent = read_many(&mut Items, alloc, count, fields)?;
+        let sent = read_many(&mut Items::of(trigger), alloc, count, fields)?;
         self.before += count as u32;
         Ok(Row {
-            trigger,
+            triggers: Triggers::one(trigger),
             scope,
             sent: SentItems::of(alloc, &sent)?,
         })
@@ -392,6 +454,15 @@ impl ReportSessions {
         ReportSessions {
             nbr: NodeId::new(0),
             session: Session::new(0),
+        }
+    }
+}
+
+impl Measured for ReportSessions {
+    fn length(item: &SessionRow) -> usize {
+        match item.down {
+            None => 11,
+            Some(_) => 17,
         }
     }
 }

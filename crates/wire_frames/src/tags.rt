@@ -1,6 +1,6 @@
 //! The kinds of frames.
 ghost use Rattle.std.specs.Prelude.{◌≡◌};
-ghost use Rattle.wire_frames.specs.Frames.{number_of, tag_in, limit_of};
+ghost use Rattle.wire_frames.specs.Frames.{number_of, version_of, tag_in, limit_of};
 
 /// Which kind of frame it is.
 #[derive(Clone, Copy, Debug, PartialEq, Eq)]
@@ -26,6 +26,11 @@ pub enum Tag {
     Ended,
     Published,
     Inject,
+    /// An update with several triggers.
+    ListedUpdate,
+    /// A report that version 1 does not spell.
+    ListedReport,
+    Flush,
 }
 
 impl Tag {
@@ -55,13 +60,26 @@ impl Tag {
             Tag::Ended => 19,
             Tag::Published => 20,
             Tag::Inject => 21,
+            Tag::ListedUpdate => 8,
+            Tag::ListedReport => 11,
+            Tag::Flush => 22,
         }
     }
 
-    /// The kind with this byte.
+    /// The version in which the kind stands.
+    pub fn version(self) -> u8
+        ensures { result ≡ version_of self }
+    {
+        match self {
+            Tag::ListedUpdate | Tag::ListedReport | Tag::Flush => 2,
+            _ => 1,
+        }
+    }
+
+    // The kind of version 1 with this byte.
     #[tactic(auto, unfolding(crate::specs::Frames::tag_in))]
-    pub fn with_number(byte: u8) -> Option<Tag>
-        ensures { result ≡ tag_in byte }
+    fn in_first(byte: u8) -> Option<Tag>
+        ensures { result ≡ tag_in 1 byte }
     {
         match byte {
             1 => Some(Tag::Originate),
@@ -89,12 +107,38 @@ impl Tag {
         }
     }
 
+    // The kind of version 2 with this byte.
+    #[tactic(auto, unfolding(crate::specs::Frames::tag_in))]
+    fn in_second(byte: u8) -> Option<Tag>
+        ensures { result ≡ tag_in 2 byte }
+    {
+        match byte {
+            8 => Some(Tag::ListedUpdate),
+            11 => Some(Tag::ListedReport),
+            22 => Some(Tag::Flush),
+            _ => None,
+        }
+    }
+
+    /// The kind of this version with this byte.
+    #[tactic(auto, unfolding(crate::specs::Frames::tag_in))]
+    pub fn with_number(version: u8, byte: u8) -> Option<Tag>
+        ensures { result ≡ tag_in version byte }
+    {
+        match version {
+            1 => Tag::in_first(byte),
+            2 => Tag::in_second(byte),
+            _ => None,
+        }
+    }
+
     /// How long its body may be.
     pub fn limit(self) -> u32
         ensures { result ≡ limit_of self }
     {
         match self {
-            Tag::Report | Tag::Promise | Tag::Accept | Tag::Decision => 1_048_576,
+            Tag::Report | Tag::Promise | Tag::Accept | Tag::Decision | Tag::ListedReport =>
+                1_048_576,
             _ => 65_536,
         }
     }

@@ -3,15 +3,22 @@ ghost use Rattle.std.specs.Prelude.{◌≡◌, ◌++◌, length, OnOk};
 ghost use Rattle.std.specs.Int.{w8, w16, w32, w64, to_be_bytes};
 ghost use Rattle.std.specs.List.{flat_map};
 ghost use Rattle.wire_frames.specs.Formats.{spelled_behind, listed};
-ghost use Rattle.wire_frames.specs.Fields.{node, prefix, positive, epoch, epoch_or_none, preference, any16, any32, any64, few, many, more_items, flag, scope, mode, end, trigger, ballot, sent, rising, rising_triggers, no_trigger, nodes, links, path, paths, value, named, row, rows, session_row, session_rows, report, carried, packet};
+ghost use Rattle.wire_frames.specs.Fields.{node, prefix, positive, epoch, epoch_or_none, preference, any16, any32, any64, few, many, more_items, flag, scope, mode, end, trigger, one_trigger, ballot, sent, rising, rising_triggers, no_trigger, nodes, links, path, paths, value, named, row, rows, session_row, session_rows, report, carried, packet};
+ghost use Rattle.wire_frames.specs.Listing.{spelled_triggers, item, listed_row, no_rows, pending_row, nothing_pending, listed_report, spelled_report};
 
+use crate::fitting::first_of;
+use crate::listed_runs::{ListedItems, ListedRows, PendingRun};
 use crate::paths::Paths;
+use crate::plain::is_plain;
 use crate::series::{
     AnyOrder, Items, PathRun, ReportRows, ReportSessions, RisingTriggers, write_many,
 };
 use epoch_packet::{End, Mode, Packet};
 use incomplete_closure::{Report, Row, SessionRow, Value};
-use topology::{Ballot, Epoch, NoMemory, NodeId, Path, PrefixId, Scope, Sent, Session, Trigger};
+use topology::{
+    Ballot, Epoch, NoMemory, NodeId, Path, Pending, PrefixId, Scope, Sent, Session, Trigger,
+    Triggers,
+};
 
 /// The bytes of a frame, as far as they are written. Each call puts its field at the end.
 
@@ -115,6 +122,7 @@ pub(crate) fn put_scope(out: &mut Vec<u8>, whole: Scope) -> Result<(), NoMemory>
     match whole {
         Scope::One(id) => put_u16(out, id.place()),
         Scope::All => put_u16(out, 65_535),
+        Scope::Nothing => put_u16(out, 65_534),
     }
 }
 
@@ -147,6 +155,13 @@ pub(crate) fn put_trigger(out: &mut Vec<u8>, mark: Trigger) -> Result<(), NoMemo
     put_positive(out, mark.count)
 }
 
+#[tactic(auto, unfolding(crate::specs::Fields::one_trigger))]
+pub(crate) fn put_one_trigger(out: &mut Vec<u8>, triggers: &Triggers) -> Result<(), NoMemory>
+    ensures { OnOk result (out.new.items ≡ out.old.items ++ one_trigger.spells triggers.now) }
+{
+    put_trigger(out, first_of(triggers))
+}
+
 #[tactic(auto, unfolding(crate::specs::Fields::ballot))]
 pub(crate) fn put_ballot(out: &mut Vec<u8>, attempt: Ballot) -> Result<(), NoMemory>
     ensures { OnOk result (out.new.items ≡ out.old.items ++ ballot.spells attempt) }
@@ -156,8 +171,8 @@ pub(crate) fn put_ballot(out: &mut Vec<u8>, attempt: Ballot) -> Result<(), NoMem
 }
 
 #[tactic(auto, unfolding(crate::specs::Fields::sent))]
-pub(crate) fn put_sent(out: &mut Vec<u8>, item: Sent) -> Result<(), NoMemory>
-    ensures { OnOk result (out.new.items ≡ out.old.items ++ sent.spells item) }
+pub(crate) fn put_sent(out: &mut Vec<u8>, item: &Sent) -> Result<(), NoMemory>
+    ensures { OnOk result (out.new.items ≡ out.old.items ++ (sent no_trigger).spells item.now) }
 {
     put_node(out, item.to)?;
     put_session(out, item.session)?;
@@ -225,7 +240,7 @@ pub(crate) fn put_value(out: &mut Vec<u8>, agreed: &Value) -> Result<(), NoMemor
 pub(crate) fn put_row(out: &mut Vec<u8>, entry: &Row) -> Result<(), NoMemory>
     ensures { OnOk result (out.new.items ≡ out.old.items ++ (row 0).spells entry.now) }
 {
-    put_trigger(out, entry.trigger)?;
+    put_trigger(out, first_of(&entry.triggers))?;
     put_scope(out, entry.scope)?;
     put_many(out, entry.sent.len())?;
     let items = entry.sent.laid_out();
@@ -270,8 +285,89 @@ fn put_session_rows(out: &mut Vec<u8>, list: &[SessionRow]) -> Result<(), NoMemo
     write_many::<ReportSessions>(list, out)
 }
 
-#[tactic(auto, unfolding(crate::specs::Fields::report, crate::specs::Fields::many))]
+/// The triggers of an update.
+#[tactic(auto, unfolding(crate::specs::Listing::triggers, crate::specs::Listing::more_triggers))]
+pub(crate) fn put_update_triggers(out: &mut Vec<u8>, triggers: &Triggers) -> Result<(), NoMemory>
+    ensures { OnOk result (out.new.items ≡ out.old.items ++ spelled_triggers triggers.now) }
+{
+    match triggers.as_slice() {
+        [_] => put_one_trigger(out, triggers),
+        list => put_triggers(out, list),
+    }
+}
+
+#[tactic(auto, unfolding(crate::specs::Listing::item, crate::specs::Listing::triggers, crate::specs::Listing::more_triggers))]
+pub(crate) fn put_listed_item(out: &mut Vec<u8>, one: &Sent) -> Result<(), NoMemory>
+    ensures { OnOk result (out.new.items ≡ out.old.items ++ (item 0).spells one.now) }
+{
+    put_node(out, one.to)?;
+    put_session(out, one.session)?;
+    put_positive(out, one.seq)?;
+    put_triggers(out, one.triggers.as_slice())
+}
+
+#[tactic(auto, unfolding(crate::specs::Fields::scope, crate::specs::Fields::more_items, crate::specs::Listing::listed_row, crate::specs::Listing::scope_beside, crate::specs::Listing::triggers, crate::specs::Listing::more_triggers))]
+pub(crate) fn put_listed_row(out: &mut Vec<u8>, entry: &Row) -> Result<(), NoMemory>
+    ensures { OnOk result (out.new.items ≡ out.old.items ++ (listed_row no_rows).spells entry.now) }
+{
+    put_triggers(out, entry.triggers.as_slice())?;
+    put_scope(out, entry.scope)?;
+    put_many(out, entry.sent.len())?;
+    let items = entry.sent.laid_out();
+    write_many::<ListedItems>(items.as_slice(), out)
+}
+
+#[tactic(auto, unfolding(crate::specs::Listing::pending_row, crate::specs::Listing::triggers, crate::specs::Listing::more_triggers))]
+pub(crate) fn put_pending(out: &mut Vec<u8>, row: &Pending) -> Result<(), NoMemory>
+    ensures { OnOk result (out.new.items ≡ out.old.items
+        ++ (pending_row (nothing_pending 0)).spells row.now) }
+{
+    put_node(out, row.to)?;
+    put_prefix(out, row.prefix)?;
+    put_session(out, row.session)?;
+    put_triggers(out, row.triggers.as_slice())
+}
+
+fn put_listed_rows(out: &mut Vec<u8>, list: &[Row]) -> Result<(), NoMemory>
+    ensures { OnOk result (out.new.items ≡ out.old.items
+        ++ (to_be_bytes w16 (length list.now) ++ flat_map (listed_row no_rows).spells list.now)) }
+{
+    put_many(out, list.len())?;
+    write_many::<ListedRows>(list, out)
+}
+
+fn put_pending_rows(out: &mut Vec<u8>, list: &[Pending]) -> Result<(), NoMemory>
+    ensures { OnOk result (out.new.items ≡ out.old.items
+        ++ (to_be_bytes w16 (length list.now)
+        ++ flat_map (pending_row (nothing_pending 0)).spells list.now)) }
+{
+    put_many(out, list.len())?;
+    write_many::<PendingRun>(list, out)
+}
+
+// A report that version 1 does not spell.
+#[tactic(auto, unfolding(crate::specs::Listing::listed_report, crate::specs::Fields::many))]
+fn put_listed_report(out: &mut Vec<u8>, told: &Report) -> Result<(), NoMemory>
+    ensures { OnOk result (out.new.items ≡ out.old.items ++ listed_report.spells told.now) }
+{
+    put_node(out, told.node)?;
+    put_epoch(out, told.epoch)?;
+    put_listed_rows(out, told.rows.as_slice())?;
+    put_session_rows(out, told.sessions.as_slice())?;
+    put_pending_rows(out, told.pending.as_slice())
+}
+
 pub(crate) fn put_report(out: &mut Vec<u8>, told: &Report) -> Result<(), NoMemory>
+    ensures { OnOk result (out.new.items ≡ out.old.items ++ spelled_report told.now) }
+{
+    if is_plain(told) {
+        return put_plain_report(out, told);
+    }
+    put_listed_report(out, told)
+}
+
+#[tactic(auto, unfolding(crate::specs::Fields::report, crate::specs::Fields::many))]
+fn put_plain_report(out: &mut Vec<u8>, told: &Report) -> Result<(), NoMemory>
     ensures { OnOk result (out.new.items ≡ out.old.items ++ report.spells told.now) }
 {
     put_node(out, told.node)?;

@@ -1,6 +1,8 @@
 use Rattle.std.proofs.Common.{◌≡◌, drop}
-use Rattle.wire_frames.specs.Formats.{many_fit}
+use Rattle.wire_frames.specs.Formats.{many_fit, reached}
 use Rattle.wire_frames.proofs.series.fit_many.Given as goal
 
 abbrev pub invariant-loop-item : goal.invariant-loop-item
-invariant-loop-item g l = many_fit g.R.Run.series l.run (drop l.item-index l.items) ≡ many_fit g.R.Run.series l.initial.run l.items
+invariant-loop-item g l =
+    (many_fit g.R.Run.series l.run (drop l.item-index l.items) ≡ many_fit g.R.Run.series l.initial.run l.items)
+    × (reached g.R.Run.series l.run (drop l.item-index l.items) ≡ reached g.R.Run.series l.initial.run l.items)

@@ -1,9 +1,14 @@
+use Rattle.std.proofs.Common.{sym, ap, ◌∙◌}
 use Rattle.wire_frames.specs.Formats.{many_at}
-use Rattle.wire_frames.proofs.Collecting.{reads_on}
+use Rattle.wire_frames.proofs.Collecting.{reads_on, reached_more}
 use Rattle.wire_frames.proofs.series.read_many.Goals as goal
 
 pub loop-preserved : goal.loop-preserved
 loop-preserved g c =
-    rw c.in_ok-push.ensures.items
-    (reads_on g.R.Run.series c.loop.list.items c.args.count c.loop.counter c.loop.run c.read.new.self c.loop.fields c.read.new.fields c.in_ok-item.item (many_at g.R.Run.series c.args.run.now c.args.count c.args.fields.now)
-    c.loop-test.true c.in_ok-item.ensures.read c.in_ok-item.ensures.step c.loop.invariant)
+    let series = g.R.Run.series in
+    let item = c.in_ok-item.item in
+    rw c.in_ok-push.ensures.items (
+      reads_on series c.loop.list.items c.args.count c.loop.counter c.loop.run c.read.new.self c.loop.fields c.read.new.fields item (many_at series c.args.run.now c.args.count c.args.fields.now)
+          c.loop-test.true c.in_ok-item.ensures.read c.in_ok-item.ensures.step c.loop.invariant.0,
+      reached_more series c.args.run.now c.loop.list.items item ∙ ap (λ s. series.step s item) c.loop.invariant.1 ∙ sym c.in_ok-item.ensures.step,
+    )

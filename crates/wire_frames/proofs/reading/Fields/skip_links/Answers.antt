@@ -4,4 +4,4 @@ use Rattle.wire_frames.proofs.reading.Fields.skip_links.Goals as goal
 
 pub returns : goal.returns
 unfolding links
-returns c = list_passes (few 63) rising 0 c.in_ok-count.count c.args.self.now c.few.new.self c.skip_many.new.fields c.skip_many.result c.in_ok-count.ensures.number (rw c.first.ensures at c.skip_many.ensures)
+returns c = list_passes (few 63) rising 0 c.skip_many.new.run c.in_ok-count.count c.args.self.now c.few.new.self c.skip_many.new.fields c.skip_many.result c.in_ok-count.ensures.number (rw c.first.ensures at c.skip_many.ensures)

@@ -5,4 +5,4 @@ use Rattle.wire_frames.proofs.reading.Fields.skip_nodes.Goals as goal
 
 pub returns : goal.returns
 unfolding nodes
-returns c = list_passes (few 64) (in_any_order {S = ℕ}) 0 c.in_ok-count.count c.args.self.now c.few.new.self c.skip_many.new.fields c.skip_many.result c.in_ok-count.ensures.number (c.skip_many.ensures)
+returns c = list_passes (few 64) (in_any_order {S = ℕ}) 0 c.skip_many.new.run c.in_ok-count.count c.args.self.now c.few.new.self c.skip_many.new.fields c.skip_many.result c.in_ok-count.ensures.number (c.skip_many.ensures)

@@ -1,10 +1,10 @@
 use Rattle.std.proofs.Common.{[]}
 use Rattle.wire_frames.specs.Formats.{listed}
 use Rattle.wire_frames.specs.Fields.{few, path, path_meaning, different}
-use Rattle.wire_frames.proofs.Passing.{list_passes, meant_passes}
+use Rattle.wire_frames.proofs.Passing.{list_passed, meant_passes}
 use Rattle.wire_frames.proofs.reading.Fields.skip_path.Goals as goal
 
 pub returns : goal.returns
 unfolding path
 returns c = meant_passes (listed (few 64) different []) path_meaning c.args.self.now c.skip_different.new.fields c.skip_different.result
-    (list_passes (few 64) different [] c.in_ok-count.count c.args.self.now c.few.new.self c.skip_different.new.fields c.skip_different.result c.in_ok-count.ensures.number c.skip_different.ensures)
+    (list_passed (few 64) different [] c.in_ok-count.count c.args.self.now c.few.new.self c.skip_different.new.fields c.skip_different.result c.in_ok-count.ensures.number c.skip_different.ensures)

@@ -5,4 +5,4 @@ use Rattle.wire_frames.proofs.reading.Fields.skip_paths.Goals as goal
 
 pub returns : goal.returns
 unfolding paths
-returns c = list_passes (many 256) (paths_in_order {S = ℕ}) 0 c.in_ok-count.count c.args.self.now c.many.new.self c.skip_many.new.fields c.skip_many.result c.in_ok-count.ensures.number (c.skip_many.ensures)
+returns c = list_passes (many 256) (paths_in_order {S = ℕ}) 0 c.skip_many.new.run c.in_ok-count.count c.args.self.now c.many.new.self c.skip_many.new.fields c.skip_many.result c.in_ok-count.ensures.number (c.skip_many.ensures)

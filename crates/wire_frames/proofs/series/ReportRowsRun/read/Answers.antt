@@ -7,4 +7,4 @@ pub returns-clause-step : goal.returns-clause-step
 returns-clause-step c =
     rw (← c.self.view_is, c.in_ok-of.ensures.items, c.deref.ensures.value)
     (ap (λ (n : ℕ). c.self.inside.before + n)
-    (sym (length_many (items {S = ℕ}) 0 c.in_ok-count.count c.more_items.new.self (c.in_ok-sent.sent.items, c.read_many.new.fields) c.in_ok-sent.ensures)))
+    (sym (length_many items _ c.in_ok-count.count c.more_items.new.self (c.in_ok-sent.sent.items, c.read_many.new.fields) c.in_ok-sent.ensures.read)))

@@ -1,0 +1,62 @@
+//! Which lists and reports version 1 spells. Takes no memory.
+ghost use Rattle.std.specs.Prelude.{◌≡◌, Some, List};
+ghost use Rattle.std.specs.List.{list_all};
+ghost use Rattle.topology.specs.declared.items.Sent.{Sent as AnySent};
+ghost use Rattle.topology.specs.declared.names.Trigger.{Trigger as AnyTrigger};
+ghost use Rattle.wire_frames.specs.Listing.{only_of, has_alone, is_plain_row, is_plain};
+
+use incomplete_closure::{Report, Row};
+use topology::{Sent, Trigger};
+
+/// The only trigger of a list.
+pub(crate) fn only_of(triggers: &[Trigger]) -> Option<Trigger>
+    ensures { result ≡ only_of triggers.now }
+{
+    match triggers {
+        [] => None,
+        [only] => Some(*only),
+        [_, _, ..] => None,
+    }
+}
+
+/// Whether a list whose only trigger is told has this trigger and no other.
+pub(crate) fn stands_alone(mark: Option<Trigger>, only: Option<Trigger>) -> bool
+    ensures { (ts : List AnyTrigger) → only ≡ only_of ts → result ≡ has_alone mark ts }
+{
+    match mark {
+        None => false,
+        Some(mark) => match only {
+            None => false,
+            Some(only) => only == mark,
+        },
+    }
+}
+
+// Whether each item lists this trigger and no other.
+fn are_alone(mark: Trigger, items: &[Sent]) -> bool
+    ensures { result ≡ list_all (λ (item : AnySent). has_alone (Some mark) item.triggers) items.now }
+{
+    items.iter().all(|item| stands_alone(Some(mark), only_of(item.triggers.as_slice())))
+}
+
+fn row_is_plain(row: &Row) -> bool
+    ensures { result ≡ is_plain_row row.now }
+{
+    match row.triggers.as_slice() {
+        [mark] => are_alone(*mark, row.sent.laid_out().as_slice()),
+        _ => false,
+    }
+}
+
+fn rows_are_plain(rows: &[Row]) -> bool
+    ensures { result ≡ list_all is_plain_row rows.now }
+{
+    rows.iter().all(|row| row_is_plain(row))
+}
+
+/// Whether each row and its items list the same one trigger, and nothing is pending.
+pub(crate) fn is_plain(report: &Report) -> bool
+    ensures { result ≡ is_plain report.now }
+{
+    rows_are_plain(report.rows.as_slice()) && report.pending.as_slice().is_empty()
+}
