@@ -39,7 +39,7 @@ use Rattle.route_node.specs.Writing.{spelled, OneWriteEach, Writes, Breaks}
 use Rattle.route_node.proofs.Ending.{served_by_ending, served_by_break}
 use Rattle.route_node.proofs.InTime.{told_behind, prompt_writes, grows_more, keeps_taken}
 use Rattle.route_node.proofs.Stopping.{limit_ends}
-use Rattle.route_node.proofs.Taking.{run_more, refusal_is, limit_as, within_limit, replies_more}
+use Rattle.route_node.proofs.Taking.{run_more, refusal_is, limit_as, replies_more}
 use Rattle.route_node.proofs.Told.{replies_spelled}
 use Rattle.route_node.proofs.Waiting.{told_as, answered_as, prompt_as, served_without_memory}
 use Rattle.route_node.proofs.Written.{spelled_both, one_write_behind}
@@ -107,13 +107,14 @@ module _ {P : Type 0} (rules : Rules) (at : Setting P) (frames : List Frame) (pr
 
   module _ (node : Node P) (told : Outputs) (stands : StandsFor at.policy rules at.net at.node node (chronicle_of (run_over rules at.net at.node frames) (gives rules at.net at.node (run_over rules at.net at.node frames) i)))
       (answers' : Answers (run_over rules at.net at.node frames) (gives rules at.net at.node (run_over rules at.net at.node frames) i) told)
-      (turn : out_of_turn (gives rules at.net at.node (run_over rules at.net at.node frames) i) ≡ None) (few : process.frames < MAX_FRAMES) where
+      (turn : out_of_turn (gives rules at.net at.node (run_over rules at.net at.node frames) i) ≡ None) (few : process.frames < MAX_FRAMES)
+      (low : node_limit rules at.net at.node (gives rules at.net at.node (run_over rules at.net at.node frames) i) ≡ None) where
     no_limit : frame_limit rules at.net at.node frames frame ≡ None
     no_limit =
         let test : nat_lt process.frames MAX_FRAMES ≡ true = grind (arith, nat_tests, few) in
         limit_as rules at.net at.node frame frames i process.frames admits.brings runs.count
         ∙ (ap (λ b. if b then node_limit rules at.net at.node (gives rules at.net at.node (run_over rules at.net at.node frames) i) else Some (record { kind = kind.Frames; number = MAX_FRAMES })) test
-        ∙ within_limit rules at.net at.node (gives rules at.net at.node (run_over rules at.net at.node frames) i) (run_over rules at.net at.node frames) stands.within)
+        ∙ low)
 
     taken_now : AreTaken rules at.net at.node (frame ∷ frames)
     taken_now = (holds.fit, same_fault ∙ turn, no_limit, runs.taken)

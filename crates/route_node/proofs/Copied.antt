@@ -2,37 +2,62 @@
 use Rattle.std.proofs.Common.{ℕ, ◌+◌, ◌≤◌, ◌<◌, true, false, ◌&&◌, ◌==◌, Option, Some, None, List, [], ◌∷◌, ◌++◌, ◌≡◌, ◌↔◌, map, length, take, get_or, refl, sym, ap, ap₂, ◌∙◌, subst, arith, slice_get, option_map, option_and_then, IfSome, IsSome}
 use Rattle.std.specs.List.{list_all}
 use Rattle.std.proofs.lemmas.Option.{slice_get_within, slice_get-get_or, get_or_from_slice_get}
-use Rattle.std.proofs.lemmas.List.{take_more, take_all}
+use Rattle.std.proofs.lemmas.List.{take_more, take_all, map-append}
 use Rattle.std.proofs.lemmas.List.Folds.{list_all_at}
 use Rattle.topology.specs.Paths.{differ, IsPath}
 use Rattle.topology.specs.Net.{Net}
 use Rattle.topology.specs.declared.names.Trigger.{Trigger}
 use Rattle.topology.specs.declared.items.Sent.{Sent}
+use Rattle.topology.specs.declared.items.Pending.{Pending}
+use Rattle.topology.specs.Triggers.{Ascend}
+use Rattle.topology.proofs.Unions.{union_rest}
 use Rattle.topology.proofs.Tests.{and_left, and_right, same_is}
 use Rattle.incomplete_closure.specs.declared.cut_rows.Row.{Row as TheRow}
 use Rattle.incomplete_closure.specs.declared.session_rows.SessionRow.{SessionRow as TheSessionRow}
 use Rattle.incomplete_closure.specs.declared.reports.Report.{Report as TheReport}
-use Rattle.incomplete_closure.specs.Seen.{item_seen, row_seen, session_seen, report_seen}
+use Rattle.incomplete_closure.specs.Seen.{row_seen, session_seen, report_seen}
 use Rattle.node_core.specs.Fits.{begins_with, path_fits}
 use Rattle.node_core.specs.Names.{are_nodes}
 use Rattle.admission_laws.specs.Handing.{table_fits}
-use Rattle.route_node.specs.Frames.{first_of, item_told, row_told, session_told, report_told}
+use Rattle.route_node.specs.Frames.{first_of, list_told, item_told, row_told, session_told, pending_told, report_told}
 
--- ---- what is told of a report of the node is that report
+-- ---- what is told of lists that rise is these lists
 
-items_back : (ts : List Trigger) (items : List Sent) → map item_told (map (item_seen ts) items) ≡ items
-items_back ts [] = refl
-items_back ts (i ∷ items) = ap (λ l. i ∷ l) (items_back ts items)
+pub list_is : (ts : List Trigger) → Ascend ts → list_told ts ≡ ts
+list_is ts rises = union_rest ts rises
 
--- the row with other items
-abbrev row_with : TheRow → List Sent → TheRow
-row_with r items = record { trigger = r.trigger; scope = r.scope; sent = items }
+-- the item, the row and the pending row with another list
+abbrev item_with : Sent → List Trigger → Sent
+item_with i ts = record { to = i.to; session = i.session; seq = i.seq; triggers = ts }
 
-rows_back : (rows : List TheRow) → map row_told (map row_seen rows) ≡ rows
-rows_back [] = refl
-rows_back (r ∷ rows) =
-    let here : row_told (row_seen r) ≡ r = ap (row_with r) (items_back (r.trigger ∷ []) r.sent) in
-    ap₂ (λ x l. x ∷ l) here (rows_back rows)
+abbrev row_with : TheRow → List Trigger → List Sent → TheRow
+row_with r ts items = record { triggers = ts; scope = r.scope; sent = items }
+
+abbrev pending_with : Pending → List Trigger → Pending
+pending_with p ts = record { to = p.to; prefix = p.prefix; session = p.session; triggers = ts }
+
+pub item_is : (i : Sent) → Ascend i.triggers → item_told i ≡ i
+item_is i rises = ap (item_with i) (list_is i.triggers rises)
+
+pub row_is : (r : TheRow) → Ascend r.triggers → map item_told r.sent ≡ r.sent → r ≡ row_told (row_seen r)
+row_is r rises items = ap₂ (row_with r) (sym (list_is r.triggers rises)) (sym items)
+
+pub pending_is : (p : Pending) → Ascend p.triggers → p ≡ pending_told p
+pending_is p rises = ap (pending_with p) (sym (list_is p.triggers rises))
+
+-- one more item
+pub items_more : (items : List Sent) (i : ℕ) (x : Sent) → i < length items → x ≡ get_or items i x → Ascend x.triggers → map item_told (take i items) ≡ take i items → map item_told (take (i + 1) items) ≡ take (i + 1) items
+items_more items i x inside at rises so_far =
+    let more : take (i + 1) items ≡ take i items ++ x ∷ [] = take_more items i x inside ∙ ap (λ (y : Sent). take i items ++ y ∷ []) (sym at) in
+    let each : map item_told (take i items ++ x ∷ []) ≡ take i items ++ x ∷ [] = map-append item_told (take i items) (x ∷ []) ∙ ap₂ (λ (l : List Sent) (y : Sent). l ++ y ∷ []) so_far (item_is x rises) in
+    ap (map item_told) more ∙ (each ∙ sym more)
+
+-- one more copy
+pub copies_more : {A B : Type 0} (told : A → B) (all : List A) (i : ℕ) (x : A) (copy : B) (list more : List B) → i < length all → x ≡ get_or all i x → copy ≡ told x → list ≡ map told (take i all) → more ≡ list ++ copy ∷ []
+    → more ≡ map told (take (i + 1) all)
+copies_more told all i x copy list more inside at is so_far e =
+    let longer = take_more all i x inside ∙ ap (λ y. take i all ++ y ∷ []) (sym at) in
+    e ∙ (ap₂ (λ l y. l ++ y ∷ []) so_far is ∙ (sym (map-append told (take i all) (x ∷ [])) ∙ sym (ap (map told) longer)))
 
 down_back : (d : Option Trigger) → option_map first_of (option_map (λ (t : Trigger). t ∷ []) d) ≡ d
 down_back None = refl
@@ -42,18 +67,26 @@ down_back (Some t) = refl
 abbrev session_with : TheSessionRow → Option Trigger → TheSessionRow
 session_with r down = record { nbr = r.nbr; session = r.session; received = r.received; down = down }
 
-sessions_back : (rows : List TheSessionRow) → map session_told (map session_seen rows) ≡ rows
+pub sessions_back : (rows : List TheSessionRow) → map session_told (map session_seen rows) ≡ rows
 sessions_back [] = refl
 sessions_back (r ∷ rows) =
     let here : session_told (session_seen r) ≡ r = ap (session_with r) (down_back r.down) in
     ap₂ (λ x l. x ∷ l) here (sessions_back rows)
 
--- the report with other rows
-abbrev report_with : TheReport → List TheRow → List TheSessionRow → TheReport
-report_with r rows sessions = record { node = r.node; epoch = r.epoch; rows = rows; sessions = sessions }
+twice : {A B C : Type 0} (f : A → B) (g : B → C) (xs : List A) → map (λ x. g (f x)) xs ≡ map g (map f xs)
+twice f g [] = refl
+twice {A} {B} {C} f g (x ∷ xs) = ap (λ (l : List C). g (f x) ∷ l) (twice f g xs)
 
-pub report_back : (r : TheReport) → report_told (report_seen r) ≡ r
-report_back r = ap₂ (report_with r) (rows_back r.rows) (sessions_back r.sessions)
+-- the report with other lists
+abbrev report_with : TheReport → List TheRow → List TheSessionRow → List Pending → TheReport
+report_with r rows sessions pending = record { node = r.node; epoch = r.epoch; rows = rows; sessions = sessions; pending = pending }
+
+-- copies of the lists of a report make what is told of it
+pub report_is : (r : TheReport) (rows : List TheRow) (sessions : List TheSessionRow) (pending : List Pending) → rows ≡ map (λ x. row_told (row_seen x)) r.rows → sessions ≡ r.sessions → pending ≡ map pending_told r.pending
+    → report_with r rows sessions pending ≡ report_told (report_seen r)
+report_is r rows sessions pending first second third =
+    ap₂ (λ (a : List TheRow) (b : List TheSessionRow). report_with r a b pending) (first ∙ twice row_seen row_told r.rows) (second ∙ sym (sessions_back r.sessions))
+    ∙ ap (λ (c : List Pending). report_with r (map row_told (map row_seen r.rows)) (map session_told (map session_seen r.sessions)) c) third
 
 -- ---- the paths of a table
 

@@ -1,4 +1,5 @@
 pub mod Spellable
+pub mod Reporting
 pub mod Told
 pub mod Copied
 pub mod Fronted

@@ -284,7 +284,7 @@ module _ (here : Endpoint) (source source' : SourceView) (net : Net) (gives : Gi
         may_end (Limit kind.Control number) f = refl
         may_end (Limit kind.Packets number) f = refl
         may_end (Limit kind.Frames number) f = refl
-        may_end (Limit kind.Marks number) f = f
+        may_end (Limit kind.Marks number) f = refl
         may_end (Limit kind.Journal number) f = f
         may_end ReadFault f = refl
         may_end WriteFault f = f
@@ -310,7 +310,7 @@ module _ (here : Endpoint) (source source' : SourceView) (net : Net) (gives : Gi
         not_over (Limit kind.Control number) e f = cc e
         not_over (Limit kind.Packets number) e f = cc e
         not_over (Limit kind.Frames number) e f = cc e
-        not_over (Limit kind.Marks number) e f = cc f
+        not_over (Limit kind.Marks number) e f = cc e
         not_over (Limit kind.Journal number) e f = cc f
         not_over ReadFault e f = cc f
         not_over WriteFault e f = cc f

@@ -16,7 +16,7 @@ use Rattle.wire_frames.specs.declared.tags.Tag.{Tag}
 use Rattle.wire_frames.specs.declared.frames.Frame.{Frame}
 use Rattle.wire_frames.specs.Formats.{word_at}
 use Rattle.wire_frames.specs.Frames.{tag_in, limit_of, spell}
-use Rattle.wire_frames.specs.Reading.{body_at, Found, Whole, Partial, Wrong, found_by, sized, behind_kind, of_kind, behind_version, found}
+use Rattle.wire_frames.specs.Reading.{body_at, Found, Whole, Partial, Wrong, found_by, sized, behind_kind, of_kind, behind_version, is_version, found}
 use Rattle.wire_frames.proofs.Found.{spelled_found}
 use Rattle.route_node.specs.declared.serving.Process.{Process}
 use Rattle.route_node.specs.Fronts.{Holds, RefusesAt}
@@ -61,16 +61,16 @@ of_kind_stays : (tag : Option Tag) (bytes more : List ℕ) (k : FrameKind) → o
 of_kind_stays None bytes more k e = e
 of_kind_stays (Some tag) bytes more k e = kind_stays tag bytes more k e
 
-version_stays : (bytes more : List ℕ) (k : FrameKind) → behind_version bytes ≡ Wrong k → behind_version (bytes ++ more) ≡ Wrong k
-version_stays [] more k e = absurd (cc e)
-version_stays (b ∷ bytes) more k e = of_kind_stays (tag_in b) bytes more k e
+version_stays : (v : ℕ) (bytes more : List ℕ) (k : FrameKind) → behind_version v bytes ≡ Wrong k → behind_version v (bytes ++ more) ≡ Wrong k
+version_stays v [] more k e = absurd (cc e)
+version_stays v (b ∷ bytes) more k e = of_kind_stays (tag_in v b) bytes more k e
 
 pub wrong_stays : (bytes more : List ℕ) (k : FrameKind) → found bytes ≡ Wrong k → found (bytes ++ more) ≡ Wrong k
 unfolding found
 wrong_stays [] more k e = absurd (cc e)
 wrong_stays (v ∷ bytes) more k e =
-    (elim (v == 1) as (λ t. (if t then behind_version bytes else Wrong fault.Version) ≡ Wrong k → (if t then behind_version (bytes ++ more) else Wrong fault.Version) ≡ Wrong k) [
-      | true ↦ λ d. version_stays bytes more k d
+    (elim (is_version v) as (λ t. (if t then behind_version v bytes else Wrong fault.Version) ≡ Wrong k → (if t then behind_version v (bytes ++ more) else Wrong fault.Version) ≡ Wrong k) [
+      | true ↦ λ d. version_stays v bytes more k d
       | false ↦ λ d. d
     ]) e
 

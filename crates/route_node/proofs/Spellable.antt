@@ -4,10 +4,7 @@ use Rattle.std.specs.Prelude.{nat_lt, nat_le, option_map}
 use Rattle.std.specs.Int.{is_in_range}
 use Rattle.std.specs.List.{list_all, AllByRecursion}
 use Rattle.std.proofs.lemmas.Bool.Decides.{nat_tests}
-use Rattle.std.proofs.lemmas.List.{length-map, length-append}
 use Rattle.topology.specs.declared.ballots.Ballot.{Ballot}
-use Rattle.topology.specs.declared.names.Scope.{Scope}
-use Rattle.topology.specs.declared.names.Scope.TheVariants.{One, All}
 use Rattle.topology.specs.declared.names.Trigger.{Trigger}
 use Rattle.topology.specs.Lists.{has}
 use Rattle.topology.specs.Paths.{differ}
@@ -15,23 +12,23 @@ use Rattle.topology.specs.Triggers.{earlier}
 use Rattle.topology.specs.Net.{Net, IsValid}
 use Rattle.topology.proofs.Tests.{and_left, and_right, and_both, or_right, not_true, not_false, same_is}
 use Rattle.topology.proofs.Sets.{has-append}
-use Rattle.incomplete_closure.specs.Reports.{Listed, Row, SessionRow, Report}
+use Rattle.incomplete_closure.specs.Reports.{SessionRow}
 use Rattle.incomplete_closure.specs.declared.values.Value.{Value}
 use Rattle.epoch_packet.specs.declared.packets.Packet.{Packet}
 use Rattle.epoch_packet.specs.declared.walks.Mode.{Mode}
 use Rattle.epoch_packet.specs.declared.walks.Mode.TheVariants.{Stable, Transient}
-use Rattle.node_core.specs.ControlFits.{epoch_fits, in_order, leads, nodes_fit, all_fit, incomplete_fits, value_fits, ballot_fits, named_fits, scope_fits, item_lists_fit, listed_fits, row_fits, items_of, rows_are_few, rows_fit, down_fits, session_fits, sooner, sessions_ascend, sessions_fit}
+use Rattle.node_core.specs.ControlFits.{epoch_fits, in_order, leads, nodes_fit, all_fit, incomplete_fits, value_fits, ballot_fits, named_fits, down_fits, session_fits, sooner}
 use Rattle.node_core.specs.Fits.{begins_with, path_fits}
 use Rattle.node_core.specs.Names.{are_nodes, is_number, trigger_fits, triggers_fit}
 use Rattle.node_core.specs.PacketFits.{carried_fits, packet_fits}
 use Rattle.wire_frames.specs.Formats.{many_fit, optional}
-use Rattle.wire_frames.specs.Fields.{node, prefix, positive, epoch, epoch_or_none, any16, any32, any64, few, many, more_items, scope, trigger, ballot, in_any_order, rising, different, nodes, path, paths, paths_in_order, rising_triggers, no_trigger, value, named, sent, items, row, rows, above, session_row, session_rows, report, packet, flag, mode}
+use Rattle.wire_frames.specs.Fields.{node, prefix, positive, epoch, epoch_or_none, any16, any32, any64, few, many, trigger, ballot, in_any_order, rising, different, nodes, path, paths, paths_in_order, rising_triggers, no_trigger, value, named, above, session_row, session_rows, packet, flag, mode}
 use Rattle.topology.proofs.Few.{no_more}
-use Rattle.route_node.specs.Frames.{first_of, item_told, row_told, session_told, report_told}
+use Rattle.route_node.specs.Frames.{first_of, session_told}
 
 -- ---- numbers
 
-number_fits : (low high n : ℕ) → low ≤ n → n ≤ high → is_in_range low high n ≡ true
+pub number_fits : (low high n : ℕ) → low ≤ n → n ≤ high → is_in_range low high n ≡ true
 number_fits low high n above below = grind (arith, nat_tests, above, below)
 
 node_number : (ns : List ℕ) (n : ℕ) → AllByRecursion (λ m. (0 < m) × (m < 2 ^ 16)) ns → has ns n ≡ true → (0 < n) × (n < 2 ^ 16)
@@ -104,7 +101,7 @@ few_fits : (n most : ℕ) → n ≤ most → (few most).fits n ≡ true
 unfolding few
 few_fits n most small = number_fits 0 most n (omega arith) small
 
-many_fits : (n most : ℕ) → n ≤ most → (many most).fits n ≡ true
+pub many_fits : (n most : ℕ) → n ≤ most → (many most).fits n ≡ true
 unfolding many
 many_fits n most small = number_fits 0 most n (omega arith) small
 
@@ -182,14 +179,14 @@ first_leads : (net : Net) (ns : List ℕ) → IsValid net → are_nodes net ns �
 first_leads net [] valid all = refl
 first_leads net (n ∷ ns) valid all = let two = node_number net.nodes n valid.numbers (and_left (has net.nodes n) (are_nodes net ns) all) in let low = two.0 in grind (arith, nat_tests, low)
 
-triggers_rise : (net : Net) (last : Trigger) (ts : List Trigger) → IsValid net → list_all (trigger_fits net) ts ≡ true → in_order earlier ts ≡ true → leads earlier last ts ≡ true → many_fit rising_triggers last ts ≡ true
+pub triggers_rise : (net : Net) (last : Trigger) (ts : List Trigger) → IsValid net → list_all (trigger_fits net) ts ≡ true → in_order earlier ts ≡ true → leads earlier last ts ≡ true → many_fit rising_triggers last ts ≡ true
 triggers_rise net last [] valid all order leading = refl
 triggers_rise net last (t ∷ ts) valid all order leading =
     and_both (trigger.fits t && earlier last t) (many_fit rising_triggers t ts)
     (and_both (trigger.fits t) (earlier last t) (trigger_as net t valid (and_left (trigger_fits net t) (list_all (trigger_fits net) ts) all)) leading)
     (triggers_rise net t ts valid (and_right (trigger_fits net t) (list_all (trigger_fits net) ts) all) (and_right (leads earlier t ts) (in_order earlier ts) order) (and_left (leads earlier t ts) (in_order earlier ts) order))
 
-first_trigger : (net : Net) (ts : List Trigger) → IsValid net → list_all (trigger_fits net) ts ≡ true → leads earlier no_trigger ts ≡ true
+pub first_trigger : (net : Net) (ts : List Trigger) → IsValid net → list_all (trigger_fits net) ts ≡ true → leads earlier no_trigger ts ≡ true
 first_trigger net [] valid all = refl
 first_trigger net (t ∷ ts) valid all =
     let is = and_left (trigger_fits net t) (list_all (trigger_fits net) ts) all in
@@ -273,58 +270,12 @@ packet_as net q valid e =
         → (a && (b && (c && (mode.fits q.mode && (d && (f && (g && (h && i)))))))) ≡ true
     parts a b c d f g h i pa pb pc pd pf pg ph pi pm = rw (pa, pb, pc, pd, pf, pg, ph, pi, pm) refl
 
--- ---- reports
+-- ---- session rows
 
 pub triggers_first : (net : Net) (ts : List Trigger) → triggers_fit net ts ≡ true → trigger_fits net (first_of ts) ≡ true
 triggers_first net [] e = absurd (cc e)
 triggers_first net (t ∷ []) e = e
 triggers_first net (t ∷ s ∷ ts) e = and_left (trigger_fits net t) (triggers_fit net (s ∷ ts)) e
-
-scope_as : (net : Net) (s : Scope) → IsValid net → scope_fits net s ≡ true → scope.fits s ≡ true
-unfolding scope
-scope_as net (One p) valid e =
-    let below = below_as p (length net.prefixes) e in let most = valid.few_prefixes in
-    let small : nat_le p 255 ≡ true = grind (arith, nat_tests, below, most) in
-    and_both (nat_le p 255) (nat_le p 255 || p == 65535) small (ap (λ b. b || p == 65535) small)
-scope_as net All valid e = refl
-
-items_as : (net : Net) (ls : List Listed) → IsValid net → list_all (listed_fits net) ls ≡ true → many_fit (items {S = ℕ}) 0 (map item_told ls) ≡ true
-unfolding sent
-items_as net [] valid e = refl
-items_as net (l ∷ ls) valid e =
-    let here = and_left (listed_fits net l) (list_all (listed_fits net) ls) e in
-    let numbers = and_right (has net.nodes l.to) (is_number l.session && is_number l.seq) here in
-    and_both (sent.fits (item_told l)) (many_fit (items {S = ℕ}) 0 (map item_told ls))
-    (and_both (node.fits l.to) (positive.fits l.session && positive.fits l.seq) (node_fits net l.to valid (and_left (has net.nodes l.to) (is_number l.session && is_number l.seq) here))
-    (and_both (positive.fits l.session) (positive.fits l.seq) (positive_fits l.session (and_left (is_number l.session) (is_number l.seq) numbers)) (positive_fits l.seq (and_right (is_number l.session) (is_number l.seq) numbers))))
-    (items_as net ls valid (and_right (listed_fits net l) (list_all (listed_fits net) ls) e))
-
-more_fits : (before n : ℕ) → before + n ≤ 16384 → (more_items before).fits n ≡ true
-unfolding more_items
-more_fits before n small = grind (arith, nat_tests, small)
-
-row_as : (net : Net) (before : ℕ) (k : Row) → IsValid net → before + length k.sent ≤ 16384 → row_fits net k ≡ true → (row before).fits (row_told k) ≡ true
-unfolding row
-row_as net before k valid small e =
-    let rest = and_right (triggers_fit net k.triggers) ((scope_fits net k.scope && list_all (listed_fits net) k.sent) && list_all (item_lists_fit net) k.sent) e in
-    let two = and_left (scope_fits net k.scope && list_all (listed_fits net) k.sent) (list_all (item_lists_fit net) k.sent) rest in
-    let first = triggers_first net k.triggers (and_left (triggers_fit net k.triggers) ((scope_fits net k.scope && list_all (listed_fits net) k.sent) && list_all (item_lists_fit net) k.sent) e) in
-    let counted : (more_items before).fits (length (map item_told k.sent)) ≡ true = more_fits before (length (map item_told k.sent)) (omega (arith, small, length-map k.sent item_told)) in
-    and_both (trigger.fits (first_of k.triggers)) (scope.fits k.scope && ((more_items before).fits (length (map item_told k.sent)) && many_fit (items {S = ℕ}) 0 (map item_told k.sent)))
-    (trigger_as net (first_of k.triggers) valid first)
-    (and_both (scope.fits k.scope) ((more_items before).fits (length (map item_told k.sent)) && many_fit (items {S = ℕ}) 0 (map item_told k.sent))
-    (scope_as net k.scope valid (and_left (scope_fits net k.scope) (list_all (listed_fits net) k.sent) two))
-    (and_both ((more_items before).fits (length (map item_told k.sent))) (many_fit (items {S = ℕ}) 0 (map item_told k.sent)) counted
-    (items_as net k.sent valid (and_right (scope_fits net k.scope) (list_all (listed_fits net) k.sent) two))))
-
-rows_as : (net : Net) (before : ℕ) (ks : List Row) → IsValid net → before + length (items_of ks) ≤ 16384 → list_all (row_fits net) ks ≡ true → many_fit rows before (map row_told ks) ≡ true
-rows_as net before [] valid small e = refl
-rows_as net before (k ∷ ks) valid small e =
-    let split = length-append k.sent (items_of ks) in
-    let same : before + length (map item_told k.sent) ≡ before + length k.sent = ap (λ n. before + n) (length-map k.sent item_told) in
-    and_both ((row before).fits (row_told k)) (many_fit rows (before + length (map item_told k.sent)) (map row_told ks))
-    (row_as net before k valid (omega (arith, small, split)) (and_left (row_fits net k) (list_all (row_fits net) ks) e))
-    (rows_as net (before + length (map item_told k.sent)) ks valid (omega (arith, small, split, same)) (and_right (row_fits net k) (list_all (row_fits net) ks) e))
 
 down_as : (net : Net) (d : Option (List Trigger)) → IsValid net → down_fits net d ≡ true → (optional trigger).fits (option_map first_of d) ≡ true
 down_as net None valid e = refl
@@ -343,11 +294,11 @@ session_as net last k valid behind e =
     (down_as net k.down valid (and_right (nat_lt k.received (2 ^ 32)) (down_fits net k.down) last_two)))
 
 -- the first of them stands above a session
-abbrev comes_above : (ℕ × ℕ) → List SessionRow → Bool
+abbrev pub comes_above : (ℕ × ℕ) → List SessionRow → Bool
 comes_above last [] = true
 comes_above last (k ∷ ks) = above last (k.nbr, k.session)
 
-sessions_as : (net : Net) (last : ℕ × ℕ) (ks : List SessionRow) → IsValid net → list_all (session_fits net) ks ≡ true → in_order sooner ks ≡ true → comes_above last ks ≡ true → many_fit session_rows last (map session_told ks) ≡ true
+pub sessions_as : (net : Net) (last : ℕ × ℕ) (ks : List SessionRow) → IsValid net → list_all (session_fits net) ks ≡ true → in_order sooner ks ≡ true → comes_above last ks ≡ true → many_fit session_rows last (map session_told ks) ≡ true
 sessions_as net last [] valid e order behind = refl
 sessions_as net last (k ∷ ks) valid e order behind =
     and_both ((session_row last).fits (session_told k)) (many_fit session_rows (k.nbr, k.session) (map session_told ks))
@@ -359,32 +310,14 @@ sessions_as net last (k ∷ ks) valid e order behind =
     next_above k [] e = refl
     next_above k (j ∷ js) e = e
 
-first_above : (net : Net) (ks : List SessionRow) → IsValid net → list_all (session_fits net) ks ≡ true → comes_above (0, 0) ks ≡ true
+pub node_above_none : (net : Net) → IsValid net → (n k : ℕ) → has net.nodes n ≡ true → above (0, 0) (n, k) ≡ true
+node_above_none net valid n k e =
+    let two = node_number net.nodes n valid.numbers e in
+    let low = two.0 in let above_zero : nat_lt 0 n ≡ true = grind (arith, nat_tests, low) in ap (λ b. b || (0 == n && nat_lt 0 k)) above_zero
+
+pub first_above : (net : Net) (ks : List SessionRow) → IsValid net → list_all (session_fits net) ks ≡ true → comes_above (0, 0) ks ≡ true
 first_above net [] valid e = refl
 first_above net (k ∷ ks) valid e =
     let here = and_left (session_fits net k) (list_all (session_fits net) ks) e in
     let two = node_number net.nodes k.nbr valid.numbers (and_left (has net.nodes k.nbr) (is_number k.session && (nat_lt k.received (2 ^ 32) && down_fits net k.down)) here) in
     let low = two.0 in let above_zero : nat_lt 0 k.nbr ≡ true = grind (arith, nat_tests, low) in ap (λ b. b || (0 == k.nbr && nat_lt 0 k.session)) above_zero
-
-pub report_as : (net : Net) (r : Report) → IsValid net → has net.nodes r.node ≡ true → epoch_fits r.epoch ≡ true → rows_fit net r.rows ≡ true → sessions_fit net r.sessions ≡ true → report.fits (report_told r) ≡ true
-unfolding report
-report_as net r valid of at each all =
-    let ones = and_left (list_all (row_fits net) r.rows) (rows_are_few r.rows) each in
-    let small = and_right (list_all (row_fits net) r.rows) (rows_are_few r.rows) each in
-    let rows_small = at_most (length r.rows) 2048 (and_left (nat_le (length r.rows) 2048) (nat_le (length (items_of r.rows)) 16384) small) in
-    let items_small = at_most (length (items_of r.rows)) 16384 (and_right (nat_le (length r.rows) 2048) (nat_le (length (items_of r.rows)) 16384) small) in
-    let fit = and_left (list_all (session_fits net) r.sessions) (sessions_ascend r.sessions) all in
-    let ascend = and_right (list_all (session_fits net) r.sessions) (sessions_ascend r.sessions) all in
-    let order = and_left (in_order sooner r.sessions) (nat_le (length r.sessions) 65535) ascend in
-    let sessions_small = at_most (length r.sessions) 65535 (and_right (in_order sooner r.sessions) (nat_le (length r.sessions) 65535) ascend) in
-    let rows_fit' : (many 2048).fits (length (map row_told r.rows)) && many_fit rows 0 (map row_told r.rows) ≡ true =
-    and_both ((many 2048).fits (length (map row_told r.rows))) (many_fit rows 0 (map row_told r.rows)) (many_fits (length (map row_told r.rows)) 2048 (omega (arith, rows_small, length-map r.rows row_told)))
-    (rows_as net 0 r.rows valid (omega (arith, items_small)) ones) in
-    let sessions_fit' : (many 65535).fits (length (map session_told r.sessions)) && many_fit session_rows (0, 0) (map session_told r.sessions) ≡ true =
-    and_both ((many 65535).fits (length (map session_told r.sessions))) (many_fit session_rows (0, 0) (map session_told r.sessions)) (many_fits (length (map session_told r.sessions)) 65535 (omega (arith, sessions_small, length-map r.sessions session_told)))
-    (sessions_as net (0, 0) r.sessions valid fit order (first_above net r.sessions valid fit)) in
-    and_both (node.fits r.node) (epoch.fits r.epoch && (((many 2048).fits (length (map row_told r.rows)) && many_fit rows 0 (map row_told r.rows)) && ((many 65535).fits (length (map session_told r.sessions)) && many_fit session_rows (0, 0) (map session_told r.sessions))))
-    (node_fits net r.node valid of)
-    (and_both (epoch.fits r.epoch) (((many 2048).fits (length (map row_told r.rows)) && many_fit rows 0 (map row_told r.rows)) && ((many 65535).fits (length (map session_told r.sessions)) && many_fit session_rows (0, 0) (map session_told r.sessions)))
-    (epoch_as r.epoch at)
-    (and_both ((many 2048).fits (length (map row_told r.rows)) && many_fit rows 0 (map row_told r.rows)) ((many 65535).fits (length (map session_told r.sessions)) && many_fit session_rows (0, 0) (map session_told r.sessions)) rows_fit' sessions_fit'))

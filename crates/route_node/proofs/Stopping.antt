@@ -7,7 +7,7 @@ use Rattle.topology.specs.Net.{Net}
 use Rattle.path_vector.specs.Rules.{Rules}
 use Rattle.chronicle.specs.Inputs.{Input}
 use Rattle.chronicle.specs.Steps.{Step, Idle, Goes}
-use Rattle.node_core.specs.NodeLimits.{Reached, first_of_node, node_above, node_limit}
+use Rattle.node_core.specs.NodeLimits.{Reached, first_of_node, node_above, has_more_marks, or_marks, node_limit}
 use Rattle.admission_laws.specs.NodeRuns.{alone, gives}
 use Rattle.wire_frames.specs.declared.frames.Frame.{Frame}
 use Rattle.route_node.specs.declared.limits.TheConstants.{MAX_FRAMES}
@@ -27,10 +27,16 @@ of_node false false true updates = refl
 of_node false false false true = refl
 of_node false false false false = refl
 
+-- the marks come last
+with_marks : (o : Option Reached) (more : Bool) → may_stop o ≡ true → may_stop (or_marks o more) ≡ true
+with_marks None true e = refl
+with_marks None false e = refl
+with_marks (Some reached) more e = e
+
 above : (rules : Rules) (net : Net) (u : ℕ) (s : Step) → may_stop (node_limit rules net u s) ≡ true
 unfolding node_above
 above rules net u (Idle reason) = refl
-above rules net u (Goes now) = of_node _ _ _ _
+above rules net u (Goes now) = with_marks (node_above rules net u now) (has_more_marks rules net u now) (of_node _ _ _ _)
 
 at_input : (rules : Rules) (net : Net) (u : ℕ) (before : List Frame) (i : Option Input) → may_stop (input_limit rules net u before i) ≡ true
 at_input rules net u before None = refl

@@ -16,7 +16,7 @@ use Rattle.chronicle.specs.Inputs.{Input}
 use Rattle.chronicle.specs.Run.{chronicle_of}
 use Rattle.chronicle.specs.Steps.{Step, Idle, Goes}
 use Rattle.node_core.specs.Fits.{fits}
-use Rattle.node_core.specs.NodeLimits.{node_above, node_limit}
+use Rattle.node_core.specs.NodeLimits.{node_limit}
 use Rattle.node_core.specs.Outputs.{outputs, Answers}
 use Rattle.node_core.specs.declared.outputs.Outputs.{Outputs}
 use Rattle.node_core.specs.declared.outputs.Outputs.TheVariants.{Did, Idle as Declines}
@@ -94,13 +94,6 @@ module _ (rules : Rules) (net : Net) (u : ℕ) where
 
   -- ---- what a step hands out
 
-  idle_limit : (step : Step) (past : Chronicle) → node_above rules net u (chronicle_of past step) ≡ None → node_limit rules net u step ≡ None
-  idle_limit (Idle why) past none = refl
-  idle_limit (Goes now) past none = none
-
-  pub within_limit : (step : Step) (past : Chronicle) → node_above rules net u (chronicle_of past step) ≡ None → node_limit rules net u step ≡ None
-  within_limit = idle_limit
-
   pub hands : (past : Chronicle) (step : Step) (told : Outputs) → Answers past step told → outputs past ++ handed told ≡ outputs (chronicle_of past step)
   hands past (Idle why) (Declines reason) e = append-nil (outputs past)
   hands past (Idle why) (Did list) e = absurd e
@@ -114,13 +107,13 @@ module _ (rules : Rules) (net : Net) (u : ℕ) where
   -- what is handed out is admitted, where the law holds
   pub handed_fits : (frames : List Frame) (i : Input) (told : Outputs)
       → ((is : List Input) → AllAdmitted rules net u is → list_all (output_fits net u) (outputs (alone rules net u is)) ≡ true)
-      → AreTaken rules net u frames → fits net u i ≡ true → node_above rules net u (chronicle_of (run_over rules net u frames) (gives rules net u (run_over rules net u frames) i)) ≡ None
+      → AreTaken rules net u frames → fits net u i ≡ true → node_limit rules net u (gives rules net u (run_over rules net u frames) i) ≡ None
       → Answers (run_over rules net u frames) (gives rules net u (run_over rules net u frames) i) told → list_all (output_fits net u) (handed told) ≡ true
   unfolding alone
   handed_fits frames i told law taken fit none answers' =
       all_right (output_fits net u) (outputs (run_over rules net u frames)) (handed told)
       (subst (λ os. list_all (output_fits net u) os ≡ true) (sym (hands (run_over rules net u frames) (gives rules net u (run_over rules net u frames) i) told answers'))
-      (law (i ∷ inputs frames) (fit, idle_limit (gives rules net u (run_over rules net u frames) i) (run_over rules net u frames) none, all_admitted frames taken)))
+      (law (i ∷ inputs frames) (fit, none, all_admitted frames taken)))
 
   -- one more frame, and what is told of what it made the node hand out
   pub replies_more : (f : Frame) (frames : List Frame) (i : Input) (told : Outputs) → brought f ≡ Some i → Answers (run_over rules net u frames) (gives rules net u (run_over rules net u frames) i) told

@@ -1,10 +1,12 @@
 -- The frames that tell what a node hands out have a spelling.
-use Rattle.std.proofs.Common.{ℕ, ◌+◌, ◌*◌, ◌≡◌, ◌≤◌, true, ◌&&◌, ◌==◌, Option, Some, None, List, [], ◌∷◌, map, length, refl, sym, ap, ◌∙◌, subst, arith}
+use Rattle.std.proofs.Common.{ℕ, ◌+◌, ◌*◌, ◌≡◌, ◌≤◌, Bool, true, false, ◌&&◌, ◌==◌, Option, Some, None, List, [], ◌∷◌, map, length, refl, sym, ap, ◌∙◌, subst, arith}
 use Rattle.std.specs.Prelude.{nat_le, nat_lt, option_map, filter_map}
 use Rattle.std.specs.List.{list_all, flat_map, cons_option}
 use Rattle.std.proofs.lemmas.Bool.Decides.{nat_tests}
 use Rattle.std.proofs.lemmas.List.{length-map, length-append}
 use Rattle.topology.specs.declared.names.Trigger.{Trigger}
+use Rattle.topology.specs.declared.items.Sent.{Sent}
+use Rattle.topology.specs.declared.items.Pending.{Pending}
 use Rattle.topology.specs.Lists.{has}
 use Rattle.topology.specs.Net.{Net, IsValid, neighbours}
 use Rattle.topology.proofs.Tests.{and_left, and_right, and_both, same_is}
@@ -18,9 +20,10 @@ use Rattle.epoch_packet.specs.declared.walks.End.{End as Ending}
 use Rattle.epoch_packet.specs.declared.walks.End.TheVariants.{Delivered, Expired, Stuck}
 use Rattle.paxos_core.specs.Facts.{Message as Ballots, Prepare, Promise, Accept, Accepted, Decision}
 use Rattle.consolidator.specs.Messages.{Message, Reports, Agrees}
-use Rattle.node_core.specs.ControlFits.{epoch_fits, sender_fits, ballot_fits, named_fits, value_fits, rows_fit, rows_are_few, row_fits, sessions_fit, items_of, ballots_fit, body_fits, message_fits}
+use Rattle.node_core.specs.ControlFits.{epoch_fits, sender_fits, ballot_fits, named_fits, value_fits, items_of, marks_of_rows, report_fits, ballots_fit, body_fits, message_fits}
 use Rattle.node_core.specs.Fits.{item_fits, path_fits}
-use Rattle.node_core.specs.Names.{is_number, triggers_fit}
+use Rattle.node_core.specs.Names.{is_number, list_fits}
+use Rattle.node_core.specs.Counted.{item_marks, row_marks}
 use Rattle.node_core.specs.PacketFits.{packet_fits}
 use Rattle.node_core.specs.Outputs.{Output, Logged, Cut, Send, Mail, Published, Forward, Ended, outputs}
 use Rattle.admission_laws.specs.Handing.{is_short, table_fits, output_fits}
@@ -28,24 +31,63 @@ use Rattle.admission_laws.proofs.Handed.{all_fit}
 use Rattle.admission_laws.proofs.Sessions.{neighbour_is}
 use Rattle.wire_frames.specs.declared.frames.Frame.{Frame}
 use Rattle.wire_frames.specs.declared.frames.Frame.TheVariants as frame
-use Rattle.wire_frames.specs.Fields.{node, prefix, positive, epoch, epoch_or_none, trigger, ballot, path, paths, value, named, packet, any32, end, row, session_row, report}
+use Rattle.wire_frames.specs.Fields.{node, prefix, positive, epoch, epoch_or_none, trigger, ballot, path, paths, value, named, packet, any32, end, items, row, session_row, report}
+use Rattle.wire_frames.specs.Listing.{triggers_fit, is_plain, item, listed_row, no_rows, pending_row, nothing_pending, listed_report, spelled_report}
+use Rattle.wire_frames.specs.Listing.{report_fits as listing_fits}
 use Rattle.wire_frames.specs.Frames.{limit_of, tag_of, fields_fit, body}
 use Rattle.wire_frames.specs.Frames.{fits as has_spelling}
-use Rattle.wire_frames.proofs.Short.{short_unless_report, row_wide, session_open, session_down, report_wide}
-use Rattle.route_node.specs.Frames.{first_of, item_told, row_told, session_told, report_told, item_frame, ballot_frame, mail_frame, telling}
+use Rattle.wire_frames.proofs.Short.{short_unless_report, trigger_wide, item_wide, row_wide, listed_item_wide, listed_row_wide, pending_wide, session_open, session_down, plain_wide, listed_wide, report_body, report_limit}
+use Rattle.route_node.specs.Frames.{first_of, list_told, item_told, row_told, session_told, pending_told, report_told, item_frame, ballot_frame, mail_frame, telling}
 use Rattle.route_node.specs.Streams.{inputs, run_over, replies, AreTaken}
-use Rattle.route_node.proofs.Spellable.{at_most, node_fits, positive_fits, prefix_fits, epoch_as, epoch_or_none_as, any32_fits, trigger_as, triggers_first, ballot_as, path_as, paths_as, value_as, named_as, packet_as, report_as}
+use Rattle.route_node.proofs.Spellable.{at_most, node_fits, positive_fits, prefix_fits, epoch_as, epoch_or_none_as, any32_fits, ballot_as, path_as, paths_as, value_as, named_as, packet_as}
+use Rattle.route_node.proofs.Reporting.{told_short, Parts, parts_of, update_list_as, report_as}
 use Rattle.route_node.proofs.Taking.{all_admitted}
 
 -- ---- how long a report is
 
-row_length : (k : Row) → length ((row 0).spells (row_told k)) ≡ 10 + 10 * length k.sent
-row_length k = row_wide (row_told k) ∙ ap (λ n. 10 + 10 * n) (length-map k.sent item_told)
+plain_items_length : (xs : List Sent) → length (flat_map items.spells (map item_told xs)) ≡ 10 * length xs
+plain_items_length [] = refl
+plain_items_length (x ∷ xs) = omega (arith, length-append (items.spells (item_told x)) (flat_map items.spells (map item_told xs)), item_wide (item_told x), plain_items_length xs)
 
-rows_length : (ks : List Row) → length (flat_map (row 0).spells (map row_told ks)) ≡ 10 * length ks + 10 * length (items_of ks)
-rows_length [] = refl
+plain_rows_length : (ks : List Row) → length (flat_map (row 0).spells (map row_told ks)) ≡ 10 * length ks + 10 * length (items_of ks)
+plain_rows_length [] = refl
+plain_rows_length (k ∷ ks) =
+    omega (arith, length-append ((row 0).spells (row_told k)) (flat_map (row 0).spells (map row_told ks)), row_wide (row_told k), plain_items_length k.sent, plain_rows_length ks, length-append k.sent (items_of ks))
+
+triggers_length : (ts : List Trigger) → length (flat_map trigger.spells ts) ≡ 6 * length ts
+triggers_length [] = refl
+triggers_length (t ∷ ts) = omega (arith, length-append (trigger.spells t) (flat_map trigger.spells ts), trigger_wide t, triggers_length ts)
+
+items_length : (xs : List Sent) → length (flat_map (item 0).spells (map item_told xs)) ≤ 12 * length xs + 6 * item_marks xs
+items_length [] = omega arith
+items_length (x ∷ xs) =
+    omega (arith, length-append ((item 0).spells (item_told x)) (flat_map (item 0).spells (map item_told xs)), listed_item_wide (item_told x), triggers_length (list_told x.triggers), told_short x.triggers, items_length xs)
+
+rows_length : (ks : List Row) → length (flat_map (listed_row no_rows).spells (map row_told ks)) ≤ 6 * length ks + (12 * length (items_of ks) + 6 * marks_of_rows ks)
+rows_length [] = omega arith
 rows_length (k ∷ ks) =
-    omega (arith, length-append ((row 0).spells (row_told k)) (flat_map (row 0).spells (map row_told ks)), row_length k, rows_length ks, length-append k.sent (items_of ks))
+    omega (
+      arith,
+      length-append ((listed_row no_rows).spells (row_told k)) (flat_map (listed_row no_rows).spells (map row_told ks)),
+      listed_row_wide (row_told k),
+      triggers_length (list_told k.triggers),
+      told_short k.triggers,
+      items_length k.sent,
+      rows_length ks,
+      length-append k.sent (items_of ks),
+    )
+
+pending_length : (ps : List Pending) → length (flat_map (pending_row (nothing_pending 0)).spells (map pending_told ps)) ≤ 10 * length ps + 6 * row_marks ps
+pending_length [] = omega arith
+pending_length (p ∷ ps) =
+    omega (
+      arith,
+      length-append ((pending_row (nothing_pending 0)).spells (pending_told p)) (flat_map (pending_row (nothing_pending 0)).spells (map pending_told ps)),
+      pending_wide (pending_told p),
+      triggers_length (list_told p.triggers),
+      told_short p.triggers,
+      pending_length ps,
+    )
 
 session_length : (k : SessionRow) → length ((session_row (0, 0)).spells (session_told k)) ≤ 17
 session_length k = go k.down refl
@@ -59,12 +101,18 @@ sessions_length [] = omega arith
 sessions_length (k ∷ ks) =
     omega (arith, length-append ((session_row (0, 0)).spells (session_told k)) (flat_map (session_row (0, 0)).spells (map session_told ks)), session_length k, sessions_length ks)
 
-report_is_short : (w : ℕ) (r : Report) → rows_are_few r.rows ≡ true → is_short (Reports r) ≡ true → length (body (frame.Report w (report_told r))) ≤ 1048576
-report_is_short w r few short =
-    let rows = at_most (length r.rows) 2048 (and_left (nat_le (length r.rows) 2048) (nat_le (length (items_of r.rows)) 16384) few) in
-    let items = at_most (length (items_of r.rows)) 16384 (and_right (nat_le (length r.rows) 2048) (nat_le (length (items_of r.rows)) 16384) few) in
-    let sessions = at_most (length r.sessions) 2112 short in
-    omega (arith, report_wide w (report_told r), rows_length r.rows, sessions_length r.sessions, rows, items, sessions)
+spelling_short : (net : Net) (valid : IsValid net) (r : Report) → Parts net valid r → is_short (Reports r) ≡ true → 2 + length (spelled_report (report_told r)) ≤ 1048576
+spelling_short net valid r p short = go (is_plain (report_told r)) refl
+  where
+    sessions : length r.sessions ≤ 2112
+    sessions = at_most (length r.sessions) 2112 short
+
+    go : (b : Bool) → is_plain (report_told r) ≡ b → 2 + length (spelled_report (report_told r)) ≤ 1048576
+    go true plain = let few = sessions in rw plain (omega (arith, plain_wide (report_told r), plain_rows_length r.rows, sessions_length r.sessions, p.few_rows, p.few_items, few))
+    go false other = let few = sessions in rw other (omega (arith, listed_wide (report_told r), rows_length r.rows, sessions_length r.sessions, pending_length r.pending, p.few_rows, p.few_items, p.few_pending, p.marks, few))
+
+report_is_short : (net : Net) (valid : IsValid net) (w : ℕ) (r : Report) → Parts net valid r → is_short (Reports r) ≡ true → length (body (frame.Report w (report_told r))) ≤ 1048576
+report_is_short net valid w r p short = let small = spelling_short net valid r p short in omega (arith, report_body w (report_told r), small)
 
 -- ---- frames
 
@@ -84,16 +132,16 @@ end_fits Stuck = refl
 module _ (net : Net) (valid : IsValid net) where
   news_told : (u w s q : ℕ) (x : Update) → has net.nodes w ≡ true → is_number s ≡ true → item_fits net u (News q x) ≡ true → has_spelling (item_frame w s (News q x)) ≡ true
   news_told u w s q x of in_session fit =
-      let first = and_right (is_number q) (nat_lt x.prefix (length net.prefixes) && (triggers_fit net x.triggers && path_fits net u x.path)) fit in
-      let second = and_right (nat_lt x.prefix (length net.prefixes)) (triggers_fit net x.triggers && path_fits net u x.path) first in
-      let t = first_of x.triggers in
-      spelled (frame.Update w s q t x.prefix x.path) (λ n r e. absurd (cc e))
-      (and_both (node.fits w) (positive.fits s && (positive.fits q && (trigger.fits t && (prefix.fits x.prefix && path.fits x.path)))) (node_fits net w valid of)
-      (and_both (positive.fits s) (positive.fits q && (trigger.fits t && (prefix.fits x.prefix && path.fits x.path))) (positive_fits s in_session)
-      (and_both (positive.fits q) (trigger.fits t && (prefix.fits x.prefix && path.fits x.path)) (positive_fits q (and_left (is_number q) (nat_lt x.prefix (length net.prefixes) && (triggers_fit net x.triggers && path_fits net u x.path)) fit))
-      (and_both (trigger.fits t) (prefix.fits x.prefix && path.fits x.path) (trigger_as net t valid (triggers_first net x.triggers (and_left (triggers_fit net x.triggers) (path_fits net u x.path) second)))
-      (and_both (prefix.fits x.prefix) (path.fits x.path) (prefix_fits net x.prefix valid (and_left (nat_lt x.prefix (length net.prefixes)) (triggers_fit net x.triggers && path_fits net u x.path) first))
-      (path_as net u x.path valid (and_right (triggers_fit net x.triggers) (path_fits net u x.path) second)))))))
+      let first = and_right (is_number q) (nat_lt x.prefix (length net.prefixes) && (list_fits net x.triggers && path_fits net u x.path)) fit in
+      let second = and_right (nat_lt x.prefix (length net.prefixes)) (list_fits net x.triggers && path_fits net u x.path) first in
+      let ts = list_told x.triggers in
+      spelled (frame.Update w s q ts x.prefix x.path) (λ n r e. absurd (cc e))
+      (and_both (node.fits w) (positive.fits s && (positive.fits q && (triggers_fit ts && (prefix.fits x.prefix && path.fits x.path)))) (node_fits net w valid of)
+      (and_both (positive.fits s) (positive.fits q && (triggers_fit ts && (prefix.fits x.prefix && path.fits x.path))) (positive_fits s in_session)
+      (and_both (positive.fits q) (triggers_fit ts && (prefix.fits x.prefix && path.fits x.path)) (positive_fits q (and_left (is_number q) (nat_lt x.prefix (length net.prefixes) && (list_fits net x.triggers && path_fits net u x.path)) fit))
+      (and_both (triggers_fit ts) (prefix.fits x.prefix && path.fits x.path) (update_list_as net valid x.triggers (and_left (list_fits net x.triggers) (path_fits net u x.path) second))
+      (and_both (prefix.fits x.prefix) (path.fits x.path) (prefix_fits net x.prefix valid (and_left (nat_lt x.prefix (length net.prefixes)) (list_fits net x.triggers && path_fits net u x.path) first))
+      (path_as net u x.path valid (and_right (list_fits net x.triggers) (path_fits net u x.path) second)))))))
 
   item_told_fits : (u w s : ℕ) (i : Item) → has net.nodes w ≡ true → is_number s ≡ true → item_fits net u i ≡ true → has_spelling (item_frame w s i) ≡ true
   item_told_fits u w s (News q x) of in_session fit = news_told u w s q x of in_session fit
@@ -128,14 +176,13 @@ module _ (net : Net) (valid : IsValid net) where
   report_told_fits : (u w : ℕ) (r : Report) → has net.nodes w ≡ true → has net.nodes u ≡ true → epoch_fits r.epoch ≡ true → body_fits net u (Reports r) ≡ true → is_short (Reports r) ≡ true → has_spelling (mail_frame w (Reports r)) ≡ true
   unfolding has_spelling
   report_told_fits u w r of from at fit short =
-      let own = same_is r.node u (and_left (r.node == u) (rows_fit net r.rows && sessions_fit net r.sessions) fit) in
-      let parts = and_right (r.node == u) (rows_fit net r.rows && sessions_fit net r.sessions) fit in
-      let each = and_left (rows_fit net r.rows) (sessions_fit net r.sessions) parts in
-      let long = report_is_short w r (and_right (list_all (row_fits net) r.rows) (rows_are_few r.rows) each) short in
-      and_both (fields_fit (frame.Report w (report_told r))) (nat_le (length (body (frame.Report w (report_told r)))) 1048576)
-      (and_both (node.fits w) (report.fits (report_told r)) (node_fits net w valid of)
-      (report_as net r valid (subst (λ n. has net.nodes n ≡ true) (sym own) from) at each (and_right (rows_fit net r.rows) (sessions_fit net r.sessions) parts)))
-      (grind (arith, nat_tests, long))
+      let own = same_is r.node u (and_left (r.node == u) (report_fits net r) fit) in
+      let parts = parts_of net valid r (and_right (r.node == u) (report_fits net r) fit) in
+      let long = report_is_short net valid w r parts short in
+      let limit = report_limit w (report_told r) in
+      and_both (fields_fit (frame.Report w (report_told r))) (nat_le (length (body (frame.Report w (report_told r)))) (limit_of (tag_of (frame.Report w (report_told r)))))
+      (and_both (node.fits w) (listing_fits (report_told r)) (node_fits net w valid of) (report_as net valid r (subst (λ n. has net.nodes n ≡ true) (sym own) from) at parts))
+      (grind (arith, nat_tests, long, limit))
 
   mail_told_fits : (u w : ℕ) (m : Message) → has net.nodes w ≡ true → message_fits net u m ≡ true → is_short m ≡ true → has_spelling (mail_frame w m) ≡ true
   mail_told_fits u w (Reports r) of fit short =

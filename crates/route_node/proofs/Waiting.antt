@@ -11,7 +11,7 @@ use Rattle.wire_frames.specs.declared.tags.Tag.{Tag}
 use Rattle.wire_frames.specs.declared.frames.Frame.{Frame}
 use Rattle.wire_frames.specs.Formats.{word_at}
 use Rattle.wire_frames.specs.Frames.{tag_in, limit_of}
-use Rattle.wire_frames.specs.Reading.{body_at, Found, Partial, Wrong, found_by, sized, behind_kind, of_kind, behind_version, found}
+use Rattle.wire_frames.specs.Reading.{body_at, Found, Partial, Wrong, found_by, sized, behind_kind, of_kind, behind_version, is_version, found}
 use Rattle.wire_frames.proofs.Found.{limit_small}
 use Rattle.topology.specs.declared.frame_faults.FrameFault.TheVariants.{Truncated}
 use Rattle.topology.specs.declared.status.Status.TheVariants.{Done, NoMemory, LinkFault, BadFrame}
@@ -64,16 +64,16 @@ of_kind_short : (tag : Option Tag) (bytes : List ℕ) → of_kind tag bytes ≡ 
 of_kind_short None bytes e = absurd (cc e)
 of_kind_short (Some tag) bytes e = kind_short tag bytes e
 
-version_short : (bytes : List ℕ) → behind_version bytes ≡ Partial → length bytes < 1048581
-version_short [] e = omega arith
-version_short (b ∷ bytes) e = let rest = of_kind_short (tag_in b) bytes e in omega (arith, rest)
+version_short : (v : ℕ) (bytes : List ℕ) → behind_version v bytes ≡ Partial → length bytes < 1048581
+version_short v [] e = omega arith
+version_short v (b ∷ bytes) e = let rest = of_kind_short (tag_in v b) bytes e in omega (arith, rest)
 
 pub partial_short : (bytes : List ℕ) → found bytes ≡ Partial → length bytes < 1048582
 unfolding found
 partial_short [] e = omega arith
 partial_short (v ∷ bytes) e =
-    (elim (v == 1) as (λ t. (if t then behind_version bytes else Wrong fault.Version) ≡ Partial → length (v ∷ bytes) < 1048582) [
-      | true ↦ λ d. let rest = version_short bytes d in omega (arith, rest)
+    (elim (is_version v) as (λ t. (if t then behind_version v bytes else Wrong fault.Version) ≡ Partial → length (v ∷ bytes) < 1048582) [
+      | true ↦ λ d. let rest = version_short v bytes d in omega (arith, rest)
       | false ↦ λ d. absurd (cc d)
     ]) e
 

@@ -53,7 +53,6 @@ ends_attending Done = true
 ends_attending Usage = false
 ends_attending NoMemory = true
 ends_attending (BadSchedule line bad) = true
-ends_attending (Limit kind.Marks number) = false
 ends_attending (Limit kind.Journal number) = false
 ends_attending (Limit other number) = true
 ends_attending ReadFault = true

@@ -2,9 +2,11 @@
 use Rattle.std.specs.Prelude.{ℕ, Option, Some, None, List, [], ◌∷◌, map, option_map}
 use Rattle.topology.specs.declared.names.Trigger.{Trigger}
 use Rattle.topology.specs.declared.items.Sent.{Sent}
+use Rattle.topology.specs.declared.items.Pending.{Pending}
+use Rattle.topology.specs.Triggers.{sorted}
 use Rattle.trigger_log.specs.Entries.{Update}
 use Rattle.trigger_log.specs.Going.{Item, News, Marker, Hello}
-use Rattle.incomplete_closure.specs.Reports.{Listed, Row, SessionRow, Report}
+use Rattle.incomplete_closure.specs.Reports.{Row, SessionRow, Report}
 use Rattle.incomplete_closure.specs.Seen.{report_seen}
 use Rattle.incomplete_closure.specs.declared.cut_rows.Row.{Row as TheRow}
 use Rattle.incomplete_closure.specs.declared.session_rows.SessionRow.{SessionRow as TheSessionRow}
@@ -20,9 +22,9 @@ use Rattle.wire_frames.specs.declared.frames.Frame.TheVariants as frame
 
 -- ---- what a frame brings
 
--- an update of one trigger
-abbrev pub update_of : ℕ → Trigger → Option (List ℕ) → Update
-update_of p t path = record { prefix = p; triggers = t ∷ []; path = path }
+-- an update with these triggers
+abbrev pub update_of : ℕ → List Trigger → Option (List ℕ) → Update
+update_of p ts path = record { prefix = p; triggers = ts; path = path }
 
 -- what a frame brings to the node, the peer being the sender; nothing where frames of its kind go from a node alone
 abbrev pub brought : Frame → Option Input
@@ -33,7 +35,7 @@ brought (frame.Notice v) = Some (input.Notice v)
 brought (frame.OpenSession v s) = Some (input.OpenSession v s)
 brought frame.Snap = Some input.Snap
 brought (frame.Propose e) = Some (input.Propose e)
-brought (frame.Update v s q t p path) = Some (input.Arrive v s (News q (update_of p t path)))
+brought (frame.Update v s q ts p path) = Some (input.Arrive v s (News q (update_of p ts path)))
 brought (frame.Marker v s e) = Some (input.Arrive v s (Marker e))
 brought (frame.Hello v s e) = Some (input.Arrive v s (Hello e))
 brought (frame.Report v r) = Some (input.Control v (Reports (report_seen r)))
@@ -47,33 +49,48 @@ brought (frame.Forward next packet) = None
 brought (frame.Ended id ending) = None
 brought (frame.Published e paths) = None
 brought (frame.Inject id p) = Some (input.Inject id p)
+brought (frame.Flush v) = Some (input.Flush v)
 
 -- ---- what tells an output
 
--- the first trigger that is listed; each entry, update and item lists one
+-- the first trigger that is listed; a Down lists one
 abbrev pub first_of : List Trigger → Trigger
 first_of [] = record { node = 0; count = 0 }
 first_of (t ∷ ts) = t
 
--- an item, as a frame has it
-abbrev pub item_told : Listed → Sent
-item_told item = record { to = item.to; session = item.session; seq = item.seq }
+-- a list of triggers, as a frame has it: in rising order, each once, as the lists of a node are
+abbrev pub list_told : List Trigger → List Trigger
+list_told ts = sorted ts
+
+-- an item
+abbrev pub item_told : Sent → Sent
+item_told item = record { to = item.to; session = item.session; seq = item.seq; triggers = list_told item.triggers }
 
 -- a row
 abbrev pub row_told : Row → TheRow
-row_told row = record { trigger = first_of row.triggers; scope = row.scope; sent = map item_told row.sent }
+row_told row = record { triggers = list_told row.triggers; scope = row.scope; sent = map item_told row.sent }
 
 -- a session row
 abbrev pub session_told : SessionRow → TheSessionRow
 session_told row = record { nbr = row.nbr; session = row.session; received = row.received; down = option_map first_of row.down }
 
+-- a pending row
+abbrev pub pending_told : Pending → Pending
+pending_told row = record { to = row.to; prefix = row.prefix; session = row.session; triggers = list_told row.triggers }
+
 -- a report
 abbrev pub report_told : Report → TheReport
-report_told r = record { node = r.node; epoch = r.epoch; rows = map row_told r.rows; sessions = map session_told r.sessions }
+report_told r = record {
+  node = r.node;
+  epoch = r.epoch;
+  rows = map row_told r.rows;
+  sessions = map session_told r.sessions;
+  pending = map pending_told r.pending;
+}
 
 -- an item for w in a session
 abbrev pub item_frame : ℕ → ℕ → Item → Frame
-item_frame w s (News q x) = frame.Update w s q (first_of x.triggers) x.prefix x.path
+item_frame w s (News q x) = frame.Update w s q (list_told x.triggers) x.prefix x.path
 item_frame w s (Marker e) = frame.Marker w s e
 item_frame w s (Hello e) = frame.Hello w s e
 

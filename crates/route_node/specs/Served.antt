@@ -26,7 +26,6 @@ ends_serving Usage = false
 ends_serving NoMemory = true
 ends_serving (BadSchedule line kind) = false
 ends_serving (Limit count.Bytes number) = false
-ends_serving (Limit count.Marks number) = false
 ends_serving (Limit count.Journal number) = false
 ends_serving (Limit kind number) = true
 ends_serving ReadFault = false

@@ -66,6 +66,9 @@ pub(crate) fn hear<P: Policy + Copy>(
     ensures in_turn { IfOk result (λ r. (policy : P) (net : Net) (u : ℕ) (carried : Carried) (past : Chronicle) →
         StandsFor policy (P.rules policy) net u node past → MayCome net u (input_seen input) →
         out_of_turn (give (P.rules policy) net carried u past (input_seen input)) ≡ None) }
+    ensures within { OnOk result ((policy : P) (net : Net) (u : ℕ) (carried : Carried) (past : Chronicle) →
+        StandsFor policy (P.rules policy) net u node past → MayCome net u (input_seen input) →
+        node_limit (P.rules policy) net u (give (P.rules policy) net carried u past (input_seen input)) ≡ None) }
     ensures counted { OnOk result (frames < MAX_FRAMES) }
     ensures err { IfErr result (λ status. (policy : P) (net : Net) (u : ℕ) (carried : Carried) (past : Chronicle) →
         StandsFor policy (P.rules policy) net u node past → MayCome net u (input_seen input) →

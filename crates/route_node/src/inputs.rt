@@ -75,7 +75,7 @@ fn arrival_of(frame: Frame) -> Option<Input>
             peer,
             session,
             seq,
-            trigger,
+            triggers,
             prefix,
             path,
         } => Some(Input::Arrive {
@@ -84,7 +84,7 @@ fn arrival_of(frame: Frame) -> Option<Input>
             item: Item::Update {
                 prefix,
                 seq,
-                trigger,
+                triggers,
                 path,
             },
         }),
@@ -140,6 +140,7 @@ pub fn input_of(alloc: Global, frame: Frame) -> Result<Option<Input>, NoMemory>
         Frame::Snap => Ok(Some(Input::Snap)),
         Frame::Propose { epoch } => Ok(Some(Input::Propose(epoch))),
         Frame::Inject { id, prefix } => Ok(Some(Input::Inject { id, prefix })),
+        Frame::Flush { nbr } => Ok(Some(Input::Flush(nbr))),
         _ => kept_of(alloc, frame),
     }
 }

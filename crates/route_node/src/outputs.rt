@@ -23,16 +23,20 @@ fn item_frame(outgoing: Outgoing) -> Frame
         Item::Update {
             prefix,
             seq,
-            trigger,
+            triggers,
             path,
-        } => Frame::Update {
-            peer: to,
-            session,
-            seq,
-            trigger,
-            prefix,
-            path,
-        },
+        } => {
+            // that triggers rise is said where they are read
+            let _triggers = triggers.as_slice();
+            Frame::Update {
+                peer: to,
+                session,
+                seq,
+                triggers,
+                prefix,
+                path,
+            }
+        }
         Item::Marker(epoch) => Frame::Marker {
             peer: to,
             session,

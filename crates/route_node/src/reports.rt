@@ -1,28 +1,49 @@
 //! A report and a table as frames have them: the node shares its own.
-ghost use Rattle.std.specs.Prelude.{◌≡◌, ℕ, true, IfOk, slice_get, option_and_then};
+ghost use Rattle.std.specs.Prelude.{◌≡◌, ℕ, true, IfOk, map, slice_get, option_and_then};
 ghost use Rattle.std.specs.List.{list_all};
 ghost use Rattle.topology.specs.Net.{Net};
 ghost use Rattle.node_core.specs.Fits.{path_fits};
 ghost use Rattle.admission_laws.specs.Handing.{table_fits};
+ghost use Rattle.incomplete_closure.specs.Seen.{row_seen, report_seen};
+ghost use Rattle.route_node.specs.Frames.{item_told, row_told, pending_told, report_told};
 
-use incomplete_closure::{Report, Row, Rows, SessionRows};
+use incomplete_closure::{PendingRows, Report, Row, Rows, SessionRows};
 use stable_table::Table;
 use std::alloc::Global;
-use topology::{NoMemory, Path, PrefixId, Topology};
+use topology::{NoMemory, Path, Pending, PrefixId, Sent, SentItems, Topology};
 use wire_frames::Paths;
 
-fn row_copy(row: &Row) -> Result<Row, NoMemory>
-    ensures { IfOk result (λ copy. copy ≡ row.now) }
+// Each list is told as it is: the lists of items rise, as their type says.
+fn items_are_told(items: &[Sent])
+    ensures { map item_told items.now ≡ items.now }
 {
+    for item in items {
+        let _triggers = item.triggers.as_slice();
+    }
+}
+
+// So does what an entry sent.
+fn sent_is_told(sent: &SentItems)
+    ensures { map item_told sent.now ≡ sent.now }
+{
+    let laid_out = sent.laid_out();
+    items_are_told(laid_out.as_slice());
+}
+
+fn row_copy(row: &Row) -> Result<Row, NoMemory>
+    ensures { IfOk result (λ copy. copy ≡ row_told (row_seen row.now)) }
+{
+    let _triggers = row.triggers.as_slice();
+    sent_is_told(&row.sent);
     Ok(Row {
-        trigger: row.trigger,
+        triggers: row.triggers.copy()?,
         scope: row.scope,
         sent: row.sent.copy()?,
     })
 }
 
 fn rows_copy(alloc: Global, rows: &[Row]) -> Result<Rows, NoMemory>
-    ensures { IfOk result (λ copy. copy ≡ rows.now) }
+    ensures { IfOk result (λ copy. copy ≡ map (λ r. row_told (row_seen r)) rows.now) }
 {
     let mut list = Vec::with_capacity(alloc, rows.len())?;
     for row in rows {
@@ -31,15 +52,33 @@ fn rows_copy(alloc: Global, rows: &[Row]) -> Result<Rows, NoMemory>
     Ok(Rows::new(list))
 }
 
-/// An equal report.
+fn pending_copy(row: &Pending) -> Result<Pending, NoMemory>
+    ensures { IfOk result (λ copy. copy ≡ pending_told row.now) }
+{
+    let _triggers = row.triggers.as_slice();
+    row.copy()
+}
+
+fn all_pending_copy(alloc: Global, rows: &[Pending]) -> Result<PendingRows, NoMemory>
+    ensures { IfOk result (λ copy. copy ≡ map pending_told rows.now) }
+{
+    let mut list = Vec::with_capacity(alloc, rows.len())?;
+    for row in rows {
+        list.push(pending_copy(row)?)?;
+    }
+    Ok(PendingRows::new(list))
+}
+
+/// A copy of a report, as a frame tells it.
 pub(crate) fn report_copy(alloc: Global, report: &Report) -> Result<Report, NoMemory>
-    ensures { IfOk result (λ copy. copy ≡ report.now) }
+    ensures { IfOk result (λ copy. copy ≡ report_told (report_seen report.now)) }
 {
     Ok(Report {
         node: report.node,
         epoch: report.epoch,
         rows: rows_copy(alloc, report.rows.as_slice())?,
         sessions: SessionRows::new(Vec::from_slice(alloc, report.sessions.as_slice())?),
+        pending: all_pending_copy(alloc, report.pending.as_slice())?,
     })
 }
 

@@ -22,19 +22,19 @@ pub write_outputs-requires : goal.write_outputs-requires
 write_outputs-requires g c =
     let m = c.requires in
     let comes = c.what_fits_may_come.ensures m.at.net m.at.node _ m.admits.fit in
-    let stands = c.in-Ok.ensures.node m.at.policy m.at.net m.at.node each_link _ m.runs.stands comes in
+    let low = c.in-Ok.ensures.within m.at.policy m.at.net m.at.node each_link _ m.runs.stands comes in
     let told = c.in-Ok.ensures.outputs m.at.policy m.at.net m.at.node each_link _ m.runs.stands comes in
     subst (λ n. list_all (output_fits n c.args.self.id) (handed c.in-Ok.answered.1) ≡ true) (sym (c.deref.ensures ∙ m.runs.same_net))
     (subst (λ u. list_all (output_fits m.at.net u) (handed c.in-Ok.answered.1) ≡ true) (sym m.runs.same_id)
     (handed_fits (g.P.Policy.rules m.at.policy) m.at.net m.at.node m.frames _ c.in-Ok.answered.1
-    (λ is all. c.what_is_handed_out_is_admitted.ensures (g.P.Policy.rules m.at.policy) m.at.net m.at.node is m.runs.valid m.runs.is_node all) m.runs.taken m.admits.fit stands.within told))
+    (λ is all. c.what_is_handed_out_is_admitted.ensures (g.P.Policy.rules m.at.policy) m.at.net m.at.node is m.runs.valid m.runs.is_node all) m.runs.taken m.admits.fit low told))
 
 pub returns-in_err-write_outputs-clause-err : goal.returns-in_err-write_outputs-clause-err
 returns-in_err-write_outputs-clause-err g c = handed_on _ _ _ c.from_residual.ensures (λ status breaks. λ at frames frame runs within holds admits.
     let comes = c.what_fits_may_come.ensures at.net at.node _ admits.fit in
     served_by_replies (g.P.Policy.rules at.policy) at frames c.args.self _ runs frame c.args.size holds _ admits c.in-Ok.answered.0 c.in-Ok.answered.1
     (c.in-Ok.ensures.node at.policy at.net at.node each_link _ runs.stands comes) (c.in-Ok.ensures.outputs at.policy at.net at.node each_link _ runs.stands comes)
-    (c.in-Ok.ensures.in_turn at.policy at.net at.node each_link _ runs.stands comes) c.in-Ok.ensures.counted _ status
+    (c.in-Ok.ensures.in_turn at.policy at.net at.node each_link _ runs.stands comes) c.in-Ok.ensures.counted (c.in-Ok.ensures.within at.policy at.net at.node each_link _ runs.stands comes) _ status
     (subst (λ s. Breaks (filter_map telling (handed c.in-Ok.answered.1)) (g.L.Link.seen c.args.link.now) (g.L.Link.seen c.write_outputs.new.link) s) (sym breaks) c.in_err-write_outputs.ensures.err))
 
 pub overflow_add-result-2 : goal.overflow_add-result-2
@@ -54,4 +54,4 @@ returns-clause-ok g c = λ at frames frame runs within holds admits.
     let comes = c.what_fits_may_come.ensures at.net at.node _ admits.fit in
     goes_on_taken (g.P.Policy.rules at.policy) at frames c.args.self _ runs frame c.args.size holds _ admits c.in-Ok.answered.0 c.in-Ok.answered.1
     (c.in-Ok.ensures.node at.policy at.net at.node each_link _ runs.stands comes) (c.in-Ok.ensures.outputs at.policy at.net at.node each_link _ runs.stands comes)
-    (c.in-Ok.ensures.in_turn at.policy at.net at.node each_link _ runs.stands comes) c.in-Ok.ensures.counted within _ c.take_front.new.self c.take_front.ensures c.in_ok-write_outputs.ensures.ok
+    (c.in-Ok.ensures.in_turn at.policy at.net at.node each_link _ runs.stands comes) c.in-Ok.ensures.counted (c.in-Ok.ensures.within at.policy at.net at.node each_link _ runs.stands comes) within _ c.take_front.new.self c.take_front.ensures c.in_ok-write_outputs.ensures.ok
