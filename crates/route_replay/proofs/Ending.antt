@@ -21,7 +21,7 @@ use Rattle.chronicle.specs.Steps.{Step, Idle, Goes}
 use Rattle.chronicle.specs.Walks.{ending}
 use Rattle.node_core.specs.NodeLimits.{Reached}
 use Rattle.world_core.specs.declared.bounds.TheConstants.{MOST_EVENTS, MOST_TRIGGERS}
-use Rattle.world_core.specs.Limits.{triggers_of, has_more_epochs, has_more_entries, has_more_updates, has_more_control, has_more_packets, first_above, above, above_by, limit_of}
+use Rattle.world_core.specs.Limits.{triggers_of, has_more_epochs, has_more_entries, has_more_updates, has_more_control, has_more_packets, has_more_marks, Exceeded, first_above, above, above_by, limit_of}
 use Rattle.schedule_file.specs.declared.lines.Numbered.{Numbered}
 use Rattle.schedule_file.specs.declared.lines.Line.{Line}
 use Rattle.schedule_file.specs.Spelling.{words_by_line}
@@ -98,7 +98,7 @@ status_of (Err end.NoMemory) = NoMemory
 status_of (Err end.WriteFault) = WriteFault
 status_of (Err (end.Limit kind number)) = Limit kind number
 
--- the limits that stop a run: not those of the bytes, of the frames, of lists and of a journal
+-- the limits that stop a run: not those of the bytes, of the frames and of a journal
 abbrev stops_runs : LimitKind → Bool
 stops_runs count.Bytes = false
 stops_runs count.Events = true
@@ -109,26 +109,38 @@ stops_runs count.Updates = true
 stops_runs count.Control = true
 stops_runs count.Packets = true
 stops_runs count.Frames = false
-stops_runs count.Marks = false
+stops_runs count.Marks = true
 stops_runs count.Journal = false
 
 abbrev OfRun : Option Reached → Type 0
 OfRun None = Unit {0}
 OfRun (Some reached) = stops_runs reached.kind ≡ true
 
-above_of_run : (epochs triggers entries updates control packets : Bool) → OfRun (first_above epochs triggers entries updates control packets)
-above_of_run true triggers entries updates control packets = refl
-above_of_run false true entries updates control packets = refl
-above_of_run false false true updates control packets = refl
-above_of_run false false false true control packets = refl
-above_of_run false false false false true packets = refl
-above_of_run false false false false false true = refl
-above_of_run false false false false false false = tt
+above_of_run : (is : Exceeded) → OfRun (first_above is)
+above_of_run is = by is.epochs is.triggers is.entries is.updates is.control is.packets is.marks
+  where
+    by : (epochs triggers entries updates control packets marks : Bool) → OfRun (first_above (record { epochs = epochs; triggers = triggers; entries = entries; updates = updates; control = control; packets = packets; marks = marks }))
+    by true triggers entries updates control packets marks = refl
+    by false true entries updates control packets marks = refl
+    by false false true updates control packets marks = refl
+    by false false false true control packets marks = refl
+    by false false false false true packets marks = refl
+    by false false false false false true marks = refl
+    by false false false false false false true = refl
+    by false false false false false false false = tt
 
 step_of_run : (rules : Rules) (net : Net) (s : Step) → OfRun (above_by rules net s)
 unfolding above
 step_of_run rules net (Idle reason) = tt
-step_of_run rules net (Goes now) = above_of_run (has_more_epochs net now) (nat_lt MOST_TRIGGERS (triggers_of net now)) (has_more_entries net now) (has_more_updates rules net now) (has_more_control now) (has_more_packets now)
+step_of_run rules net (Goes now) = above_of_run (record {
+  epochs = has_more_epochs net now;
+  triggers = nat_lt MOST_TRIGGERS (triggers_of net now);
+  entries = has_more_entries net now;
+  updates = has_more_updates rules net now;
+  control = has_more_control now;
+  packets = has_more_packets now;
+  marks = has_more_marks rules net now;
+})
 
 limit_of_run : (rules : Rules) (net : Net) (events : List Event) (e : Event) → OfRun (limit_of rules net events e)
 unfolding limit_of
@@ -240,7 +252,7 @@ may_end count.Updates number e = refl
 may_end count.Control number e = refl
 may_end count.Packets number e = refl
 may_end count.Frames number e = e
-may_end count.Marks number e = e
+may_end count.Marks number e = refl
 may_end count.Journal number e = e
 
 is_limit : (bytes : List ℕ) (kind : LimitKind) (number : ℕ) (held held' : Option (List ℕ)) → stops_runs kind ≡ true

@@ -14,7 +14,7 @@ use Rattle.schedule_file.specs.declared.lines.Instruction.{Instruction}
 use Rattle.schedule_file.specs.declared.lines.Instruction.TheVariants.{Origin, Single, Pair, Prefer, Propose, Drain, Control, ControlAll, Inject, Hop, HopTimes, Show, ShowEpoch, ShowWalk}
 use Rattle.schedule_file.specs.declared.table.OriginVerb.TheVariants.{Originate, Withdraw, Probe}
 use Rattle.schedule_file.specs.declared.table.NodeEvent.TheVariants.{Snap, Crash, Restart}
-use Rattle.schedule_file.specs.declared.table.PairEvent.TheVariants.{Deliver, Fail, Restore, Notice, Open}
+use Rattle.schedule_file.specs.declared.table.PairEvent.TheVariants.{Deliver, Fail, Restore, Notice, Open, Flush}
 use Rattle.schedule_file.specs.declared.table.PlainView.TheVariants.{Rib, Log}
 use Rattle.schedule_file.specs.declared.table.PlainView.TheVariants.{Control as Messages}
 use Rattle.schedule_file.specs.declared.table.EpochView.TheVariants.{Cut, Closure, Tables}
@@ -87,6 +87,7 @@ module _ (net : Net) where
   instruction_fits (Pair Restore a b) r fine = joined a b fine
   instruction_fits (Pair Notice a b) r fine = joined a b fine
   instruction_fits (Pair Open a b) r fine = joined a b fine
+  instruction_fits (Pair Flush a b) r fine = joined a b fine
   instruction_fits (Prefer node nbr value) r fine =
       and_both _ _ (near_linked (has net.nodes node) (has net.nodes nbr) (linked net node nbr) fine) (small value _ r.2)
   instruction_fits (Propose node epoch) r fine =

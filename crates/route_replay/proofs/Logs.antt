@@ -41,11 +41,11 @@ entries_before (k ∷ h) i step e = ⊎_elim
 
 -- the line of what is kept of an entry is that of the entry
 pub shows_line : (rules : Rules) (net : Net) (node : ℕ) (step : Entered) (shown : Shown) (index : ℕ) → Shows rules net node step shown → index ≡ suc (length step.before)
-    → line_of net node index (shown.trigger ∷ []) (change shown.scope shown.cause) shown.sent ≡ entry_line rules net node step
+    → line_of net node index shown.triggers (change shown.scope shown.cause) shown.sent ≡ entry_line rules net node step
 unfolding entry_line
 shows_line rules net node step shown index shows counts =
     let read = change shown.scope shown.cause in
-    ap (λ n. line_of net node n (shown.trigger ∷ []) read shown.sent) counts
-    ∙ (ap (λ ts. line_of net node (suc (length step.before)) ts read shown.sent) shows.trigger
+    ap (λ n. line_of net node n shown.triggers read shown.sent) counts
+    ∙ (ap (λ ts. line_of net node (suc (length step.before)) ts read shown.sent) shows.triggers
     ∙ (ap (λ k. line_of net node (suc (length step.before)) step.entry.triggers k shown.sent) shows.read
     ∙ ap (λ items. line_of net node (suc (length step.before)) step.entry.triggers step.entry.read items) shows.sent))

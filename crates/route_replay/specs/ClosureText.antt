@@ -1,6 +1,5 @@
 -- The text of the value of an epoch.
-use Rattle.std.specs.Prelude.{ℕ, List, [], ◌∷◌, ◌++◌, codes}
-use Rattle.std.specs.List.{flat_map}
+use Rattle.std.specs.Prelude.{ℕ, List, ◌++◌, codes}
 use Rattle.std.specs.Fmt.{decimal}
 use Rattle.topology.specs.Lists.{ascending}
 use Rattle.topology.specs.Net.{Net}
@@ -9,25 +8,16 @@ use Rattle.incomplete_closure.specs.declared.values.Value.{Value}
 use Rattle.incomplete_closure.specs.Marking.{value_of}
 use Rattle.chronicle.specs.Facts.{Chronicle}
 use Rattle.agreement_laws.specs.Decided.{told_reports}
-use Rattle.route_replay.specs.Lines.{ended}
-use Rattle.route_replay.specs.LogText.{trigger_text}
+use Rattle.route_replay.specs.Lines.{ended, listed}
+use Rattle.route_replay.specs.LogText.{triggers_text}
 
 -- the value of the reports of all nodes that have a cut of the epoch, as they were sent
 abbrev pub value_at : Rules → Net → Chronicle → ℕ → Value
 value_at rules net past e = value_of (told_reports rules net past e (ascending net.nodes))
 
--- items, each after a comma
-abbrev pub further : {A : Type 0} → (A → List ℕ) → List A → List ℕ
-further text xs = flat_map (λ x. codes "," ++ text x) xs
-
--- items with a comma between them; where there is none, a hyphen
-abbrev pub listed : {A : Type 0} → (A → List ℕ) → List A → List ℕ
-listed text [] = codes "-"
-listed text (x ∷ xs) = text x ++ further text xs
-
 -- the nodes that responded and the incomplete triggers of a value
 abbrev pub value_text : Value → List ℕ
-value_text value = codes "S=" ++ listed decimal value.responding ++ codes " I=" ++ listed trigger_text value.incomplete
+value_text value = codes "S=" ++ listed decimal value.responding ++ codes " I=" ++ triggers_text value.incomplete
 
 -- the line of an epoch's value
 unfoldable pub closure_text : Rules → Net → Chronicle → ℕ → List ℕ

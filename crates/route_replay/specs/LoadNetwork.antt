@@ -56,6 +56,7 @@ drafted n c links p = record {
   consolidators = range_with_len 1 c;
   links = links;
   preferences = [];
+  holds = [];
   prefixes = map load_prefix (range_with_len 0 p);
   hops = 128;
   scheme = Deflect;

@@ -4,12 +4,12 @@ use Rattle.std.specs.List.{flat_map}
 use Rattle.std.specs.Fmt.{decimal}
 use Rattle.topology.specs.declared.names.Trigger.{Trigger}
 use Rattle.topology.specs.declared.names.Scope.{Scope}
-use Rattle.topology.specs.declared.names.Scope.TheVariants.{One, All}
+use Rattle.topology.specs.declared.names.Scope.TheVariants.{One, All, Nothing}
 use Rattle.topology.specs.declared.items.Sent.{Sent}
 use Rattle.topology.specs.declared.prefixes.Prefix.{Prefix}
 use Rattle.topology.specs.Net.{Net}
 use Rattle.path_vector.specs.declared.causes.Cause.{Cause}
-use Rattle.path_vector.specs.declared.causes.Cause.TheVariants.{Originate, Withdraw, Recv, Down, Up, Ready, Prefer}
+use Rattle.path_vector.specs.declared.causes.Cause.TheVariants.{Originate, Withdraw, Recv, Down, Up, Ready, Prefer, Flush}
 use Rattle.path_vector.specs.History.{Change}
 use Rattle.path_vector.specs.Rules.{Rules}
 use Rattle.trigger_log.specs.Sending.{sent_by}
@@ -18,27 +18,26 @@ use Rattle.chronicle.specs.Facts.{Chronicle}
 use Rattle.chronicle.specs.Drops.{dropped}
 use Rattle.chronicle.specs.Logs.{log_of}
 use Rattle.schedule_file.specs.Spelling.{prefix_text}
-use Rattle.route_replay.specs.Lines.{ended}
+use Rattle.route_replay.specs.Lines.{ended, listed}
 
 -- the node and its counter, with a point between them
 abbrev pub trigger_text : Trigger → List ℕ
 trigger_text t = decimal t.node ++ codes "." ++ decimal t.count
 
--- the triggers of an entry, joined by commas
+-- triggers, joined by commas; a hyphen where there are none
 abbrev pub triggers_text : List Trigger → List ℕ
-triggers_text [] = []
-triggers_text (t ∷ []) = trigger_text t
-triggers_text (t ∷ s ∷ ts) = trigger_text t ++ codes "," ++ triggers_text (s ∷ ts)
+triggers_text triggers = listed trigger_text triggers
 
 -- a prefix of the network
 abbrev pub known_prefix : Option Prefix → List ℕ
 known_prefix None = []
 known_prefix (Some prefix) = prefix_text prefix
 
--- the prefix at this place of the file, or all
+-- the prefix at this place of the file, all of them, or a hyphen for none
 abbrev pub scope_text : Net → Scope → List ℕ
 scope_text net (One p) = known_prefix (slice_get net.prefixes p)
 scope_text net All = codes "all"
+scope_text net Nothing = codes "-"
 
 -- the nodes behind the first, each after a hyphen
 abbrev pub further_nodes : List ℕ → List ℕ
@@ -67,6 +66,7 @@ cause_text (Down v s) = codes "down " ++ session_text v s
 cause_text (Up v s) = codes "up " ++ session_text v s
 cause_text (Ready v s) = codes "ready " ++ session_text v s
 cause_text (Prefer v x) = codes "prefer " ++ decimal v ++ codes " " ++ decimal x
+cause_text (Flush v) = codes "flush " ++ decimal v
 
 -- an item that was sent
 abbrev pub item_text : Sent → List ℕ

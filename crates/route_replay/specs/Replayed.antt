@@ -65,7 +65,6 @@ ends_replay Usage = false
 ends_replay NoMemory = true
 ends_replay (BadSchedule line kind) = true
 ends_replay (Limit Frames number) = false
-ends_replay (Limit Marks number) = false
 ends_replay (Limit Journal number) = false
 ends_replay (Limit kind number) = true
 ends_replay ReadFault = true

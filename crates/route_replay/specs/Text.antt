@@ -13,7 +13,7 @@ use Rattle.chronicle.specs.Walks.{ending}
 use Rattle.node_core.specs.NodeLimits.{Reached}
 use Rattle.world_core.specs.Limits.{limit_of}
 use Rattle.schedule_file.specs.declared.lines.Directive.{Directive}
-use Rattle.schedule_file.specs.declared.lines.Directive.TheVariants.{Originate, Withdraw, Probe, Prefer, Deliver, Fail, Restore, Notice, OpenSession, Snap, Propose, Control, Crash, Restart, Drain, ControlAll, ShowRib, ShowLog, ShowControl, ShowCut, ShowClosure, ShowTables, Inject, Hop, ShowWalk}
+use Rattle.schedule_file.specs.declared.lines.Directive.TheVariants.{Originate, Withdraw, Probe, Prefer, Deliver, Fail, Restore, Notice, OpenSession, Flush, Snap, Propose, Control, Crash, Restart, Drain, ControlAll, ShowRib, ShowLog, ShowControl, ShowCut, ShowClosure, ShowTables, Inject, Hop, ShowWalk}
 use Rattle.schedule_file.specs.declared.lines.Numbered.{Numbered}
 use Rattle.route_replay.specs.declared.tasks.Task.{Task}
 use Rattle.route_replay.specs.declared.tasks.Task.TheVariants as task
@@ -102,6 +102,7 @@ task_of (Fail a b) = task.Event (event.Fail a b)
 task_of (Restore a b) = task.Event (event.Restore a b)
 task_of (Notice node nbr) = task.Event (event.Notice node nbr)
 task_of (OpenSession node nbr) = task.Event (event.OpenSession node nbr)
+task_of (Flush node nbr) = task.Event (event.Flush node nbr)
 task_of (Snap node) = task.Event (event.Snap node)
 task_of (Propose node epoch) = task.Event (event.Propose node epoch)
 task_of (Control number) = task.Event (event.Control number)

@@ -9,19 +9,19 @@ ghost use Rattle.incomplete_closure.specs.Together.{OfOneEpoch};
 ghost use Rattle.chronicle.specs.Facts.{Chronicle};
 ghost use Rattle.node_core.specs.Standing.{StandsFor};
 ghost use Rattle.agreement_laws.specs.Decided.{told_reports};
-ghost use Rattle.route_replay.specs.ClosureText.{closure_text, further, listed, value_text};
-ghost use Rattle.route_replay.specs.LogText.{trigger_text};
+ghost use Rattle.route_replay.specs.ClosureText.{closure_text, value_text};
+ghost use Rattle.route_replay.specs.Lines.{further, listed};
 ghost use Rattle.route_replay.specs.Views.{past_of};
 
-use crate::log_text::trigger_words;
+use crate::log_text::triggers_words;
 use crate::numbers::{push_node, push_number};
 use crate::views::node_of;
-use incomplete_closure::{Report, Value, closure};
+use incomplete_closure::{Report, Value, uncounted_closure};
 use node_core::Node;
 use path_vector::Policy;
 use std::alloc::{AllocError, Global};
 use std::rc::Rc;
-use topology::{Epoch, NoMemory, NodeId, Trigger};
+use topology::{Epoch, NoMemory, NodeId};
 use world_core::World;
 
 // Adds what a node reported of its cut of the epoch, where it has one.
@@ -81,28 +81,6 @@ fn node_words(out: &mut String, nodes: &[NodeId]) -> Result<(), AllocError>
     further_nodes(out, rest)
 }
 
-// Triggers, each after a comma.
-fn further_triggers(out: &mut String, triggers: &[Trigger]) -> Result<(), AllocError>
-    ensures { OnOk result (string_bytes out.new ≡ string_bytes out.old ++ further trigger_text triggers.now) }
-{
-    for trigger in triggers {
-        out.push(',')?;
-        trigger_words(out, trigger)?;
-    }
-    Ok(())
-}
-
-// Triggers, with commas between them.
-fn triggers_words(out: &mut String, triggers: &[Trigger]) -> Result<(), AllocError>
-    ensures { OnOk result (string_bytes out.new ≡ string_bytes out.old ++ listed trigger_text triggers.now) }
-{
-    let [first, rest @ ..] = triggers else {
-        return out.push('-');
-    };
-    trigger_words(out, first)?;
-    further_triggers(out, rest)
-}
-
 /// Adds the nodes that responded and the incomplete triggers of a value.
 pub(crate) fn value_words(out: &mut String, value: &Value) -> Result<(), AllocError>
     ensures { OnOk result (string_bytes out.new ≡ string_bytes out.old ++ value_text value.now) }
@@ -126,7 +104,7 @@ pub fn closure_line<P: Policy + Copy>(
         ≡ string_bytes out.old ++ closure_text rules world.now.net (past_of rules world.now) epoch) }
 {
     let reports = reports_of(alloc, world, epoch)?;
-    let value = closure(alloc, &reports)?;
+    let value = uncounted_closure(alloc, &reports)?;
     out.push_str("closure ")?;
     push_number(out, epoch.number())?;
     out.push_str(": ")?;

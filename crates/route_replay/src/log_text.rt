@@ -10,7 +10,8 @@ ghost use Rattle.chronicle.specs.Facts.{Chronicle};
 ghost use Rattle.chronicle.specs.Logs.{log_of};
 ghost use Rattle.node_core.specs.Standing.{StandsFor};
 ghost use Rattle.route_replay.specs.Views.{pieces_in, IsNodeOf};
-ghost use Rattle.route_replay.specs.LogText.{trigger_text, scope_text, received_path, received_nodes, further_nodes, session_text, cause_text, item_text, line_of};
+ghost use Rattle.route_replay.specs.Lines.{further};
+ghost use Rattle.route_replay.specs.LogText.{trigger_text, triggers_text, scope_text, received_path, received_nodes, further_nodes, session_text, cause_text, item_text, line_of};
 
 use crate::numbers::{push_node, push_number};
 use crate::rib_text::prefix_words;
@@ -65,10 +66,10 @@ fn entry_line(
     entry: &Entry,
 ) -> Result<(), AllocError>
     ensures { OnOk result (string_bytes out.new ≡ string_bytes out.old
-        ++ line_of topology.now node index (entry.now.trigger ∷ []) (change entry.now.scope entry.now.cause) entry.now.sent) }
+        ++ line_of topology.now node index entry.now.triggers (change entry.now.scope entry.now.cause) entry.now.sent) }
 {
     place_words(out, node, index)?;
-    trigger_words(out, &entry.trigger)?;
+    triggers_words(out, entry.triggers.as_slice())?;
     change_words(out, topology, &entry.scope, &entry.cause)?;
     sent_words(out, entry.sent.laid_out().as_slice())?;
     out.push('\n')
@@ -103,7 +104,7 @@ fn change_words(
     cause_words(out, cause)
 }
 
-pub(crate) fn trigger_words(out: &mut String, trigger: &Trigger) -> Result<(), AllocError>
+fn trigger_words(out: &mut String, trigger: &Trigger) -> Result<(), AllocError>
     ensures { OnOk result (string_bytes out.new ≡ string_bytes out.old ++ trigger_text trigger.now) }
 {
     push_node(out, trigger.node)?;
@@ -111,11 +112,34 @@ pub(crate) fn trigger_words(out: &mut String, trigger: &Trigger) -> Result<(), A
     push_number(out, trigger.count)
 }
 
+// Triggers, each after a comma.
+fn further_triggers(out: &mut String, triggers: &[Trigger]) -> Result<(), AllocError>
+    ensures { OnOk result (string_bytes out.new ≡ string_bytes out.old ++ further trigger_text triggers.now) }
+{
+    for trigger in triggers {
+        out.push(',')?;
+        trigger_words(out, trigger)?;
+    }
+    Ok(())
+}
+
+/// Adds triggers, with commas between them; a hyphen where there are none.
+pub(crate) fn triggers_words(out: &mut String, triggers: &[Trigger]) -> Result<(), AllocError>
+    ensures { OnOk result (string_bytes out.new ≡ string_bytes out.old ++ triggers_text triggers.now) }
+{
+    let [first, rest @ ..] = triggers else {
+        return out.push('-');
+    };
+    trigger_words(out, first)?;
+    further_triggers(out, rest)
+}
+
 fn scope_words(out: &mut String, topology: &Topology, scope: &Scope) -> Result<(), AllocError>
     ensures { OnOk result (string_bytes out.new ≡ string_bytes out.old ++ scope_text topology.now scope.now) }
 {
     match scope {
         Scope::All => out.push_str("all")?,
+        Scope::Nothing => out.push('-')?,
         Scope::One(id) => {
             if let Some(prefix) = topology.prefix(*id) {
                 prefix_words(out, &prefix)?;
@@ -145,6 +169,10 @@ fn cause_words(out: &mut String, cause: &Cause) -> Result<(), AllocError>
             push_node(out, *nbr)?;
             out.push(' ')?;
             push_number(out, *value)?;
+        }
+        Cause::Flush { nbr } => {
+            out.push_str("flush ")?;
+            push_node(out, *nbr)?;
         }
     }
     Ok(())

@@ -72,6 +72,10 @@ pub fn task_of(directive: &Directive) -> Task
             node: *node,
             nbr: *nbr,
         }),
+        Directive::Flush { node, nbr } => Task::Event(Event::Flush {
+            node: *node,
+            nbr: *nbr,
+        }),
         Directive::Snap { node } => Task::Event(Event::Snap { node: *node }),
         Directive::Propose { node, epoch } => Task::Event(Event::Propose {
             node: *node,

@@ -1,7 +1,7 @@
 use Rattle.std.proofs.Common.{◌≡◌, ◌++◌, take}
 use Rattle.std.specs.Fmt.{decimal}
 use Rattle.std.specs.String.{string_bytes}
-use Rattle.route_replay.specs.ClosureText.{further}
+use Rattle.route_replay.specs.Lines.{further}
 use Rattle.route_replay.proofs.closure_text.further_nodes.Given as goal
 
 -- the nodes so far are written

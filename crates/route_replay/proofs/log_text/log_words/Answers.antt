@@ -51,7 +51,7 @@ returns g c =
     let is : place ≡ n + number = omega (arith, c.saturating_add-place.ensures, c.saturating_sub-dropped.ensures, from, room, drops, inside, c.requires.from_one) in
     let kept = (rw c.unwrap-entry.ensures at c.entry.ensures.some) world.policy world.net node h stands in
     let counts : place ≡ suc (length kept.0.before) = omega (arith, entries_before h (place - 1) kept.0 kept.1, is, c.requires.from_one) in
-    let same = ap (λ net. line_of net node place (shown.trigger ∷ []) (change shown.scope shown.cause) shown.sent) c.topology.ensures ∙ shows_line rules world.net node kept.0 shown place kept.2 counts in
+    let same = ap (λ net. line_of net node place shown.triggers (change shown.scope shown.cause) shown.sent) c.topology.ensures ∙ shows_line rules world.net node kept.0 shown place kept.2 counts in
     let made = subst (λ words. OnOk c.entry_line.result (string_bytes c.entry_line.new.out ≡ string_bytes c.args.out.now ++ words)) same c.entry_line.ensures in
     let there = at_kept n (number - 1) (place - 1) (all_entered h) (omega (arith, is, c.requires.from_one)) ∙ kept.1 in
     line_if_made c.entry_line.result (entry_line rules world.net node) (drop n (all_entered h)) (number - 1) kept.0 (string_bytes c.args.out.now) (string_bytes c.entry_line.new.out) there made
