@@ -16,12 +16,14 @@ pub record CountsEndAt : Type 0 where
   pub events : all.MOST_EVENTS ≡ 1000000
   -- the epochs of a node
   pub epochs : one.MOST_EPOCHS ≡ 32
-  -- the triggers of all nodes, and those of one value
+  -- the triggers of all nodes, and those of one value and of one list
   pub triggers : all.MOST_TRIGGERS ≡ 8192
   pub of_value : one.MOST_TRIGGERS ≡ 8192
   -- the entries of a node, and the items that they list
   pub entries : one.MOST_ENTRIES ≡ 2048
   pub updates : one.MOST_UPDATES ≡ 16384
+  -- the triggers that the lists of a node have together
+  pub marks : one.MOST_MARKS ≡ 65536
   -- the control messages, and the packets
   pub control : all.MOST_CONTROL ≡ 16384
   pub packets : all.MOST_PACKETS ≡ 4096

@@ -12,6 +12,7 @@ returns-clause-limits g c = record {
     of_value = refl;
     entries = refl;
     updates = refl;
+    marks = refl;
     control = refl;
     packets = refl;
     frames = refl;
