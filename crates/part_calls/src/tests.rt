@@ -4,6 +4,7 @@ mod ballots;
 mod closures;
 mod consolidators;
 mod entering;
+mod holds;
 mod links;
 mod logs;
 mod mails;

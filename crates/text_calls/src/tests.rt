@@ -6,4 +6,5 @@ mod frames;
 mod journals;
 mod leaders;
 mod lines;
+mod listed_frames;
 mod outside;

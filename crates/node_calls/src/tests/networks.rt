@@ -40,6 +40,27 @@ prefix 0.0.0.0/0
 prefix 0.0.0.0/1
 ";
 
+/// The same, where the second node holds back from the first.
+pub const HOLDING_LINE: &str = "\
+node 1
+node 2
+node 3
+link 1 2 any
+link 2 3 any
+prefix 0.0.0.0/0
+prefix 0.0.0.0/1
+hold 2 1
+";
+
+/// Two nodes with a link, of which the first holds back from the second, and a prefix.
+pub const HOLDING_PAIR: &str = "\
+node 1
+node 2
+link 1 2 any
+prefix 0.0.0.0/0
+hold 1 2
+";
+
 /// The network of this file.
 pub fn network_of(rt: &impl Abort, alloc: Global, file: &str) -> Result<Rc<Topology>, Fail> {
     assert!(rt; file.len() < 1000);

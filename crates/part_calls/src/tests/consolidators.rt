@@ -1,12 +1,12 @@
 //! Calls of `consolidator`: the ballots of an epoch, step by step.
 use super::making::{node, nodes_in, number, split};
 use consolidator::{Consolidator, Mail, Mails, Message, Reply};
-use incomplete_closure::{Nodes, Report, Rows, SessionRows, Triggers, Value};
+use incomplete_closure::{Nodes, PendingRows, Report, Rows, SessionRows, Value};
 use std::alloc::Global;
 use std::process::Abort;
 use std::rc::Rc;
 use std::test::Fail;
-use topology::{Ballot, Epoch, NodeId, Reason, Topology};
+use topology::{Ballot, Epoch, NodeId, Reason, Topology, Triggers};
 
 // Nodes 1, 2 and 3 are consolidators, node 4 is none. What comes to node 1, what it replies, and the
 // decision of epoch 1 that it knows then. A message is its sender or its addressees, its kind, its epoch,
@@ -92,7 +92,7 @@ fn ballot_in(word: &str) -> Result<Ballot, Fail> {
 fn value(alloc: Global, word: &str) -> Result<Value, Fail> {
     Ok(Value {
         responding: Nodes::new(nodes_in(alloc, word)?),
-        incomplete: Triggers::new(Vec::new(alloc)),
+        incomplete: Triggers::none(),
     })
 }
 
@@ -102,6 +102,7 @@ fn report(alloc: Global, epoch: Epoch, of: &str) -> Result<Message, Fail> {
         epoch,
         rows: Rows::new(Vec::new(alloc)),
         sessions: SessionRows::new(Vec::new(alloc)),
+        pending: PendingRows::new(Vec::new(alloc)),
     };
     Ok(Message::Report(Rc::new(alloc, report)?))
 }

@@ -2,7 +2,7 @@
 use path_vector::{Cause, Policy};
 use std::alloc::Global;
 use std::test::Fail;
-use topology::{NodeId, Scope, Topology, Trigger};
+use topology::{NodeId, Scope, Topology, Trigger, Triggers};
 use trigger_log::{NodeLog, Outgoing};
 
 /// The log of a node at its start.
@@ -16,7 +16,7 @@ pub(super) fn log_of<P: Policy + Copy>(
     Ok(Box::new(alloc, log)?)
 }
 
-/// The log with one entry more, and what goes out.
+/// The log with one entry more, which lists this trigger, and what goes out.
 pub(super) fn appended<P: Policy + Copy>(
     alloc: Global,
     net: &Topology,
@@ -25,7 +25,21 @@ pub(super) fn appended<P: Policy + Copy>(
     scope: Scope,
     cause: Cause,
 ) -> Result<(Box<NodeLog<P>>, Vec<Outgoing>), Fail> {
-    let (log, outgoing) = Box::into_inner(log).append(net, trigger, scope, cause)?;
+    let triggers = Triggers::one(trigger);
+    let (log, outgoing) = Box::into_inner(log).append(net, triggers, scope, cause)?;
+    Ok((Box::new(alloc, log)?, outgoing))
+}
+
+/// The log after a flush, and what goes out.
+pub(super) fn flushed<P: Policy + Copy>(
+    alloc: Global,
+    net: &Topology,
+    log: Box<NodeLog<P>>,
+    nbr: NodeId,
+) -> Result<(Box<NodeLog<P>>, Vec<Outgoing>), Fail> {
+    let cause = Cause::Flush { nbr };
+    let log = Box::into_inner(log);
+    let (log, outgoing) = log.append(net, Triggers::none(), Scope::Nothing, cause)?;
     Ok((Box::new(alloc, log)?, outgoing))
 }
 

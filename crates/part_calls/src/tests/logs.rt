@@ -1,6 +1,6 @@
 //! Calls of `trigger_log`: what a node enters, and what each entry sends.
 use super::entering::{appended, log_of, shorter};
-use super::making::{Items, are_items, network, path_of, trigger};
+use super::making::{Items, are_items, is_alone, network, path_of, trigger};
 use path_vector::{Cause, GaoRexford, Policy, ShortestAll};
 use std::alloc::Global;
 use std::process::Abort;
@@ -106,12 +106,12 @@ fn trigger_of<P: Policy + Copy>(log: &NodeLog<P>, act: Act) -> Trigger {
 }
 
 // The last entry has this trigger and lists these items.
-fn is_last<P: Policy + Copy>(rt: &impl Abort, log: &NodeLog<P>, trigger: Trigger, items: Items) {
+fn is_last<P: Policy + Copy>(rt: &impl Abort, log: &NodeLog<P>, trigger: &Trigger, items: Items) {
     match log.entry(log.len()) {
         None => assert!(rt; false),
         Some(entry) => {
-            assert!(rt; entry.trigger == trigger);
-            are_items(rt, &entry.sent, items);
+            is_alone(rt, &entry.triggers, trigger);
+            are_items(rt, &entry.sent, items, trigger);
         }
     }
 }
@@ -130,7 +130,7 @@ fn enter<P: Policy + Copy>(
     let trigger = trigger_of(&log, act);
     let (log, outgoing) = appended(alloc, net, log, trigger, scope, cause)?;
     assert!(rt; outgoing.len() <= items.len() && items.len() <= outgoing.len() + 1);
-    is_last(rt, &log, trigger, items);
+    is_last(rt, &log, &trigger, items);
     Ok(log)
 }
 

@@ -3,7 +3,7 @@ use std::alloc::Global;
 use std::process::Abort;
 use std::test::Fail;
 use topology::{
-    Ballot, NodeId, Path, Prefix, Relation, Sent, SentItems, Session, Topology, Trigger,
+    Ballot, NodeId, Path, Prefix, Relation, Sent, SentItems, Session, Topology, Trigger, Triggers,
 };
 
 /// Neighbour, session and number of each item.
@@ -126,21 +126,34 @@ pub(super) fn nodes_in(alloc: Global, word: &str) -> Result<Vec<NodeId>, Fail> {
     Ok(nodes)
 }
 
-fn is_item(rt: &impl Abort, found: Option<&Sent>, (to, session, seq): (u16, u32, u32)) {
-    let item = Sent {
-        to: NodeId::new(to),
-        session: Session::new(session),
-        seq,
-    };
-    assert!(rt; found == Some(&item));
+/// The list is this trigger alone.
+pub(super) fn is_alone(rt: &impl Abort, triggers: &Triggers, trigger: &Trigger) {
+    assert!(rt; triggers.as_slice() == [*trigger].as_slice());
 }
 
-/// What was sent is these items.
-pub(super) fn are_items(rt: &impl Abort, sent: &SentItems, items: Items) {
+fn is_item(
+    rt: &impl Abort,
+    found: Option<&Sent>,
+    (to, session, seq): (u16, u32, u32),
+    trigger: &Trigger,
+) {
+    match found {
+        None => assert!(rt; false),
+        Some(item) => {
+            assert!(rt; item.to == NodeId::new(to));
+            assert!(rt; item.session == Session::new(session));
+            assert!(rt; item.seq == seq);
+            is_alone(rt, &item.triggers, trigger);
+        }
+    }
+}
+
+/// What was sent is these items, each for this trigger.
+pub(super) fn are_items(rt: &impl Abort, sent: &SentItems, items: Items, trigger: &Trigger) {
     let laid_out = sent.laid_out();
     let sent = laid_out.as_slice();
     assert!(rt; sent.len() == items.len());
     for i in 0..items.len() {
-        is_item(rt, sent.get(i), items[i]);
+        is_item(rt, sent.get(i), items[i], trigger);
     }
 }

@@ -1,6 +1,6 @@
 //! Calls of `epoch_report`: what a node reports of its cut.
 use super::entering::{appended, log_of};
-use super::making::{Items, are_items, network, path_of, trigger};
+use super::making::{Items, are_items, is_alone, network, path_of, trigger};
 use epoch_report::report_of;
 use incomplete_closure::{Report, Row, SessionRow};
 use path_vector::{Cause, ShortestAll};
@@ -85,9 +85,10 @@ fn play(alloc: Global, net: &Topology, start: Log) -> Result<Log, Fail> {
 }
 
 fn shows_row(rt: &impl Abort, row: &Row, (node, count, one, items): (u16, u32, bool, Items)) {
-    assert!(rt; row.trigger == trigger(node, count));
+    let own = trigger(node, count);
+    is_alone(rt, &row.triggers, &own);
     assert!(rt; row.scope == scope(one));
-    are_items(rt, &row.sent, items);
+    are_items(rt, &row.sent, items, &own);
 }
 
 fn shows_session(
@@ -117,6 +118,7 @@ fn shows(rt: &impl Abort, report: &Report) {
     for place in 0..3 {
         shows_session(rt, &sessions[place], SESSIONS[place]);
     }
+    assert!(rt; report.pending.as_slice().is_empty());
 }
 
 // What node 2 reports.

@@ -1,14 +1,14 @@
 //! Calls of `stable_table`: the tables of epochs, and the two that a node keeps.
 use super::entering::{appended, log_of, shorter};
 use super::making::{STAR, network, node, nodes_in, number, split, trigger};
-use incomplete_closure::{Nodes, Triggers, Value};
+use incomplete_closure::{Nodes, Value};
 use path_vector::{Cause, ShortestAll};
 use stable_table::{Table, TwoTables, droppable_before, table_of};
 use std::alloc::Global;
 use std::process::Abort;
 use std::rc::Rc;
 use std::test::Fail;
-use topology::{Epoch, NodeId, Path, PrefixId, Scope, Session, Topology};
+use topology::{Epoch, NodeId, Path, PrefixId, Scope, Session, Topology, Triggers};
 use trigger_log::NodeLog;
 
 // How many entries the cut has, the nodes that responded, the counter of the incomplete trigger of node
@@ -79,14 +79,15 @@ fn begin(alloc: Global, net: &Topology, log: Log) -> Result<Log, Fail> {
 }
 
 fn value(alloc: Global, responding: &str, incomplete: &str) -> Result<Value, Fail> {
-    let mut triggers = Vec::new(alloc);
     let count = number(incomplete)?;
-    if count > 0 {
-        triggers.push(trigger(9, count))?;
-    }
+    let incomplete = if count > 0 {
+        Triggers::one(trigger(9, count))
+    } else {
+        Triggers::none()
+    };
     Ok(Value {
         responding: Nodes::new(nodes_in(alloc, responding)?),
-        incomplete: Triggers::new(triggers),
+        incomplete,
     })
 }
 

@@ -3,11 +3,11 @@ ghost use Rattle.std.specs.Prelude.{◌≡◌, map, IfOk};
 ghost use Rattle.std.specs.Rc.{rc_value};
 ghost use Rattle.incomplete_closure.specs.Together.{OfOneEpoch};
 
-use incomplete_closure::{Report, Row, Rows, SessionRows, closure};
+use incomplete_closure::{PendingRows, Report, Row, Rows, SessionRows, uncounted_closure};
 use std::alloc::Global;
 use std::rc::Rc;
 use std::test::Fail;
-use topology::{Epoch, NodeId, PrefixId, Scope, Sent, SentItems, Session, Trigger};
+use topology::{Epoch, NodeId, PrefixId, Scope, Sent, SentItems, Session, Trigger, Triggers};
 
 // So many reports there are, of the nodes from 1 on.
 const REPORTS: u16 = 64;
@@ -34,13 +34,14 @@ fn items(alloc: Global, link: u32) -> Result<SentItems, Fail> {
         to: NodeId::new(1),
         session: Session::new(1),
         seq: 1,
+        triggers: Triggers::one(trigger(1, link)),
     };
     Ok(SentItems::of(alloc, &[item])?)
 }
 
 fn row(trigger: Trigger, prefix: u16, sent: SentItems) -> Row {
     Row {
-        trigger,
+        triggers: Triggers::one(trigger),
         scope: Scope::One(PrefixId::new(prefix)),
         sent,
     }
@@ -80,6 +81,7 @@ fn report(alloc: Global, node: u16) -> Result<Report, Fail>
         epoch: Epoch::new(1),
         rows: rows(alloc, last)?,
         sessions: SessionRows::new(Vec::new(alloc)),
+        pending: PendingRows::new(Vec::new(alloc)),
     })
 }
 
@@ -114,7 +116,7 @@ fn whole_chain(alloc: Global) -> Result<Vec<Trigger>, Fail> {
 fn a_long_chain(rt: HostRuntime) -> Result<(), Fail> {
     let alloc = rt.alloc();
     let reports = reports(alloc)?;
-    let value = closure(alloc, &reports)?;
+    let value = uncounted_closure(alloc, &reports)?;
     let (nodes, triggers) = (all_nodes(alloc)?, whole_chain(alloc)?);
     assert_eq!(rt; value.responding.as_slice(), nodes.as_slice());
     // a list of all triggers would be too long to be told

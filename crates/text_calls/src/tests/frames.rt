@@ -5,7 +5,7 @@ use topology::NoMemory;
 use wire_frames::{Decoded, FrameKind, decode, encode, has_spelling, to_owned};
 
 // The bytes are one frame, and are written again as they were.
-fn comes_back(alloc: Global, bytes: &[u8]) -> Result<bool, NoMemory> {
+pub(super) fn comes_back(alloc: Global, bytes: &[u8]) -> Result<bool, NoMemory> {
     match decode(bytes) {
         Decoded::Frame(frame, length) => {
             let owned = to_owned(alloc, &frame)?;
@@ -101,14 +101,14 @@ fn reports_values_and_packets_come_back(rt: HostRuntime) -> Result<(), Fail> {
     Ok(())
 }
 
-fn wrong(input: &[u8]) -> Option<FrameKind> {
+pub(super) fn wrong(input: &[u8]) -> Option<FrameKind> {
     match decode(input) {
         Decoded::Bad(kind) => Some(kind),
         _ => None,
     }
 }
 
-fn waits(input: &[u8]) -> bool {
+pub(super) fn waits(input: &[u8]) -> bool {
     matches!(decode(input), Decoded::More)
 }
 
@@ -124,7 +124,7 @@ fn a_head_tells_first(rt: HostRuntime) {
     for input in short {
         assert!(rt; waits(input));
     }
-    assert!(rt; wrong(&[2]) == Some(FrameKind::Version));
+    assert!(rt; wrong(&[3]) == Some(FrameKind::Version));
     // the kind is wrong already, though the length is still to come
     assert!(rt; wrong(&[1, 0]) == Some(FrameKind::Kind));
     assert!(rt; wrong(&[1, 22]) == Some(FrameKind::Kind));

@@ -2,14 +2,14 @@
 use super::super::networks::APART;
 use super::desk::Desk;
 use consolidator::Message;
-use incomplete_closure::{Nodes, Triggers, Value};
+use incomplete_closure::{Nodes, Value};
 use node_core::limits::MOST_TRIGGERS;
 use node_core::{Input, Node, Stop};
 use path_vector::ShortestAll;
 use std::alloc::Global;
 use std::process::Abort;
 use std::test::Fail;
-use topology::{Ballot, Epoch, LimitKind, NodeId, Trigger};
+use topology::{Ballot, Epoch, LimitKind, NodeId, Trigger, Triggers};
 
 // What is done at node 1, and what it hands out, or why it does nothing. Each message that it sends gets the next
 // number, from 1, and is heard by its number. Decisions of others come from node 2, of a value that only node 1
@@ -114,7 +114,7 @@ fn triggers_of(alloc: Global, count: u32) -> Result<Triggers, Fail> {
             count: place + 1,
         })?;
     }
-    Ok(Triggers::new(triggers))
+    Ok(Triggers::new(triggers)?.ok_or("triggers that ascend")?)
 }
 
 // The first ballot of node 1.

@@ -5,7 +5,7 @@ use epoch_packet::{Mode, Nodes, Packet};
 use node_core::Input;
 use std::alloc::Global;
 use std::test::Fail;
-use topology::{Item, Path, PrefixId, Trigger};
+use topology::{Item, Path, PrefixId, Trigger, Triggers};
 
 // An update of the first prefix: its number, and the path, or none.
 fn update_of(alloc: Global, words: &[&str]) -> Result<Item, Fail> {
@@ -18,7 +18,7 @@ fn update_of(alloc: Global, words: &[&str]) -> Result<Item, Fail> {
     Ok(Item::Update {
         prefix: PrefixId::new(0),
         seq,
-        trigger,
+        triggers: Triggers::one(trigger),
         path,
     })
 }
@@ -66,6 +66,7 @@ fn beside(words: &[&str]) -> Result<Input, Fail> {
     let nbr = node(words, 1)?;
     Ok(match word(words, 0)? {
         "notice" => Input::Notice(nbr),
+        "flush" => Input::Flush(nbr),
         "prefer" => Input::Prefer {
             nbr,
             value: number(words, 2)?,
@@ -95,7 +96,7 @@ fn asked(words: &[&str]) -> Result<Input, Fail> {
 pub fn input_of(alloc: Global, words: &[&str]) -> Result<Input, Fail> {
     match word(words, 0)? {
         "update" | "marker" | "hello" => arrival(alloc, words),
-        "notice" | "prefer" | "open" => beside(words),
+        "notice" | "flush" | "prefer" | "open" => beside(words),
         "control" => control(alloc, words),
         "packet" => hop(alloc, words),
         _ => asked(words),

@@ -1,18 +1,18 @@
 //! Messages of the control network, by their words.
 use super::super::words::{ballot, epoch, node, nodes, number, word};
 use consolidator::Message;
-use incomplete_closure::{Nodes, Report, Rows, SessionRows, Triggers, Value};
+use incomplete_closure::{Nodes, PendingRows, Report, Rows, SessionRows, Value};
 use node_core::Input;
 use std::alloc::Global;
 use std::rc::Rc;
 use std::test::Fail;
-use topology::{Ballot, Epoch, NodeId};
+use topology::{Ballot, Epoch, NodeId, Triggers};
 
 // The value of these nodes, without incomplete triggers.
 fn value_of(alloc: Global, nodes: Vec<NodeId>) -> Value {
     Value {
         responding: Nodes::new(nodes),
-        incomplete: Triggers::new(Vec::new(alloc)),
+        incomplete: Triggers::none(),
     }
 }
 
@@ -23,6 +23,7 @@ fn report_of(alloc: Global, epoch: Epoch, node: NodeId) -> Result<Message, Fail>
         epoch,
         rows: Rows::new(Vec::new(alloc)),
         sessions: SessionRows::new(Vec::new(alloc)),
+        pending: PendingRows::new(Vec::new(alloc)),
     };
     Ok(Message::Report(Rc::new(alloc, report)?))
 }

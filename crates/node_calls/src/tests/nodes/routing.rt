@@ -1,5 +1,5 @@
 //! A node between two others.
-use super::super::networks::LINE;
+use super::super::networks::{HOLDING_LINE, LINE};
 use super::desk::Desk;
 use marker_snapshot::Recording;
 use node_core::{Input, Node, Stop, laws};
@@ -55,6 +55,22 @@ marker 3 1 32 | cut 32; marker 1 2 32; marker 3 1 32
 marker 1 2 32 |
 ";
 
+// Node 2 holds back from node 1. What changes goes to node 3 at once, and to node 1 by a flush, which comes to it as one
+// update of each prefix; a session that ends holds nothing back any more.
+const HOLDING: &str = "\
+flush 1 | idle NothingPending
+originate 1 | logged 1; update 3 1 1
+withdraw 1 | logged 2; update 3 1 2
+update 3 1 1 3 | logged 3; update 3 1 3
+flush 3 | idle NothingPending
+flush 1 | logged 4; update 1 1 1; update 1 1 2
+flush 1 | idle NothingPending
+originate 1 | logged 5; update 3 1 4
+snap | cut 1; marker 1 1 1; marker 3 1 1
+notice 1 | logged 6
+flush 1 | idle NotOpen
+";
+
 // What node 2 admits, and what it does not.
 const FITTING: &str = "\
 originate 1: yes
@@ -80,6 +96,8 @@ hello 1 1 33: no
 hello 2 1 1: no
 notice 3: yes
 notice 2: no
+flush 3: yes
+flush 2: no
 open 3 1: yes
 open 3 0: no
 snap: yes
@@ -145,6 +163,16 @@ fn one_node_between_two(rt: HostRuntime) -> Result<(), Fail> {
     // One epoch more than there may be.
     let stop = Stop::Limit(LimitKind::Epochs, 32);
     desk.stops(&rt, Input::Snap, Some(stop))
+}
+
+#[test]
+fn one_node_holds_back_from_another(rt: HostRuntime) -> Result<(), Fail> {
+    let mut desk = Desk::new(&rt, rt.alloc(), HOLDING_LINE, 2)?;
+    desk.run(&rt, rt.alloc(), HOLDING)?;
+    let node = desk.node()?;
+    assert!(rt; node.log().pending().is_empty());
+    assert!(rt; node.check_marks().is_ok());
+    Ok(())
 }
 
 #[test]

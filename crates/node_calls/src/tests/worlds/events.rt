@@ -27,6 +27,7 @@ fn between(words: &[&str]) -> Result<Event, Fail> {
         "fail" => Event::Fail { a, b },
         "restore" => Event::Restore { a, b },
         "notice" => Event::Notice { node: a, nbr: b },
+        "flush" => Event::Flush { node: a, nbr: b },
         "open" => Event::OpenSession { node: a, nbr: b },
         _ => Event::Prefer {
             node: a,

@@ -1,5 +1,5 @@
 //! Two nodes whose link fails and comes up again.
-use super::super::networks::PAIR;
+use super::super::networks::{HOLDING_PAIR, PAIR};
 use super::play::Play;
 use path_vector::{GaoRexford, ShortestAll};
 use std::alloc::Global;
@@ -49,6 +49,21 @@ notice 1 2 | idle NotOpen | - -
 open 1 2 | idle LinkDown | - -
 ";
 
+// Node 1 holds back from node 2. A flush sends what it holds back, and does nothing for each of its reasons.
+const HELD: &str = "\
+originate 1 | 1 logged 1 | - -
+flush 2 1 | idle NothingPending | - -
+flush 1 2 | 1 logged 2; 1>2 | 1>2 -
+flush 1 2 | idle NothingPending | 1>2 -
+deliver 1 2 | 2 logged 1; 2>1 | 2>1 -
+withdraw 1 | 1 logged 3 | 2>1 -
+fail 1 2 | | - -
+notice 1 2 | 1 logged 4 | - -
+flush 1 2 | idle NotOpen | - -
+crash 1 | | - -
+flush 1 2 | idle Crashed | - -
+";
+
 // Node 2 stops with an update on its way to it.
 const STOPPED: &str = "\
 originate 1 | 1 logged 1; 1>2 | 1>2 -
@@ -87,6 +102,12 @@ fn one_end_notices(rt: HostRuntime) -> Result<(), Fail> {
 fn each_reason(rt: HostRuntime) -> Result<(), Fail> {
     happens(&rt, rt.alloc(), REASONS)?;
     Ok(())
+}
+
+#[test]
+fn a_node_holds_back(rt: HostRuntime) -> Result<(), Fail> {
+    let mut play = Play::new(&rt, rt.alloc(), HOLDING_PAIR, ShortestAll)?;
+    play.run(&rt, rt.alloc(), HELD)
 }
 
 #[test]

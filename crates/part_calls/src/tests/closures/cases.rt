@@ -6,12 +6,12 @@ ghost use Rattle.incomplete_closure.specs.Together.{OfOneEpoch};
 use super::reading::{report, trigger_in};
 use super::rounds::rounds;
 use crate::tests::making::split;
-use incomplete_closure::{Report, Steps, Value, closure_counting, missing};
+use incomplete_closure::{Report, Value, missing, uncounted_closure};
 use std::alloc::Global;
 use std::process::Abort;
 use std::rc::Rc;
 use std::test::Fail;
-use topology::{NodeId, Sent, Session, Trigger};
+use topology::{NodeId, Sent, Session, Trigger, Triggers};
 
 // What the case shows; the reports of nodes 1, 2 and 3; their incomplete triggers.
 const CASES: &str = "nothing was sent | 1.1:P | | | 
@@ -54,30 +54,25 @@ triggers ascend by node, then counter | 2.1:P>2/1/1 1.10:P 1.9:P | | | 1.9 1.10 
 a withdrawal on its way | 1.1:P>2/1/1 1.1:P 1.2:P>2/1/2 =2/1/1 | 1.1:P>1/1/1>3/1/1 1.1:P =1/1/1 =3/1/1 | 1.1:P>2/1/1 =2/1/1 | 1.2
 what came of it on its way | 1.1:P>2/1/1 1.1:P 1.2:P>2/1/2 1.2:P =2/1/2 | 1.1:P>1/1/1>3/1/1 1.1:P 1.2:P>1/1/2>3/1/2 =1/1/2 =3/1/1 | 1.1:P>2/1/1 =2/1/1 | 1.2
 a new preference after it | 1.1:P>2/1/1 1.1:P 1.2:P>2/1/2 1.2:P =2/1/2 | 1.1:P>1/1/1>3/1/1 1.1:P 1.2:P>1/1/2>3/1/2 2.1:* =1/1/2 =3/1/1 | 1.1:P>2/1/1 =2/1/1 | 1.2 2.1
+together: what an item of the second row lists blocks the other trigger of the first | =2/1/0 | 1.1+1.2:P 1.2:P>1/1/1 =1/1/0 | | 1.1 1.2
+together: one of three in the middle | 1.1+1.2+1.3:- 1.2:P>2/1/1 | | | 1.1 1.2 1.3
+an item lists less than its row | 1.1+1.2:P>2/1/1/1.3 | | | 1.3
+order: not through a row of no prefix | 1.1:P>2/1/1 1.1+1.2:- 1.3:P 1.4:Q | | | 1.1 1.2 1.3
+order: not from a row of no prefix, nor to one | 1.1:->2/1/1 1.2:P 1.3:* 1.4:- | | | 1.1
+order: from a row of two triggers to one of two | 1.1+1.2:P 1.3+1.4:P 1.2:Q>2/1/1 | | | 1.1 1.2 1.3 1.4
+an update is held back | 1.1:P ~2/1/1.1+1.3 | =1/1/0 | | 1.1 1.3
+one is held back in a session that its receiver has closed | 1.1:P ~2/1/1.1 | =1/1/0/2.1 | | 
+cover: of what is held back | 1.1:P ~2/1/1.1+1.3 | 2.1:*>3/1/1 =1/1/0/2.1 | | 1.1 1.3 2.1
+one is held back from a node without a report | 1.1:P ~9/1/1.1 | | | 
 a link that one end has closed | 3.1:P>2/1/1 1.1:*>2/1/2 =2/1/1/1.1 | 3.1:P>1/1/1>3/1/1 3.1:P =1/1/1 =3/1/1 | 3.1:P>2/1/1 3.1:P =2/1/1 | 1.1";
 
-// How many rows, sent items and session rows the reports have.
-fn size(reports: &[Rc<Report>]) -> usize {
-    let mut size: usize = 0;
-    for report in reports {
-        size = size.saturating_add(report.rows.as_slice().len());
-        size = size.saturating_add(report.sessions.as_slice().len());
-        for row in report.rows.as_slice() {
-            size = size.saturating_add(row.sent.len());
-        }
-    }
-    size
-}
-
-// The value of the reports. Rounds find the same, and the steps are few.
+// The value of the reports. Rounds find the same.
 fn value(rt: &impl Abort, alloc: Global, reports: &[Rc<Report>]) -> Result<Value, Fail>
     requires { OfOneEpoch (map rc_value reports.now) }
 {
-    let mut steps = Steps::new();
-    let value = closure_counting(alloc, reports, &mut steps)?;
+    let value = uncounted_closure(alloc, reports)?;
     let marked = rounds(alloc, reports)?;
     assert!(rt; value.incomplete.as_slice() == marked.as_slice());
-    assert!(rt; steps.taken() <= (size(reports) as u64).saturating_mul(6));
     Ok(value)
 }
 
@@ -142,8 +137,9 @@ fn misses(alloc: Global, to: u16, seq: u32) -> Result<bool, Fail> {
         to: NodeId::new(to),
         session: Session::new(1),
         seq,
+        triggers: Triggers::none(),
     };
-    Ok(missing(&one, &two, item))
+    Ok(missing(&one, &two, &item))
 }
 
 #[test]

@@ -1,14 +1,17 @@
-//! Reports as words: `1.2:P>2/1/3` is a row of trigger 1.2 for prefix P (or Q, or `*` for all) with an
-//! item to node 2 in session 1 with number 3; `=2/1/3` is a session row of neighbour 2 and session 1
-//! with 3 updates received, and `=2/1/3/1.2` one whose `Down` has trigger 1.2.
+//! Reports as words: `1.2:P>2/1/3` is a row of trigger 1.2 for prefix P (or Q, `*` for all, `-` for none) with an
+//! item to node 2 in session 1 with number 3, for the trigger of the row; `1.1+1.2:P>2/1/3/1.1` is one of two triggers whose
+//! item lists the first alone; `=2/1/3` is a session row of neighbour 2 and session 1 with 3 updates received, and
+//! `=2/1/3/1.2` one whose `Down` has trigger 1.2; `~2/1/1.1+1.2` is an update that is held back from node 2 in session 1.
 ghost use Rattle.std.specs.Prelude.{◌≡◌, IfOk};
 
 use crate::tests::making::{node, number, split};
-use incomplete_closure::{Report, Row, Rows, SessionRow, SessionRows};
+use incomplete_closure::{PendingRows, Report, Row, Rows, SessionRow, SessionRows};
 use std::alloc::Global;
 use std::rc::Rc;
 use std::test::Fail;
-use topology::{Epoch, NodeId, PrefixId, Scope, Sent, SentItems, Session, Trigger};
+use topology::{
+    Epoch, NodeId, Pending, PrefixId, Scope, Sent, SentItems, Session, Trigger, Triggers,
+};
 
 pub(super) fn trigger_in(word: &str) -> Result<Trigger, Fail> {
     let (of, count) = split(word, '.')?;
@@ -18,30 +21,44 @@ pub(super) fn trigger_in(word: &str) -> Result<Trigger, Fail> {
     })
 }
 
+// The triggers of a word such as `1.1+1.2`, which rise.
+fn list_in(alloc: Global, word: &str) -> Result<Triggers, Fail> {
+    let mut list = Vec::new(alloc);
+    for of in word.split('+') {
+        list.push(trigger_in(of)?)?;
+    }
+    let triggers = Triggers::new(list)?;
+    Ok(triggers.ok_or("triggers that rise")?)
+}
+
 fn scope(word: &str) -> Scope {
     match word {
         "P" => Scope::One(PrefixId::new(0)),
         "Q" => Scope::One(PrefixId::new(1)),
+        "-" => Scope::Nothing,
         _ => Scope::All,
     }
 }
 
-fn item(word: &str) -> Result<Sent, Fail> {
+// The item of a word, of a row that lists these.
+fn item(alloc: Global, word: &str, listed: &str) -> Result<Sent, Fail> {
     let (to, rest) = split(word, '/')?;
-    let (session, seq) = split(rest, '/')?;
+    let (session, rest) = split(rest, '/')?;
+    let (seq, triggers) = rest.split_once('/').unwrap_or((rest, listed));
     Ok(Sent {
         to: node(to)?,
         session: Session::new(number(session)?),
         seq: number(seq)?,
+        triggers: list_in(alloc, triggers)?,
     })
 }
 
 // The items of words with `>` between them.
-fn items(alloc: Global, text: &str) -> Result<SentItems, Fail> {
+fn items(alloc: Global, text: &str, listed: &str) -> Result<SentItems, Fail> {
     let mut sent = Vec::new(alloc);
     for word in text.split('>') {
         if !word.is_empty() {
-            sent.push(item(word)?)?;
+            sent.push(item(alloc, word, listed)?)?;
         }
     }
     Ok(SentItems::of(alloc, &sent)?)
@@ -49,12 +66,22 @@ fn items(alloc: Global, text: &str) -> Result<SentItems, Fail> {
 
 fn row(alloc: Global, word: &str) -> Result<Row, Fail> {
     let (head, sent) = word.split_once('>').unwrap_or((word, ""));
-    let (of, concerns) = split(head, ':')?;
-    let trigger = trigger_in(of)?;
+    let (listed, concerns) = split(head, ':')?;
     Ok(Row {
-        trigger,
+        triggers: list_in(alloc, listed)?,
         scope: scope(concerns),
-        sent: items(alloc, sent)?,
+        sent: items(alloc, sent, listed)?,
+    })
+}
+
+fn pending_row(alloc: Global, word: &str) -> Result<Pending, Fail> {
+    let (to, rest) = split(word, '/')?;
+    let (session, triggers) = split(rest, '/')?;
+    Ok(Pending {
+        to: node(to)?,
+        prefix: PrefixId::new(0),
+        session: Session::new(number(session)?),
+        triggers: list_in(alloc, triggers)?,
     })
 }
 
@@ -81,11 +108,21 @@ fn push_session_row(rows: &mut Vec<SessionRow>, word: &str) -> Result<(), Fail> 
 fn rows(alloc: Global, text: &str) -> Result<Rows, Fail> {
     let mut rows = Vec::new(alloc);
     for word in text.split_whitespace() {
-        if !word.starts_with('=') {
+        if !word.starts_with('=') && !word.starts_with('~') {
             rows.push(row(alloc, word)?)?;
         }
     }
     Ok(Rows::new(rows))
+}
+
+fn pending_rows(alloc: Global, text: &str) -> Result<PendingRows, Fail> {
+    let mut rows = Vec::new(alloc);
+    for word in text.split_whitespace() {
+        if let Some(word) = word.strip_prefix('~') {
+            rows.push(pending_row(alloc, word)?)?;
+        }
+    }
+    Ok(PendingRows::new(rows))
 }
 
 fn session_rows(alloc: Global, text: &str) -> Result<SessionRows, Fail> {
@@ -105,11 +142,13 @@ pub(super) fn report(alloc: Global, node: u16, text: &str) -> Result<Rc<Report>,
 {
     let rows = rows(alloc, text)?;
     let sessions = session_rows(alloc, text)?;
+    let pending = pending_rows(alloc, text)?;
     let report = Report {
         node: NodeId::new(node),
         epoch: Epoch::new(1),
         rows,
         sessions,
+        pending,
     };
     Ok(Rc::new(alloc, report)?)
 }

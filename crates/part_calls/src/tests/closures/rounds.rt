@@ -1,12 +1,12 @@
-//! The incomplete triggers by rounds over all items and rows, until one adds none. It knows nothing of the
-//! worklist.
+//! The incomplete triggers by rounds over all items, rows and pending rows, until one adds none. It knows nothing of the
+//! graph.
 
 use incomplete_closure::{Report, Row, SessionRow, missing};
 use std::alloc::Global;
 use std::collections::BTreeSet;
 use std::rc::Rc;
 use std::test::Fail;
-use topology::{NodeId, Scope, Sent, Session, Trigger};
+use topology::{NodeId, Scope, Sent, Session, Trigger, Triggers};
 
 type Marks = BTreeSet<Trigger>;
 
@@ -32,16 +32,17 @@ fn is_due(marks: &Marks, row: Option<SessionRow>) -> bool {
     }
 }
 
-// Marks the trigger of an item that the other report misses, where that is due.
-fn mark_item(
-    marks: &mut Marks,
-    from: &Report,
-    to: &Report,
-    trigger: Trigger,
-    item: &Sent,
-) -> Result<(), Fail> {
-    if missing(from, to, *item) && is_due(marks, session_of(to, from.node, item.session)) {
-        marks.insert(trigger)?;
+fn mark_all(marks: &mut Marks, triggers: &Triggers) -> Result<(), Fail> {
+    for trigger in triggers.as_slice() {
+        marks.insert(*trigger)?;
+    }
+    Ok(())
+}
+
+// Marks the triggers of an item that the other report misses, where that is due.
+fn mark_item(marks: &mut Marks, from: &Report, to: &Report, item: &Sent) -> Result<(), Fail> {
+    if missing(from, to, item) && is_due(marks, session_of(to, from.node, item.session)) {
+        mark_all(marks, &item.triggers)?;
     }
     Ok(())
 }
@@ -49,7 +50,17 @@ fn mark_item(
 fn mark_items_of(marks: &mut Marks, from: &Report, to: &Report, row: &Row) -> Result<(), Fail> {
     let sent = row.sent.laid_out();
     for item in sent.as_slice() {
-        mark_item(marks, from, to, row.trigger, item)?;
+        mark_item(marks, from, to, item)?;
+    }
+    Ok(())
+}
+
+// The same of updates that are held back from the other node.
+fn mark_pending(marks: &mut Marks, from: &Report, to: &Report) -> Result<(), Fail> {
+    for row in from.pending.as_slice() {
+        if row.to == to.node && is_due(marks, session_of(to, from.node, row.session)) {
+            mark_all(marks, &row.triggers)?;
+        }
     }
     Ok(())
 }
@@ -58,7 +69,7 @@ fn mark_items(marks: &mut Marks, from: &Report, to: &Report) -> Result<(), Fail>
     for row in from.rows.as_slice() {
         mark_items_of(marks, from, to, row)?;
     }
-    Ok(())
+    mark_pending(marks, from, to)
 }
 
 fn mark_all_items(marks: &mut Marks, from: &Report, reports: &[Rc<Report>]) -> Result<(), Fail> {
@@ -70,22 +81,35 @@ fn mark_all_items(marks: &mut Marks, from: &Report, reports: &[Rc<Report>]) -> R
 
 fn shares(a: &Scope, b: &Scope) -> bool {
     match a {
-        Scope::All => true,
+        Scope::All => *b != Scope::Nothing,
         Scope::One(p) => match b {
             Scope::All => true,
             Scope::One(q) => *p == *q,
+            Scope::Nothing => false,
         },
+        Scope::Nothing => false,
     }
 }
 
-// Marks the triggers of rows behind a marked row that share a prefix with it.
+// Whether one of the triggers of the row is marked.
+fn is_marked(marks: &Marks, row: &Row) -> bool {
+    for trigger in row.triggers.as_slice() {
+        if marks.contains(trigger) {
+            return true;
+        }
+    }
+    false
+}
+
+// Marks all triggers of a marked row, and those of rows behind it that share a prefix with it.
 fn mark_rows(marks: &mut Marks, report: &Report) -> Result<(), Fail> {
     let rows = report.rows.as_slice();
     for place in 0..rows.len() {
-        if marks.contains(&rows[place].trigger) {
+        if is_marked(marks, &rows[place]) {
+            mark_all(marks, &rows[place].triggers)?;
             for later in (place + 1)..rows.len() {
                 if shares(&rows[place].scope, &rows[later].scope) {
-                    marks.insert(rows[later].trigger)?;
+                    mark_all(marks, &rows[later].triggers)?;
                 }
             }
         }
@@ -101,18 +125,28 @@ fn mark_round(marks: &mut Marks, reports: &[Rc<Report>]) -> Result<(), Fail> {
     Ok(())
 }
 
-fn count_rows(reports: &[Rc<Report>]) -> usize {
+// How many triggers rows list, and what may be open.
+fn count_listed(reports: &[Rc<Report>]) -> usize {
     let mut count: usize = 0;
     for report in reports {
-        count = count.saturating_add(report.rows.as_slice().len());
+        for row in report.rows.as_slice() {
+            count = count.saturating_add(row.triggers.len());
+            let sent = row.sent.laid_out();
+            for item in sent.as_slice() {
+                count = count.saturating_add(item.triggers.len());
+            }
+        }
+        for row in report.pending.as_slice() {
+            count = count.saturating_add(row.triggers.len());
+        }
     }
     count
 }
 
-/// The incomplete triggers of the reports, ascending. Each round but the last marks the trigger of a row.
+/// The incomplete triggers of the reports, ascending. Each round but the last marks a trigger that is listed.
 pub(super) fn rounds(alloc: Global, reports: &[Rc<Report>]) -> Result<Vec<Trigger>, Fail> {
     let mut marks = BTreeSet::new(alloc);
-    for _round in 0..count_rows(reports).saturating_add(1) {
+    for _round in 0..count_listed(reports).saturating_add(1) {
         let before = marks.len();
         mark_round(&mut marks, reports)?;
         if marks.len() == before {
