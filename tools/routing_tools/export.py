@@ -16,7 +16,7 @@ from .text import records
 
 NAME = "text"
 COLUMNS = [
-    "kind", "shown", "line", "reason", "node", "place", "epoch", "prefix", "path", "published", "trigger", "scope", "cause", "neighbour",
+    "kind", "shown", "line", "reason", "node", "place", "epoch", "prefix", "path", "published", "triggers", "scope", "cause", "neighbour",
     "session", "seq", "value", "sent", "length", "numbers", "state", "responding", "incomplete", "number", "sender", "to", "message", "ballot",
     "accepted", "times", "packet", "visits", "text",
 ]

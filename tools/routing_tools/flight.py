@@ -62,7 +62,7 @@ class Sent:
     def _enter(self, entry):
         cause, place = entry["cause"], entry["place"]
         closed = None
-        if cause != "prefer" and "neighbour" in entry:
+        if cause not in ("prefer", "flush") and "neighbour" in entry:
             way = (entry["neighbour"], entry["session"])
             if cause == "recv":
                 self.received[way] = self.received.get(way, 0) + 1
@@ -116,5 +116,7 @@ def _epoch(cuts, node):
 
 
 def _told(seq, entry):
+    if entry["cause"] == "flush":
+        return f"update {seq} (held back)"
     about = "" if entry["scope"] == "all" else f" {entry['scope']}"
-    return f"update {seq}{about} ({entry['trigger']})"
+    return f"update {seq}{about} ({', '.join(entry['triggers'])})"

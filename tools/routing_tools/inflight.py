@@ -183,7 +183,7 @@ def who(program, schedule, kind):
         return
     for node, log in whole_logs(program, schedule).items():
         for entry in log:
-            more = {"entries": 1, "updates": len(entry["sent"]), "triggers": int(entry["cause"] != "recv")}[kind]
+            more = {"entries": 1, "updates": len(entry["sent"]), "triggers": int(entry["cause"] not in ("recv", "flush"))}[kind]
             counts[node] = counts.get(node, 0) + more
     for node, count in sorted(counts.items(), key=lambda it: (-it[1], it[0]))[:3]:
         yield f"node {node} has {count} {kind}"

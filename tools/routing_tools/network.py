@@ -1,6 +1,6 @@
 """A network as the lines of a schedule before `begin` declare it."""
 from dataclasses import dataclass, field
-from typing import Dict, List, Optional, Tuple
+from typing import Dict, List, Optional, Set, Tuple
 
 CONVERSE = {"customer": "provider", "provider": "customer", "peer": "peer", "any": "any"}
 MOST_NODES, MOST_LINKS, MOST_PREFIXES, MOST_CONSOLIDATORS = 64, 512, 256, 7
@@ -25,6 +25,7 @@ class Network:
     consolidators: List[int] = field(default_factory=list)
     links: List[Link] = field(default_factory=list)
     prefs: Dict[Tuple[int, int], int] = field(default_factory=dict)
+    holds: Set[Tuple[int, int]] = field(default_factory=set)
     prefixes: List[str] = field(default_factory=list)
     hops: Optional[int] = None
     transient: Optional[str] = None
@@ -38,6 +39,7 @@ class Network:
             yield f"{line:<{wide + 18}} # {self.names[node]}" if node in self.names else line
         yield from (link.line() for link in self.links)
         yield from (f"pref {a} {b} {value}" for (a, b), value in sorted(self.prefs.items()))
+        yield from (f"hold {a} {b}" for a, b in sorted(self.holds))
         yield from (f"prefix {prefix}" for prefix in self.prefixes)
         if self.hops is not None:
             yield f"hops {self.hops}"

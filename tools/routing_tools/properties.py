@@ -103,11 +103,16 @@ def drops(net, end):
     for node, epoch in sorted({(node, epoch) for epoch, node, _ in end.tables}):
         value, length = value_of(end, epoch), end.cuts.get((node, epoch), 0)
         if value and sorted(value["responding"]) == sorted(net.nodes):
-            while wanted[node] <= length and end.logs[node][wanted[node] - 1]["trigger"] not in value["incomplete"]:
+            while wanted[node] <= length and is_complete(end.logs[node][wanted[node] - 1], value):
                 wanted[node] += 1
     for node, first in wanted.items():
         if end.first[node] != first:
             yield f"kept: the log of node {node} begins with {end.first[node]}, by what it published with {first}"
+
+
+def is_complete(entry, value):
+    """Whether the entry lists no trigger that the value names."""
+    return not set(entry["triggers"]) & set(value["incomplete"])
 
 
 def decisions(end):
@@ -141,7 +146,7 @@ def tables(net, end):
         if value is None or length is None:
             yield f"published: {where} without a cut or a decision"
             continue
-        complete = [entry for entry in end.logs[node] if entry["place"] <= length and entry["trigger"] not in value["incomplete"]]
+        complete = [entry for entry in end.logs[node] if entry["place"] <= length and is_complete(entry, value)]
         wanted = selection.table(net, node, complete, value["responding"], prefix)
         if path != wanted:
             yield f"table: {where} is {path}, the model says {wanted}"

@@ -27,6 +27,8 @@ def network(rng):
     for a, b in net.ways():
         if rng.random() < 0.1:
             net.prefs[a, b] = rng.choice([0, 50, 150, 200])
+    if rng.random() < 0.5:
+        net.holds = {way for way in net.ways() if rng.random() < 0.4}
     net.prefixes = [f"10.{k}.0.0/16" for k in range(rng.randint(1, 3))]
     net.hops = rng.choice([None, 0, 1, 3, 20])
     net.transient = rng.choice([None, "deflect", "backup", f"detour {rng.choice(nodes)}"])
@@ -45,6 +47,10 @@ def some(rng, net, before):
         [f"restore {a} {b}", f"notice {a} {b}", f"open {a} {b}", f"notice {b} {a}", f"open {b} {a}"], [f"open {a} {b}"],
         [f"prefer {a} {b} {rng.choice([0, 50, 100, 200, 1000000])}"],
     ]
+    held = sorted(net.holds)
+    if held:
+        (c, d), (e, f) = rng.choice(held), rng.choice(held)
+        linked += [[f"flush {a} {b}"], [f"flush {c} {d}"], [f"flush {c} {d}", f"deliver {c} {d}"], [f"flush {c} {d}", f"flush {e} {f}", "drain 10"]]
     alone = [
         [f"originate {node} {prefix}"], [f"originate {node} {prefix}", "drain 100"], [f"withdraw {node} {prefix}"],
         [f"snap {node}"], [f"snap {node}", "drain 100", "ctl all 300", f"propose {proposer} {epoch}", "ctl all 300"],

@@ -7,10 +7,10 @@ from typing import List
 from .network import CONVERSE, Link, Network
 from .trouble import Trouble
 
-HEAD = {"node", "link", "pref", "prefix", "hops", "transient"}
+HEAD = {"node", "link", "pref", "hold", "prefix", "hops", "transient"}
 WORDS_OF_EVENT = {
     "originate": 3, "withdraw": 3, "prefer": 4, "deliver": 3, "fail": 3, "restore": 3, "notice": 3, "open": 3,
-    "snap": 2, "crash": 2, "restart": 2, "propose": 3, "inject": 4,
+    "flush": 3, "snap": 2, "crash": 2, "restart": 2, "propose": 3, "inject": 4,
 }
 CONTROL, PACKETS, QUIET = {"propose", "ctl"}, {"inject", "hop"}, {"show", "probe", "crash"}
 KNOWN = HEAD | set(WORDS_OF_EVENT) | {"begin", "ctl", "hop", "drain", "show", "probe"}
@@ -114,6 +114,8 @@ def _declare(net, line, name):
             net.links.append(Link(int(words[1]), int(words[2]), words[3]))
         elif words[0] == "pref":
             net.prefs[int(words[1]), int(words[2])] = int(words[3])
+        elif words[0] == "hold":
+            net.holds.add((int(words[1]), int(words[2])))
         elif words[0] == "prefix":
             net.prefixes.append(words[1])
         elif words[0] == "hops":

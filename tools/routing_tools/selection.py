@@ -15,7 +15,8 @@ class Node:
         self.relation = {b: relation for (a, b), relation in net.relations().items() if a == node}
         self.held = {other: 1 for other in self.relation}
         self.ready = {other: 1 for other in self.relation}
-        self.told, self.origin, self.prefer, self.said, self.count = {}, set(), {}, {}, {}
+        self.told, self.origin, self.prefer, self.offered, self.count = {}, set(), {}, {}, {}
+        self.waiting = {}  # of each neighbour from which the node holds back, and each prefix: the triggers that are held back
 
     def enter(self, entry):
         """Takes the cause of an entry."""
@@ -61,24 +62,44 @@ class Node:
         return self.held[other] is not None and self.ready[other] == self.held[other]
 
     def sends(self, entry):
-        """What an entry sends: the neighbour, the session, the number, and the prefix and path, None for a close."""
+        """What an entry sends: the neighbour, the session, the number, and the prefix, the path and the triggers, None for a close."""
         closed = entry["cause"] == "down" and self.ready[entry["neighbour"]] == self.held[entry["neighbour"]]
         self.enter(entry)
-        prefixes = self.net.prefixes if entry["scope"] == "all" else [entry["scope"]]
         for other in sorted(self.relation):
-            if closed and other == entry["neighbour"]:
-                yield self._next(other, entry["session"], None)
+            if entry["cause"] in ("down", "flush") and other == entry["neighbour"]:
+                waiting = self._let_go(other)
+                if closed:
+                    yield self._next(other, entry["session"], None)
+                for prefix, triggers in waiting if entry["cause"] == "flush" else ():
+                    yield self._next(other, self.held[other], (prefix, self.offer(prefix, other), triggers))
             elif self.is_ready(other):
-                session = self.held[other]
-                for prefix in prefixes:
-                    offer = self.offer(prefix, other)
-                    if offer != self.said.get((other, session, prefix), []):
-                        self.said[other, session, prefix] = offer
-                        yield self._next(other, session, (prefix, offer))
+                yield from self._tell(other, entry)
+
+    def _let_go(self, other):
+        """What is held back from a neighbour, by prefix in the order of the file. Then nothing is."""
+        return [(prefix, sorted_triggers(self.waiting.pop((other, prefix)))) for prefix in self.net.prefixes if (other, prefix) in self.waiting]
+
+    def _tell(self, other, entry):
+        """An update of each prefix whose offer the entry changes, or its triggers where the node holds back."""
+        session, prefixes = self.held[other], {"all": self.net.prefixes, "-": []}.get(entry["scope"], [entry["scope"]])
+        for prefix in prefixes:
+            offer = self.offer(prefix, other)
+            if offer == self.offered.get((other, session, prefix), []):
+                continue
+            self.offered[other, session, prefix] = offer
+            if (self.node, other) in self.net.holds:
+                self.waiting.setdefault((other, prefix), set()).update(entry["triggers"])
+            else:
+                yield self._next(other, session, (prefix, offer, entry["triggers"]))
 
     def _next(self, other, session, what):
         self.count[other, session] = self.count.get((other, session), 0) + 1
         return other, session, self.count[other, session], what
+
+
+def sorted_triggers(triggers):
+    """Triggers ascending, by node, then by counter."""
+    return sorted(triggers, key=lambda trigger: tuple(map(int, trigger.split("."))))
 
 
 def complaints(net, logs, ribs):
@@ -91,7 +112,7 @@ def complaints(net, logs, ribs):
             if wanted != entry["sent"]:
                 yield f"sent: entry {entry['place']} of node {node} sends {entry['sent']}, the model says {wanted}"
             for other, session, number, what in items:
-                sent[node, other, session, number] = what + (entry["trigger"],) if what else None
+                sent[node, other, session, number] = what
     yield from _unheard(logs, sent)
     for (node, prefix), path in ribs.items():
         wanted = nodes[node].best(prefix)[1]
@@ -105,7 +126,7 @@ def _unheard(logs, sent):
         for entry in log:
             if entry["cause"] == "recv":
                 key = (entry["neighbour"], node, entry["session"], entry["seq"])
-                heard = (entry["scope"], entry["path"], entry["trigger"])
+                heard = (entry["scope"], entry["path"], entry["triggers"])
                 if sent.get(key) != heard:
                     yield f"received: entry {entry['place']} of node {node} has {heard}, sent was {sent.get(key)}"
 

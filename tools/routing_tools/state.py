@@ -4,7 +4,7 @@ from .logs import before_drops
 from .schedule import CONTROL, PACKETS, QUIET
 from .watch import watch
 
-ROUTING = {"originate", "withdraw", "prefer", "deliver", "fail", "restore", "notice", "open", "drain", "snap", "restart"}
+ROUTING = {"originate", "withdraw", "prefer", "deliver", "fail", "restore", "notice", "open", "flush", "drain", "snap", "restart"}
 MOST_EPOCHS = 32
 
 

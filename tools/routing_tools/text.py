@@ -4,7 +4,7 @@ import re
 PATTERNS = [
     ("idle", r"(?P<line>\d+): idle (?P<reason>.+)"),
     ("rib", r"rib (?P<node>\d+) (?P<prefix>\S+): (?P<path>.+)"),
-    ("log", r"log (?P<node>\d+) (?P<place>\d+): (?P<trigger>\S+) (?P<scope>\S+) (?P<cause>\w+)(?P<told>[^>]*?)(?P<sent>( > \S+)*)"),
+    ("log", r"log (?P<node>\d+) (?P<place>\d+): (?P<triggers>\S+) (?P<scope>\S+) (?P<cause>\w+)(?P<told>[^>]*?)(?P<sent>( > \S+)*)"),
     ("cut", r"cut (?P<node>\d+) (?P<epoch>\d+): (?P<length>\d+|none)"),
     ("recorded", r"recorded (?P<node>\d+) (?P<epoch>\d+) (?P<neighbour>\d+)/(?P<session>\d+): (?P<numbers>.+) (?P<state>done|waiting)"),
     ("closure", r"closure (?P<epoch>\d+): S=(?P<responding>\S+) I=(?P<incomplete>\S+)"),
@@ -83,6 +83,9 @@ def _log(found):
             found["path"] = path_of(told[1])
     elif cause == "prefer":
         found["neighbour"], found["value"] = int(told[0]), int(told[1])
+    elif cause == "flush":
+        found["neighbour"] = int(told[0])
+    found["triggers"] = listed(found["triggers"])
     found["sent"] = [item for item in found["sent"].split(" > ") if item]
     return found
 

@@ -249,6 +249,18 @@ class Dropped(WithProgram):
             self.assertEqual(fuzz.name_of(found or ""), name, found)
 
 
+    def test_lies_about_what_was_held_back_are_found(self):
+        lines = schedule.read(str(EXAMPLES / "held_back.schedule")).text().splitlines()
+        self.assertIsNone(fuzz.first_failure(self.program, lines, False))
+        for name, before, after in (
+            ("received", r"^(log 2 3: )1.2,(1.3 .*)$", r"\1\2"),  # the last trigger of the list alone
+            ("sent", r"^(log 1 6: .*) > 2/1/2$", r"\1"),  # a flush that tells only what is new
+            ("sent", r"^(log 1 4: .*)$", r"\1 > 2/1/2"),  # an update that goes past the hold
+        ):
+            found = fuzz.first_failure(Liar(self.program.path, before, after), lines, False)
+            self.assertEqual(fuzz.name_of(found or ""), name, found)
+
+
 class Fuzz(WithProgram):
     def test_nothing_is_found(self):
         code, out, _ = self.command("fuzz", "1..40", "--keep", self.folder)
@@ -256,12 +268,12 @@ class Fuzz(WithProgram):
 
     def test_a_liar_is_found_and_the_schedule_shrinks(self):
         # each route over three nodes is none
-        liar, lines = Liar(self.program.path, r"^(rib \d+ \S+): \d+ \d+ \d+$", r"\1: none"), random_schedules.drawn(4)
+        liar, lines = Liar(self.program.path, r"^(rib \d+ \S+): \d+ \d+ \d+$", r"\1: none"), random_schedules.drawn(6)
         found = fuzz.first_failure(liar, lines, False)
         self.assertEqual(fuzz.name_of(found), "route")
         least = schedule.parse("\n".join(fuzz.shrunk(liar, lines, "route", False)))
         self.assertEqual((len(least.network.nodes), len(least.network.links), len(least.lines)), (3, 2, 2))
-        path = fuzz.keep(str(self.folder), 4, least.text().splitlines(), found)
+        path = fuzz.keep(str(self.folder), 6, least.text().splitlines(), found)
         self.assertEqual(schedule.read(str(path)).lines[0].first(), "originate")
 
 
