@@ -121,10 +121,30 @@ def packets():
     return lines + ["show walk 4096"]
 
 
+def held_back():
+    """48 nodes, which hold back from their providers; prefixes come and go, and after every ten changes all that is held back is sent."""
+    rng = random.Random(4)
+    prefixes = ranges(20)
+    links = tiers(48, 2, rng)
+    held = [(customer, provider) for provider, customer, relation in links if relation == "customer"]
+    lines = head(48, links, prefixes)
+    lines[-1:] = [f"hold {a} {b}" for a, b in held] + ["begin"]
+    owned = set()
+    for _ in range(24):
+        for place in (rng.randrange(20) for _ in range(10)):
+            lines.append(f"{'withdraw' if place in owned else 'originate'} {1 + place * 5 % 48} {prefixes[place]}")
+            owned ^= {place}
+        for a, b in sorted(held, reverse=True):
+            lines += [f"flush {a} {b}"]
+        lines.append("drain 1000000")
+    return lines + ["show rib"]
+
+
 SCHEDULES = [
     cold_start,
     flapping_links,
     long_drains,
+    held_back,
     idle_lines,
     long_log,
     epoch_cuts,
