@@ -1,5 +1,5 @@
 //! The control messages.
-ghost use Rattle.std.specs.Prelude.{ℕ, suc, ◌≡◌, ◌<◌, ◌-◌, ◌^◌, ◌&&◌, [], ◌∷◌, Some, None, true, false, nat_lt, nat_le, length, IfOk, OnOk, OnErr, IfSome, IfNone};
+ghost use Rattle.std.specs.Prelude.{ℕ, suc, ◌≡◌, ◌<◌, ◌≤◌, ◌-◌, ◌^◌, ◌&&◌, [], ◌∷◌, Some, None, true, false, nat_lt, nat_le, length, IfOk, OnOk, OnErr, IfSome, IfNone};
 ghost use Rattle.consolidator.specs.Seen.{message_seen};
 ghost use Rattle.topology.specs.Lists.{has};
 ghost use Rattle.topology.specs.Net.{Net};
@@ -37,6 +37,7 @@ impl Model for Mails {
 // The number after these. None where no number is left.
 fn number_after(count: usize) -> Option<u32>
     ensures some { IfSome result (λ number. number ≡ suc count) }
+    ensures none { IfNone result (2 ^ 32 - 1 ≤ count) }
 {
     if count >= u32::MAX as usize {
         return None;

@@ -18,8 +18,9 @@ use trigger_log::NodeLog;
 /// What the node of a log reports of an epoch, where its cut is the whole log: a row for each
 /// entry that the log keeps, the oldest first, with all items that the entry sent, `close` included; a row for
 /// each session that it ever held, by neighbour, ascending, then by session; and a row for each update that is held back.
-/// An entry that was dropped has no row; the other rows are whole, but that of a `Down` that lists several triggers the first is told. Takes time and memory in proportion to the entries
-/// that are kept, their items, the sessions and what is held back.
+/// An entry that was dropped has no row, and each other entry's row is whole. The session row of a `Down` that lists several
+/// triggers tells the first of them. Takes time and memory in proportion to the entries that are kept, their items, the
+/// sessions and what is held back.
 pub fn report_of<P: Policy + Copy>(
     alloc: Global,
     log: &NodeLog<P>,

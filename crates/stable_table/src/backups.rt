@@ -59,7 +59,7 @@ pub(crate) fn backups_of<P: Policy + Copy>(
         (map (λ (c : Choice). c.path) (by_rank (P.rules policy) net u h prefix))) }
 {
     let order = state.order(prefix)?;
-    let mut backups = Vec::new(alloc);
+    let mut backups = Vec::with_capacity(alloc, order.len())?;
     for nbr in &order {
         push_some(&mut backups, backup_by(state, responders, prefix, *nbr)?)?;
     }

@@ -75,6 +75,26 @@ impl Table {
             None => &[],
         }
     }
+
+    /// The paths of all prefixes, in file order, without their backups. They share their nodes with the table.
+    pub fn paths(&self, alloc: Global) -> Result<Vec<Option<Path>>, NoMemory>
+        ensures { IfOk result (λ paths. paths.items ≡ self.now.paths) }
+    {
+        let mut paths = Vec::with_capacity(alloc, self.rows.len())?;
+        for row in &self.rows {
+            paths.push(copy_path(&row.path)?)?;
+        }
+        Ok(paths)
+    }
+}
+
+fn copy_path(path: &Option<Path>) -> Result<Option<Path>, NoMemory>
+    ensures { IfOk result (λ copy. copy ≡ path.now) }
+{
+    match path {
+        None => Ok(None),
+        Some(path) => Ok(Some(path.copy()?)),
+    }
 }
 
 // The first entries, up to this number.
