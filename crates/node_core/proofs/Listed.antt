@@ -86,6 +86,11 @@ adds_none counts = record { updates = omega arith; marks = omega arith; long = o
     or_false true = refl
     or_false false = refl
 
+-- where there are none
+pub adds_no_more : (items : List Sent) (counts : Counts) → length items ≡ 0 → Adds items counts counts
+adds_no_more [] counts none = adds_none counts
+adds_no_more (item ∷ items) counts none = absurd (cc none)
+
 pub adds_one : (item : Sent) (old new : Counts) (n : ℕ) (b : Bool) → n ≡ length item.triggers → b ≡ is_long item.triggers → new.updates ≡ old.updates + 1 → new.marks ≡ old.marks + n → new.has_long ≡ (old.has_long || b)
     → Adds (item ∷ []) old new
 adds_one item old new n b many long updates marks either = record {

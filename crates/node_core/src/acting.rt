@@ -28,16 +28,16 @@ use path_vector::{Cause, Policy};
 use topology::{Item, NoMemory, NodeId, Scope, Session, Triggers};
 use trigger_log::{NodeLog, Outgoing};
 
-// What the entries come to with the newest one of the log, which was not dropped. Want of memory where a count ends.
+// Counts the newest entry of the log, which was not dropped. Want of memory where a count ends.
 #[inline(always)]
-fn counted<P: Policy + Copy>(counts: Counts, log: &NodeLog<P>) -> Result<Counts, NoMemory>
-    ensures { IfOk result (λ more. (policy : P) (net : Net) (u : ℕ) (k : Entry) (h : List Entry) →
+fn count_newest<P: Policy + Copy>(counts: &mut Counts, log: &NodeLog<P>) -> Result<(), NoMemory>
+    ensures { OnOk result ((policy : P) (net : Net) (u : ℕ) (k : Entry) (h : List Entry) →
         LogStandsFor policy (P.rules policy) net u log.now (k ∷ h) → dropped_of log.now ≤ length h →
-        AreCounts (P.rules policy) net u h counts → AreCounts (P.rules policy) net u (k ∷ h) more) }
+        AreCounts (P.rules policy) net u h counts.old → AreCounts (P.rules policy) net u (k ∷ h) counts.new) }
 {
     match log.entry(log.len()) {
-        None => Ok(counts),
-        Some(entry) => Ok(counts.after(entry)?),
+        None => Ok(()),
+        Some(entry) => Ok(counts.add(entry)?),
     }
 }
 
@@ -64,7 +64,7 @@ impl<P: Policy + Copy> Node<P> {
     {
         let Node { log, mut parts } = self;
         let log = outputs.enter(log, &parts.topology, triggers, scope, cause)?;
-        parts.counts = counted(parts.counts, &log)?;
+        count_newest(&mut parts.counts, &log)?;
         Ok(Node { log, parts })
     }
 

@@ -1,5 +1,5 @@
 //! How many items and triggers the lists of a node have.
-ghost use Rattle.std.specs.Prelude.{ℕ, ◌+◌, ◌<◌, ◌≡◌, [], ◌∷◌, nat_lt, List, IfNone, IfOk, IfSome};
+ghost use Rattle.std.specs.Prelude.{ℕ, ◌+◌, ◌<◌, ◌≡◌, [], ◌∷◌, nat_lt, List, IfNone, IfOk, IfSome, OnOk};
 ghost use Rattle.std.specs.List.{list_any};
 ghost use Rattle.topology.specs.Net.{Net};
 ghost use Rattle.path_vector.specs.Rules.{Rules};
@@ -113,46 +113,58 @@ impl Counts {
         }
     }
 
-    // The counts with one item more.
-    fn with_item(self, item: &Sent) -> Result<Counts, NoMemory>
-        ensures { IfOk result (λ counts. Adds (item.now ∷ []) self counts) }
+    // One item more. After want of memory the counts mean nothing.
+    #[inline(always)]
+    fn add_item(&mut self, item: &Sent) -> Result<(), NoMemory>
+        ensures { OnOk result (Adds (item.now ∷ []) self.old self.new) }
     {
-        Ok(Counts {
-            updates: sum(self.updates, 1)?,
-            marks: sum(self.marks, item.triggers.len())?,
-            has_long: self.has_long | is_long(&item.triggers),
-        })
+        self.updates = sum(self.updates, 1)?;
+        self.marks = sum(self.marks, item.triggers.len())?;
+        self.has_long = self.has_long | is_long(&item.triggers);
+        Ok(())
     }
 
-    // The counts with these items more.
-    fn with_items(self, items: &[Sent]) -> Result<Counts, NoMemory>
-        ensures { IfOk result (λ counts. Adds items.now self counts) }
+    // These items more.
+    #[inline(always)]
+    fn add_items(&mut self, items: &[Sent]) -> Result<(), NoMemory>
+        ensures { OnOk result (Adds items.now self.old self.new) }
     {
-        let mut counts = self;
+        let mut counts = *self;
         for item in items {
-            counts = counts.with_item(item)?;
+            counts.add_item(item)?;
         }
-        Ok(counts)
+        *self = counts;
+        Ok(())
     }
 
-    // The counts with the items of an entry.
-    fn with_sent(self, sent: &SentItems) -> Result<Counts, NoMemory>
-        ensures { IfOk result (λ counts. Adds sent.now self counts) }
+    // The items of an entry more, which sent some.
+    #[inline(never)]
+    fn add_laid_out(&mut self, sent: &SentItems) -> Result<(), NoMemory>
+        ensures { OnOk result (Adds sent.now self.old self.new) }
     {
-        self.with_items(sent.laid_out().as_slice())
+        self.add_items(sent.laid_out().as_slice())
     }
 
-    /// What the entries come to with this one, or want of memory where a count ends.
-    pub(crate) fn after(self, entry: &Entry) -> Result<Counts, NoMemory>
-        ensures { IfOk result (λ counts. (rules : Rules) (net : Net) (u : ℕ) (k : Logged) (h : List Logged) →
-            AreCounts rules net u h self → Shows rules net u (record { before = h; entry = k }) entry.now →
-            AreCounts rules net u (k ∷ h) counts) }
+    // The items of an entry more: most entries sent none.
+    #[inline(always)]
+    fn add_sent(&mut self, sent: &SentItems) -> Result<(), NoMemory>
+        ensures { OnOk result (Adds sent.now self.old self.new) }
     {
-        let counts = self.with_sent(&entry.sent)?;
-        Ok(Counts {
-            updates: counts.updates,
-            marks: sum(counts.marks, entry.triggers.len())?,
-            has_long: counts.has_long,
-        })
+        if sent.len() == 0 {
+            return Ok(());
+        }
+        self.add_laid_out(sent)
+    }
+
+    /// One entry more, or want of memory where a count ends: then the counts mean nothing.
+    #[inline(always)]
+    pub(crate) fn add(&mut self, entry: &Entry) -> Result<(), NoMemory>
+        ensures { OnOk result ((rules : Rules) (net : Net) (u : ℕ) (k : Logged) (h : List Logged) →
+            AreCounts rules net u h self.old → Shows rules net u (record { before = h; entry = k }) entry.now →
+            AreCounts rules net u (k ∷ h) self.new) }
+    {
+        self.add_sent(&entry.sent)?;
+        self.marks = sum(self.marks, entry.triggers.len())?;
+        Ok(())
     }
 }

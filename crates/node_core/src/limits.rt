@@ -124,6 +124,7 @@ impl<P: Policy + Copy> Node<P> {
     /// sent, dropped ones too, and those of what it holds back, as that stands; each trigger counts once for each list that
     /// has it. Where they come to more, the stop is that at this number. It stands last of all counts, so `handle_into`
     /// leaves it to its caller. Takes no memory.
+    #[inline(always)]
     pub fn check_marks(&self) -> Result<(), Stop>
         ensures ok { OnOk result ((policy : P) (net : Net) (u : ℕ) (past : Chronicle) →
             StandsFor policy (P.rules policy) net u self.now past → has_more_marks (P.rules policy) net u past ≡ false) }

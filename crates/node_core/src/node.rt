@@ -176,9 +176,19 @@ impl<P: Policy + Copy> Node<P> {
         self.parts.agreement.reports.of(epoch)
     }
 
-    /// A crash of the node: the reports that it holds as a consolidator and its tallies are lost, all else stays. Takes
-    /// no memory.
-    pub fn forget(&mut self)
+    /// The node after a crash: it has lost the reports that it collected and the ballots that it had open, and keeps all
+    /// else. Takes no memory.
+    pub fn forget(mut self) -> Node<P>
+        ensures { (policy : P) (net : Net) (u : ℕ) (past : Chronicle) →
+            StandsFor policy (P.rules policy) net u self past →
+            StandsFor policy (P.rules policy) net u result (Crash u ∷ past) }
+    {
+        self.lose_tallies();
+        self
+    }
+
+    /// What [`forget`](Node::forget) does, in place.
+    pub fn lose_tallies(&mut self)
         ensures { (policy : P) (net : Net) (u : ℕ) (past : Chronicle) →
             StandsFor policy (P.rules policy) net u self.old past →
             StandsFor policy (P.rules policy) net u self.new (Crash u ∷ past) }

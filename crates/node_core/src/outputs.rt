@@ -209,6 +209,31 @@ impl OutputList {
         }
     }
 
+    /// Takes all outputs. Where no entry stands first, takes no memory.
+    #[inline(always)]
+    pub fn take_all(&mut self) -> Result<Vec<Output>, NoMemory>
+        ensures taken { IfOk result (λ list. list.items ≡ self.old) }
+        ensures left { OnOk result (self.new ≡ []) }
+    {
+        if self.logged.is_some() {
+            let alloc = self.alloc;
+            let all = mem::replace(self, OutputList::new(alloc));
+            return Ok(all.into_vec()?);
+        }
+        Ok(mem::replace(&mut self.more, Vec::new(self.alloc)))
+    }
+
+    /// Keeps the memory of this list, which is empty, for further outputs.
+    #[inline(always)]
+    pub fn reuse_all(&mut self, list: Vec<Output>)
+        requires { list.items ≡ [] }
+        ensures { self.new ≡ self.old }
+    {
+        if self.more.is_empty() {
+            self.more = list;
+        }
+    }
+
     /// All outputs, one by one.
     pub fn into_vec(self) -> Result<Vec<Output>, NoMemory>
         ensures { IfOk result (λ list. list.items ≡ self) }

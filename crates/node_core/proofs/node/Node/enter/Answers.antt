@@ -16,7 +16,7 @@ returns-clause-node g c policy net u carried past was may =
     (λ stands near placed fits lists. c.in_ok-log.ensures.log policy u h stands near placed fits lists)
     (λ stands near placed fits lists. c.in_ok-log.ensures.outputs policy u h stands near placed fits lists) in
     entered policy rules net u carried past k c.args.self _ was c.deref_mut.ensures.value refl made.log c.in_ok-log.ensures.dropped
-    ((rw c.deref-4.ensures at c.in_ok-parts.ensures) policy net u k h made.log (subst (λ n. n ≤ length h) (sym c.in_ok-log.ensures.dropped) was.log.kept.within) (subst (AreCounts rules net u h) (sym (ap (λ (p : NodeParts). p.counts) c.deref-3.ensures)) was.counted))
+    ((rw c.deref-3.ensures at c.in_ok-count_newest.ensures) policy net u k h made.log (subst (λ n. n ≤ length h) (sym c.in_ok-log.ensures.dropped) was.log.kept.within) (subst (AreCounts rules net u h) (sym (ap (λ (p : NodeParts). p.counts) c.deref_mut.ensures.value)) was.counted))
 
 pub returns-clause-outputs : goal.returns-clause-outputs
 returns-clause-outputs g c policy net u carried past first was may hands =

@@ -1,6 +1,6 @@
 use Rattle.std.proofs.Common.{take}
 use Rattle.node_core.specs.Counting.{Adds}
-use Rattle.node_core.proofs.counts.Counts.with_items.Given as goal
+use Rattle.node_core.proofs.counts.Counts.add_items.Given as goal
 
 -- those so far are added
 abbrev pub invariant-loop-item : goal.invariant-loop-item

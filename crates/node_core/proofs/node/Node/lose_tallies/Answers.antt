@@ -4,7 +4,7 @@ use Rattle.chronicle.specs.Control.{control}
 use Rattle.node_core.specs.declared.parts.NodeParts.{NodeParts}
 use Rattle.node_core.proofs.Entering.{keeps_as}
 use Rattle.node_core.proofs.Others.{crash_stands}
-use Rattle.node_core.proofs.node.Node.forget.Goals as goal
+use Rattle.node_core.proofs.node.Node.lose_tallies.Goals as goal
 
 pub returns : goal.returns
 returns g c policy net u past was =
