@@ -1,5 +1,5 @@
 //! The words of a line, and what each may be.
-ghost use Rattle.std.specs.Prelude.{ℕ, ◌≡◌, ◌≢◌, ◌≤◌, ◌+◌, false, true, List, None, Some, IfOk, OnOk, OnErr, IfErr, IfSome, IfNone, length, slice_range, drop};
+ghost use Rattle.std.specs.Prelude.{ℕ, ◌≡◌, ◌≢◌, ◌≤◌, ◌<◌, ◌+◌, false, true, List, None, Some, IfOk, OnOk, OnErr, IfErr, IfSome, IfNone, length, slice_range, drop};
 ghost use Rattle.text_lines.specs.Words.{words_of};
 ghost use Rattle.text_lines.specs.Readings.{words_left};
 ghost use Rattle.topology.specs.declared.status.BadKind.TheVariants.{UnknownWord, BadNumber, BadPrefix};
@@ -26,30 +26,38 @@ pub struct Words<'a> {
     pub fourth: &'a [u8],
 }
 
-// How many words the line has.
-fn count_words(text: &[u8], line: Span) -> usize
-    requires ordered { line.start ≤ line.end }
-    requires inside { line.end ≤ length text.now }
-    ensures count { result ≡ length (words_of (slice_range text.now line.start line.end)) }
-    ensures few { result + line.start ≤ line.end }
+// How many words are left.
+fn count_left(tokens: &mut Tokens<'_>) -> usize
+    requires { tokens.old.from ≤ tokens.old.end }
+    ensures count { result ≡ length (words_left tokens.old) }
+    ensures few { result + tokens.old.from ≤ tokens.old.end }
 {
     let mut count = 0;
-    let mut tokens = Tokens::new(text, line);
     while let Some(_token) = tokens.next() {
         count += 1;
     }
     count
 }
 
-// The next word, empty where there is none.
-fn next_word<'a>(text: &'a [u8], tokens: &mut Tokens<'a>) -> &'a [u8]
-    requires { tokens.old.text ≡ text.now }
+// The next word, empty where there is none. It is counted.
+fn next_word<'a>(text: &'a [u8], tokens: &mut Tokens<'a>, count: &mut usize) -> &'a [u8]
+    requires text { tokens.old.text ≡ text.now }
+    requires inside { tokens.old.from ≤ tokens.old.end }
+    requires few { count.old < 4 }
     ensures word { result.now ≡ word_at 0 (words_left tokens.old) }
     ensures left { words_left tokens.new ≡ drop 1 (words_left tokens.old) }
     ensures text { tokens.new.text ≡ text.now }
+    ensures end { tokens.new.end ≡ tokens.old.end }
+    ensures inside { tokens.new.from ≤ tokens.new.end }
+    ensures count { count.new + length (words_left tokens.new) ≡ count.old + length (words_left tokens.old) }
+    ensures few { count.new ≤ count.old + 1 }
+    ensures behind { count.new + tokens.old.from ≤ count.old + tokens.new.from }
 {
     match tokens.next() {
-        Some(token) => &text[token.start..token.end],
+        Some(token) => {
+            *count += 1;
+            &text[token.start..token.end]
+        }
         None => &[],
     }
 }
@@ -60,12 +68,13 @@ pub fn words_of<'a>(text: &'a [u8], line: Span) -> Words<'a>
     requires inside { line.end ≤ length text.now }
     ensures { Holds result (words_of (slice_range text.now line.start line.end)) }
 {
-    let count = count_words(text, line);
+    let mut count = 0;
     let mut tokens = Tokens::new(text, line);
-    let first = next_word(text, &mut tokens);
-    let second = next_word(text, &mut tokens);
-    let third = next_word(text, &mut tokens);
-    let fourth = next_word(text, &mut tokens);
+    let first = next_word(text, &mut tokens, &mut count);
+    let second = next_word(text, &mut tokens, &mut count);
+    let third = next_word(text, &mut tokens, &mut count);
+    let fourth = next_word(text, &mut tokens, &mut count);
+    let count = count + count_left(&mut tokens);
     Words {
         count,
         first,
