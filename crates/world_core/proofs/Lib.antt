@@ -26,6 +26,7 @@ pub mod Handed
 pub mod Changing
 pub mod Opened
 pub mod Next
+pub mod Restarting
 pub mod Lawful
 pub mod Stepped
 pub mod Held

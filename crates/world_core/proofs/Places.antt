@@ -1,6 +1,5 @@
 -- Places of lists.
-use Rattle.std.proofs.Common.{ℕ, zero, suc, true, ◌==◌, ◌<◌, ◌≤◌, ◌+◌, drop, Some, List, [], ◌∷◌, ◌≡◌, ◌≢◌, refl, ap, ◌∙◌, arith, length, map, set, slice_get}
-use Rattle.std.proofs.lemmas.Bool.Decides.{nat_tests}
+use Rattle.std.proofs.Common.{ℕ, zero, suc, ◌<◌, ◌≤◌, ◌+◌, drop, Some, List, [], ◌∷◌, ◌≡◌, ◌≢◌, refl, ap, ◌∙◌, arith, length, map, set, slice_get}
 
 -- what is put at a place is there
 pub slice_get-set_same : {A : Type 0} (xs : List A) (i : ℕ) (x : A) → i < length xs → slice_get (set xs i x) i ≡ Some x
@@ -21,11 +20,6 @@ pub some_at : {A : Type 0} (xs : List A) (i : ℕ) → i < length xs → (x : A)
 some_at [] i l = absurd (omega arith)
 some_at (x ∷ xs) zero l = (x, refl)
 some_at (x ∷ xs) (suc i) l = some_at xs i (omega arith)
-
--- nothing is in a list of no length
-pub nothing_in : {A : Type 0} (xs : List A) (n : ℕ) → n ≡ length xs → (n == 0) ≡ true → [] ≡ xs
-nothing_in [] n count e = refl
-nothing_in (x ∷ xs) n count e = let none : n ≡ 0 = grind (arith, nat_tests) in absurd (omega (arith, count, none))
 
 -- the same thing is there
 pub same_some : {A : Type 0} (x y : A) → Some x ≡ Some y → x ≡ y

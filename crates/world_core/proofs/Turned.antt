@@ -2,7 +2,7 @@
 use Rattle.std.proofs.Common.{ℕ, zero, suc, ◌<◌, ◌≤◌, ◌+◌, ◌-◌, Some, None, List, [], ◌∷◌, ◌++◌, ◌≡◌, ◌≢◌, refl, sym, ◌∙◌, ap, ap₂, subst, arith, length, get_or, set, ⊎_elim}
 use Rattle.std.specs.List.{slice_get}
 use Rattle.std.proofs.lemmas.Bool.{cases_eq}
-use Rattle.std.proofs.lemmas.Option.{get_or_from_slice_get, slice_get_cases, slice_get_past}
+use Rattle.std.proofs.lemmas.Option.{get_or_from_slice_get, slice_get_cases}
 use Rattle.world_core.specs.Turning.{returned, returned_by}
 
 -- two lists with the same elements at the same places are one
@@ -118,7 +118,3 @@ pub put_there : {A : Type 0} (xs new : List A) (i : ℕ) (x put other at : A) �
     → new ≡ returned xs i x
 put_there xs new i x put other at here is_x is_at is =
     is ∙ (ap₂ (λ p o. set xs i p ++ o ∷ []) is_x is_at ∙ ap (returned_by xs i x) (sym here))
-
--- an element that is put at the end
-pub put_last : {A : Type 0} (xs new : List A) (i : ℕ) (x : A) → length xs ≤ i → new ≡ xs ++ x ∷ [] → new ≡ returned xs i x
-put_last xs new i x late is = is ∙ ap (returned_by xs i x) (sym (slice_get_past xs i late))

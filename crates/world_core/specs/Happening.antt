@@ -14,6 +14,7 @@ use Rattle.trigger_log.specs.Sending.{sent_of}
 use Rattle.incomplete_closure.specs.declared.values.Value.{Value}
 use Rattle.paxos_core.specs.Facts.{Accept}
 use Rattle.consolidator.specs.Messages.{Agrees}
+use Rattle.chronicle.specs.declared.events.Event.{Event}
 use Rattle.chronicle.specs.Facts.{Chronicle, Took, Mail}
 use Rattle.chronicle.specs.Links.{link}
 use Rattle.chronicle.specs.Logs.{log_of}
@@ -21,7 +22,7 @@ use Rattle.chronicle.specs.Channels.{channel}
 use Rattle.chronicle.specs.Crashes.{crashed}
 use Rattle.chronicle.specs.Inputs.{Input}
 use Rattle.chronicle.specs.Inputs as input
-use Rattle.chronicle.specs.Run.{given, chronicle_of, held_with}
+use Rattle.chronicle.specs.Run.{given, chronicle_of, does, held_with}
 use Rattle.chronicle.specs.Steps.{Step}
 use Rattle.chronicle.specs.Walks.{standing}
 use Rattle.cut_laws.specs.Delivered.{Did}
@@ -138,6 +139,22 @@ pub record MayHand {P : Type 0} (rules : Rules) (past : Chronicle) (counts : Cou
 pub record Comes {P : Type 0} (rules : Rules) (past : Chronicle) (counts : Counts) (step : Step) (network : Network P) (outcome : Outcome) : Type 0 where
   pub stands : Stands rules (chronicle_of past step) counts network
   pub tells : Tells past step outcome
+
+-- so it is of whatever run the network stands for
+abbrev pub InEachRun : {P : Type 0} → Rules → Network P → (Chronicle → Type 0) → Type 0
+InEachRun rules network is = (past : Chronicle) (counts : Counts) → Stands rules past counts network → is past
+
+-- the event was done: whatever run the network stood for, it is as that run has it then, and the outcome tells what was done
+abbrev pub Does : {P : Type 0} → Rules → (old : Network P) → Event → (new : Network P) → Outcome → Type 0
+Does rules old event new outcome =
+    (past : Chronicle) (counts : Counts) → Stands rules past counts old → IsRegular old.topology.value past
+    → Comes rules past counts (does rules old.topology.value past event) new outcome
+
+-- the event was stopped: whatever run the network stood for, the stop is at the limit that the event reaches there
+abbrev pub StopsDoing : {P : Type 0} → Rules → Network P → Event → Stop → Type 0
+StopsDoing rules old event stop =
+    (past : Chronicle) (counts : Counts) → Stands rules past counts old → IsRegular old.topology.value past
+    → Stops rules old.topology.value past (does rules old.topology.value past event) stop
 
 -- all but the flags of crashed nodes is as it was
 pub record KeepsAllButFlags {P : Type 0} (old new : Network P) : Type 0 where

@@ -14,6 +14,7 @@ pub mod Counting
 pub mod Happening
 pub mod Telling
 pub mod Refreshing
+pub mod Restarts
 pub mod Sound
 pub mod Holding
 pub mod Stepping

@@ -7,10 +7,12 @@ use Rattle.chronicle.specs.declared.events.Event.{Event}
 use Rattle.chronicle.specs.Publications.{publications}
 use Rattle.chronicle.specs.Run.{run}
 use Rattle.world_core.specs.Limits.{limit_of}
+use Rattle.world_core.specs.Restarts.{LosesTalliesAlone}
 use Rattle.world_core.specs.Sound.{IsSound}
 
 -- the run that the step leaves is sound; a node that gets both the cut and the decision of an epoch publishes its table in
--- this step, as the last thing of it, and in no other step does it publish; and no count is above its number
+-- this step, as the last thing of it, and in no other step does it publish; a crash and a restart leave all else as it was;
+-- and no count is above its number
 pub record IsStep (rules : Rules) (net : Net) (events : List Event) (event : Event) : Type 0 where
   pub sound : IsSound rules net (run rules net (events ++ event ∷ []))
   pub at_once : (u e : ℕ) → Completes (run rules net events) (run rules net (events ++ event ∷ [])) u e
@@ -18,4 +20,5 @@ pub record IsStep (rules : Rules) (net : Net) (events : List Event) (event : Eve
   pub only_then : (u : ℕ) → (publications u (run rules net (events ++ event ∷ [])) ≡ publications u (run rules net events))
       ⊎ ((e : ℕ) × Completes (run rules net events) (run rules net (events ++ event ∷ [])) u e
       × PublishesLast rules net (run rules net events) (run rules net (events ++ event ∷ [])) u e)
+  pub restarts : LosesTalliesAlone rules net events event
   pub within : limit_of rules net events event ≡ None

@@ -7,6 +7,7 @@ use Rattle.agreement_laws.specs.Published.{Completes, PublishesLast}
 use Rattle.chronicle.specs.declared.events.Event.{Event}
 use Rattle.chronicle.specs.Publications.{publications}
 use Rattle.chronicle.specs.Run.{run}
+use Rattle.world_core.specs.Restarts.{LosesTalliesAlone}
 use Rattle.world_core.specs.Sound.{IsSound}
 
 -- over these events, one after the other
@@ -22,3 +23,6 @@ pub record HoldsThroughout (rules : Rules) (net : Net) (events : List Event) : T
       → (publications u (run rules net (front ++ event ∷ [])) ≡ publications u (run rules net front))
       ⊎ ((e : ℕ) × Completes (run rules net front) (run rules net (front ++ event ∷ [])) u e
       × PublishesLast rules net (run rules net front) (run rules net (front ++ event ∷ [])) u e)
+  -- a crash stops a node, and loses the reports that it collected and the ballots that it has open; a restart brings it back;
+  -- neither changes anything else
+  pub restarts : (front : List Event) (event : Event) → Begins (front ++ event ∷ []) events → LosesTalliesAlone rules net front event

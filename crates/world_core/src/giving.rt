@@ -52,6 +52,7 @@ impl<P: Policy + Copy> Network<P> {
     }
 
     // Stops where the node at this rank has more marks than it may.
+    #[inline(always)]
     fn check_marks(&self, rank: usize) -> Result<(), Stop>
         requires { rank < length self.now.nodes.items }
         ensures ok { OnOk result ((policy : P) (net : Net) (past : Chronicle) (u : ℕ) →

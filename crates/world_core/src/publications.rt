@@ -3,15 +3,24 @@ ghost use Rattle.std.specs.Prelude.{◌≡◌, option_map, option_and_then, slic
 
 use incomplete_closure::Value;
 use stable_table::Table;
+use std::alloc::Global;
 use std::marker::Model;
 use std::rc::Rc;
-use topology::{Epoch, NoMemory, NodeId, PrefixId};
+use topology::{Epoch, NoMemory, NodeId, Path, PrefixId};
 
-/// A table that a node published. It shares the table with the node.
+// What stays of a table for as long as the run: its backups go with the node's older tables.
+#[derive(Debug, Drop)]
+struct Paths {
+    epoch: Epoch,
+    value: Value,
+    paths: Vec<Option<Path>>,
+}
+
+/// A table that a node published, without its backups. Copies share it, and its paths share their nodes with the table.
 #[derive(Debug, Drop)]
 pub struct Publication {
     node: NodeId,
-    table: Rc<Table>,
+    table: Rc<Paths>,
 }
 
 impl Model for Publication {
@@ -23,16 +32,25 @@ impl Model for Publication {
       node = p.node;
       epoch = p.table.value.epoch;
       value = p.table.value.value;
-      paths = p.table.value.paths;
+      paths = p.table.value.paths.items;
     } };
 }
 
 impl Publication {
-    /// The node published this table. Takes no memory.
-    pub fn new(node: NodeId, table: Rc<Table>) -> Publication
-        ensures { result ≡ record { node = node; epoch = table.value.epoch; value = table.value.value; paths = table.value.paths } }
+    /// The node published this table.
+    pub fn new(alloc: Global, node: NodeId, table: &Table) -> Result<Publication, NoMemory>
+        ensures { IfOk result (λ publication. publication
+            ≡ record { node = node; epoch = table.now.epoch; value = table.now.value; paths = table.now.paths }) }
     {
-        Publication { node, table }
+        let paths = Paths {
+            epoch: table.epoch(),
+            value: table.value().copy()?,
+            paths: table.paths(alloc)?,
+        };
+        Ok(Publication {
+            node,
+            table: Rc::new(alloc, paths)?,
+        })
     }
 
     /// The same publication. The table is shared, not copied.
@@ -56,14 +74,14 @@ impl Publication {
     pub fn epoch(&self) -> Epoch
         ensures { result ≡ self.now.epoch }
     {
-        self.table.epoch()
+        self.table.epoch
     }
 
     /// The value that the table is by.
     pub fn value(&self) -> &Value
         ensures { result.now ≡ self.now.value }
     {
-        self.table.value()
+        &self.table.value
     }
 
     /// The path of a prefix. None where the table has none.
@@ -71,6 +89,7 @@ impl Publication {
         ensures { option_map (λ nodes. nodes.now) result
             ≡ option_and_then (λ path. path) (slice_get self.now.paths prefix) }
     {
-        self.table.path(prefix)
+        let path = self.table.paths.get(prefix.place() as usize)?;
+        Some(path.as_ref()?.nodes())
     }
 }

@@ -27,11 +27,11 @@ use consolidator::Mail;
 use control_mail::Mails;
 use epoch_packet::{End, Packet};
 use link_model::Links;
-use node_core::{First, Output, OutputList};
+use node_core::{First, Output};
 use path_vector::Policy;
 use stable_table::Table;
+use std::alloc::Global;
 use std::collections::VecDeque;
-use std::mem;
 use std::rc::Rc;
 use topology::{NoMemory, NodeId};
 use trigger_log::Outgoing;
@@ -82,6 +82,7 @@ fn post(from: NodeId, mail: Mail, mails: &mut Mails, account: &mut Account) -> R
 
 // Keeps what a node published.
 fn publish(
+    alloc: Global,
     node: NodeId,
     table: Rc<Table>,
     publications: &mut Vec<Publication>,
@@ -93,7 +94,7 @@ fn publish(
     ensures shown { OnOk result (account.old.asked ≡ true → account.new.list ≡ account.old.list ++ Published node table.value.epoch ∷ []) }
 {
     let epoch = table.epoch();
-    publications.push(Publication::new(node, table))?;
+    publications.push(Publication::new(alloc, node, &table)?)?;
     account.tell(Effect::Published { node, epoch })?;
     Ok(())
 }
@@ -153,7 +154,9 @@ impl<P: Policy + Copy> Network<P> {
             Output::Cut { epoch } => account.tell(Effect::Cut { node, epoch })?,
             Output::Send(out) => send(node, out, &mut self.links, account)?,
             Output::Mail(mail) => post(node, mail, &mut self.mails, account)?,
-            Output::Published(table) => publish(node, table, &mut self.publications, account)?,
+            Output::Published(table) => {
+                publish(self.alloc, node, table, &mut self.publications, account)?
+            }
             Output::Forward { next, packet } => forward(next, packet, &mut self.walks, account)?,
             Output::Ended { id, end: how } => end(id, how, &mut self.walks, account)?,
         }
@@ -209,26 +212,24 @@ impl<P: Policy + Copy> Network<P> {
         }
     }
 
-    // Hands on more outputs, in their order, behind those that were handed on before. Most inputs hand out an entry and
-    // items alone: what else there is stays out of their way.
+    // Hands on the outputs that are left, in their order, behind those that were handed on before. Most inputs hand out an
+    // entry and items alone: what else there is stays out of their way.
     #[inline(never)]
-    fn hand_more(
-        &mut self,
-        node: NodeId,
-        outputs: Vec<Output>,
-        account: &mut Account,
-    ) -> Result<(), NoMemory>
+    fn hand_more(&mut self, node: NodeId, account: &mut Account) -> Result<(), NoMemory>
         ensures kept { OnOk result (KeepsNodes self.old self.new) }
         ensures asked { OnOk result (account.new.asked ≡ account.old.asked) }
         ensures sending { OnOk result ((away : ℕ → Bool) (first past : Chronicle) (counts : Counts) (before : List OutputSeen) →
             ((fs : List Fact) → AreTold self.old.topology.value node past fs → before ≡ shown past fs →
             AreSending (still_after fs away) first (happen past fs) counts self.old account.old) →
-            (facts : List Fact) → AreTold self.old.topology.value node past facts → before ++ map output_of outputs.items ≡ shown past facts →
+            (facts : List Fact) → AreTold self.old.topology.value node past facts → before ++ map output_of self.old.outputs ≡ shown past facts →
             AreSending (still_after facts away) first (happen past facts) counts self.new account.new) }
     {
-        for output in outputs {
+        let outputs = self.outputs.take_all()?;
+        let mut left = VecDeque::from_vec(outputs);
+        while let Some(output) = left.pop_front() {
             self.hand(node, output, account)?;
         }
+        self.outputs.reuse_all(left.into_vec());
         Ok(())
     }
 
@@ -247,9 +248,7 @@ impl<P: Policy + Copy> Network<P> {
         if self.outputs.is_empty() {
             return Ok(account.into_list());
         }
-        let left = mem::replace(&mut self.outputs, OutputList::new(self.alloc));
-        let more = left.into_vec()?;
-        self.hand_more(node, more, &mut account)?;
+        self.hand_more(node, &mut account)?;
         Ok(account.into_list())
     }
 }

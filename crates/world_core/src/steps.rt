@@ -12,7 +12,7 @@ ghost use Rattle.world_core.specs.Fits.{fits};
 ghost use Rattle.chronicle.specs.Channels.{channel};
 ghost use Rattle.chronicle.specs.Deliveries.{may_arrive};
 ghost use Rattle.chronicle.specs.Links.{link};
-ghost use Rattle.world_core.specs.Happening.{Comes, IsAsWas, IsRegular, KeepsAllButFlags, KeepsAllButMails, KeepsAllButNodes, MayArrive, Stops, Turns};
+ghost use Rattle.world_core.specs.Happening.{Comes, Does, IsAsWas, InEachRun, IsRegular, KeepsAllButFlags, KeepsAllButMails, KeepsAllButNodes, MayArrive, Stops, StopsDoing, Turns};
 ghost use Rattle.world_core.specs.Matching.{AreCrashed, AreMails, AreNodes, Counts, Stands};
 ghost use Rattle.world_core.specs.Places.{HasPlaces};
 ghost use Rattle.world_core.specs.Walks.{HasWalks};
@@ -95,16 +95,15 @@ impl<P: Policy + Copy> Network<P> {
 
     // The node to which the control message goes, where there is one with the number.
     fn addressee(&self, number: u32) -> Option<NodeId>
-        ensures { (past : Chronicle) (counts : Counts) → Stands (P.rules self.now.policy) past counts self.now →
-            result ≡ addressee number past }
+        ensures { InEachRun (P.rules self.now.policy) self.now (λ past. result ≡ addressee number past) }
     {
         Some(self.mails.kept(number)?.mail.to)
     }
 
     // The node that has to run for the event, if there is one.
     fn actor(&self, event: &Event) -> Option<NodeId>
-        ensures { (past : Chronicle) (counts : Counts) → Stands (P.rules self.now.policy) past counts self.now →
-            result ≡ actor self.now.topology.value past event.now }
+        ensures { InEachRun (P.rules self.now.policy) self.now (λ past.
+            result ≡ actor self.now.topology.value past event.now) }
     {
         match event {
             Event::Originate { node, .. } => Some(*node),
@@ -126,8 +125,9 @@ impl<P: Policy + Copy> Network<P> {
 
     // Whether the node that has to run for the event is crashed.
     fn is_stopped(&self, event: &Event) -> bool
-        ensures { (past : Chronicle) (counts : Counts) → Stands (P.rules self.now.policy) past counts self.now → IsTrue (fits self.now.topology.value event.now) →
-            result ≡ is_stopped past (actor self.now.topology.value past event.now) }
+        ensures { InEachRun (P.rules self.now.policy) self.now (λ past.
+            IsTrue (fits self.now.topology.value event.now) →
+            result ≡ is_stopped past (actor self.now.topology.value past event.now)) }
     {
         match self.actor(event) {
             Some(node) => self.is_crashed(node),
@@ -137,8 +137,8 @@ impl<P: Policy + Copy> Network<P> {
 
     /// Whether the node is crashed.
     pub fn is_crashed(&self, node: NodeId) -> bool
-        ensures { (past : Chronicle) (counts : Counts) → Stands (P.rules self.now.policy) past counts self.now →
-            has self.now.topology.value.nodes node ≡ true → result ≡ crashed node past }
+        ensures { InEachRun (P.rules self.now.policy) self.now (λ past.
+            has self.now.topology.value.nodes node ≡ true → result ≡ crashed node past) }
     {
         let Some(rank) = self.topology.rank_of(node) else {
             return false;
@@ -157,13 +157,8 @@ impl<P: Policy + Copy> Network<P> {
         requires mails { HasMails self.old.topology.value self.old.mails }
         requires walks { HasWalks self.old.topology.value self.old.walks }
         ensures others { OnOk result (IsAsWas self.old self.new) }
-        ensures comes { IfOk result (λ outcome. (past : Chronicle) (counts : Counts) →
-            Stands (P.rules self.old.policy) past counts self.old → IsRegular self.old.topology.value past →
-            Comes (P.rules self.old.policy) past counts (does (P.rules self.old.policy) self.old.topology.value past event.now) self.new outcome) }
-        ensures stopped { IfErr result (λ stop. (past : Chronicle) (counts : Counts) →
-            Stands (P.rules self.old.policy) past counts self.old → IsRegular self.old.topology.value past →
-            Stops (P.rules self.old.policy) self.old.topology.value past
-            (does (P.rules self.old.policy) self.old.topology.value past event.now) stop) }
+        ensures comes { IfOk result (Does (P.rules self.old.policy) self.old event.now self.new) }
+        ensures stopped { IfErr result (StopsDoing (P.rules self.old.policy) self.old event.now) }
     {
         match event {
             Event::Originate { node, prefix } => self.give(*node, Input::Originate(*prefix), true),
@@ -191,8 +186,8 @@ impl<P: Policy + Copy> Network<P> {
 
     /// The session that a node holds with a neighbour.
     pub fn held(&self, node: NodeId, nbr: NodeId) -> Option<Session>
-        ensures { (past : Chronicle) (counts : Counts) → Stands (P.rules self.now.policy) past counts self.now →
-            linked self.now.topology.value node nbr ≡ true → result ≡ held_with node nbr past }
+        ensures { InEachRun (P.rules self.now.policy) self.now (λ past.
+            linked self.now.topology.value node nbr ≡ true → result ≡ held_with node nbr past) }
     {
         let rank = self.topology.rank_of(node)?;
         self.nodes.get(rank)?.log().held(nbr)
@@ -200,12 +195,12 @@ impl<P: Policy + Copy> Network<P> {
 
     /// The session in which the oldest item on its way would arrive, or why a delivery does nothing.
     pub fn arrival(&self, from: NodeId, to: NodeId) -> Result<Session, Reason>
-        ensures session { IfOk result (λ s. (past : Chronicle) (counts : Counts) → Stands (P.rules self.now.policy) past counts self.now →
-            linked self.now.topology.value from to ≡ true → MayArrive past from to s) }
-        ensures reason { IfErr result (λ reason. (past : Chronicle) (counts : Counts) → Stands (P.rules self.now.policy) past counts self.now →
+        ensures session { IfOk result (λ s. InEachRun (P.rules self.now.policy) self.now (λ past.
+            linked self.now.topology.value from to ≡ true → MayArrive past from to s)) }
+        ensures reason { IfErr result (λ reason. InEachRun (P.rules self.now.policy) self.now (λ past.
             linked self.now.topology.value from to ≡ true →
             (does (P.rules self.now.policy) self.now.topology.value past (Event.Deliver from to) ≡ Idle reason)
-            × (may_arrive (link from to past) (channel from to past) (held_with to from past) ≡ false)) }
+            × (may_arrive (link from to past) (channel from to past) (held_with to from past) ≡ false))) }
     {
         let Some(channel) = self.links.channel(from, to) else {
             return Err(Reason::LinkDown);
@@ -227,13 +222,8 @@ impl<P: Policy + Copy> Network<P> {
         requires near { linked self.old.topology.value from to ≡ true }
         requires places { HasPlaces self.old.topology.value (length self.old.nodes.items) }
         ensures others { OnOk result (IsAsWas self.old self.new) }
-        ensures comes { IfOk result (λ outcome. (past : Chronicle) (counts : Counts) →
-            Stands (P.rules self.old.policy) past counts self.old → IsRegular self.old.topology.value past →
-            Comes (P.rules self.old.policy) past counts (does (P.rules self.old.policy) self.old.topology.value past (Event.Deliver from to)) self.new outcome) }
-        ensures stopped { IfErr result (λ stop. (past : Chronicle) (counts : Counts) →
-            Stands (P.rules self.old.policy) past counts self.old → IsRegular self.old.topology.value past →
-            Stops (P.rules self.old.policy) self.old.topology.value past
-            (does (P.rules self.old.policy) self.old.topology.value past (Event.Deliver from to)) stop) }
+        ensures comes { IfOk result (Does (P.rules self.old.policy) self.old (Event.Deliver from to) self.new) }
+        ensures stopped { IfErr result (StopsDoing (P.rules self.old.policy) self.old (Event.Deliver from to)) }
     {
         let session = match self.arrival(from, to) {
             Ok(session) => session,
@@ -258,13 +248,8 @@ impl<P: Policy + Copy> Network<P> {
         requires near { linked self.old.topology.value node nbr ≡ true }
         requires places { HasPlaces self.old.topology.value (length self.old.nodes.items) }
         ensures others { OnOk result (IsAsWas self.old self.new) }
-        ensures comes { IfOk result (λ outcome. (past : Chronicle) (counts : Counts) →
-            Stands (P.rules self.old.policy) past counts self.old → IsRegular self.old.topology.value past →
-            Comes (P.rules self.old.policy) past counts (does (P.rules self.old.policy) self.old.topology.value past (Event.Prefer node nbr value)) self.new outcome) }
-        ensures stopped { IfErr result (λ stop. (past : Chronicle) (counts : Counts) →
-            Stands (P.rules self.old.policy) past counts self.old → IsRegular self.old.topology.value past →
-            Stops (P.rules self.old.policy) self.old.topology.value past
-            (does (P.rules self.old.policy) self.old.topology.value past (Event.Prefer node nbr value)) stop) }
+        ensures comes { IfOk result (Does (P.rules self.old.policy) self.old (Event.Prefer node nbr value) self.new) }
+        ensures stopped { IfErr result (StopsDoing (P.rules self.old.policy) self.old (Event.Prefer node nbr value)) }
     {
         self.give(node, Input::Prefer { nbr, value }, true)
     }
@@ -274,13 +259,8 @@ impl<P: Policy + Copy> Network<P> {
         requires near { linked self.old.topology.value node nbr ≡ true }
         requires places { HasPlaces self.old.topology.value (length self.old.nodes.items) }
         ensures others { OnOk result (IsAsWas self.old self.new) }
-        ensures comes { IfOk result (λ outcome. (past : Chronicle) (counts : Counts) →
-            Stands (P.rules self.old.policy) past counts self.old → IsRegular self.old.topology.value past →
-            Comes (P.rules self.old.policy) past counts (does (P.rules self.old.policy) self.old.topology.value past (Event.Notice node nbr)) self.new outcome) }
-        ensures stopped { IfErr result (λ stop. (past : Chronicle) (counts : Counts) →
-            Stands (P.rules self.old.policy) past counts self.old → IsRegular self.old.topology.value past →
-            Stops (P.rules self.old.policy) self.old.topology.value past
-            (does (P.rules self.old.policy) self.old.topology.value past (Event.Notice node nbr)) stop) }
+        ensures comes { IfOk result (Does (P.rules self.old.policy) self.old (Event.Notice node nbr) self.new) }
+        ensures stopped { IfErr result (StopsDoing (P.rules self.old.policy) self.old (Event.Notice node nbr)) }
     {
         if is_carried(&self.links.state(node, nbr), self.held(node, nbr)) {
             return Ok(Outcome::Idle(Reason::StillUp));
@@ -293,13 +273,8 @@ impl<P: Policy + Copy> Network<P> {
         requires near { linked self.old.topology.value node nbr ≡ true }
         requires places { HasPlaces self.old.topology.value (length self.old.nodes.items) }
         ensures others { OnOk result (IsAsWas self.old self.new) }
-        ensures comes { IfOk result (λ outcome. (past : Chronicle) (counts : Counts) →
-            Stands (P.rules self.old.policy) past counts self.old → IsRegular self.old.topology.value past →
-            Comes (P.rules self.old.policy) past counts (does (P.rules self.old.policy) self.old.topology.value past (Event.Flush node nbr)) self.new outcome) }
-        ensures stopped { IfErr result (λ stop. (past : Chronicle) (counts : Counts) →
-            Stands (P.rules self.old.policy) past counts self.old → IsRegular self.old.topology.value past →
-            Stops (P.rules self.old.policy) self.old.topology.value past
-            (does (P.rules self.old.policy) self.old.topology.value past (Event.Flush node nbr)) stop) }
+        ensures comes { IfOk result (Does (P.rules self.old.policy) self.old (Event.Flush node nbr) self.new) }
+        ensures stopped { IfErr result (StopsDoing (P.rules self.old.policy) self.old (Event.Flush node nbr)) }
     {
         self.give(node, Input::Flush(nbr), true)
     }
@@ -309,13 +284,8 @@ impl<P: Policy + Copy> Network<P> {
         requires places { HasPlaces self.old.topology.value (length self.old.nodes.items) }
         requires mails { HasMails self.old.topology.value self.old.mails }
         ensures others { OnOk result (IsAsWas self.old self.new) }
-        ensures comes { IfOk result (λ outcome. (past : Chronicle) (counts : Counts) →
-            Stands (P.rules self.old.policy) past counts self.old → IsRegular self.old.topology.value past →
-            Comes (P.rules self.old.policy) past counts (does (P.rules self.old.policy) self.old.topology.value past (Event.Control number)) self.new outcome) }
-        ensures stopped { IfErr result (λ stop. (past : Chronicle) (counts : Counts) →
-            Stands (P.rules self.old.policy) past counts self.old → IsRegular self.old.topology.value past →
-            Stops (P.rules self.old.policy) self.old.topology.value past
-            (does (P.rules self.old.policy) self.old.topology.value past (Event.Control number)) stop) }
+        ensures comes { IfOk result (Does (P.rules self.old.policy) self.old (Event.Control number) self.new) }
+        ensures stopped { IfErr result (StopsDoing (P.rules self.old.policy) self.old (Event.Control number)) }
     {
         let Some(kept) = self.mails.kept(number) else {
             return Ok(Outcome::Idle(Reason::NoSuchMessage));
@@ -330,13 +300,8 @@ impl<P: Policy + Copy> Network<P> {
         requires near { linked self.old.topology.value node nbr ≡ true }
         requires places { HasPlaces self.old.topology.value (length self.old.nodes.items) }
         ensures others { OnOk result (IsAsWas self.old self.new) }
-        ensures comes { IfOk result (λ outcome. (past : Chronicle) (counts : Counts) →
-            Stands (P.rules self.old.policy) past counts self.old → IsRegular self.old.topology.value past →
-            Comes (P.rules self.old.policy) past counts (does (P.rules self.old.policy) self.old.topology.value past (Event.OpenSession node nbr)) self.new outcome) }
-        ensures stopped { IfErr result (λ stop. (past : Chronicle) (counts : Counts) →
-            Stands (P.rules self.old.policy) past counts self.old → IsRegular self.old.topology.value past →
-            Stops (P.rules self.old.policy) self.old.topology.value past
-            (does (P.rules self.old.policy) self.old.topology.value past (Event.OpenSession node nbr)) stop) }
+        ensures comes { IfOk result (Does (P.rules self.old.policy) self.old (Event.OpenSession node nbr) self.new) }
+        ensures stopped { IfErr result (StopsDoing (P.rules self.old.policy) self.old (Event.OpenSession node nbr)) }
     {
         if self.held(node, nbr).is_some() {
             return Ok(Outcome::Idle(Reason::AlreadyOpen));
@@ -366,8 +331,7 @@ impl<P: Policy + Copy> Network<P> {
     fn restore(&mut self, a: NodeId, b: NodeId) -> Outcome
         requires { linked self.old.topology.value a b ≡ true }
         ensures others { IsAsWas self.old self.new }
-        ensures comes { (past : Chronicle) (counts : Counts) → Stands (P.rules self.old.policy) past counts self.old → IsRegular self.old.topology.value past →
-            Comes (P.rules self.old.policy) past counts (does (P.rules self.old.policy) self.old.topology.value past (Event.Restore a b)) self.new result }
+        ensures comes { Does (P.rules self.old.policy) self.old (Event.Restore a b) self.new result }
     {
         node_core::laws::others_change_nothing_of_what_a_node_stands_for::<P>();
         if !self.links.restore(a, b) {
@@ -402,7 +366,7 @@ impl<P: Policy + Copy> Network<P> {
     {
         node_core::laws::others_change_nothing_of_what_a_node_stands_for::<P>();
         let rank = self.topology.rank_of(node).unwrap();
-        self.nodes[rank].forget();
+        self.nodes[rank].lose_tallies();
     }
 
     // The node stops.

@@ -18,6 +18,7 @@ ghost use Rattle.world_core.specs.Effects.{Tells};
 ghost use Rattle.world_core.specs.Limits.{limit_of, StopsAt};
 ghost use Rattle.world_core.specs.Matching.{AreLinks};
 ghost use Rattle.world_core.specs.Publications.{all_published};
+ghost use Rattle.world_core.specs.Restarts.{LosesTalliesAlone};
 ghost use Rattle.world_core.specs.Sound.{IsNoStray, IsSound};
 ghost use Rattle.world_core.specs.Stepping.{IsStep};
 ghost use Rattle.world_core.specs.View.{delivered};
@@ -231,7 +232,8 @@ impl<P: Policy + Copy> World<P> {
     /// The world after one more event, and what came of it. Stops at a limit exactly where the
     /// event would take a count above its number, unless memory is wanted first. A node that published lower
     /// epochs alone publishes the table of an epoch in the step that completes its cut and the decision, as the last
-    /// thing of that step; in no other step does it publish. The cost is that of what the event touches: the node's
+    /// thing of that step; in no other step does it publish. A crash stops a node, and loses the reports that it collected
+    /// and the ballots that it has open; a restart brings the node back; neither changes anything else. The cost is that of what the event touches: the node's
     /// neighbours, and the prefix.
     pub fn step(self, event: Event) -> Result<(World<P>, Outcome), Stop>
         requires { IsTrue (fits self.net event) }
@@ -251,6 +253,7 @@ impl<P: Policy + Copy> World<P> {
             let now = run (P.rules self.policy) self.net (self.events ++ event ∷ []) in
             (u : ℕ) → (publications u now ≡ publications u past)
             ⊎ ((e : ℕ) × Completes past now u e × PublishesLast (P.rules self.policy) self.net past now u e)) }
+        ensures restarts { IfOk result (λ r. LosesTalliesAlone (P.rules self.policy) self.net self.events event) }
         ensures within { IfOk result (λ r. limit_of (P.rules self.policy) self.net self.events event ≡ None) }
         ensures stopped { IfErr result (StopsAt (limit_of (P.rules self.policy) self.net self.events event)) }
     {

@@ -134,8 +134,8 @@ impl Desk {
 
     /// A crash: what the node holds as a consolidator is lost.
     pub fn forget(&mut self) {
-        if let Some(node) = &mut self.node {
-            node.forget();
+        if let Some(node) = self.node.take() {
+            self.node = Some(node.forget());
         }
     }
 

@@ -2,6 +2,7 @@ use Rattle.std.proofs.Common.{◌∷◌, ◌++◌, [], length}
 use Rattle.chronicle.specs.Run.{run, step}
 use Rattle.world_core.proofs.Lawful.{no_stray, regular_of, rounds_left}
 use Rattle.world_core.proofs.Proposing.{values_after}
+use Rattle.world_core.proofs.Restarting.{tallies_alone}
 use Rattle.world_core.proofs.ShortLists.{lists_after}
 use Rattle.world_core.proofs.Stepped.{completed_last, published_then}
 use Rattle.world_core.proofs.laws.a_step_is_lawful.Goals as goal
@@ -29,5 +30,6 @@ returns-clause-step c rules net events event valid within = record {
   sound = c.every_run_is_sound.ensures rules net (events ++ event ∷ []) valid;
   at_once = completed_last rules net events event (c.a_table_is_published_in_time.ensures.at_once rules net events event);
   only_then = published_then rules net events event (c.a_table_is_published_in_time.ensures.only_then rules net events event);
+  restarts = tallies_alone rules net events event;
   within = within;
 }

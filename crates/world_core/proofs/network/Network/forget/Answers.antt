@@ -13,5 +13,5 @@ returns-clause-nodes g c past was =
     let rank = c.unwrap-rank.result in
     let at = rw (c.unwrap-rank.ensures, c.deref.ensures) at c.rank_of.ensures.some in
     let here = node_at policy rules net past items was rank u c.index_mut.result.now at c.index_mut.ensures.value in
-    nodes_at policy rules net past items was (Crash u ∷ past) rank u c.forget.new.self at (c.forget.ensures policy net u past here)
+    nodes_at policy rules net past items was (Crash u ∷ past) rank u c.lose_tallies.new.self at (c.lose_tallies.ensures policy net u past here)
     (λ v node off stands. c.others_change_nothing_of_what_a_node_stands_for.ensures.beside policy net v node past (Crash u) off stands)

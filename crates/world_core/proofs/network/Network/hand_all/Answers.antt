@@ -29,7 +29,7 @@ pub returns-clause-kept : goal.returns-clause-kept
 returns-clause-kept g c =
     keeps_on c.args.self.now c.hand_first.new.self c.hand_more.new.self
     (keeps_with c.args.self.now c.hand_first.new.self c.take_first-leading.new.self c.in_ok-hand_first.ensures.kept)
-    (keeps_with c.hand_first.new.self c.hand_more.new.self c.replace-left.new.dest c.in_ok-hand_more.ensures.kept)
+    c.in_ok-hand_more.ensures.kept
 
 pub returns-clause-sending : goal.returns-clause-sending
 returns-clause-sending g c away first past counts facts told hands was =
@@ -38,12 +38,11 @@ returns-clause-sending g c away first past counts facts told hands was =
     let start = sends_with away first past counts c.args.self.now c.new-account.result c.take_first-leading.new.self
     (subst (AreSending away first past counts c.args.self.now) (sym c.new-account.ensures) was) in
     let asked = c.in_ok-hand_more.ensures.asked ∙ (c.in_ok-hand_first.ensures.asked ∙ ap (λ a. a.asked) c.new-account.ensures) in
-    let left = c.in_ok-more.ensures ∙ (c.replace-left.ensures.value ∙ c.in_ok-hand_first.ensures.outputs) in
-    let whole = ap (map output_of) (c.take_first-leading.ensures ∙ ap (λ l. leading ++ l) (sym left)) ∙ map-append output_of leading c.in_ok-more.more.items in
+    let left = c.in_ok-hand_first.ensures.outputs in
+    let whole = ap (map output_of) (c.take_first-leading.ensures ∙ ap (λ l. leading ++ l) (sym left)) ∙ map-append output_of leading c.hand_first.new.self.outputs in
     subst (AreSending (still_after facts away) first (happen past facts) counts c.hand_more.new.self)
     (told_whole c.hand_more.new.account c.args.asked c.into_list-2.result.items asked c.into_list-2.ensures)
     (c.in_ok-hand_more.ensures.sending away first past counts (map output_of leading)
-    (λ fs some same. sends_with (still_after fs away) first (happen past fs) counts c.hand_first.new.self c.hand_first.new.account c.replace-left.new.dest
-    (c.in_ok-hand_first.ensures.sending away first past counts fs (subst (λ n. AreTold n c.args.node past fs) kept some) same start))
+    (λ fs some same. c.in_ok-hand_first.ensures.sending away first past counts fs (subst (λ n. AreTold n c.args.node past fs) kept some) same start)
     facts (subst (λ n. AreTold n c.args.node past facts) (sym kept) told)
     (sym whole ∙ hands_shown past facts c.args.self.now.outputs hands))

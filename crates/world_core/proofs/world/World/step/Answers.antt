@@ -34,3 +34,6 @@ returns-clause-only_then g c = rw (← c.self.view_is) (rw c.deref_mut.ensures.v
 
 pub returns-clause-within : goal.returns-clause-within
 returns-clause-within g c = rw (← c.self.view_is) (rw c.deref_mut.ensures.value at c.in_ok-outcome.ensures.step).within
+
+pub returns-clause-restarts : goal.returns-clause-restarts
+returns-clause-restarts g c = rw (← c.self.view_is) (rw c.deref_mut.ensures.value at c.in_ok-outcome.ensures.step).restarts
