@@ -1,5 +1,5 @@
 -- What each end of a script gives of the promise.
-use Rattle.std.proofs.Common.{◌≡◌, ℕ, zero, suc, ◌++◌, ◌<◌, ◌≤◌, inl, inr, Option, Some, None, IfSome, List, [], ◌∷◌, length, Result, Ok, Err, Bool, true, false, not, true≢false, nat_lt, nat_le, refl, sym, ap, ◌∙◌, subst, arith}
+use Rattle.std.proofs.Common.{◌≡◌, ℕ, zero, suc, ◌++◌, ◌<◌, ◌≤◌, inl, inr, Option, Some, None, IfSome, List, [], ◌∷◌, length, Result, Ok, Err, true, false, not, true≢false, nat_lt, nat_le, refl, sym, ap, ◌∙◌, subst, arith}
 use Rattle.std.specs.Prelude.{MatchBool, if◌then◌else◌}
 use Rattle.std.specs.Io.KnownBytes.{IsAtEnd}
 use Rattle.route_io.specs.Views.{SourceView, SinkView}
@@ -20,7 +20,7 @@ use Rattle.leadership.specs.declared.scripts.Directive.TheVariants.{Event, Deliv
 use Rattle.leadership.specs.declared.scripts.Numbered.{Numbered}
 use Rattle.leadership.specs.Agreed.{IsAgreed}
 use Rattle.leadership.specs.Deliveries.{next_mail}
-use Rattle.leadership.specs.Led.{Led, Comes, IsLimit, StopsRun, ends_lead, is_counted, is_of_run, members}
+use Rattle.leadership.specs.Led.{Led, Comes, IsLimit, StopsRun, is_counted, is_of_run, members}
 use Rattle.leadership.specs.Limits.{limit_of}
 use Rattle.leadership.specs.Run.{after, mailed, run}
 use Rattle.leadership.specs.Running.{Runs}

@@ -15,9 +15,12 @@ pub mod Stepping
 pub mod Worked
 pub mod Choosing
 pub mod Settling
-pub mod Fronts
+pub mod Passing
 pub mod Knowing
 pub mod Watching
+pub mod Flooring
+pub mod Mailing
+pub mod Offering
 pub mod Obeying
 pub mod Greatest
 pub mod Rounding

@@ -1,8 +1,7 @@
 -- Lines of a script, read one after the other.
-use Rattle.std.proofs.Common.{◌≡◌, ◌≢◌, ℕ, suc, ◌<◌, Bool, true, false, not, ◌||◌, ◌==◌, Option, Some, None, Result, Ok, Err, List, [], ◌∷◌, ◌++◌, length, map, get_or, append_assoc, refl, sym, ap, ◌∙◌, subst, arith, if◌then◌else◌}
-use Rattle.std.specs.Prelude.{IsTrue, IfOk, IfErr, OnOk, option_map, slice_range, find, bytes_eq}
+use Rattle.std.proofs.Common.{◌≡◌, ◌≢◌, ℕ, suc, ◌<◌, Bool, true, false, ◌||◌, ◌==◌, Option, Some, None, Result, Ok, Err, List, [], ◌∷◌, ◌++◌, map, get_or, append_assoc, refl, sym, ap, ◌∙◌, subst, arith}
+use Rattle.std.specs.Prelude.{OnOk, option_map, slice_range, find, bytes_eq}
 use Rattle.std.specs.Option.{option_or}
-use Rattle.std.specs.List.{All}
 use Rattle.std.proofs.lemmas.Bool.{cond-false}
 use Rattle.text_lines.specs.declared.lines.Line.{Line as Span}
 use Rattle.text_lines.specs.Lines.{left_of, line_at}
@@ -25,7 +24,7 @@ use Rattle.leadership.specs.declared.scripts.Keyword.{Keyword}
 use Rattle.leadership.specs.declared.scripts.Line.{Line}
 use Rattle.leadership.specs.declared.scripts.Numbered.{Numbered}
 use Rattle.leadership.specs.Fits.{fits}
-use Rattle.leadership.specs.Parsing.{AllKnown, ReadsAs}
+use Rattle.leadership.specs.Parsing.{AllKnown}
 use Rattle.leadership.specs.Scripts.{Before, asked, bad_or, declared, directives_from, directives_of, fault, fault_by, fields, first_bad, first_bad_from, first_fault, form_fault, is_known, keyword_in, keyword_text, keywords, line_by, line_of, members_of, nothing, with_line, word_fault}
 
 -- ---- first words

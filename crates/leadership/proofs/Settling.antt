@@ -222,11 +222,11 @@ module _ (sites : List Site) (members : List ℕ) (before now : List LeadEvent) 
 -- one event more
 pub settled : (old new : Network) (events : List LeadEvent) (event : LeadEvent) (why : Option LeadReason) (choices : List Choice) → Stands (run old.members.items events) old → Stands (run new.members.items (events ++ event ∷ [])) new
     → why ≡ reason_of (step old.members.items (run old.members.items events) event) → new.members.items ≡ old.members.items → AreChosen choices old.members.items events
-    → AreChosen (with_vote new.sites.items (vote_where why (vote_of old.mails.items event)) choices) new.members.items (events ++ event ∷ [])
+    → AreChosen (with_vote new.sites.items (vote_where why (vote_of old.mails event)) choices) new.members.items (events ++ event ∷ [])
 unfolding after
 settled old new events event why choices h k said members was =
     let past = run old.members.items events in
-    let o = vote_of old.mails.items event in
+    let o = vote_of old.mails event in
     let did = step old.members.items (run old.members.items events) event in
     let whole : Grows o past (chronicle_of past did) = subst (λ (ms : List Letter). Grows (vote_of ms event) past (chronicle_of past did)) (sym h.mails) (grows_after event old.members.items past) in
     let grows : Grows (vote_where why o) (run new.members.items events) (run new.members.items (events ++ event ∷ [])) =

@@ -59,8 +59,8 @@ all_more test [] y h k = and_both (test y) true k refl
 all_more test (x ∷ xs) y h k = and_both (test x) (list_all test (xs ++ y ∷ [])) (and_left (test x) (list_all test xs) h) (all_more test xs y (and_right (test x) (list_all test xs) h) k)
 
 pub step_holds : (old new : Network) (before now : BTreeSet ℕ) (events : List LeadEvent) (event : LeadEvent) (why : Option LeadReason) → Holds old before events → fits old.members.items event ≡ true
-    → ((k : ℕ) → contains nat_cmp now k ≡ ((delivers k event && (nat_lt 0 k && nat_le k (length old.mails.items))) || contains nat_cmp before k))
-    → new.members.items ≡ old.members.items → (length old.mails.items ≤ MOST_CONTROL → length new.mails.items ≤ MOST_CONTROL) → GoesOn event old new why
+    → ((k : ℕ) → contains nat_cmp now k ≡ ((delivers k event && (nat_lt 0 k && nat_le k (length old.mails))) || contains nat_cmp before k))
+    → new.members.items ≡ old.members.items → (length old.mails ≤ MOST_CONTROL → length new.mails ≤ MOST_CONTROL) → GoesOn event old new why
     → Holds new now (events ++ event ∷ []) × (why ≡ reason_of (step old.members.items (run old.members.items events) event))
 step_holds old new before now events event why h fit marked members few goes =
     let past = run old.members.items events in
@@ -103,7 +103,7 @@ unfolding limit_of
 step_full members events event full = rw full refl
 
 -- before anything happened
-pub holds_nothing : (net : Network) (numbers : BTreeSet ℕ) → Stands [] net → net.mails.items ≡ [] → ((k : ℕ) → contains nat_cmp numbers k ≡ false) → Holds net numbers []
+pub holds_nothing : (net : Network) (numbers : BTreeSet ℕ) → Stands [] net → net.mails ≡ [] → ((k : ℕ) → contains nat_cmp numbers k ≡ false) → Holds net numbers []
 unfolding run delivered
 holds_nothing net numbers h silent empty = record { stands = h; fit = refl; few = (let size = ap length silent in omega (arith, size)); marks = empty }
 
@@ -113,7 +113,7 @@ pub step_within : (old new : Network) (before now : BTreeSet ℕ) (events : List
 unfolding limit_of after
 step_within old new before now events event room members h =
     let past = run old.members.items events in
-    let same : new.mails.items ≡ mailed (chronicle_of past (step old.members.items past event)) =
+    let same : new.mails ≡ mailed (chronicle_of past (step old.members.items past event)) =
     h.stands.mails ∙ (ap (λ ns. mailed (run ns (events ++ event ∷ []))) members ∙ ap mailed (run_more old.members.items events event)) in
     let size = ap length same in
     let few = h.few in

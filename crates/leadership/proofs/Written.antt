@@ -1,9 +1,9 @@
 -- How a run of directives ends, and what it has written.
-use Rattle.std.proofs.Common.{◌≡◌, ◌≢◌, ℕ, ◌≤◌, Bool, true, false, Result, Ok, Err, OnOk, OnErr, IsErr, IsErrAnd, is_err, Option, Some, None, List, [], ◌∷◌, ◌++◌, take, drop, refl, sym, ap, ap₂, ◌∙◌, subst, append_assoc}
+use Rattle.std.proofs.Common.{◌≡◌, ◌≢◌, ℕ, ◌≤◌, true, false, Result, Ok, Err, OnOk, OnErr, IsErr, IsErrAnd, is_err, Option, Some, None, List, [], ◌++◌, take, drop, refl, sym, ap, ◌∙◌, subst, append_assoc}
 use Rattle.std.specs.Io.KnownBytes.{Appends}
 use Rattle.std.proofs.lemmas.List.{append-nil, take-append-drop}
 use Rattle.std.proofs.lemmas.Result.{err_from_is_err_and}
-use Rattle.route_io.specs.Causes.{AppendsFront, HasCause, Rose, StaysTold}
+use Rattle.route_io.specs.Causes.{AppendsFront, Rose, StaysTold}
 use Rattle.route_io.specs.Views.{SinkView}
 use Rattle.route_io.proofs.Bytes.{appends_on, appends_none, front_more, front_after, told_same, told_on, stays_quiet, risen_after, risen_as}
 use Rattle.topology.specs.declared.status.LimitKind.{LimitKind}
@@ -13,7 +13,7 @@ use Rattle.leadership.specs.declared.events.LeadEvent.{LeadEvent}
 use Rattle.leadership.specs.declared.stops.LeadStop.{LeadStop}
 use Rattle.leadership.specs.declared.stops.LeadStop.TheVariants as stop
 use Rattle.leadership.specs.Ends.{end_of}
-use Rattle.leadership.specs.Text.{Course, Leads, Stops}
+use Rattle.leadership.specs.Text.{Course, Leads}
 use Rattle.leadership.specs.Running.{StopsIn, lines_by, limit_by, Runs}
 
 pub ok_of : {T E : Type 0} {P : Type 0} (r : Result T E) → false ≡ is_err r → OnOk r P → P

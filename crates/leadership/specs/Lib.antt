@@ -10,6 +10,7 @@ pub mod Greatest
 pub mod Agreed
 pub mod Led
 pub mod Fits
+pub mod Floors
 pub mod Fronts
 pub mod Waiting
 pub mod Votes
@@ -23,6 +24,7 @@ pub mod Replies
 pub mod Deliveries
 pub mod Network
 pub mod Mails
+pub mod Offers
 pub mod Counted
 pub mod Sites
 pub mod Lists

@@ -23,7 +23,7 @@ pub record Stands (past : Chronicle) (net : Network) : Type 0 where
   pub members : nodes_of net.sites.items ≡ net.members.items
   pub apart : differ net.members.items ≡ true
   pub sites : AreSites past net.sites.items
-  pub mails : net.mails.items ≡ mailed past
+  pub mails : net.mails ≡ mailed past
 
 -- what the step comes to: the reason that was told, or none, and the network as it leaves it
 abbrev pub ComesTo : Step → Chronicle → Option LeadReason → Network → Type 0
@@ -55,4 +55,4 @@ HaveRounds net = (i : ℕ) (d : Site) → i < length net.sites.items → next_ro
 -- each message is for a member
 abbrev pub AreToMembers : Network → Type 0
 AreToMembers net =
-    (number : ℕ) (m : Letter) → at_place number net.mails.items ≡ Some m → has (nodes_of net.sites.items) m.to ≡ true
+    (number : ℕ) (m : Letter) → at_place number net.mails ≡ Some m → has (nodes_of net.sites.items) m.to ≡ true

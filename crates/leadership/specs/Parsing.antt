@@ -1,17 +1,15 @@
 -- What the reader of a script promises.
-use Rattle.std.specs.Prelude.{ℕ, ◌≡◌, ◌+◌, true, Bool, Option, Some, None, Result, Ok, Err, List, ◌++◌, IsTrue}
+use Rattle.std.specs.Prelude.{ℕ, ◌≡◌, true, Bool, Option, Some, None, Result, Ok, Err, List, ◌++◌, IsTrue}
 use Rattle.std.specs.List.{All}
 use Rattle.topology.specs.Paths.{differ}
 use Rattle.topology.specs.declared.status.BadKind.{BadKind}
-use Rattle.schedule_file.specs.Standing.{NamesFault}
-use Rattle.schedule_file.specs.declared.names.Refusal.{Refusal}
 use Rattle.leadership.specs.declared.parser.Draft.{Draft}
 use Rattle.leadership.specs.declared.parser.ScriptEnd.{ScriptEnd}
 use Rattle.leadership.specs.declared.parser.ScriptEnd.TheVariants.{NoMemory, Bad}
 use Rattle.leadership.specs.declared.scripts.Keyword.{Keyword}
 use Rattle.leadership.specs.declared.scripts.Line.{Line}
 use Rattle.leadership.specs.declared.scripts.Numbered.{Numbered}
-use Rattle.leadership.specs.Scripts.{Before, asked, fault, fields, first_bad, first_fault, form_fault, is_known, line_by, line_of, name_fault, with_line}
+use Rattle.leadership.specs.Scripts.{Before, asked, fields, first_bad, first_fault, form_fault, is_known, line_by, with_line}
 
 -- an answer of the reader: the line of a keyword and the words behind it, or their first fault
 abbrev pub ReadsAs : Keyword → List (List ℕ) → Result Line BadKind → Type 0

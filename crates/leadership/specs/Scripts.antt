@@ -1,14 +1,13 @@
 -- Which lines make a script, and what is wrong with the first that does not.
-use Rattle.std.specs.Prelude.{ℕ, suc, ◌==◌, ◌&&◌, ◌||◌, nat_le, Bool, true, false, not, Option, Some, None, List, [], ◌∷◌, ◌++◌, length, find, codes, bytes_eq, option_map, if◌then◌else◌}
+use Rattle.std.specs.Prelude.{ℕ, suc, ◌==◌, ◌||◌, nat_le, Bool, true, false, not, Option, Some, None, List, [], ◌∷◌, ◌++◌, length, find, codes, bytes_eq, option_map, if◌then◌else◌}
 use Rattle.std.specs.Option.{option_or}
-use Rattle.topology.specs.Lists.{has, ascending}
+use Rattle.topology.specs.Lists.{has}
 use Rattle.topology.specs.declared.status.BadKind.{BadKind}
 use Rattle.topology.specs.declared.status.BadKind.TheVariants.{UnknownWord, NotHere, WrongCount, BadNumber, UnknownNode, DuplicateNode, TooMany}
 use Rattle.schedule_file.specs.declared.table.TheConstants.{MAX_NODE, MAX_TIMES, MAX_MESSAGE, MAX_EPOCH}
 use Rattle.schedule_file.specs.Spelling.{words_by_line}
 use Rattle.schedule_file.specs.Words.{number_at, spells_number}
 use Rattle.leadership.specs.declared.bounds.TheConstants.{MOST_MEMBERS, MOST_VALUE}
-use Rattle.leadership.specs.declared.events.LeadEvent.{LeadEvent}
 use Rattle.leadership.specs.declared.events.LeadEvent.TheVariants as event
 use Rattle.leadership.specs.declared.scripts.Keyword.{Keyword}
 use Rattle.leadership.specs.declared.scripts.Keyword.TheVariants.{Member, Begin, Lead, Offer, Control, Crash, Restart, Show}

@@ -1,10 +1,11 @@
 //! All that a member heard.
-ghost use Rattle.std.specs.Prelude.{ℕ, ◌≡◌, ◌++◌, ◌∷◌, [], length, OnOk};
+ghost use Rattle.std.specs.Prelude.{ℕ, ◌≡◌, ◌++◌, ◌∷◌, [], length, OnOk, OnErr};
 ghost use Rattle.topology.specs.Lists.{has};
 ghost use Rattle.leadership.specs.Counted.{accepts, counts, has_acceptance, is_watched};
-ghost use Rattle.leadership.specs.Hearings.{counted_heard, voters_heard};
+ghost use Rattle.leadership.specs.Hearings.{counted_heard, promised_heard, promised_for_heard, voters_heard};
 ghost use Rattle.leadership.specs.Readings.{senders};
 
+use crate::floors::Floors;
 use crate::hearings::{
     Acceptance, Hearing, acceptances, accepted_in, has_promised, has_voted, is_promise,
     promise_count, promisers,
@@ -14,11 +15,12 @@ use std::alloc::Global;
 use std::marker::Model;
 use topology::{Ballot, Epoch, NoMemory, NodeId};
 
-/// All messages that a member heard, the oldest first. Who promised and who accepted one ballot stands
-/// beside them, so that they need not be gone through for it.
+/// All messages that a member heard, the oldest first. Beside them stand the ballots that it promised,
+/// and who promised and who accepted one ballot, so that they need not be gone through for it.
 #[derive(Drop)]
 pub struct HeardList {
     list: Vec<Hearing>,
+    floors: Floors,
     watched: Option<Ballot>,
     promisers: Vec<NodeId>,
     acceptances: Vec<Acceptance>,
@@ -28,12 +30,14 @@ impl Model for HeardList {
     ghost use Rattle.std.specs.Prelude.{List};
     ghost use Rattle.leadership.specs.declared.hearings.Hearing.{Hearing};
     ghost use Rattle.leadership.specs.Counted.{AreCounted};
+    ghost use Rattle.leadership.specs.Floors.{AreFloors};
 
     ghost Value = { List Hearing };
 
     ghost view = { λ h. h.list.items };
 
-    ghost invariant = { λ h. AreCounted h.watched h.promisers.items h.acceptances.items h.list.items };
+    ghost invariant = { λ h. AreCounted h.watched h.promisers.items h.acceptances.items h.list.items
+        × AreFloors h.floors h.list.items };
 }
 
 fn is_watched(watched: &Option<Ballot>, ballot: &Ballot) -> bool
@@ -83,6 +87,7 @@ impl HeardList {
     {
         HeardList {
             list: Vec::new(alloc),
+            floors: Floors::new(alloc),
             watched: None,
             promisers: Vec::new(alloc),
             acceptances: Vec::new(alloc),
@@ -97,14 +102,14 @@ impl HeardList {
 
     /// One message more.
     pub(crate) fn hear(&mut self, from: NodeId, message: Message) -> Result<(), NoMemory>
-        ensures { OnOk result (self.new ≡ self.old ++ record { from = from; message = message } ∷ []) }
+        ensures ok { OnOk result (self.new ≡ self.old ++ record { from = from; message = message } ∷ []) }
+        ensures err { OnErr result (self.new ≡ self.old) }
     {
         let is_counted = counts(&self.watched, &message);
         let accepted = accepts(&self.watched, &message);
-        let Ok(()) = self.list.push(Hearing { from, message }) else {
-            self.watched = None;
-            return Err(NoMemory);
-        };
+        self.list.reserve(1)?;
+        self.floors.hear(&message)?;
+        self.list.push_reserved(Hearing { from, message });
         if is_counted {
             let Ok(()) = self.promisers.insert(0, from) else {
                 self.watched = None;
@@ -136,6 +141,20 @@ impl HeardList {
         self.promisers = promisers;
         self.acceptances = acceptances;
         self.watched = Some(ballot);
+    }
+
+    /// The greatest ballot promised for an epoch from this one on.
+    pub(crate) fn promised_from(&self, from_on: Epoch) -> Option<Ballot>
+        ensures { result ≡ promised_heard from_on self.now }
+    {
+        self.floors.from_on(from_on)
+    }
+
+    /// The ballot promised for this epoch.
+    pub(crate) fn promised(&self, at: Epoch) -> Option<Ballot>
+        ensures { result ≡ promised_for_heard at self.now }
+    {
+        self.floors.at(at)
     }
 
     /// How many promises of the ballot were counted.

@@ -11,7 +11,8 @@ ghost use Rattle.leadership.specs.Fits.{fits};
 ghost use Rattle.leadership.specs.Network.{AreToMembers, HaveRounds, Stands, GoesOn, StopsBy, Hears, HearStops};
 
 use crate::events::LeadEvent;
-use crate::mails::{Letter, carry, is_offered, letter_at, post, post_each};
+use crate::mail_list::MailList;
+use crate::mails::{carry, letter_at, post, post_each};
 use crate::messages::Message;
 use crate::reasons::LeadReason;
 use crate::sites::Site;
@@ -24,7 +25,7 @@ use topology::{Ballot, Epoch, NoMemory, NodeId};
 pub struct Network {
     pub members: Vec<NodeId>,
     pub sites: Vec<Site>,
-    pub mails: Vec<Letter>,
+    pub mails: MailList,
 }
 
 // The place of a member.
@@ -53,24 +54,18 @@ fn count(nodes: &[NodeId]) -> usize
     nodes.len()
 }
 
-fn letter_count(mails: &[Letter]) -> usize
-    ensures { result ≡ length mails.now }
-{
-    mails.len()
-}
-
 impl Network {
     /// These members, to which nothing has happened.
     pub(crate) fn new(alloc: Global, members: &[NodeId]) -> Result<Network, NoMemory>
         requires { differ members.now ≡ true }
         ensures members { IfOk result (λ net. net.members.items ≡ members.now) }
         ensures stands { IfOk result (Stands []) }
-        ensures empty { IfOk result (λ net. net.mails.items ≡ []) }
+        ensures empty { IfOk result (λ net. net.mails ≡ []) }
     {
         let mut net = Network {
             members: Vec::new(alloc),
             sites: Vec::new(alloc),
-            mails: Vec::new(alloc),
+            mails: MailList::new(alloc),
         };
         for node in members {
             net.members.push(*node)?;
@@ -81,9 +76,9 @@ impl Network {
 
     /// How many messages were sent.
     pub(crate) fn mail_count(&self) -> usize
-        ensures { result ≡ length self.now.mails.items }
+        ensures { result ≡ length self.now.mails }
     {
-        letter_count(&self.mails)
+        self.mails.len()
     }
 
     /// A member starts a ballot for every epoch from this one on. After an `Err` the network is of no
@@ -97,7 +92,7 @@ impl Network {
         requires rounds { HaveRounds self.old }
         ensures members { OnOk result (self.new.members.items ≡ self.old.members.items) }
         ensures goes_on { IfOk result (GoesOn (event.Lead node epoch) self.old self.new) }
-        ensures few { OnOk result (length self.old.mails.items ≤ MOST_CONTROL → length self.new.mails.items ≤ MOST_CONTROL) }
+        ensures few { OnOk result (length self.old.mails ≤ MOST_CONTROL → length self.new.mails ≤ MOST_CONTROL) }
         ensures stopped { IfErr result (StopsBy (event.Lead node epoch) self.old) }
     {
         let place = place_of(&self.sites, node);
@@ -127,7 +122,7 @@ impl Network {
         requires member { has (nodes_of self.old.sites.items) node ≡ true }
         ensures members { OnOk result (self.new.members.items ≡ self.old.members.items) }
         ensures goes_on { IfOk result (GoesOn (event.Offer node epoch value) self.old self.new) }
-        ensures few { OnOk result (length self.old.mails.items ≤ MOST_CONTROL → length self.new.mails.items ≤ MOST_CONTROL) }
+        ensures few { OnOk result (length self.old.mails ≤ MOST_CONTROL → length self.new.mails ≤ MOST_CONTROL) }
         ensures stopped { IfErr result (StopsBy (event.Offer node epoch value) self.old) }
     {
         let place = place_of(&self.sites, node);
@@ -140,7 +135,7 @@ impl Network {
         if is_below(epoch, lead.epoch) {
             return Ok(Some(LeadReason::Below));
         }
-        if is_offered(&self.mails, node, epoch, &lead.ballot) {
+        if self.mails.is_offered(node, epoch, &lead.ballot) {
             return Ok(Some(LeadReason::Offered));
         }
         let message = Message::Accept {
@@ -159,7 +154,7 @@ impl Network {
         requires member { has (nodes_of self.old.sites.items) node ≡ true }
         ensures members { OnOk result (self.new.members.items ≡ self.old.members.items) }
         ensures goes_on { IfOk result (GoesOn (event.Crash node) self.old self.new) }
-        ensures few { OnOk result (length self.old.mails.items ≤ MOST_CONTROL → length self.new.mails.items ≤ MOST_CONTROL) }
+        ensures few { OnOk result (length self.old.mails ≤ MOST_CONTROL → length self.new.mails ≤ MOST_CONTROL) }
         ensures stopped { IfErr result (StopsBy (event.Crash node) self.old) }
     {
         let place = place_of(&self.sites, node);
@@ -175,7 +170,7 @@ impl Network {
         requires member { has (nodes_of self.old.sites.items) node ≡ true }
         ensures members { OnOk result (self.new.members.items ≡ self.old.members.items) }
         ensures goes_on { IfOk result (GoesOn (event.Restart node) self.old self.new) }
-        ensures few { OnOk result (length self.old.mails.items ≤ MOST_CONTROL → length self.new.mails.items ≤ MOST_CONTROL) }
+        ensures few { OnOk result (length self.old.mails ≤ MOST_CONTROL → length self.new.mails ≤ MOST_CONTROL) }
         ensures stopped { IfErr result (StopsBy (event.Restart node) self.old) }
     {
         let place = place_of(&self.sites, node);
@@ -191,10 +186,10 @@ impl Network {
         requires addressees { AreToMembers self.old }
         ensures members { OnOk result (self.new.members.items ≡ self.old.members.items) }
         ensures goes_on { IfOk result (GoesOn (event.Control number) self.old self.new) }
-        ensures few { OnOk result (length self.old.mails.items ≤ MOST_CONTROL → length self.new.mails.items ≤ MOST_CONTROL) }
+        ensures few { OnOk result (length self.old.mails ≤ MOST_CONTROL → length self.new.mails ≤ MOST_CONTROL) }
         ensures stopped { IfErr result (StopsBy (event.Control number) self.old) }
     {
-        let Some(letter) = letter_at(&self.mails, number) else {
+        let Some(letter) = letter_at(self.mails.as_slice(), number) else {
             return Ok(Some(LeadReason::NoSuchMessage));
         };
         let (from, to) = (letter.from, letter.to);
@@ -222,7 +217,7 @@ impl Network {
         requires rounds { HaveRounds self.old }
         ensures members { OnOk result (self.new.members.items ≡ self.old.members.items) }
         ensures goes_on { IfOk result (GoesOn event.now self.old self.new) }
-        ensures few { OnOk result (length self.old.mails.items ≤ MOST_CONTROL → length self.new.mails.items ≤ MOST_CONTROL) }
+        ensures few { OnOk result (length self.old.mails ≤ MOST_CONTROL → length self.new.mails ≤ MOST_CONTROL) }
         ensures stopped { IfErr result (StopsBy event.now self.old) }
     {
         match event {
@@ -245,10 +240,10 @@ impl Network {
         requires { IsAt self.old.sites.items node place }
         ensures members { OnOk result (self.new.members.items ≡ self.old.members.items) }
         ensures hears { OnOk result (Hears node from message self.old self.new) }
-        ensures few { OnOk result (length self.old.mails.items ≤ MOST_CONTROL → length self.new.mails.items ≤ MOST_CONTROL) }
+        ensures few { OnOk result (length self.old.mails ≤ MOST_CONTROL → length self.new.mails ≤ MOST_CONTROL) }
         ensures stopped { IfErr result (HearStops node from message self.old) }
     {
-        let alloc = *self.mails.allocator();
+        let alloc = self.mails.allocator();
         let Ok(reply) = self.sites[place].reply(alloc, &message) else {
             return Err(LeadStop::NoMemory);
         };

@@ -1,4 +1,4 @@
-use Rattle.std.proofs.Common.{◌∙◌, sym, ap, arith}
+use Rattle.std.proofs.Common.{◌∙◌, ap, arith}
 use Rattle.schedule_file.specs.Words.{spells_number}
 use Rattle.leadership.specs.declared.bounds.TheConstants.{MOST_VALUE}
 use Rattle.leadership.proofs.Values.{no_number, spells_decimal, value_is}

@@ -1,13 +1,8 @@
-use Rattle.std.proofs.Common.{◌≡◌, true, refl, sym, ap, ◌∙◌, subst}
+use Rattle.std.proofs.Common.{◌≡◌, true, sym, ap, ◌∙◌, subst}
 use Rattle.topology.specs.Paths.{differ}
-use Rattle.topology.specs.Lists.{ascending}
 use Rattle.topology.proofs.Ascending.{differ-ascending}
-use Rattle.leadership.specs.Parsing.{AllKnown}
-use Rattle.leadership.specs.Running.{Runs}
-use Rattle.leadership.specs.Text.{stop, text}
 use Rattle.leadership.specs.View.{LeadView}
 use Rattle.leadership.proofs.Scripted.{all_known_ascending}
-use Rattle.leadership.proofs.Written.{runs_short}
 use Rattle.leadership.proofs.runner.run_script.Goals as goal
 
 pub new-requires : goal.new-requires

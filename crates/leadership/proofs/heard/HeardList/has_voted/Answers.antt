@@ -10,5 +10,5 @@ pub returns-then-is_watched : goal.returns-then-is_watched
 returns-then-is_watched c =
     c.has_acceptance.ensures
     ∙ (ap (has_acceptance c.args.at c.args.from) c.deref.ensures.value
-    ∙ (voters_kept c.self.inside.watched c.self.inside.promisers.items c.self.inside.acceptances.items c.self.inside.list.items c.args.of.now c.args.at c.args.from c.self.invariant (sym c.is_watched.ensures ∙ c.if-is_watched.true)
+    ∙ (voters_kept c.self.inside.watched c.self.inside.promisers.items c.self.inside.acceptances.items c.self.inside.list.items c.args.of.now c.args.at c.args.from c.self.invariant.0 (sym c.is_watched.ensures ∙ c.if-is_watched.true)
     ∙ ap (λ (hs : List Hearing). has (voters_heard c.args.at c.args.of.now hs) c.args.from) c.self.view_is))

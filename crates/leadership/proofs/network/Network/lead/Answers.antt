@@ -20,14 +20,14 @@ returns-in-Ok-clause-goes_on c = λ past h.
     lead_goes past c.args.self.now h c.args.node c.place_of-place.result c.index_mut-site.result.now m c.args.epoch c.next_round-round.result c.start.new.self _
     (still c.args.self.now c.args.node c.place_of-place.result c.index_mut-site.result.now c.index.result.now _ m c.index.ensures c.if-index.false)
     c.next_round-round.ensures c.start.ensures refl refl
-    (c.in-Ok.ensures.ok ∙ ap (λ ns. c.args.self.now.mails.items ++ sent c.args.node (to_each ns (PrepareFrom c.args.epoch (record { round = c.next_round-round.result; node = c.args.node })))) c.deref-2.ensures.value)
+    (c.in-Ok.ensures.ok ∙ ap (λ ns. c.args.self.now.mails ++ sent c.args.node (to_each ns (PrepareFrom c.args.epoch (record { round = c.next_round-round.result; node = c.args.node })))) c.deref-2.ensures.value)
 
 pub returns-clause-stopped : goal.returns-clause-stopped
 returns-clause-stopped c = λ past h.
     let m : Member c.args.self.now c.args.node c.place_of-place.result c.index.result.now =
     member_of c.args.self.now c.args.node c.place_of-place.result c.deref.result.now c.index.result.now c.place_of-place.ensures c.deref.ensures.value c.index.ensures in
     lead_stops past c.args.self.now h c.args.node c.place_of-place.result c.index.result.now m c.args.epoch c.in-Err.stop c.if-index.false
-    (subst (λ ns. StopsAbove (length c.args.self.now.mails.items + length ns) c.in-Err.stop) c.deref-2.ensures.value c.in-Err.ensures.stopped)
+    (subst (λ ns. StopsAbove (length c.args.self.now.mails + length ns) c.in-Err.stop) c.deref-2.ensures.value c.in-Err.ensures.stopped)
 
 pub next_round-round-requires : goal.next_round-round-requires
 next_round-round-requires c =

@@ -1,7 +1,7 @@
 use Rattle.std.proofs.Common.{◌+◌, ◌++◌, length, refl, sym, ap, subst, ◌∙◌}
 use Rattle.leadership.specs.Facts.{Accept}
 use Rattle.leadership.specs.Answers.{to_each}
-use Rattle.leadership.specs.Mails.{sent, offered_in, StopsAbove}
+use Rattle.leadership.specs.Mails.{sent, StopsAbove}
 use Rattle.leadership.specs.Sites.{leading}
 use Rattle.leadership.proofs.Networking.{Member, offer_again, offer_below, offer_goes, offer_idle, offer_none, offer_stops, member_of, still}
 use Rattle.leadership.proofs.network.Network.offer.Goals as goal
@@ -37,7 +37,7 @@ returns-then-is_offered-clause-goes_on c = λ past h.
     (still c.args.self.now c.args.node c.place_of-place.result c.index-2.result.now c.index.result.now _ m c.index.ensures c.if-index.false)
     (sym (c.in-Some.ensures ∙ ap (λ n. leading n c.index-2.result.now) (c.count.ensures ∙ ap length c.deref-2.ensures.value)))
     (sym c.is_below.ensures ∙ c.if-is_below.false)
-    (sym (ap (offered_in c.args.node c.args.epoch c.in-Some.lead.ballot) c.deref-3.ensures.value) ∙ (sym c.is_offered.ensures ∙ c.if-is_offered.true)) h
+    (sym c.is_offered.ensures ∙ c.if-is_offered.true) h
 
 pub returns-in-Ok-clause-goes_on : goal.returns-in-Ok-clause-goes_on
 returns-in-Ok-clause-goes_on c = λ past h.
@@ -47,9 +47,9 @@ returns-in-Ok-clause-goes_on c = λ past h.
     (still c.args.self.now c.args.node c.place_of-place.result c.index-2.result.now c.index.result.now _ m c.index.ensures c.if-index.false)
     (sym (c.in-Some.ensures ∙ ap (λ n. leading n c.index-2.result.now) (c.count.ensures ∙ ap length c.deref-2.ensures.value)))
     (sym c.is_below.ensures ∙ c.if-is_below.false)
-    (sym (ap (offered_in c.args.node c.args.epoch c.in-Some.lead.ballot) c.deref-3.ensures.value) ∙ (sym c.is_offered.ensures ∙ c.if-is_offered.false))
+    (sym c.is_offered.ensures ∙ c.if-is_offered.false)
     refl refl
-    (c.in-Ok.ensures.ok ∙ ap (λ ns. c.args.self.now.mails.items ++ sent c.args.node (to_each ns (Accept c.args.epoch c.in-Some.lead.ballot c.args.value))) c.deref-4.ensures.value)
+    (c.in-Ok.ensures.ok ∙ ap (λ ns. c.args.self.now.mails ++ sent c.args.node (to_each ns (Accept c.args.epoch c.in-Some.lead.ballot c.args.value))) c.deref-3.ensures.value)
 
 pub returns-clause-stopped : goal.returns-clause-stopped
 returns-clause-stopped c = λ past h.
@@ -59,5 +59,5 @@ returns-clause-stopped c = λ past h.
     (still c.args.self.now c.args.node c.place_of-place.result c.index-2.result.now c.index.result.now _ m c.index.ensures c.if-index.false)
     (sym (c.in-Some.ensures ∙ ap (λ n. leading n c.index-2.result.now) (c.count.ensures ∙ ap length c.deref-2.ensures.value)))
     (sym c.is_below.ensures ∙ c.if-is_below.false)
-    (sym (ap (offered_in c.args.node c.args.epoch c.in-Some.lead.ballot) c.deref-3.ensures.value) ∙ (sym c.is_offered.ensures ∙ c.if-is_offered.false))
-    (subst (λ ns. StopsAbove (length c.args.self.now.mails.items + length ns) c.in-Err.stop) c.deref-4.ensures.value c.in-Err.ensures.stopped)
+    (sym c.is_offered.ensures ∙ c.if-is_offered.false)
+    (subst (λ ns. StopsAbove (length c.args.self.now.mails + length ns) c.in-Err.stop) c.deref-3.ensures.value c.in-Err.ensures.stopped)

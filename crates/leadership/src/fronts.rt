@@ -1,0 +1,93 @@
+//! Up to which number all messages to a member were delivered.
+ghost use Rattle.std.specs.Prelude.{ℕ, ◌≡◌, ◌≤◌, List, length, IfOk};
+ghost use Rattle.std.specs.BTreeSet.{BTreeSet as AnySet};
+ghost use Rattle.leadership.specs.declared.bounds.TheConstants.{MOST_CONTROL};
+ghost use Rattle.leadership.specs.Fronts.{AreFronts, IsFront, IsLow, front_of, passes};
+ghost use Rattle.leadership.specs.declared.mails.Letter.{Letter as AnyLetter};
+
+use crate::mails::Letter;
+use crate::sites::Site;
+use std::alloc::Global;
+use std::collections::BTreeSet;
+use topology::{NoMemory, NodeId};
+
+/// Of the first so many messages all that are for the member were delivered.
+#[derive(Clone, Copy, Debug)]
+pub struct Front {
+    pub node: NodeId,
+    pub count: usize,
+}
+
+// Whether the message with this number is for another member, or was delivered.
+fn passes(numbers: &BTreeSet<u32>, node: NodeId, number: u32, letter: &Letter) -> bool
+    ensures { result ≡ passes numbers.now node number letter.now }
+{
+    letter.to != node || numbers.contains(&number)
+}
+
+// How far the front of a member goes, which goes so far at least.
+fn front_from(numbers: &BTreeSet<u32>, letters: &[Letter], node: NodeId, known: usize) -> usize
+    requires few { length letters.now ≤ MOST_CONTROL }
+    requires known { IsFront node numbers.now letters.now known }
+    ensures { IsFront node numbers.now letters.now result }
+{
+    for i in known..letters.len() {
+        let number = i as u32 + 1;
+        if !passes(numbers, node, number, &letters[i]) {
+            return i;
+        }
+    }
+    letters.len()
+}
+
+/// No message to any of these was delivered.
+pub(crate) fn fronts_of(alloc: Global, members: &[NodeId]) -> Result<Vec<Front>, NoMemory>
+    ensures { IfOk result (λ fronts. (numbers : AnySet ℕ) (letters : List AnyLetter) → AreFronts fronts.items numbers letters) }
+{
+    let mut fronts = Vec::new(alloc);
+    for node in members {
+        fronts.push(Front {
+            node: *node,
+            count: 0,
+        })?;
+    }
+    Ok(fronts)
+}
+
+/// Each front goes as far as it may.
+pub(crate) fn advance(fronts: &mut Vec<Front>, numbers: &BTreeSet<u32>, letters: &[Letter])
+    requires few { length letters.now ≤ MOST_CONTROL }
+    requires known { AreFronts fronts.old.items numbers.now letters.now }
+    ensures { AreFronts fronts.new.items numbers.now letters.now }
+{
+    for i in 0..fronts.len() {
+        let Front { node, count } = fronts[i];
+        let count = front_from(numbers, letters, node, count);
+        fronts[i] = Front { node, count };
+    }
+}
+
+// How far the front of the member goes.
+fn front_of(fronts: &[Front], node: NodeId) -> usize
+    ensures { result ≡ front_of node fronts.now }
+{
+    for front in fronts {
+        if front.node == node {
+            return front.count;
+        }
+    }
+    0
+}
+
+/// How far the fronts of all members go that run. So many at most.
+pub(crate) fn lowest(fronts: &[Front], sites: &[Site], count: usize) -> usize
+    ensures { IsLow fronts.now sites.now count result }
+{
+    let mut low = count;
+    for site in sites {
+        if !site.crashed {
+            low = low.min(front_of(fronts, site.node));
+        }
+    }
+    low
+}
