@@ -12,6 +12,7 @@ use Rattle.trigger_log.specs.Sending.{sent_of}
 use Rattle.trigger_log.proofs.Collected.{none_at_first}
 use Rattle.node_core.specs.Counted.{is_long_item, is_long_row, row_marks}
 use Rattle.chronicle.specs.Facts.{Fact, Chronicle, Log, Sent, Took, Fail, Restore, Raise, Start, Mail, Heard, Crash, Restart, Publish, Visit, End}
+use Rattle.chronicle.specs.Control.{control}
 use Rattle.chronicle.specs.Epochs.{epoch}
 use Rattle.chronicle.specs.Inputs.{Input}
 use Rattle.chronicle.specs.Inputs as input
@@ -20,7 +21,8 @@ use Rattle.chronicle.specs.Run.{chronicle_of}
 use Rattle.chronicle.specs.Steps.{Step, Idle, Goes}
 use Rattle.chronicle.proofs.Publishing.{log_publish, epoch_publish}
 use Rattle.cut_laws.specs.Own.{Own, MayReach}
-use Rattle.cut_laws.proofs.Owning.{own_given, start_own}
+use Rattle.cut_laws.proofs.Beside.{same_by_fact}
+use Rattle.cut_laws.proofs.Owning.{own_given, own_same, start_own}
 use Rattle.node_core.specs.ControlFits.{epoch_fits, message_fits, value_fits}
 use Rattle.node_core.specs.Fits.{item_fits, fits}
 use Rattle.node_core.specs.Names.{is_number}
@@ -30,13 +32,14 @@ use Rattle.node_core.specs.PacketFits.{packet_fits}
 use Rattle.node_core.specs.declared.limits.TheConstants.{MOST_EPOCHS, MOST_MARKS}
 use Rattle.node_core.proofs.Admitting.{may_come}
 use Rattle.admission_laws.specs.Handing.{table_fits, is_short, output_fits}
-use Rattle.admission_laws.specs.NodeRuns.{each_link, gives, alone, AllAdmitted}
+use Rattle.admission_laws.specs.NodeRuns.{each_link, gives, going_on, alone, restarted, limit_at, AllAdmitted}
 use Rattle.admission_laws.proofs.Facts.{fact_fits, AllFacts}
 use Rattle.admission_laws.proofs.Each.{each_append}
 use Rattle.admission_laws.proofs.Bounds.{Within, Reportable}
 use Rattle.admission_laws.proofs.Logs.{first_fact, facts_before}
+use Rattle.admission_laws.proofs.Holding.{crash_ascends}
 use Rattle.admission_laws.proofs.Answering.{Fine, IsPlain, answer_fine}
-use Rattle.admission_laws.proofs.Replying.{ReportsAscend, alone_ascends, within, given_facts, propose_given, control_given}
+use Rattle.admission_laws.proofs.Replying.{ReportsAscend, ascend_given, within, given_facts, propose_given, control_given}
 
 -- ---- one input
 
@@ -114,33 +117,47 @@ module _ (rules : Rules) (net : Net) (u : ℕ) (valid : IsValid net) (here : has
     then_facts i (Idle why) up is few goes = all
     then_facts i (Goes now) up is few goes = gives_facts i now up is (before_marks (node_above rules net u now) (has_more_marks rules net u now) few).0 goes
 
-  -- ---- all inputs
-
-  -- what holds of a node alone
-  alone_own : (inputs : List Input) → AllAdmitted rules net u inputs → Own rules net (alone rules net u inputs) u
-  unfolding alone
-  alone_own [] admitted = start_own rules net u
-  alone_own (i ∷ before) admitted = own_given rules net u each_link (alone rules net u before) i valid (alone_own before admitted.2) (reaches net u i admitted.0)
-
   -- of its log a report may be made
   step_listed : (past : Chronicle) (s : Step) → Reportable rules net u (log_of u past) → node_limit rules net u s ≡ None → Reportable rules net u (log_of u (chronicle_of past s))
   step_listed past (Idle why) listed few = listed
   step_listed past (Goes now) listed few =
       let both = before_marks (node_above rules net u now) (has_more_marks rules net u now) few in log_reportable rules net u now both.0 both.1
 
-  alone_listed : (inputs : List Input) → AllAdmitted rules net u inputs → Reportable rules net u (log_of u (alone rules net u inputs))
-  unfolding alone
-  alone_listed [] admitted = none_listed rules net u
-  alone_listed (i ∷ before) admitted =
-      let past = alone rules net u before in step_listed past (gives rules net u past i) (alone_listed before admitted.2) admitted.1
+  -- ---- all inputs
 
-  -- every fact of its run fits
-  alone_facts : (inputs : List Input) → AllAdmitted rules net u inputs → AllFacts net u (alone rules net u inputs)
-  unfolding alone
-  alone_facts [] admitted = refl
-  alone_facts (i ∷ before) admitted =
-      let past = alone rules net u before in
-      then_facts past (alone_own before admitted.2) (alone_facts before admitted.2) (alone_listed before admitted.2) i (gives rules net u past i) (alone_ascends rules net u before) admitted.0 admitted.1 refl
+  -- what holds of a node alone: each fact fits, a report may be made of its log, and the reports that it holds ascend
+  pub record IsFine (past : Chronicle) : Type 0 where
+    pub own : Own rules net past u
+    pub facts : AllFacts net u past
+    pub listed : Reportable rules net u (log_of u past)
+    pub ascends : ReportsAscend u past
+
+  fine_none : IsFine []
+  fine_none = record { own = start_own rules net u; facts = refl; listed = none_listed rules net u; ascends = λ e. refl }
+
+  fine_more : (past : Chronicle) (i : Input) → IsFine past → fits net u i ≡ true → limit_at rules net u past i ≡ None → IsFine (chronicle_of past (gives rules net u past i))
+  fine_more past i fine fit few = record {
+    own = own_given rules net u each_link past i valid fine.own (reaches net u i fit);
+    facts = then_facts past fine.own fine.facts fine.listed i (gives rules net u past i) fine.ascends fit few refl;
+    listed = step_listed past (gives rules net u past i) fine.listed few;
+    ascends = ascend_given rules net each_link u i past fine.ascends;
+  }
+
+  fine_on : (past : Chronicle) (inputs : List Input) → IsFine past → AllAdmitted rules net u past inputs → IsFine (going_on rules net u past inputs)
+  unfolding going_on
+  fine_on past [] fine admitted = fine
+  fine_on past (i ∷ before) fine admitted = fine_more (going_on rules net u past before) i (fine_on past before fine admitted.2) admitted.0 admitted.1
+
+  -- a crash and a restart leave all that is asked
+  fine_again : (past : Chronicle) → IsFine past → IsFine (Restart u ∷ Crash u ∷ past)
+  fine_again past fine =
+      let crashed = own_same rules net past (Crash u ∷ past) u fine.own (same_by_fact u (Crash u) past tt) in
+      record {
+        own = own_same rules net (Crash u ∷ past) (Restart u ∷ Crash u ∷ past) u crashed (same_by_fact u (Restart u) (Crash u ∷ past) tt);
+        facts = fine.facts;
+        listed = fine.listed;
+        ascends = crash_ascends u (control past);
+      }
 
 -- ---- what is handed out
 
@@ -172,6 +189,15 @@ module _ (net : Net) (u : ℕ) where
       each_append (output_fits net u) (outputs past) (output_by f past) (outputs_fit past (facts_before net u f past all)) (shown_fits f past (first_fact net u f past all))
 
 -- all that a node hands out is what its addressees admit
-pub all_fit : (rules : Rules) (net : Net) (u : ℕ) (inputs : List Input) → IsValid net → has net.nodes u ≡ true → AllAdmitted rules net u inputs
+pub all_fit : (rules : Rules) (net : Net) (u : ℕ) (inputs : List Input) → IsValid net → has net.nodes u ≡ true → AllAdmitted rules net u [] inputs
     → list_all (output_fits net u) (outputs (alone rules net u inputs)) ≡ true
-all_fit rules net u inputs valid here admitted = outputs_fit net u (alone rules net u inputs) (alone_facts rules net u valid here inputs admitted)
+all_fit rules net u inputs valid here admitted =
+    outputs_fit net u (alone rules net u inputs) (fine_on rules net u valid here [] inputs (fine_none rules net u valid here) admitted).facts
+
+-- and what it hands out once it was started again
+pub all_fit_again : (rules : Rules) (net : Net) (u : ℕ) (kept inputs : List Input) → IsValid net → has net.nodes u ≡ true → AllAdmitted rules net u [] kept
+    → AllAdmitted rules net u (restarted rules net u kept) inputs → list_all (output_fits net u) (outputs (going_on rules net u (restarted rules net u kept) inputs)) ≡ true
+all_fit_again rules net u kept inputs valid here before admitted =
+    outputs_fit net u (going_on rules net u (restarted rules net u kept) inputs)
+    (fine_on rules net u valid here (restarted rules net u kept) inputs
+    (fine_again rules net u valid here (alone rules net u kept) (fine_on rules net u valid here [] kept (fine_none rules net u valid here) before)) admitted).facts

@@ -6,7 +6,7 @@ use Rattle.std.proofs.lemmas.Bool.Decides.{nat_tests}
 use Rattle.topology.specs.declared.status.Reason.TheVariants as reason
 use Rattle.topology.specs.Lists.{has}
 use Rattle.topology.specs.Net.{Net}
-use Rattle.topology.proofs.Tests.{and_left, and_right, and_both, or_left, or_right, same_is}
+use Rattle.topology.proofs.Tests.{and_left, and_right, and_both, or_left, or_right, same_refl, same_is}
 use Rattle.incomplete_closure.specs.Reports.{Report}
 use Rattle.consolidator.specs.Answers.{refuses_report, refusal_of, posted}
 use Rattle.consolidator.specs.Facts.{Chronicle, Mail, Heard, Crash}
@@ -139,3 +139,11 @@ heard_ascend net u from (Reports r) past up free = λ e.
 pub posted_ascend : (u w : ℕ) (ms : List (ℕ × Message)) (past : Chronicle) → HeldAscend u past → HeldAscend u (posted w ms past)
 posted_ascend u w [] past up = up
 posted_ascend u w (m ∷ ms) past up = posted_ascend u w ms (Mail w m.0 m.1 ∷ past) up
+
+-- and where u crashed: it holds none
+pub crash_ascends : (u : ℕ) (past : Chronicle) → HeldAscend u (Crash u ∷ past)
+crash_ascends u past = λ e.
+    (elim (u == u) as (λ t. u == u ≡ t → in_order nat_lt (nodes_of (if t then [] else reports_held u e past)) ≡ true) [
+      | true ↦ λ same. refl
+      | false ↦ λ other. let itself = same_refl u in absurd (cc (other, itself))
+    ]) refl

@@ -37,7 +37,6 @@ use Rattle.node_core.specs.Fits.{fits}
 use Rattle.node_core.specs.NodeLimits.{first_of_node, is_large, is_too_large, has_large_value, has_long_list, node_above}
 use Rattle.node_core.specs.declared.limits.TheConstants.{MOST_EPOCHS, MOST_ENTRIES, MOST_UPDATES}
 use Rattle.admission_laws.specs.Handing.{table_fits, is_short}
-use Rattle.admission_laws.specs.NodeRuns.{each_link, alone}
 use Rattle.admission_laws.proofs.Facts.{fact_fits, AllFacts}
 use Rattle.admission_laws.proofs.Ballots.{mailed_fits, control_fits, said_of, ballots_of, agreement_fits, decision_fits}
 use Rattle.admission_laws.proofs.Holding.{HeldAscend, heard_ascend, posted_ascend}
@@ -179,12 +178,6 @@ module _ (rules : Rules) (net : Net) (carried : Carried) (u : ℕ) where
   pub ascend_given : (i : Input) (past : Chronicle) → ReportsAscend u past → ReportsAscend u (chronicle_of past (give rules net carried u past i))
   unfolding give
   ascend_given i past up = ascend_concluded past (answer rules net carried u past i) up (ascend_answered i past up)
-
--- so they ascend in each run of u alone
-pub alone_ascends : (rules : Rules) (net : Net) (u : ℕ) (inputs : List Input) → ReportsAscend u (alone rules net u inputs)
-unfolding alone
-alone_ascends rules net u [] = λ e. refl
-alone_ascends rules net u (i ∷ before) = ascend_given rules net each_link u i (alone rules net u before) (alone_ascends rules net u before)
 
 -- ---- the table that is published
 

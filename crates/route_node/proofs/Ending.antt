@@ -1,21 +1,25 @@
 -- How a node over a link ends, from what it has taken and written.
-use Rattle.std.proofs.Common.{ℕ, ◌≡◌, true, Some, List, [], ◌++◌, length, refl, sym, ap, ◌∙◌, subst, inl, inr, ◌⊎◌, ◌≤◌, arith}
-use Rattle.std.specs.Io.KnownBytes.{IsAtEnd}
+use Rattle.std.proofs.Common.{ℕ, ◌≡◌, true, false, Option, Some, None, List, [], ◌∷◌, ◌++◌, length, refl, sym, ap, ◌∙◌, subst, inl, inr, ◌≤◌, arith}
+use Rattle.std.specs.Prelude.{is_some}
+use Rattle.std.specs.List.{list_all}
+use Rattle.std.specs.Io.KnownBytes.{Appends, IsAtEnd}
 use Rattle.std.proofs.lemmas.List.{append-nil}
 use Rattle.topology.specs.declared.status.Status.{Status}
-use Rattle.topology.specs.declared.status.Status.TheVariants.{Done, NoMemory, Limit, LinkFault, BadFrame}
+use Rattle.topology.specs.declared.status.Status.TheVariants.{Done, NoMemory, Limit, LinkFault, BadFrame, DiskFault}
 use Rattle.topology.specs.declared.status.LimitKind.{LimitKind}
 use Rattle.topology.specs.declared.frame_faults.FrameFault.{FrameFault}
-use Rattle.topology.specs.Net.{Net}
+use Rattle.topology.specs.Lists.{Begins}
 use Rattle.route_io.specs.Causes.{RoseIf}
 use Rattle.route_io.specs.Links.{IsSure}
 use Rattle.route_io.specs.Views.{Act, LinkView}
-use Rattle.path_vector.specs.Rules.{Rules}
 use Rattle.node_core.specs.NodeLimits.{Reached}
 use Rattle.wire_frames.specs.declared.frames.Frame.{Frame}
+use Rattle.wire_frames.specs.Frames.{fits as has_spelling}
 use Rattle.route_node.specs.Prompt.{IsPrompt}
-use Rattle.route_node.specs.Streams.{stream, answers, AreTaken, Ending, End, Refused, Stopped, Comes}
-use Rattle.route_node.specs.Served.{ends_serving, status_of, Answered, WroteFront, TooLongAnswers, Served}
+use Rattle.route_node.specs.Running.{AnswersGrow, Ends}
+use Rattle.route_node.specs.Streams.{stream, replies, answers, AreTaken, Ending, End, Refused, Stopped, Comes}
+use Rattle.route_node.specs.Served.{ends_serving, status_of, is_whole, older, Answered, BreaksOff, TooLongAnswers}
+use Rattle.route_node.specs.Who.{Who}
 use Rattle.route_node.proofs.Unique.{come_once}
 
 never_linkfault : (offset : ℕ) (ending : Ending) → status_of offset ending ≡ LinkFault → ⊥
@@ -46,71 +50,119 @@ is_limit offset kind number (Stopped reached) e =
 
 -- ---- the two ways to end
 
-module _ (rules : Rules) (net : Net) (u : ℕ) (first link : LinkView) (status : Status) (frames : List Frame) (taken : AreTaken rules net u frames) (same_room : link.room ≡ first.room) (same_dialled : link.dialled ≡ first.dialled)
-    (prompt : (before : List Act) → first.acts ≡ Some before → (since : List Act) × (link.acts ≡ Some (since ++ before)) × IsPrompt rules net u since) where
+-- what is whole was not broken off
+no_break : (records : Option (List Frame)) (status s : Status) → BreaksOff records status → (NoMemory ≡ s → ⊥) → (LinkFault ≡ s → ⊥) → (DiskFault ≡ s → ⊥) → status ≡ s → ⊥
+no_break None status s (inl e) no_memory no_link no_disk is = no_memory (sym e ∙ is)
+no_break None status s (inr e) no_memory no_link no_disk is = no_link (sym e ∙ is)
+no_break (Some records) status s (inl e) no_memory no_link no_disk is = no_memory (sym e ∙ is)
+no_break (Some records) status s (inr (inl e)) no_memory no_link no_disk is = no_link (sym e ∙ is)
+no_break (Some records) status s (inr (inr e)) no_memory no_link no_disk is = no_disk (sym e ∙ is)
+
+not_whole : (records : Option (List Frame)) (status : Status) → BreaksOff records status → is_whole status ≡ true → ⊥
+not_whole None status (inl e) is = absurd (cc (sym (ap is_whole e) ∙ is))
+not_whole None status (inr e) is = absurd (cc (sym (ap is_whole e) ∙ is))
+not_whole (Some records) status (inl e) is = absurd (cc (sym (ap is_whole e) ∙ is))
+not_whole (Some records) status (inr (inl e)) is = absurd (cc (sym (ap is_whole e) ∙ is))
+not_whole (Some records) status (inr (inr e)) is = absurd (cc (sym (ap is_whole e) ∙ is))
+
+break_formed : (records : Option (List Frame)) (status : Status) → BreaksOff records status → ends_serving (is_some records) status ≡ true
+break_formed None status (inl e) = ap (ends_serving false) e
+break_formed None status (inr e) = ap (ends_serving false) e
+break_formed (Some records) status (inl e) = ap (ends_serving true) e
+break_formed (Some records) status (inr (inl e)) = ap (ends_serving true) e
+break_formed (Some records) status (inr (inr e)) = ap (ends_serving true) e
+
+-- want of memory breaks a run off, and a call of the link that failed does
+pub by_memory : (records : Option (List Frame)) → BreaksOff records NoMemory
+by_memory None = inl refl
+by_memory (Some records) = inl refl
+
+pub by_link : (records : Option (List Frame)) → BreaksOff records LinkFault
+by_link None = inr refl
+by_link (Some records) = inr (inl refl)
+
+module _ (who : Who) (first link : LinkView) (status : Status) (frames : List Frame) (taken : AreTaken who frames) (grow : AnswersGrow who frames) (same_room : link.room ≡ first.room) (same_dialled : link.dialled ≡ first.dialled)
+    (prompt : (before : List Act) → first.acts ≡ Some before → (since : List Act) × (link.acts ≡ Some (since ++ before)) × IsPrompt who since) where
+  -- the answers to all frames begin with those to all but the newest
+  pub behind_all : Begins (answers who (older frames)) (answers who frames)
+  behind_all = go frames grow
+    where
+      go : (fs : List Frame) → AnswersGrow who fs → Begins (answers who (older fs)) (answers who fs)
+      go [] grows = grows [] [] refl
+      go (f ∷ fs) grows = grows (f ∷ []) fs refl
+
   -- the stream has come to its end
-  pub served_by_ending : (ending : Ending) → status ≡ status_of (length (stream frames)) ending → ends_serving status ≡ true → ((bytes : List ℕ) → first.incoming ≡ Some bytes → Comes rules net u bytes frames ending) → Answered rules net u frames first link
-      → link.faults ≡ first.faults → (status ≡ Done → IsAtEnd link.incoming) → Served rules net u first link status
-  served_by_ending ending is formed comes answered quiet read = record {
-    formed = formed;
-    done = λ e bytes told. (frames, subst (λ d. Comes rules net u bytes frames d) (is_done (length (stream frames)) ending (sym is ∙ e)) (comes bytes told), answered);
-    bad_frame = λ at fault e bytes told.
-        let both = is_bad (length (stream frames)) at fault ending (sym is ∙ e) in
-        (frames, subst (λ d. Comes rules net u bytes frames d) both.0 (comes bytes told), both.1, answered);
-    limit = λ kind number e bytes told.
-        (frames, subst (λ d. Comes rules net u bytes frames d) (is_limit (length (stream frames)) kind number ending (sym is ∙ e)) (comes bytes told), answered);
-    link_fault = record {
-      later = omega_le (sym quiet);
-      rose = λ e. absurd (never_linkfault (length (stream frames)) ending (sym is ∙ e));
-      quiet = λ _. quiet;
+  pub ends_by_ending : (ending : Ending) → status ≡ status_of (length (stream frames)) ending → ends_serving (is_some who.records) status ≡ true → ((bytes : List ℕ) → first.incoming ≡ Some bytes → Comes who bytes frames ending) → Answered who frames first link
+      → link.faults ≡ first.faults → (status ≡ Done → IsAtEnd link.incoming) → Ends who first link frames status
+  ends_by_ending ending is formed comes answered quiet read = record {
+    served = record {
+      formed = formed;
+      done = λ e bytes told. (frames, subst (λ d. Comes who bytes frames d) (is_done (length (stream frames)) ending (sym is ∙ e)) (comes bytes told), answered);
+      bad_frame = λ at fault e bytes told.
+          let both = is_bad (length (stream frames)) at fault ending (sym is ∙ e) in
+          (frames, subst (λ d. Comes who bytes frames d) both.0 (comes bytes told), both.1, answered);
+      limit = λ kind number e bytes told.
+          (frames, subst (λ d. Comes who bytes frames d) (is_limit (length (stream frames)) kind number ending (sym is ∙ e)) (comes bytes told), answered);
+      link_fault = record {
+        later = omega_le (sym quiet);
+        rose = λ e. absurd (never_linkfault (length (stream frames)) ending (sym is ∙ e));
+        quiet = λ _. quiet;
+      };
+      sure = λ _ e. absurd (never_linkfault (length (stream frames)) ending (sym is ∙ e));
+      front = λ bytes told.
+          let all = comes bytes told in
+          record {
+            frames = frames;
+            rest = all.rest;
+            in_front = all.in_front;
+            taken = taken;
+            spelled = answered.spelled;
+            some = answers who frames;
+            begins = ([], append-nil (answers who frames));
+            wrote = answered.wrote;
+          };
+      complete = λ bytes told others other come.
+          let both = come_once who bytes frames others ending other (comes bytes told) come in
+          inl (is ∙ subst (λ g. status_of (length (stream frames)) ending ≡ status_of (length (stream g)) other) both.0 (ap (status_of (length (stream frames))) both.1));
+      prompt = prompt;
+      read = read;
+      same_room = same_room;
+      same_dialled = same_dialled;
     };
-    sure = λ _ e. absurd (never_linkfault (length (stream frames)) ending (sym is ∙ e));
-    front = λ bytes told.
-        let all = comes bytes told in
-        record {
-          frames = frames;
-          rest = all.rest;
-          in_front = all.in_front;
-          taken = taken;
-          spelled = answered.spelled;
-          some = answers rules net u frames;
-          begins = ([], append-nil (answers rules net u frames));
-          wrote = answered.wrote;
-        };
-    complete = λ bytes told others other come.
-        let both = come_once rules net u bytes frames others ending other (comes bytes told) come in
-        inl (is ∙ subst (λ g. status_of (length (stream frames)) ending ≡ status_of (length (stream g)) other) both.0 (ap (status_of (length (stream frames))) both.1));
-    prompt = prompt;
-    read = read;
-    same_room = same_room;
-    same_dialled = same_dialled;
+    answered = record {
+      in_front = λ bytes told. let all = comes bytes told in (all.rest, sym all.in_front);
+      taken = taken;
+      some = answers who frames;
+      wrote = answered.wrote;
+      front = ([], append-nil (answers who frames));
+      behind = behind_all;
+      whole = λ _ bytes told. (ending, comes bytes told);
+    };
   }
     where
       omega_le : first.faults ≡ link.faults → first.faults ≤ link.faults
       omega_le e = omega (arith, e)
 
-  -- memory ran out, or a call of the link failed
-  pub served_by_break : (status ≡ NoMemory) ⊎ (status ≡ LinkFault) → RoseIf (status ≡ LinkFault) first.faults link.faults → (IsSure first → status ≡ LinkFault → TooLongAnswers rules net u first)
-      → ((bytes : List ℕ) → first.incoming ≡ Some bytes → WroteFront rules net u bytes first link) → Served rules net u first link status
-  served_by_break why rose full front = record {
-    formed = formed why;
-    done = λ e bytes told. absurd (never Done why (λ d. absurd (cc d)) (λ d. absurd (cc d)) e);
-    bad_frame = λ at fault e bytes told. absurd (never (BadFrame at fault) why (λ d. absurd (cc d)) (λ d. absurd (cc d)) e);
-    limit = λ kind number e bytes told. absurd (never (Limit kind number) why (λ d. absurd (cc d)) (λ d. absurd (cc d)) e);
-    link_fault = rose;
-    sure = full;
-    front = front;
-    complete = λ bytes told others other come. inr why;
-    prompt = prompt;
-    read = λ e. absurd (never Done why (λ d. absurd (cc d)) (λ d. absurd (cc d)) e);
-    same_room = same_room;
-    same_dialled = same_dialled;
+  -- it broke off, when these bytes were written, a front of the answers that has all but those to the newest frame
+  pub ends_by_break : BreaksOff who.records status → RoseIf (status ≡ LinkFault) first.faults link.faults → (IsSure first → status ≡ LinkFault → TooLongAnswers who first)
+      → ((bytes : List ℕ) → first.incoming ≡ Some bytes → Begins (stream frames) bytes) → list_all has_spelling (replies who frames) ≡ true
+      → (some : List ℕ) → Appends first.outgoing link.outgoing some → Begins some (answers who frames) → Begins (answers who (older frames)) some → Ends who first link frames status
+  ends_by_break why rose full in_front spelled some wrote front behind = record {
+    served = record {
+      formed = break_formed who.records status why;
+      done = λ e bytes told. absurd (no_break who.records status Done why (λ d. absurd (cc d)) (λ d. absurd (cc d)) (λ d. absurd (cc d)) e);
+      bad_frame = λ at fault e bytes told. absurd (no_break who.records status (BadFrame at fault) why (λ d. absurd (cc d)) (λ d. absurd (cc d)) (λ d. absurd (cc d)) e);
+      limit = λ kind number e bytes told. absurd (no_break who.records status (Limit kind number) why (λ d. absurd (cc d)) (λ d. absurd (cc d)) (λ d. absurd (cc d)) e);
+      link_fault = rose;
+      sure = full;
+      front = λ bytes told.
+          let rest = in_front bytes told in
+          record { frames = frames; rest = rest.0; in_front = sym rest.1; taken = taken; spelled = spelled; some = some; begins = front; wrote = wrote };
+      complete = λ bytes told others other come. inr why;
+      prompt = prompt;
+      read = λ e. absurd (no_break who.records status Done why (λ d. absurd (cc d)) (λ d. absurd (cc d)) (λ d. absurd (cc d)) e);
+      same_room = same_room;
+      same_dialled = same_dialled;
+    };
+    answered = record { in_front = in_front; taken = taken; some = some; wrote = wrote; front = front; behind = behind; whole = λ is. absurd (not_whole who.records status why is) };
   }
-    where
-      formed : (status ≡ NoMemory) ⊎ (status ≡ LinkFault) → ends_serving status ≡ true
-      formed (inl e) = ap ends_serving e
-      formed (inr e) = ap ends_serving e
-
-      never : (s : Status) → (status ≡ NoMemory) ⊎ (status ≡ LinkFault) → (NoMemory ≡ s → ⊥) → (LinkFault ≡ s → ⊥) → status ≡ s → ⊥
-      never s (inl e) no_memory no_fault is = no_memory (sym e ∙ is)
-      never s (inr e) no_memory no_fault is = no_fault (sym e ∙ is)

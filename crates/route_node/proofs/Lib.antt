@@ -13,6 +13,11 @@ pub mod Stopped
 pub mod Stopping
 pub mod Taking
 pub mod Answered
+pub mod Journaled
+pub mod Exits
+pub mod Reread
+pub mod Recorded
+pub mod Rehearing
 pub mod Refusing
 pub mod Going
 pub mod Networks

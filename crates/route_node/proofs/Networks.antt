@@ -22,6 +22,7 @@ use Rattle.schedule_file.proofs.Readings.{one_list, no_bad, one_bad}
 use Rattle.wire_frames.specs.declared.frames.Frame.{Frame}
 use Rattle.route_node.specs.Plain.{AttendedPlain}
 use Rattle.route_node.specs.Served.{ends_serving, status_of, TooLongAnswers, Served}
+use Rattle.route_node.specs.Who.{afresh}
 use Rattle.route_node.specs.Streams.{stream, Ending}
 use Rattle.route_node.specs.Attended.{Endpoint, IsNetwork, Gives, EndsBefore, once_dialled, ends_attending, ends_undialled, Attended}
 
@@ -40,7 +41,7 @@ same_refusal bytes line other bad last first again =
     ap (λ n. BadSchedule n bad) lines ∙ ap (BadSchedule other) same.1
 
 -- a node is there or not
-not_both : (net other : Net) (id : ℕ) → net ≡ other → has net.nodes id ≡ true → has other.nodes id ≡ false → ⊥
+pub not_both : (net other : Net) (id : ℕ) → net ≡ other → has net.nodes id ≡ true → has other.nodes id ≡ false → ⊥
 not_both net other id same there none = true≢false (sym there ∙ (ap (λ (n : Net). has n.nodes id) same ∙ none))
 
 -- what a told source gave is what it told
@@ -158,7 +159,7 @@ gives_network source source' bytes net got file =
     record { bytes = bytes; known = got.known; network = record { short = got.short; file = file }; at_end = got.at_end; quiet = got.quiet }
 
 module _ (source source' : SourceView) (bytes : List ℕ) (read : (told : List ℕ) → source.left ≡ Some told → bytes ≡ told) where
-  not_long : length bytes ≤ MAX_BYTES → (told : List ℕ) → source.left ≡ Some told → MAX_BYTES < length told → ⊥
+  pub not_long : length bytes ≤ MAX_BYTES → (told : List ℕ) → source.left ≡ Some told → MAX_BYTES < length told → ⊥
   not_long short told is long = let same = ap length (read told is) in omega (arith, short, same, long)
 
   -- the same of the bytes that were told
@@ -192,14 +193,14 @@ module _ (source source' : SourceView) (bytes : List ℕ) (read : (told : List �
 
 module _ (here : Endpoint) (source source' : SourceView) (net : Net) (gives : Gives source source' net) where
   -- any network of the file is this one
-  is_it : (told : List ℕ) → source.left ≡ Some told → (other : Net) → IsNetwork told other → net ≡ other
+  pub is_it : (told : List ℕ) → source.left ≡ Some told → (other : Net) → IsNetwork told other → net ≡ other
   is_it told t other is = same_network gives.bytes net other gives.network.file (as_read source source' gives.bytes gives.known (λ b. IsTopologyFile b other) told t is.file)
 
   -- the bytes that were told are a file of it
-  of_it : (told : List ℕ) → source.left ≡ Some told → IsNetwork told net
+  pub of_it : (told : List ℕ) → source.left ≡ Some told → IsNetwork told net
   of_it told t = as_told source source' gives.bytes gives.known (λ b. IsNetwork b net) told t gives.network
 
-  not_bad : (told : List ℕ) → source.left ≡ Some told → (line : ℕ) (bad : BadKind) → FirstBadOfTopology told line bad → ⊥
+  pub not_bad : (told : List ℕ) → source.left ≡ Some told → (line : ℕ) (bad : BadKind) → FirstBadOfTopology told line bad → ⊥
   not_bad told t line bad first = no_network gives.bytes net line bad gives.network.file (as_read source source' gives.bytes gives.known (λ b. FirstBadOfTopology b line bad) told t first)
 
   pub ends_missing : (link : LinkView) → has net.nodes here.id ≡ false → Attended here source source' link link (NoSuchNode here.id)
@@ -224,7 +225,7 @@ module _ (here : Endpoint) (source source' : SourceView) (net : Net) (gives : Gi
 
   module _ (there : has net.nodes here.id ≡ true) where
     -- a dial changes nothing of the room
-    as_first : (link : LinkView) → TooLongAnswers gao_rexford net here.id (once_dialled link here.address) → TooLongAnswers gao_rexford net here.id link
+    as_first : (link : LinkView) → TooLongAnswers (afresh gao_rexford net here.id) (once_dialled link here.address) → TooLongAnswers (afresh gao_rexford net here.id) link
     as_first link long = record { frames = long.frames; in_front = long.in_front; taken = long.taken; left = long.left; room = long.room; longer = long.longer }
 
     pub ends_at_dial : (link link' : LinkView) → Dials link link' here.address → OnlyDials link link' → (IsSure link → ⊥) → RoseIf (LinkFault ≡ LinkFault) link.faults link'.faults → Attended here source source' link link' LinkFault
@@ -247,18 +248,18 @@ module _ (here : Endpoint) (source source' : SourceView) (net : Net) (gives : Gi
       read = λ e. gives.at_end;
     }
 
-    pub ends_served : (link link' : LinkView) (status : Status) → Served gao_rexford net here.id (once_dialled link here.address) link' status → Attended here source source' link link' status
+    pub ends_served : (link link' : LinkView) (status : Status) → Served (afresh gao_rexford net here.id) (once_dialled link here.address) link' status → Attended here source source' link link' status
     ends_served link link' status is_served = record {
       formed = may_end status is_served.formed;
-      served = λ told t other is has_it. inl (subst (λ n. Served gao_rexford n here.id (once_dialled link here.address) link' status) (is_it told t other is) is_served);
+      served = λ told t other is has_it. inl (subst (λ n. Served (afresh gao_rexford n here.id) (once_dialled link here.address) link' status) (is_it told t other is) is_served);
       missing = λ told t other is gone. absurd (not_both net other here.id (is_it told t other is) there gone);
       refused = λ told t short line bad first. absurd (not_bad told t line bad first);
       too_long = λ told t long. absurd (not_long source source' gives.bytes gives.known gives.network.short told t long);
       over = λ e told t. (net, of_it told t, there);
-      bad_schedule = λ line bad e. absurd (never (sym (ap ends_serving e) ∙ is_served.formed));
-      no_such_node = λ node e. absurd (never (sym (ap ends_serving e) ∙ is_served.formed));
-      limit = λ number e. absurd (never (sym (ap ends_serving e) ∙ is_served.formed));
-      read_fault = stays_quiet source.faults source'.faults (λ e. never (sym (ap ends_serving e) ∙ is_served.formed)) gives.quiet;
+      bad_schedule = λ line bad e. absurd (never (sym (ap (ends_serving false) e) ∙ is_served.formed));
+      no_such_node = λ node e. absurd (never (sym (ap (ends_serving false) e) ∙ is_served.formed));
+      limit = λ number e. absurd (never (sym (ap (ends_serving false) e) ∙ is_served.formed));
+      read_fault = stays_quiet source.faults source'.faults (λ e. never (sym (ap (ends_serving false) e) ∙ is_served.formed)) gives.quiet;
       link_fault = is_served.link_fault;
       sure = λ sure e. (net, of_it, there, as_first link (is_served.sure sure e));
       undialled = λ e. absurd (not_over status e is_served.formed);
@@ -270,7 +271,7 @@ module _ (here : Endpoint) (source source' : SourceView) (net : Net) (gives : Gi
         never : false ≡ true → ⊥
         never e = true≢false (sym e)
 
-        may_end : (s : Status) → ends_serving s ≡ true → ends_attending s ≡ true
+        may_end : (s : Status) → ends_serving false s ≡ true → ends_attending s ≡ true
         may_end Done f = refl
         may_end Usage f = f
         may_end NoMemory f = refl
@@ -296,7 +297,7 @@ module _ (here : Endpoint) (source source' : SourceView) (net : Net) (gives : Gi
         may_end (BadTables line) f = f
         may_end (Inconsistent line bad) f = f
 
-        not_over : (s : Status) → ends_undialled s ≡ true → ends_serving s ≡ true → ⊥
+        not_over : (s : Status) → ends_undialled s ≡ true → ends_serving false s ≡ true → ⊥
         not_over Done e f = cc e
         not_over Usage e f = cc f
         not_over NoMemory e f = cc e
@@ -333,18 +334,18 @@ attended_plain here source source' link link' status no_read_fault sure attended
   complete = λ file bytes told known net is there frames ending comes. by_end net frames ending (attended.served file told net is there) (λ e. too_long file told net is e) (λ served. served.complete bytes known frames ending comes);
 }
   where
-    too_long : (file : List ℕ) → source.left ≡ Some file → (net : Net) → IsNetwork file net → status ≡ LinkFault → TooLongAnswers gao_rexford net here.id link
+    too_long : (file : List ℕ) → source.left ≡ Some file → (net : Net) → IsNetwork file net → status ≡ LinkFault → TooLongAnswers (afresh gao_rexford net here.id) link
     too_long file told net is e =
         let long = attended.sure sure e in
-        subst (λ n. TooLongAnswers gao_rexford n here.id link) (same_network file long.0 net (long.1 file told).file is.file) long.3
+        subst (λ n. TooLongAnswers (afresh gao_rexford n here.id) link) (same_network file long.0 net (long.1 file told).file is.file) long.3
 
-    by_end : (net : Net) (frames : List Frame) (ending : Ending) → Served gao_rexford net here.id (once_dialled link here.address) link' status ⊎ EndsBefore status link link'
-        → (status ≡ LinkFault → TooLongAnswers gao_rexford net here.id link)
-        → (Served gao_rexford net here.id (once_dialled link here.address) link' status → (status ≡ status_of (length (stream frames)) ending) ⊎ ((status ≡ NoMemory) ⊎ (status ≡ LinkFault)))
-        → (status ≡ status_of (length (stream frames)) ending) ⊎ ((status ≡ NoMemory) ⊎ TooLongAnswers gao_rexford net here.id link)
+    by_end : (net : Net) (frames : List Frame) (ending : Ending) → Served (afresh gao_rexford net here.id) (once_dialled link here.address) link' status ⊎ EndsBefore status link link'
+        → (status ≡ LinkFault → TooLongAnswers (afresh gao_rexford net here.id) link)
+        → (Served (afresh gao_rexford net here.id) (once_dialled link here.address) link' status → (status ≡ status_of (length (stream frames)) ending) ⊎ ((status ≡ NoMemory) ⊎ (status ≡ LinkFault)))
+        → (status ≡ status_of (length (stream frames)) ending) ⊎ ((status ≡ NoMemory) ⊎ TooLongAnswers (afresh gao_rexford net here.id) link)
     by_end net frames ending (inl served) long complete = by_complete (complete served)
       where
-        by_complete : (status ≡ status_of (length (stream frames)) ending) ⊎ ((status ≡ NoMemory) ⊎ (status ≡ LinkFault)) → (status ≡ status_of (length (stream frames)) ending) ⊎ ((status ≡ NoMemory) ⊎ TooLongAnswers gao_rexford net here.id link)
+        by_complete : (status ≡ status_of (length (stream frames)) ending) ⊎ ((status ≡ NoMemory) ⊎ (status ≡ LinkFault)) → (status ≡ status_of (length (stream frames)) ending) ⊎ ((status ≡ NoMemory) ⊎ TooLongAnswers (afresh gao_rexford net here.id) link)
         by_complete (inl e) = inl e
         by_complete (inr (inl e)) = inr (inl e)
         by_complete (inr (inr e)) = inr (inr (long e))

@@ -1,5 +1,5 @@
 -- A frame that is refused, and bytes that are none.
-use Rattle.std.proofs.Common.{ℕ, ◌≡◌, ◌≤◌, true, false, ◌==◌, Option, Some, None, List, [], ◌∷◌, ◌++◌, length, take, drop, Ok, Err, refl, sym, ap, ◌∙◌, subst, append_assoc, arith}
+use Rattle.std.proofs.Common.{ℕ, ◌≡◌, ◌≤◌, true, false, Option, Some, None, List, [], ◌∷◌, ◌++◌, length, take, drop, Ok, Err, refl, sym, ap, ◌∙◌, subst, append_assoc, arith}
 use Rattle.std.specs.Prelude.{nat_lt, if◌then◌else◌}
 use Rattle.std.specs.Int.{w32, from_be_bytes}
 use Rattle.std.proofs.lemmas.Bool.Decides.{nat_tests}
@@ -20,11 +20,10 @@ use Rattle.wire_frames.specs.Reading.{body_at, Found, Whole, Partial, Wrong, fou
 use Rattle.wire_frames.proofs.Found.{spelled_found}
 use Rattle.route_node.specs.declared.serving.Process.{Process}
 use Rattle.route_node.specs.Fronts.{Holds, RefusesAt}
-use Rattle.route_node.specs.Running.{Setting, Runs}
-use Rattle.route_node.specs.Served.{Served}
+use Rattle.route_node.specs.Running.{Setting, Runs, Ends, who_at}
 use Rattle.route_node.specs.Streams.{refusal, Refused, found_fault, EndsAt}
-use Rattle.route_node.proofs.Ending.{served_by_ending}
-use Rattle.route_node.proofs.Waiting.{told_as, answered_as, prompt_as, served_without_memory}
+use Rattle.route_node.proofs.Ending.{ends_by_ending}
+use Rattle.route_node.proofs.Waiting.{told_as, answered_as, prompt_as, ends_without_memory}
 
 -- ---- what is wrong stays wrong, whatever comes behind
 
@@ -78,17 +77,17 @@ wrong_stays (v ∷ bytes) more k e =
 
 module _ {P : Type 0} (rules : Rules) (at : Setting P) (frames : List Frame) (process : Process P) (old : LinkView) (runs : Runs rules at process old frames) where
   -- what is found in front of all that is left is refused for this
-  refused_by : (fault : FrameFault) → ((t : List ℕ) → EndsAt rules at.net at.node frames (process.received ++ t) (Refused fault)) → Served rules at.net at.node at.first old (BadFrame process.offset fault)
+  refused_by : (fault : FrameFault) → ((t : List ℕ) → EndsAt (who_at rules at) frames (process.received ++ t) (Refused fault)) → Ends (who_at rules at) at.first old frames (BadFrame process.offset fault)
   refused_by fault ends =
-      served_by_ending rules at.net at.node at.first old (BadFrame process.offset fault) frames runs.taken runs.same_room runs.same_dialled (prompt_as rules at frames process old old runs refl) (Refused fault) (ap (λ n. BadFrame n fault) runs.offset) refl
+      ends_by_ending (who_at rules at) at.first old (BadFrame process.offset fault) frames runs.taken runs.grow runs.same_room runs.same_dialled (prompt_as rules at frames process old old runs refl) (Refused fault) (ap (λ n. BadFrame n fault) runs.offset) refl
       (λ bytes told.
       let known = told_as rules at frames process old old runs bytes told in
       record { rest = process.received ++ known.0; in_front = known.2; taken = runs.taken; ends = ends known.0 })
       (answered_as rules at frames process old old runs refl runs.one_write_each) runs.quiet (λ e. absurd (cc e))
 
-  ends_with : (rest : List ℕ) (there : Found) (fault : FrameFault) → found rest ≡ there → (rest ≡ [] → ⊥) → found_fault rules at.net at.node frames there ≡ Some fault → EndsAt rules at.net at.node frames rest (Refused fault)
+  ends_with : (rest : List ℕ) (there : Found) (fault : FrameFault) → found rest ≡ there → (rest ≡ [] → ⊥) → found_fault (who_at rules at) frames there ≡ Some fault → EndsAt (who_at rules at) frames rest (Refused fault)
   ends_with [] there fault is some e = some refl
-  ends_with (b ∷ rest) there fault is some e = ap (found_fault rules at.net at.node frames) is ∙ e
+  ends_with (b ∷ rest) there fault is some e = ap (found_fault (who_at rules at) frames) is ∙ e
 
   nothing_wrong : (k : FrameKind) (rest : List ℕ) → found rest ≡ Wrong k → rest ≡ [] → ⊥
   unfolding found
@@ -96,8 +95,8 @@ module _ {P : Type 0} (rules : Rules) (at : Setting P) (frames : List Frame) (pr
   nothing_wrong k (b ∷ rest) e none = absurd (cc none)
 
   -- bytes that are no frame
-  pub served_wrong : (kind : FrameKind) → found process.received ≡ Wrong kind → Served rules at.net at.node at.first old (BadFrame process.offset (fault_of kind))
-  served_wrong kind e =
+  pub ends_wrong : (kind : FrameKind) → found process.received ≡ Wrong kind → Ends (who_at rules at) at.first old frames (BadFrame process.offset (fault_of kind))
+  ends_wrong kind e =
       refused_by (fault_of kind)
       (λ t. ends_with (process.received ++ t) (Wrong kind) (fault_of kind) (wrong_stays process.received t kind e) (nothing_wrong kind (process.received ++ t) (wrong_stays process.received t kind e)) refl)
 
@@ -106,24 +105,28 @@ module _ {P : Type 0} (rules : Rules) (at : Setting P) (frames : List Frame) (pr
   spell_some f rest e = absurd (cc e)
 
   -- a frame that is refused for itself
-  pub served_refused : (f : Frame) (n : ℕ) → Holds process.received f n → (status : Status) → RefusesAt process.offset (refusal rules at.net at.node frames f) status → Served rules at.net at.node at.first old status
-  served_refused f n holds NoMemory e = served_without_memory rules at frames process old old runs refl
-  served_refused f n holds (BadFrame offset fault) e =
-      subst (λ o. Served rules at.net at.node at.first old (BadFrame o fault)) (sym e.0)
+  pub ends_refused : (f : Frame) (n : ℕ) → Holds process.received f n → (status : Status) → RefusesAt process.offset (refusal (who_at rules at) frames f) status → Ends (who_at rules at) at.first old frames status
+  ends_refused f n holds NoMemory e = ends_without_memory rules at frames process old old runs refl
+  ends_refused f n holds (BadFrame offset fault) e =
+      subst (λ o. Ends (who_at rules at) at.first old frames (BadFrame o fault)) (sym e.0)
       (refused_by fault
       (λ t.
       let whole : process.received ++ t ≡ spell f ++ (drop n process.received ++ t) = ap (λ l. l ++ t) holds.splits ∙ append_assoc (spell f) (drop n process.received) t in
       ends_with (process.received ++ t) (Whole f (length (spell f))) fault (ap found whole ∙ spelled_found f (drop n process.received ++ t) holds.fit)
       (λ none. spell_some f (drop n process.received ++ t) (sym whole ∙ none)) e.1))
-  served_refused f n holds (Limit kind number) e = absurd e
-  served_refused f n holds Done e = absurd e
-  served_refused f n holds Usage e = absurd e
-  served_refused f n holds (BadSchedule line kind) e = absurd e
-  served_refused f n holds ReadFault e = absurd e
-  served_refused f n holds WriteFault e = absurd e
-  served_refused f n holds LinkFault e = absurd e
-  served_refused f n holds (NoSuchNode node) e = absurd e
-  served_refused f n holds DiskFault e = absurd e
-  served_refused f n holds (BadJournal offset fault) e = absurd e
-  served_refused f n holds (BadTables line) e = absurd e
-  served_refused f n holds (Inconsistent line kind) e = absurd e
+  ends_refused f n holds (Limit kind number) e = absurd e
+  ends_refused f n holds Done e = absurd e
+  ends_refused f n holds Usage e = absurd e
+  ends_refused f n holds (BadSchedule line kind) e = absurd e
+  ends_refused f n holds ReadFault e = absurd e
+  ends_refused f n holds WriteFault e = absurd e
+  ends_refused f n holds LinkFault e = absurd e
+  ends_refused f n holds (NoSuchNode node) e = absurd e
+  ends_refused f n holds DiskFault e = absurd e
+  ends_refused f n holds (BadJournal offset fault) e = absurd e
+  ends_refused f n holds (BadTables line) e = absurd e
+  ends_refused f n holds (Inconsistent line kind) e = absurd e
+
+  -- which is no fault of the disk
+  pub no_disk_fault : (f : Frame) (status : Status) → RefusesAt process.offset (refusal (who_at rules at) frames f) status → status ≡ DiskFault → ⊥
+  no_disk_fault f status e is = subst (RefusesAt process.offset (refusal (who_at rules at) frames f)) is e

@@ -1,5 +1,5 @@
 -- Lists of triggers and reports that a node hands out have a spelling, in version 1 or in version 2.
-use Rattle.std.proofs.Common.{ℕ, ◌+◌, ◌*◌, ◌≡◌, ◌≢◌, ◌≤◌, ◌<◌, ◌⊎◌, inl, inr, ⊎_elim, Bool, true, false, not, cond, ◌&&◌, ◌||◌, ◌==◌, Option, Some, None, List, [], ◌∷◌, map, length, refl, sym, ap, ◌∙◌, subst, arith}
+use Rattle.std.proofs.Common.{ℕ, ◌+◌, ◌≡◌, ◌≢◌, ◌≤◌, inl, inr, ⊎_elim, Bool, true, false, cond, ◌&&◌, ◌||◌, ◌==◌, Some, List, [], ◌∷◌, map, length, refl, ap, subst, arith}
 use Rattle.std.specs.Prelude.{nat_lt, nat_le}
 use Rattle.std.specs.Int.{is_in_range}
 use Rattle.std.specs.List.{list_all, AllByRecursion}
@@ -16,13 +16,12 @@ use Rattle.topology.specs.Triggers.{earlier, Ascend, put, union}
 use Rattle.topology.specs.Net.{Net, IsValid}
 use Rattle.topology.proofs.Tests.{and_left, and_right, and_both, same_is}
 use Rattle.topology.proofs.Unions.{of_union, union_ascends, union_none}
-use Rattle.incomplete_closure.specs.Reports.{Row, SessionRow, Report}
-use Rattle.incomplete_closure.specs.declared.reports.Report.{Report as TheReport}
+use Rattle.incomplete_closure.specs.Reports.{Row, Report}
 use Rattle.node_core.specs.ControlFits.{epoch_fits, in_order, leads, listed_fits, row_lists_fit, scope_fits, row_fits, items_of, rows_are_few, rows_fit, sooner, session_fits, sessions_ascend, sessions_fit, waiting_fits, waits_sooner, waiting_ascends, pending_fits, marks_of_row, marks_of_rows, report_marks, report_fits}
-use Rattle.node_core.specs.Counted.{item_marks, row_marks, total}
+use Rattle.node_core.specs.Counted.{item_marks, row_marks}
 use Rattle.node_core.specs.Names.{is_number, list_fits, trigger_fits, triggers_fit}
 use Rattle.wire_frames.specs.Formats.{many_fit, listed, reached}
-use Rattle.wire_frames.specs.Fields.{node, prefix, positive, epoch, many, trigger, scope, first_of, is_one, is_alone, one_trigger, no_trigger, rising_triggers, more_items, sent, items, row, rows, above, session_rows, report}
+use Rattle.wire_frames.specs.Fields.{node, prefix, positive, epoch, many, trigger, scope, is_one, is_alone, one_trigger, no_trigger, rising_triggers, more_items, sent, items, row, rows, above, session_rows, report}
 use Rattle.wire_frames.specs.Listing as listing
 use Rattle.wire_frames.specs.Listing.{more_triggers, triggers, only_of, has_alone, is_plain_row, is_plain, RowSoFar, begun, item, behind_item, listed_items, RowsSoFar, no_rows, scope_beside, listed_row, with_row, listed_rows, PendingSoFar, nothing_pending, pending_row, behind_pending, pending_rows, any_report, listed_report}
 use Rattle.route_node.specs.Frames.{list_told, item_told, row_told, session_told, pending_told, report_told}

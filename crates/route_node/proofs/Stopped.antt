@@ -12,6 +12,7 @@ use Rattle.node_core.specs.declared.outputs.Stop.{Stop}
 use Rattle.node_core.specs.declared.outputs.Stop.TheVariants as stop
 use Rattle.route_node.specs.declared.limits.TheConstants.{MAX_FRAMES}
 use Rattle.route_node.specs.Fronts.{EndsFrame, StopsFrame}
+use Rattle.route_node.specs.Records.{EndsHeard, StopsRecord}
 use Rattle.route_node.specs.Streams.{out_of_turn}
 
 -- what takes a count above its number is in turn
@@ -31,3 +32,10 @@ ends_stopped rules net u offset frames step (stop.Limit kind number) status is s
   where
     turn : out_of_turn step ≡ None
     turn = in_turn rules net u step (record { kind = kind; number = number }) stops
+
+-- the same of what a record brings
+pub ends_heard : (rules : Rules) (net : Net) (u offset : ℕ) (step : Step) (s : Stop) (status : Status) → StopsRecord s status → StopsAt (node_limit rules net u step) s
+    → EndsHeard offset (out_of_turn step) (node_limit rules net u step) status
+ends_heard rules net u offset step stop.NoMemory status is stops = subst (EndsHeard offset (out_of_turn step) (node_limit rules net u step)) (sym is) tt
+ends_heard rules net u offset step (stop.Limit kind number) status is stops =
+    subst (EndsHeard offset (out_of_turn step) (node_limit rules net u step)) (sym is) (in_turn rules net u step (record { kind = kind; number = number }) stops, stops)

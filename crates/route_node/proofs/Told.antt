@@ -1,16 +1,15 @@
 -- The frames that tell what a node hands out have a spelling.
-use Rattle.std.proofs.Common.{ℕ, ◌+◌, ◌*◌, ◌≡◌, ◌≤◌, Bool, true, false, ◌&&◌, ◌==◌, Option, Some, None, List, [], ◌∷◌, map, length, refl, sym, ap, ◌∙◌, subst, arith}
+use Rattle.std.proofs.Common.{ℕ, ◌+◌, ◌*◌, ◌≡◌, ◌≤◌, Bool, true, false, ◌&&◌, ◌==◌, Option, Some, None, List, [], ◌∷◌, map, length, take, drop, refl, sym, ap, ◌∙◌, subst, arith}
 use Rattle.std.specs.Prelude.{nat_le, nat_lt, option_map, filter_map}
 use Rattle.std.specs.List.{list_all, flat_map, cons_option}
 use Rattle.std.proofs.lemmas.Bool.Decides.{nat_tests}
-use Rattle.std.proofs.lemmas.List.{length-map, length-append}
+use Rattle.std.proofs.lemmas.List.{length-append, take-append-drop}
 use Rattle.topology.specs.declared.names.Trigger.{Trigger}
 use Rattle.topology.specs.declared.items.Sent.{Sent}
 use Rattle.topology.specs.declared.items.Pending.{Pending}
 use Rattle.topology.specs.Lists.{has}
 use Rattle.topology.specs.Net.{Net, IsValid, neighbours}
 use Rattle.topology.proofs.Tests.{and_left, and_right, and_both, same_is}
-use Rattle.path_vector.specs.Rules.{Rules}
 use Rattle.trigger_log.specs.Entries.{Update}
 use Rattle.trigger_log.specs.Going.{Item, News, Marker, Hello}
 use Rattle.incomplete_closure.specs.Reports.{Row, SessionRow, Report}
@@ -27,21 +26,22 @@ use Rattle.node_core.specs.Counted.{item_marks, row_marks}
 use Rattle.node_core.specs.PacketFits.{packet_fits}
 use Rattle.node_core.specs.Outputs.{Output, Logged, Cut, Send, Mail, Published, Forward, Ended, outputs}
 use Rattle.admission_laws.specs.Handing.{is_short, table_fits, output_fits}
-use Rattle.admission_laws.proofs.Handed.{all_fit}
 use Rattle.admission_laws.proofs.Sessions.{neighbour_is}
 use Rattle.wire_frames.specs.declared.frames.Frame.{Frame}
 use Rattle.wire_frames.specs.declared.frames.Frame.TheVariants as frame
-use Rattle.wire_frames.specs.Fields.{node, prefix, positive, epoch, epoch_or_none, trigger, ballot, path, paths, value, named, packet, any32, end, items, row, session_row, report}
-use Rattle.wire_frames.specs.Listing.{triggers_fit, is_plain, item, listed_row, no_rows, pending_row, nothing_pending, listed_report, spelled_report}
+use Rattle.wire_frames.specs.Fields.{node, prefix, positive, epoch, epoch_or_none, trigger, ballot, path, paths, value, named, packet, any32, end, items, row, session_row}
+use Rattle.wire_frames.specs.Listing.{triggers_fit, is_plain, item, listed_row, no_rows, pending_row, nothing_pending, spelled_report}
 use Rattle.wire_frames.specs.Listing.{report_fits as listing_fits}
 use Rattle.wire_frames.specs.Frames.{limit_of, tag_of, fields_fit, body}
 use Rattle.wire_frames.specs.Frames.{fits as has_spelling}
 use Rattle.wire_frames.proofs.Short.{short_unless_report, trigger_wide, item_wide, row_wide, listed_item_wide, listed_row_wide, pending_wide, session_open, session_down, plain_wide, listed_wide, report_body, report_limit}
 use Rattle.route_node.specs.Frames.{first_of, list_told, item_told, row_told, session_told, pending_told, report_told, item_frame, ballot_frame, mail_frame, telling}
-use Rattle.route_node.specs.Streams.{inputs, run_over, replies, AreTaken}
+use Rattle.route_node.specs.Running.{AreBegun}
+use Rattle.route_node.specs.Streams.{replies, AreTaken}
+use Rattle.route_node.specs.Who.{Who, inputs, begun_by, run_over}
 use Rattle.route_node.proofs.Spellable.{at_most, node_fits, positive_fits, prefix_fits, epoch_as, epoch_or_none_as, any32_fits, ballot_as, path_as, paths_as, value_as, named_as, packet_as}
 use Rattle.route_node.proofs.Reporting.{told_short, Parts, parts_of, update_list_as, report_as}
-use Rattle.route_node.proofs.Taking.{all_admitted}
+use Rattle.route_node.proofs.Taking.{all_right, all_admitted, fits_since}
 
 -- ---- how long a report is
 
@@ -240,6 +240,12 @@ module _ (net : Net) (valid : IsValid net) where
           (telling_fits u o f (λ w near. neighbour_is net u w valid near) (and_left (output_fits net u o) (list_all (output_fits net u) os) fit) is) rest
 
 -- the replies to frames that were taken
-pub replies_spelled : (rules : Rules) (net : Net) (u : ℕ) (frames : List Frame) → IsValid net → has net.nodes u ≡ true → AreTaken rules net u frames → list_all has_spelling (replies rules net u frames) ≡ true
-replies_spelled rules net u frames valid here taken =
-    each_told net valid u (outputs (run_over rules net u frames)) (all_fit rules net u (inputs frames) valid here (all_admitted rules net u frames taken))
+pub replies_spelled : (who : Who) (frames : List Frame) → IsValid who.net → has who.net.nodes who.node ≡ true → AreBegun who.rules who.net who.node who.records → AreTaken who frames
+    → list_all has_spelling (replies who frames) ≡ true
+replies_spelled who frames valid here restored taken =
+    let all = outputs (run_over who frames) in
+    let count = length (outputs (begun_by who)) in
+    each_told who.net valid who.node (drop count all)
+    (all_right (output_fits who.net who.node) (take count all) (drop count all)
+    (ap (list_all (output_fits who.net who.node)) (take-append-drop count all)
+    ∙ fits_since who.rules who.net who.node who.records valid here restored (inputs frames) (all_admitted who frames taken)))

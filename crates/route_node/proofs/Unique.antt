@@ -2,14 +2,13 @@
 use Rattle.std.proofs.Common.{ℕ, ◌≡◌, true, Some, None, List, [], ◌∷◌, ◌++◌, length, refl, sym, ap, ◌∙◌, subst, append_assoc, inl, inr, ◌⊎◌}
 use Rattle.std.proofs.lemmas.List.{append-nil, append_cancel_left}
 use Rattle.topology.specs.declared.frame_faults.FrameFault.{FrameFault}
-use Rattle.topology.specs.Net.{Net}
-use Rattle.path_vector.specs.Rules.{Rules}
 use Rattle.node_core.specs.NodeLimits.{Reached}
 use Rattle.wire_frames.specs.declared.frames.Frame.{Frame}
 use Rattle.wire_frames.specs.Frames.{spell}
 use Rattle.wire_frames.specs.Frames.{fits as has_spelling}
 use Rattle.wire_frames.specs.Reading.{Found, Whole, Partial, Wrong, found}
 use Rattle.wire_frames.proofs.Found.{spelled_found}
+use Rattle.route_node.specs.Who.{Who}
 use Rattle.route_node.specs.Streams.{stream, refusal, frame_limit, AreTaken, Ending, End, Refused, Stopped, found_fault, StopsAt, EndsAt, Comes}
 
 -- ---- streams
@@ -43,7 +42,7 @@ frame_in other (Whole f n) = f
 frame_in other Partial = other
 frame_in other (Wrong wrong) = other
 
-same_frame : (f x : Frame) (rest more : List ℕ) → has_spelling f ≡ true → has_spelling x ≡ true → spell f ++ rest ≡ spell x ++ more → f ≡ x
+pub same_frame : (f x : Frame) (rest more : List ℕ) → has_spelling f ≡ true → has_spelling x ≡ true → spell f ++ rest ≡ spell x ++ more → f ≡ x
 same_frame f x rest more fit fits same = ap (frame_in f) (sym (in_front f rest fit) ∙ (ap found same ∙ in_front x more fits))
 
 -- all have a spelling
@@ -57,7 +56,7 @@ pub record Longer (frames others : List Frame) (rest left : List ℕ) : Type 0 w
   pub others_are : others ≡ more ++ frames
   pub rest_is : rest ≡ stream more ++ left
 
-spelled_oldest : (newer : List Frame) (x : Frame) (frames : List Frame) → AllSpelled ((newer ++ x ∷ []) ++ frames) → has_spelling x ≡ true
+pub spelled_oldest : (newer : List Frame) (x : Frame) (frames : List Frame) → AllSpelled ((newer ++ x ∷ []) ++ frames) → has_spelling x ≡ true
 spelled_oldest [] x frames all = all.0
 spelled_oldest (f ∷ newer) x frames all = spelled_oldest newer x frames all.1
 
@@ -100,27 +99,27 @@ compare (f ∷ frames) others rest left all alls same =
 
 -- ---- how a stream ends
 
-module _ (rules : Rules) (net : Net) (u : ℕ) where
-  pub all_spelled : (frames : List Frame) → AreTaken rules net u frames → AllSpelled frames
+module _ (who : Who) where
+  pub all_spelled : (frames : List Frame) → AreTaken who frames → AllSpelled frames
   all_spelled [] taken = tt
   all_spelled (f ∷ frames) (fit, not_refused, not_stopped, taken) = (fit, all_spelled frames taken)
 
   -- the oldest of the frames behind was taken behind those before it
-  pub taken_oldest : (newer : List Frame) (x : Frame) (frames : List Frame) → AreTaken rules net u ((newer ++ x ∷ []) ++ frames) → AreTaken rules net u (x ∷ frames)
+  pub taken_oldest : (newer : List Frame) (x : Frame) (frames : List Frame) → AreTaken who ((newer ++ x ∷ []) ++ frames) → AreTaken who (x ∷ frames)
   taken_oldest [] x frames taken = taken
   taken_oldest (f ∷ newer) x frames (fit, not_refused, not_stopped, taken) = taken_oldest newer x frames taken
 
-  fault_of_found : (frames : List Frame) (x : Frame) (n : ℕ) (there : Found) (fault : FrameFault) → there ≡ Whole x n → refusal rules net u frames x ≡ None → found_fault rules net u frames there ≡ Some fault → ⊥
+  fault_of_found : (frames : List Frame) (x : Frame) (n : ℕ) (there : Found) (fault : FrameFault) → there ≡ Whole x n → refusal who frames x ≡ None → found_fault who frames there ≡ Some fault → ⊥
   fault_of_found frames x n there fault is none some =
-      let e : found_fault rules net u frames there ≡ refusal rules net u frames x = ap (found_fault rules net u frames) is in absurd (cc (e, none, some))
+      let e : found_fault who frames there ≡ refusal who frames x = ap (found_fault who frames) is in absurd (cc (e, none, some))
 
-  stop_of_found : (frames : List Frame) (x : Frame) (n : ℕ) (there : Found) (reached : Reached) → there ≡ Whole x n → frame_limit rules net u frames x ≡ None → StopsAt rules net u frames reached there → ⊥
+  stop_of_found : (frames : List Frame) (x : Frame) (n : ℕ) (there : Found) (reached : Reached) → there ≡ Whole x n → frame_limit who frames x ≡ None → StopsAt who frames reached there → ⊥
   stop_of_found frames x n there reached is none stops =
-      let here : StopsAt rules net u frames reached (Whole x n) = subst (StopsAt rules net u frames reached) is stops in
+      let here : StopsAt who frames reached (Whole x n) = subst (StopsAt who frames reached) is stops in
       let some = here.1 in absurd (cc (none, some))
 
   -- where a frame that is taken stands in front, no stream ends
-  no_end : (frames : List Frame) (x : Frame) (rest : List ℕ) (ending : Ending) → AreTaken rules net u (x ∷ frames) → EndsAt rules net u frames (spell x ++ rest) ending → ⊥
+  no_end : (frames : List Frame) (x : Frame) (rest : List ℕ) (ending : Ending) → AreTaken who (x ∷ frames) → EndsAt who frames (spell x ++ rest) ending → ⊥
   unfolding spell
   no_end frames x rest End taken ends = absurd (cc ends)
   no_end frames x rest (Refused fault) (fit, none, limit, taken) ends =
@@ -129,21 +128,21 @@ module _ (rules : Rules) (net : Net) (u : ℕ) where
       stop_of_found frames x (length (spell x)) (found (spell x ++ rest)) reached (in_front x rest fit) limit ends
 
   -- behind the same frames it ends in one way
-  refused_or_stopped : (frames : List Frame) (fault : FrameFault) (reached : Reached) (there : Found) → found_fault rules net u frames there ≡ Some fault → StopsAt rules net u frames reached there → ⊥
+  refused_or_stopped : (frames : List Frame) (fault : FrameFault) (reached : Reached) (there : Found) → found_fault who frames there ≡ Some fault → StopsAt who frames reached there → ⊥
   refused_or_stopped frames fault reached (Whole x n) some stops = let none = stops.0 in absurd (cc (none, some))
   refused_or_stopped frames fault reached Partial some stops = stops
   refused_or_stopped frames fault reached (Wrong wrong) some stops = stops
 
-  one_stop : (frames : List Frame) (a b : Reached) (there : Found) → StopsAt rules net u frames a there → StopsAt rules net u frames b there → a ≡ b
+  one_stop : (frames : List Frame) (a b : Reached) (there : Found) → StopsAt who frames a there → StopsAt who frames b there → a ≡ b
   one_stop frames a b (Whole x n) first second = let one = first.1 in let two = second.1 in cc (one, two)
   one_stop frames a b Partial first second = absurd first
   one_stop frames a b (Wrong wrong) first second = absurd first
 
-  no_stop_at_end : (frames : List Frame) (reached : Reached) → StopsAt rules net u frames reached (found []) → ⊥
+  no_stop_at_end : (frames : List Frame) (reached : Reached) → StopsAt who frames reached (found []) → ⊥
   unfolding found
   no_stop_at_end frames reached stops = stops
 
-  one_ending : (frames : List Frame) (rest : List ℕ) (a b : Ending) → EndsAt rules net u frames rest a → EndsAt rules net u frames rest b → a ≡ b
+  one_ending : (frames : List Frame) (rest : List ℕ) (a b : Ending) → EndsAt who frames rest a → EndsAt who frames rest b → a ≡ b
   one_ending frames [] End End first second = refl
   one_ending frames [] End (Refused g) first second = absurd second
   one_ending frames [] End (Stopped r) first second = absurd (no_stop_at_end frames r second)
@@ -158,25 +157,25 @@ module _ (rules : Rules) (net : Net) (u : ℕ) where
   one_ending frames (c ∷ rest) (Stopped r) (Stopped q) first second = ap Stopped (one_stop frames r q (found (c ∷ rest)) first second)
 
   -- the longer reading is not longer
-  not_longer : (frames others : List Frame) (rest left : List ℕ) (ending : Ending) → AreTaken rules net u others → EndsAt rules net u frames rest ending → Longer frames others rest left
+  not_longer : (frames others : List Frame) (rest left : List ℕ) (ending : Ending) → AreTaken who others → EndsAt who frames rest ending → Longer frames others rest left
       → (others ≡ frames) × (left ≡ rest)
   not_longer frames others rest left ending taken ends longer = go (oldest longer.more)
     where
       go : (longer.more ≡ []) ⊎ ((x : Frame) × (newer : List Frame) × (longer.more ≡ newer ++ x ∷ [])) → (others ≡ frames) × (left ≡ rest)
       go (inl none) = (longer.others_are ∙ ap (λ (l : List Frame). l ++ frames) none, sym (longer.rest_is ∙ ap (λ (l : List Frame). stream l ++ left) none))
       go (inr (x, newer, is)) =
-          let next : AreTaken rules net u (x ∷ frames) = taken_oldest newer x frames (subst (AreTaken rules net u) (longer.others_are ∙ ap (λ (l : List Frame). l ++ frames) is) taken) in
+          let next : AreTaken who (x ∷ frames) = taken_oldest newer x frames (subst (AreTaken who) (longer.others_are ∙ ap (λ (l : List Frame). l ++ frames) is) taken) in
           let whole : rest ≡ spell x ++ (stream newer ++ left) = longer.rest_is ∙ (ap (λ (t : List ℕ). t ++ left) (ap stream is ∙ from_oldest newer x) ∙ append_assoc (spell x) (stream newer) left) in
-          absurd (no_end frames x (stream newer ++ left) ending next (subst (λ t. EndsAt rules net u frames t ending) whole ends))
+          absurd (no_end frames x (stream newer ++ left) ending next (subst (λ t. EndsAt who frames t ending) whole ends))
 
   -- bytes come to one thing
-  pub come_once : (bytes : List ℕ) (frames others : List Frame) (a b : Ending) → Comes rules net u bytes frames a → Comes rules net u bytes others b → (frames ≡ others) × (a ≡ b)
+  pub come_once : (bytes : List ℕ) (frames others : List Frame) (a b : Ending) → Comes who bytes frames a → Comes who bytes others b → (frames ≡ others) × (a ≡ b)
   come_once bytes frames others a b first second =
       go (compare frames others first.rest second.rest (all_spelled frames first.taken) (all_spelled others second.taken) (sym first.in_front ∙ second.in_front))
     where
       finish : others ≡ frames → second.rest ≡ first.rest → (frames ≡ others) × (a ≡ b)
       finish same left =
-          (sym same, one_ending frames first.rest a b first.ends (subst (λ t. EndsAt rules net u frames t b) left (subst (λ l. EndsAt rules net u l second.rest b) same second.ends)))
+          (sym same, one_ending frames first.rest a b first.ends (subst (λ t. EndsAt who frames t b) left (subst (λ l. EndsAt who l second.rest b) same second.ends)))
 
       go : Longer frames others first.rest second.rest ⊎ Longer others frames second.rest first.rest → (frames ≡ others) × (a ≡ b)
       go (inl longer) = let both = not_longer frames others first.rest second.rest a second.taken first.ends longer in finish both.0 both.1

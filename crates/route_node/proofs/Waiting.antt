@@ -1,5 +1,5 @@
 -- A process that waits for more bytes.
-use Rattle.std.proofs.Common.{ℕ, ◌≡◌, ◌<◌, ◌≤◌, true, false, Option, Some, None, List, [], ◌∷◌, ◌++◌, length, take, drop, ◌==◌, Result, Ok, Err, refl, sym, ap, ◌∙◌, subst, inl, inr, arith}
+use Rattle.std.proofs.Common.{ℕ, ◌≡◌, ◌<◌, ◌≤◌, true, false, Option, Some, None, List, [], ◌∷◌, ◌++◌, length, take, drop, Result, Ok, Err, refl, sym, ap, ◌∙◌, subst, arith}
 use Rattle.std.specs.Prelude.{nat_lt, IfSome, OnOk, ◌↔◌, if◌then◌else◌}
 use Rattle.std.specs.Int.{w32, from_be_bytes}
 use Rattle.std.specs.Io.KnownBytes.{Appends, IsAtEnd, prepend_known}
@@ -14,6 +14,8 @@ use Rattle.wire_frames.specs.Frames.{tag_in, limit_of}
 use Rattle.wire_frames.specs.Reading.{body_at, Found, Partial, Wrong, found_by, sized, behind_kind, of_kind, behind_version, is_version, found}
 use Rattle.wire_frames.proofs.Found.{limit_small}
 use Rattle.topology.specs.declared.frame_faults.FrameFault.TheVariants.{Truncated}
+use Rattle.topology.specs.Lists.{Begins}
+use Rattle.topology.specs.declared.status.Status.{Status}
 use Rattle.topology.specs.declared.status.Status.TheVariants.{Done, NoMemory, LinkFault, BadFrame}
 use Rattle.route_io.specs.Causes.{RoseIf, Rose, StaysTold}
 use Rattle.route_io.specs.Links.{ahead, GrowsWithin, IsSure, OnlyReads}
@@ -27,10 +29,10 @@ use Rattle.path_vector.specs.Rules.{Rules}
 use Rattle.route_node.specs.declared.serving.Process.{Process}
 use Rattle.route_node.specs.Prompt.{IsPrompt}
 use Rattle.route_node.specs.Writing.{spelled, OneWriteEach}
-use Rattle.route_node.specs.Streams.{stream, replies, End, Refused, found_fault, EndsAt}
-use Rattle.route_node.specs.Running.{Setting, Runs, GoesOn, IsWithin, left_of}
-use Rattle.route_node.specs.Served.{Answered, WroteFront, Served}
-use Rattle.route_node.proofs.Ending.{served_by_ending, served_by_break}
+use Rattle.route_node.specs.Streams.{stream, replies, answers, End, Refused, found_fault, EndsAt}
+use Rattle.route_node.specs.Running.{Setting, Runs, GoesOn, IsWithin, Ends, left_of, who_at}
+use Rattle.route_node.specs.Served.{Answered, BreaksOff}
+use Rattle.route_node.proofs.Ending.{behind_all, by_link, by_memory, ends_by_break, ends_by_ending}
 use Rattle.route_node.proofs.InTime.{told_once, one_write_read, prompt_wait, keeps_read}
 use Rattle.route_node.proofs.Told.{replies_spelled}
 
@@ -91,69 +93,69 @@ module _ {P : Type 0} (rules : Rules) (at : Setting P) (frames : List Frame) (pr
           let some : Some (stream frames ++ (process.received ++ t)) ≡ Some bytes = ap (λ k. prepend_known (stream frames) (prepend_known process.received k)) (sym is) ∙ e in
           (t, is, cc some)
 
-  -- nothing was written since
-  pub front_as : new.outgoing ≡ old.outgoing → (bytes : List ℕ) → at.first.incoming ≡ Some bytes → WroteFront rules at.net at.node bytes at.first new
-  front_as same bytes told =
-      let known = told_as bytes told in
-      record {
-        frames = frames;
-        rest = process.received ++ known.0;
-        in_front = known.2;
-        taken = runs.taken;
-        spelled = replies_spelled rules at.net at.node frames runs.valid runs.is_node runs.taken;
-        some = spelled (replies rules at.net at.node frames);
-        begins = ([], append-nil (spelled (replies rules at.net at.node frames)));
-        wrote = subst (λ o. Appends at.first.outgoing o (spelled (replies rules at.net at.node frames))) (sym same) runs.wrote;
-      }
+  -- the frames that were taken stand in front
+  pub front_as : (bytes : List ℕ) → at.first.incoming ≡ Some bytes → Begins (stream frames) bytes
+  front_as bytes told = let known = told_as bytes told in (process.received ++ known.0, sym known.2)
 
-  pub answered_as : new.outgoing ≡ old.outgoing → OneWriteEach (replies rules at.net at.node frames) at.first new → Answered rules at.net at.node frames at.first new
+  -- nothing was written since: it broke off with all answers written
+  pub ends_unwritten : (status : Status) → new.outgoing ≡ old.outgoing → new.room ≡ old.room → new.dialled ≡ old.dialled
+      → ((before : List Act) → at.first.acts ≡ Some before → (since : List Act) × (new.acts ≡ Some (since ++ before)) × IsPrompt (who_at rules at) since)
+      → BreaksOff at.records status → RoseIf (status ≡ LinkFault) at.first.faults new.faults → (IsSure at.first → status ≡ LinkFault → ⊥) → Ends (who_at rules at) at.first new frames status
+  ends_unwritten status same room dialled prompt why rose sure =
+      ends_by_break (who_at rules at) at.first new status frames runs.taken runs.grow (room ∙ runs.same_room) (dialled ∙ runs.same_dialled) prompt why rose (λ is e. absurd (sure is e)) front_as
+      (replies_spelled (who_at rules at) frames runs.valid runs.is_node runs.restored runs.taken) (answers (who_at rules at) frames)
+      (subst (λ o. Appends at.first.outgoing o (answers (who_at rules at) frames)) (sym same) runs.wrote) ([], append-nil (answers (who_at rules at) frames))
+      (behind_all (who_at rules at) at.first new status frames runs.taken runs.grow (room ∙ runs.same_room) (dialled ∙ runs.same_dialled) prompt)
+
+  pub answered_as : new.outgoing ≡ old.outgoing → OneWriteEach (replies (who_at rules at) frames) at.first new → Answered (who_at rules at) frames at.first new
   answered_as same each = record {
-    spelled = replies_spelled rules at.net at.node frames runs.valid runs.is_node runs.taken;
-    wrote = subst (λ o. Appends at.first.outgoing o (spelled (replies rules at.net at.node frames))) (sym same) runs.wrote;
+    spelled = replies_spelled (who_at rules at) frames runs.valid runs.is_node runs.restored runs.taken;
+    wrote = subst (λ o. Appends at.first.outgoing o (spelled (replies (who_at rules at) frames))) (sym same) runs.wrote;
     one_write_each = each;
   }
 
   -- no act was made since
-  pub prompt_as : new.acts ≡ old.acts → (before : List Act) → at.first.acts ≡ Some before → (since : List Act) × (new.acts ≡ Some (since ++ before)) × IsPrompt rules at.net at.node since
+  pub prompt_as : new.acts ≡ old.acts → (before : List Act) → at.first.acts ≡ Some before → (since : List Act) × (new.acts ≡ Some (since ++ before)) × IsPrompt (who_at rules at) since
   prompt_as same before told = let known = runs.acts before told in (known.0, same ∙ known.1, known.2.prompt)
 
   -- one read was, where only the front of a frame was left
   pub prompt_read : found process.received ≡ Partial → (brought : Option (List ℕ)) → ActsOnce old new (Read brought) → (before : List Act) → at.first.acts ≡ Some before
-      → (since : List Act) × (new.acts ≡ Some (since ++ before)) × IsPrompt rules at.net at.node since
+      → (since : List Act) × (new.acts ≡ Some (since ++ before)) × IsPrompt (who_at rules at) since
   prompt_read partial brought once before told =
       let known = runs.acts before told in (
         Read brought ∷ known.0,
         told_once old.acts new.acts (Read brought) (known.0 ++ before) once known.1,
-        prompt_wait rules at.net at.node frames process.received known.0 known.2 brought runs.grow runs.taken partial,
+        prompt_wait (who_at rules at) frames process.received known.0 known.2 brought runs.grow runs.taken partial,
       )
 
   pub goes_on : IsWithin process → found process.received ≡ Partial → (received : List ℕ) → ahead received new ≡ ahead process.received old → GrowsWithin PORTION process.received received → length process.received < length received
-      → ReadsMore process.received received old new → OnlyReads old new → new.faults ≡ old.faults → GoesOn rules at (record process { received = received }) new (left_of process)
+      → ReadsMore process.received received old new → OnlyReads old new → new.faults ≡ old.faults → GoesOn rules at (record process { received = received }) new frames (left_of process)
   goes_on within partial received same grows longer reads others quiet =
       let short = partial_short process.received partial in
       let small = grows.2 in
       let size = ap (λ (l : List ℕ). length l) grows.1 ∙ length-append process.received grows.0 in
       record {
-        frames = frames;
         runs = record {
           valid = runs.valid;
           is_node = runs.is_node;
           same_net = runs.same_net;
           same_id = runs.same_id;
+          restored = runs.restored;
           stands = runs.stands;
           taken = runs.taken;
           count = runs.count;
           offset = runs.offset;
           bytes = ap (prepend_known (stream frames)) same ∙ runs.bytes;
-          wrote = subst (λ o. Appends at.first.outgoing o (spelled (replies rules at.net at.node frames))) (sym (ap (λ (l : LinkView). l.outgoing) others)) runs.wrote;
+          wrote = subst (λ o. Appends at.first.outgoing o (spelled (replies (who_at rules at) frames))) (sym (ap (λ (l : LinkView). l.outgoing) others)) runs.wrote;
           told = subst (λ o. StaysTold at.first.outgoing o) (sym (ap (λ (l : LinkView). l.outgoing) others)) runs.told;
-          one_write_each = one_write_read at.first old new (replies rules at.net at.node frames) (Some reads.0) runs.one_write_each reads.2;
+          one_write_each = one_write_read at.first old new (replies (who_at rules at) frames) (Some reads.0) runs.one_write_each reads.2;
           grow = runs.grow;
+          since = runs.since;
           acts = λ before told.
               let known = runs.acts before told in (
                 Read (Some reads.0) ∷ known.0,
                 told_once old.acts new.acts (Read (Some reads.0)) (known.0 ++ before) reads.2 known.1,
-                keeps_read rules at.net at.node frames process.received known.0 known.2 reads.0 received reads.1 runs.grow runs.taken partial,
+                keeps_read (who_at rules at) frames process.received known.0 known.2 reads.0 received reads.1 runs.grow runs.taken partial,
               );
           same_room = ap (λ (l : LinkView). l.room) others ∙ runs.same_room;
           same_dialled = ap (λ (l : LinkView). l.dialled) others ∙ runs.same_dialled;
@@ -196,10 +198,10 @@ module _ {P : Type 0} (rules : Rules) (at : Setting P) (frames : List Frame) (pr
             subst IsAtEnd (sym e) none
 
     -- the end of the link between two frames
-    pub served_at_end : IfSome old.incoming (λ t. OnOk r ((r ≡ Ok filled.End) ↔ (t ≡ []))) → ahead received new ≡ ahead process.received old → received ≡ [] → found process.received ≡ Partial → ReadsMore process.received received old new → OnlyReads old new → new.faults ≡ old.faults
-        → Served rules at.net at.node at.first new Done
-    served_at_end end same empty partial reads others quiet =
-        served_by_ending rules at.net at.node at.first new Done frames runs.taken (ap (λ (l : LinkView). l.room) others ∙ runs.same_room) (ap (λ (l : LinkView). l.dialled) others ∙ runs.same_dialled) (prompt_read partial (Some reads.0) reads.2) End refl refl
+    pub ends_at_end : IfSome old.incoming (λ t. OnOk r ((r ≡ Ok filled.End) ↔ (t ≡ []))) → ahead received new ≡ ahead process.received old → received ≡ [] → found process.received ≡ Partial → ReadsMore process.received received old new → OnlyReads old new → new.faults ≡ old.faults
+        → Ends (who_at rules at) at.first new frames Done
+    ends_at_end end same empty partial reads others quiet =
+        ends_by_ending (who_at rules at) at.first new Done frames runs.taken runs.grow (ap (λ (l : LinkView). l.room) others ∙ runs.same_room) (ap (λ (l : LinkView). l.dialled) others ∙ runs.same_dialled) (prompt_read partial (Some reads.0) reads.2) End refl refl
         (λ bytes told.
         let known = told_as bytes told in
         record {
@@ -208,17 +210,17 @@ module _ {P : Type 0} (rules : Rules) (at : Setting P) (frames : List Frame) (pr
           taken = runs.taken;
           ends = refl;
         })
-        (answered_as (ap (λ (l : LinkView). l.outgoing) others) (one_write_read at.first old new (replies rules at.net at.node frames) (Some reads.0) runs.one_write_each reads.2)) (quiet ∙ runs.quiet) (λ _. at_end end same empty)
+        (answered_as (ap (λ (l : LinkView). l.outgoing) others) (one_write_read at.first old new (replies (who_at rules at) frames) (Some reads.0) runs.one_write_each reads.2)) (quiet ∙ runs.quiet) (λ _. at_end end same empty)
 
-    truncated : (rest : List ℕ) → found rest ≡ Partial → (rest ≡ [] → ⊥) → EndsAt rules at.net at.node frames rest (Refused Truncated)
+    truncated : (rest : List ℕ) → found rest ≡ Partial → (rest ≡ [] → ⊥) → EndsAt (who_at rules at) frames rest (Refused Truncated)
     truncated [] partial some = some refl
-    truncated (b ∷ rest) partial some = ap (found_fault rules at.net at.node frames) partial
+    truncated (b ∷ rest) partial some = ap (found_fault (who_at rules at) frames) partial
 
     -- the end of the link within a frame
-    pub served_within : IfSome old.incoming (λ t. OnOk r ((r ≡ Ok filled.End) ↔ (t ≡ []))) → found process.received ≡ Partial → (received ≡ [] → ⊥) → ReadsMore process.received received old new → OnlyReads old new → new.faults ≡ old.faults
-        → Served rules at.net at.node at.first new (BadFrame process.offset Truncated)
-    served_within end partial some reads others quiet =
-        served_by_ending rules at.net at.node at.first new (BadFrame process.offset Truncated) frames runs.taken (ap (λ (l : LinkView). l.room) others ∙ runs.same_room) (ap (λ (l : LinkView). l.dialled) others ∙ runs.same_dialled) (prompt_read partial (Some reads.0) reads.2) (Refused Truncated) (ap (λ n. BadFrame n Truncated) runs.offset) refl
+    pub ends_within : IfSome old.incoming (λ t. OnOk r ((r ≡ Ok filled.End) ↔ (t ≡ []))) → found process.received ≡ Partial → (received ≡ [] → ⊥) → ReadsMore process.received received old new → OnlyReads old new → new.faults ≡ old.faults
+        → Ends (who_at rules at) at.first new frames (BadFrame process.offset Truncated)
+    ends_within end partial some reads others quiet =
+        ends_by_ending (who_at rules at) at.first new (BadFrame process.offset Truncated) frames runs.taken runs.grow (ap (λ (l : LinkView). l.room) others ∙ runs.same_room) (ap (λ (l : LinkView). l.dialled) others ∙ runs.same_dialled) (prompt_read partial (Some reads.0) reads.2) (Refused Truncated) (ap (λ n. BadFrame n Truncated) runs.offset) refl
         (λ bytes told.
         let known = told_as bytes told in
         record {
@@ -227,28 +229,26 @@ module _ {P : Type 0} (rules : Rules) (at : Setting P) (frames : List Frame) (pr
           taken = runs.taken;
           ends = truncated process.received partial (λ none. some (same_received ∙ none));
         })
-        (answered_as (ap (λ (l : LinkView). l.outgoing) others) (one_write_read at.first old new (replies rules at.net at.node frames) (Some reads.0) runs.one_write_each reads.2)) (quiet ∙ runs.quiet) (λ e. absurd (cc e))
+        (answered_as (ap (λ (l : LinkView). l.outgoing) others) (one_write_read at.first old new (replies (who_at rules at) frames) (Some reads.0) runs.one_write_each reads.2)) (quiet ∙ runs.quiet) (λ e. absurd (cc e))
 
   -- memory ran out before the link was asked
-  pub served_without_memory : new ≡ old → Served rules at.net at.node at.first new NoMemory
-  served_without_memory same =
-      served_by_break rules at.net at.node at.first new NoMemory frames runs.taken (ap (λ (l : LinkView). l.room) same ∙ runs.same_room) (ap (λ (l : LinkView). l.dialled) same ∙ runs.same_dialled) (prompt_as (ap (λ (l : LinkView). l.acts) same)) (inl refl)
+  pub ends_without_memory : new ≡ old → Ends (who_at rules at) at.first new frames NoMemory
+  ends_without_memory same =
+      ends_unwritten NoMemory (ap (λ (l : LinkView). l.outgoing) same) (ap (λ (l : LinkView). l.room) same) (ap (λ (l : LinkView). l.dialled) same) (prompt_as (ap (λ (l : LinkView). l.acts) same)) (by_memory at.records)
       (record {
         later = let e = ap (λ (l : LinkView). l.faults) same ∙ runs.quiet in omega (arith, e);
         rose = λ e. absurd (cc e);
         quiet = λ _. ap (λ (l : LinkView). l.faults) same ∙ runs.quiet;
       })
-      (λ _ e. absurd (cc e))
-      (front_as (ap (λ (l : LinkView). l.outgoing) same))
+      (λ _ e. cc e)
 
   -- a read failed
-  pub served_by_fault : found process.received ≡ Partial → OnlyReads old new → {failed : Type 0} → (failed → ActsOnce old new (Read None)) → (IsSure old → ¬ failed) → RoseIf failed old.faults new.faults → failed → Served rules at.net at.node at.first new LinkFault
-  served_by_fault partial others once safe cause failed =
-      served_by_break rules at.net at.node at.first new LinkFault frames runs.taken (ap (λ (l : LinkView). l.room) others ∙ runs.same_room) (ap (λ (l : LinkView). l.dialled) others ∙ runs.same_dialled) (prompt_read partial None (once failed)) (inr refl)
+  pub ends_by_fault : found process.received ≡ Partial → OnlyReads old new → {failed : Type 0} → (failed → ActsOnce old new (Read None)) → (IsSure old → ¬ failed) → RoseIf failed old.faults new.faults → failed → Ends (who_at rules at) at.first new frames LinkFault
+  ends_by_fault partial others once safe cause failed =
+      ends_unwritten LinkFault (ap (λ (l : LinkView). l.outgoing) others) (ap (λ (l : LinkView). l.room) others) (ap (λ (l : LinkView). l.dialled) others) (prompt_read partial None (once failed)) (by_link at.records)
       (record {
         later = subst (λ n. n ≤ new.faults) runs.quiet cause.later;
         rose = λ _. subst (λ n. Rose n new.faults) runs.quiet (cause.rose failed);
         quiet = λ no. absurd (no refl);
       })
-      (λ sure _. absurd (safe (runs.same_sure ∙ sure) failed))
-      (front_as (ap (λ (l : LinkView). l.outgoing) others))
+      (λ sure _. safe (runs.same_sure ∙ sure) failed)

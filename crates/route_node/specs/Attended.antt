@@ -15,6 +15,7 @@ use Rattle.schedule_file.specs.declared.parser.TheConstants.{MAX_BYTES}
 use Rattle.schedule_file.specs.Grammar.{IsTopologyFile}
 use Rattle.schedule_file.specs.Refusals.{FirstBadOfTopology}
 use Rattle.route_node.specs.Served.{Served, TooLongAnswers}
+use Rattle.route_node.specs.Who.{afresh}
 
 -- the node that runs, and the address of its peer
 pub record Endpoint : Type 0 where
@@ -144,7 +145,7 @@ pub record Attended (here : Endpoint) (source source' : SourceView) (link link' 
   -- a network that has the node: the address is dialled, and the frames are answered, unless a read or the dial fails or
   -- memory runs out before
   pub served : (bytes : List ℕ) → source.left ≡ Some bytes → (net : Net) → IsNetwork bytes net → has net.nodes here.id ≡ true
-      → Served gao_rexford net here.id (once_dialled link here.address) link' status ⊎ EndsBefore status link link'
+      → Served (afresh gao_rexford net here.id) (once_dialled link here.address) link' status ⊎ EndsBefore status link link'
   -- one that has not: it is named, unless a read fails or memory runs out
   pub missing : (bytes : List ℕ) → source.left ≡ Some bytes → (net : Net) → IsNetwork bytes net → has net.nodes here.id ≡ false
       → (status ≡ NoSuchNode here.id) ⊎ ((status ≡ NoMemory) ⊎ (status ≡ ReadFault))
@@ -172,7 +173,7 @@ pub record Attended (here : Endpoint) (source source' : SourceView) (link link' 
   -- LinkFault on a sure link: answers of a node of the network are longer than the room, which is told
   pub sure : IsSure link → status ≡ LinkFault
       → (net : Net) × ((bytes : List ℕ) → source.left ≡ Some bytes → IsNetwork bytes net) × (has net.nodes here.id ≡ true)
-      × TooLongAnswers gao_rexford net here.id link
+      × TooLongAnswers (afresh gao_rexford net here.id) link
   -- nothing is done with the link before the network and the number are known
   pub undialled : ends_undialled status ≡ true → link' ≡ link
   -- the address is dialled, once, before the first frame

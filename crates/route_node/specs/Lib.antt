@@ -3,9 +3,14 @@ pub mod Kinds
 pub mod Told
 pub mod Writing
 pub mod Fronts
+pub mod Who
 pub mod Streams
+pub mod Records
+pub mod Keeping
 pub mod Prompt
-pub mod Running
 pub mod Served
+pub mod ServedKept
+pub mod Restored
+pub mod Running
 pub mod Attended
 pub mod Plain

@@ -9,6 +9,7 @@ use Rattle.path_vector.specs.GaoRexford.{gao_rexford}
 use Rattle.wire_frames.specs.declared.frames.Frame.{Frame}
 use Rattle.route_node.specs.Attended.{Attended, Endpoint, IsNetwork}
 use Rattle.route_node.specs.Served.{status_of, TooLongAnswers}
+use Rattle.route_node.specs.Who.{afresh}
 use Rattle.route_node.specs.Streams.{stream, Comes, Ending}
 
 -- how the node here ends, on a source and a link in plain memory as they were and as they are then
@@ -19,9 +20,9 @@ pub record AttendedPlain (here : Endpoint) (source source' : SourceView) (link l
   pub no_read_fault : status ≢ ReadFault
   -- LinkFault: the answers to frames that it took are longer than the room
   pub link_fault : status ≡ LinkFault → (file : List ℕ) → source.left ≡ Some file
-      → (net : Net) × IsNetwork file net × (has net.nodes here.id ≡ true) × TooLongAnswers gao_rexford net here.id link
+      → (net : Net) × IsNetwork file net × (has net.nodes here.id ≡ true) × TooLongAnswers (afresh gao_rexford net here.id) link
   -- what the bytes come to is how it ends, unless memory runs out or the room is too short
   pub complete : (file bytes : List ℕ) → source.left ≡ Some file → link.incoming ≡ Some bytes
       → (net : Net) → IsNetwork file net → has net.nodes here.id ≡ true
-      → (frames : List Frame) (ending : Ending) → Comes gao_rexford net here.id bytes frames ending
-      → (status ≡ status_of (length (stream frames)) ending) ⊎ ((status ≡ NoMemory) ⊎ TooLongAnswers gao_rexford net here.id link)
+      → (frames : List Frame) (ending : Ending) → Comes (afresh gao_rexford net here.id) bytes frames ending
+      → (status ≡ status_of (length (stream frames)) ending) ⊎ ((status ≡ NoMemory) ⊎ TooLongAnswers (afresh gao_rexford net here.id) link)

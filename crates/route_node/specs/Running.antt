@@ -1,6 +1,7 @@
 -- A process that has taken some frames.
-use Rattle.std.specs.Prelude.{ℕ, true, ◌≡◌, ◌≤◌, ◌<◌, ◌+◌, ◌*◌, ◌-◌, Some, List, ◌++◌, length}
+use Rattle.std.specs.Prelude.{ℕ, true, ◌≡◌, ◌≤◌, ◌<◌, ◌+◌, ◌*◌, ◌-◌, option_map, Option, Some, None, List, [], ◌++◌, length}
 use Rattle.std.specs.Io.KnownBytes.{Appends, prepend_known}
+use Rattle.topology.specs.declared.status.Status.{Status}
 use Rattle.topology.specs.Lists.{has, Begins}
 use Rattle.topology.specs.Net.{Net, IsValid}
 use Rattle.route_io.specs.Acts.{came, written}
@@ -8,6 +9,11 @@ use Rattle.route_io.specs.Causes.{StaysTold}
 use Rattle.route_io.specs.Links.{ahead}
 use Rattle.route_io.specs.Views.{Act, LinkView}
 use Rattle.path_vector.specs.Rules.{Rules}
+use Rattle.acceptor_journal.specs.Views.{DiskView}
+use Rattle.acceptor_journal.specs.Images.{LeavesOnly}
+use Rattle.acceptor_journal.specs.Journals.{KeepsTelling}
+use Rattle.acceptor_journal.specs.Records.{place_behind}
+use Rattle.node_core.specs.Outputs.{Output, outputs}
 use Rattle.node_core.specs.Standing.{StandsFor}
 use Rattle.wire_frames.specs.declared.frames.Frame.{Frame}
 use Rattle.route_node.specs.declared.serving.Process.{Process}
@@ -16,25 +22,45 @@ use Rattle.chronicle.specs.Inputs.{Input}
 use Rattle.route_node.specs.Fronts.{Holds, Admits}
 use Rattle.route_node.specs.Writing.{OneWriteEach, spelled}
 use Rattle.route_node.specs.Prompt.{IsPrompt}
-use Rattle.route_node.specs.Streams.{stream, replies, answers, run_over, AreTaken}
+use Rattle.route_node.specs.Records.{AreRestored}
+use Rattle.route_node.specs.Served.{AnswersUpTo, Served}
+use Rattle.route_node.specs.ServedKept.{HasKeptBehind, KeepsFront}
+use Rattle.route_node.specs.Streams.{stream, replies, answers, AreTaken}
+use Rattle.route_node.specs.Who.{Who, afresh, begun_by, run_over, spellings}
 
--- who answers: a policy, a network, its node, and the link as it was first
+-- who answers: a policy, a network, its node, and the frames of its journal, if it has one; and the link and the disk as
+-- they were first
 pub record Setting (P : Type 0) : Type 0 where
   pub policy : P
   pub net : Net
   pub node : ℕ
+  pub records : Option (List Frame)
   pub first : LinkView
+  pub disk : DiskView
+
+-- the same, with the rules of the policy
+abbrev pub who_at : {P : Type 0} → Rules → Setting P → Who
+who_at rules at = record { rules = rules; net = at.net; node = at.node; records = at.records }
 
 -- the reads since brought the frames and then what is received, the writes took the answers, and each read came in time
-pub record KeepsUp (rules : Rules) (net : Net) (u : ℕ) (frames : List Frame) (received : List ℕ) (since : List Act) : Type 0 where
+pub record KeepsUp (who : Who) (frames : List Frame) (received : List ℕ) (since : List Act) : Type 0 where
   pub brought : came since ≡ stream frames ++ received
-  pub took : written since ≡ answers rules net u frames
-  pub prompt : IsPrompt rules net u since
+  pub took : written since ≡ answers who frames
+  pub prompt : IsPrompt who since
 
 -- the answers to the frames begin with those to the older ones
-abbrev pub AnswersGrow : Rules → Net → ℕ → List Frame → Type 0
-AnswersGrow rules net u frames =
-    (more older : List Frame) → frames ≡ more ++ older → Begins (answers rules net u older) (answers rules net u frames)
+abbrev pub AnswersGrow : Who → List Frame → Type 0
+AnswersGrow who frames =
+    (more older : List Frame) → frames ≡ more ++ older → Begins (answers who older) (answers who frames)
+
+-- the frames of the journal, where there is one, were taken when it was read back
+abbrev pub AreBegun : Rules → Net → ℕ → Option (List Frame) → Type 0
+AreBegun rules net u None = Unit {0}
+AreBegun rules net u (Some frames) = AreRestored (afresh rules net u) frames
+
+-- what the node handed out since it began
+abbrev pub HandsSince : Who → List Frame → Type 0
+HandsSince who frames = (since : List Output) × (outputs (run_over who frames) ≡ outputs (begun_by who) ++ since)
 
 -- these frames, the newest first, were taken and answered, and what was received behind them stands in front of what is
 -- still to come
@@ -43,17 +69,19 @@ pub record Runs {P : Type 0} (rules : Rules) (at : Setting P) (process : Process
   pub is_node : has at.net.nodes at.node ≡ true
   pub same_net : process.topology.value ≡ at.net
   pub same_id : process.id ≡ at.node
-  pub stands : StandsFor at.policy rules at.net at.node process.node (run_over rules at.net at.node frames)
-  pub taken : AreTaken rules at.net at.node frames
+  pub restored : AreBegun rules at.net at.node at.records
+  pub stands : StandsFor at.policy rules at.net at.node process.node (run_over (who_at rules at) frames)
+  pub taken : AreTaken (who_at rules at) frames
   pub count : process.frames ≡ length frames
   pub offset : process.offset ≡ length (stream frames)
   pub bytes : prepend_known (stream frames) (ahead process.received link) ≡ at.first.incoming
-  pub wrote : Appends at.first.outgoing link.outgoing (spelled (replies rules at.net at.node frames))
+  pub wrote : Appends at.first.outgoing link.outgoing (spelled (replies (who_at rules at) frames))
   pub told : StaysTold at.first.outgoing link.outgoing
-  pub one_write_each : OneWriteEach (replies rules at.net at.node frames) at.first link
-  pub grow : AnswersGrow rules at.net at.node frames
+  pub one_write_each : OneWriteEach (replies (who_at rules at) frames) at.first link
+  pub grow : AnswersGrow (who_at rules at) frames
+  pub since : HandsSince (who_at rules at) frames
   pub acts : (before : List Act) → at.first.acts ≡ Some before
-      → (since : List Act) × (link.acts ≡ Some (since ++ before)) × KeepsUp rules at.net at.node frames process.received since
+      → (since : List Act) × (link.acts ≡ Some (since ++ before)) × KeepsUp (who_at rules at) frames process.received since
   pub same_room : link.room ≡ at.first.room
   pub same_dialled : link.dialled ≡ at.first.dialled
   pub same_sure : link.sure ≡ at.first.sure
@@ -71,18 +99,43 @@ left_of process = (MAX_FRAMES - process.frames) * 2000000 + (1999999 - length pr
 abbrev pub IsWithin : {P : Type 0} → Process P → Type 0
 IsWithin process = (length process.received ≤ 1999999) × (process.frames ≤ MAX_FRAMES)
 
--- one more frame was taken, or more was received, and less is left to do
-pub record GoesOn {P : Type 0} (rules : Rules) (at : Setting P) (process : Process P) (link : LinkView) (before : ℕ) : Type 0 where
-  pub frames : List Frame
+-- these frames were taken by now, and less is left to do
+pub record GoesOn {P : Type 0} (rules : Rules) (at : Setting P) (process : Process P) (link : LinkView) (frames : List Frame) (before : ℕ) : Type 0 where
   pub runs : Runs rules at process link frames
   pub within : IsWithin process
   pub less : left_of process < before
 
+-- how a run ends over its link, where these are the frames that it took
+pub record Ends (who : Who) (link link' : LinkView) (frames : List Frame) (status : Status) : Type 0 where
+  pub served : Served who link link' status
+  pub answered : AnswersUpTo who frames link link' status
+
+-- ---- with a disk
+
+-- the journal is behind the frames, which are kept; and no crash would have left anything but a front of what comes
+pub record KeepsFrames (who : Who) (incoming : Option (List ℕ)) (first : DiskView) (journal : Option ℕ) (disk : DiskView) (frames : List Frame) : Type 0 where
+  pub has : journal ≡ option_map (λ records. place_behind (spellings (frames ++ records))) who.records
+  pub moments : (records : List (List ℕ)) → HasKeptBehind who.records [] first records → LeavesOnly first disk (KeepsFront who incoming records)
+  pub kept : (records : List (List ℕ)) → HasKeptBehind who.records [] first records → HasKeptBehind who.records frames disk (records ++ spellings frames)
+  pub quiet : disk.faults ≡ first.faults
+  pub telling : KeepsTelling first disk
+
+-- these frames were taken, answered and kept
+pub record Works {P : Type 0} (rules : Rules) (at : Setting P) (process : Process P) (link : LinkView) (disk : DiskView) (frames : List Frame) : Type 0 where
+  pub runs : Runs rules at process link frames
+  pub keeps : KeepsFrames (who_at rules at) at.first.incoming at.disk process.journal disk frames
+
+-- one more frame was taken, or more was received, and less is left to do
+pub record GoesFurther {P : Type 0} (rules : Rules) (at : Setting P) (process : Process P) (link : LinkView) (disk : DiskView) (before : ℕ) : Type 0 where
+  pub frames : List Frame
+  pub goes : GoesOn rules at process link frames before
+  pub keeps : KeepsFrames (who_at rules at) at.first.incoming at.disk process.journal disk frames
+
 -- a process that has taken some frames, whatever these are
-pub record IsRunning {P : Type 0} (rules : P → Rules) (process : Process P) (link : LinkView) : Type 0 where
+pub record IsRunning {P : Type 0} (rules : P → Rules) (process : Process P) (link : LinkView) (disk : DiskView) : Type 0 where
   pub at : Setting P
   pub frames : List Frame
-  pub runs : Runs (rules at.policy) at process link frames
+  pub works : Works (rules at.policy) at process link disk frames
   pub within : IsWithin process
 
 -- and at the front of what it received stands a frame of so many bytes that brings this input, which its node admits

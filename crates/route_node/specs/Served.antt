@@ -1,5 +1,5 @@
 -- What a user is promised of a node that answers the frames of a link.
-use Rattle.std.specs.Prelude.{ℕ, Bool, true, false, ◌≡◌, ◌<◌, ◌⊎◌, Some, List, ◌++◌, length}
+use Rattle.std.specs.Prelude.{ℕ, Bool, true, false, ◌≡◌, ◌<◌, ◌⊎◌, is_some, Option, Some, None, List, [], ◌∷◌, ◌++◌, length}
 use Rattle.std.specs.List.{list_all}
 use Rattle.std.specs.Io.KnownBytes.{Appends, IsAtEnd}
 use Rattle.topology.specs.declared.status.Status.{Status}
@@ -8,35 +8,34 @@ use Rattle.topology.specs.declared.status.LimitKind.{LimitKind}
 use Rattle.topology.specs.declared.status.LimitKind.TheVariants as count
 use Rattle.topology.specs.declared.frame_faults.FrameFault.{FrameFault}
 use Rattle.topology.specs.Lists.{Begins}
-use Rattle.topology.specs.Net.{Net}
 use Rattle.route_io.specs.Causes.{RoseIf}
 use Rattle.route_io.specs.Links.{IsSure, room_left}
 use Rattle.route_io.specs.Views.{Act, LinkView}
-use Rattle.path_vector.specs.Rules.{Rules}
 use Rattle.wire_frames.specs.declared.frames.Frame.{Frame}
 use Rattle.wire_frames.specs.Frames.{fits as has_spelling}
 use Rattle.route_node.specs.Prompt.{IsPrompt}
+use Rattle.route_node.specs.Who.{Who}
 use Rattle.route_node.specs.Writing.{OneWriteEach}
 use Rattle.route_node.specs.Streams.{stream, replies, answers, AreTaken, Ending, End, Refused, Stopped, Comes}
 
--- the statuses with which a node over a link may end
-abbrev pub ends_serving : Status → Bool
-ends_serving Done = true
-ends_serving Usage = false
-ends_serving NoMemory = true
-ends_serving (BadSchedule line kind) = false
-ends_serving (Limit count.Bytes number) = false
-ends_serving (Limit count.Journal number) = false
-ends_serving (Limit kind number) = true
-ends_serving ReadFault = false
-ends_serving WriteFault = false
-ends_serving LinkFault = true
-ends_serving (BadFrame offset fault) = true
-ends_serving (NoSuchNode node) = false
-ends_serving DiskFault = false
-ends_serving (BadJournal offset fault) = false
-ends_serving (BadTables line) = false
-ends_serving (Inconsistent line kind) = false
+-- the statuses with which a node over a link may end, whether it keeps a journal or not
+abbrev pub ends_serving : Bool → Status → Bool
+ends_serving keeps Done = true
+ends_serving keeps Usage = false
+ends_serving keeps NoMemory = true
+ends_serving keeps (BadSchedule line kind) = false
+ends_serving keeps (Limit count.Bytes number) = false
+ends_serving keeps (Limit count.Journal number) = keeps
+ends_serving keeps (Limit kind number) = true
+ends_serving keeps ReadFault = false
+ends_serving keeps WriteFault = false
+ends_serving keeps LinkFault = true
+ends_serving keeps (BadFrame offset fault) = true
+ends_serving keeps (NoSuchNode node) = false
+ends_serving keeps DiskFault = keeps
+ends_serving keeps (BadJournal offset fault) = false
+ends_serving keeps (BadTables line) = false
+ends_serving keeps (Inconsistent line kind) = false
 
 -- the status of a stream that ends so at this offset
 abbrev pub status_of : ℕ → Ending → Status
@@ -44,62 +43,90 @@ status_of offset End = Done
 status_of offset (Refused fault) = BadFrame offset fault
 status_of offset (Stopped reached) = Limit reached.kind reached.number
 
+-- it broke off: memory ran out, or a call of the link failed, or one of the disk, where it keeps a journal
+abbrev pub BreaksOff : Option (List Frame) → Status → Type 0
+BreaksOff None status = (status ≡ NoMemory) ⊎ (status ≡ LinkFault)
+BreaksOff (Some records) status = (status ≡ NoMemory) ⊎ ((status ≡ LinkFault) ⊎ (status ≡ DiskFault))
+
 -- all answers to the frames were written, each of them has a spelling, and each went by one write, whole and in order, where
 -- the link had room for them all
-pub record Answered (rules : Rules) (net : Net) (u : ℕ) (frames : List Frame) (link link' : LinkView) : Type 0 where
-  pub spelled : list_all has_spelling (replies rules net u frames) ≡ true
-  pub wrote : Appends link.outgoing link'.outgoing (answers rules net u frames)
-  pub one_write_each : OneWriteEach (replies rules net u frames) link link'
+pub record Answered (who : Who) (frames : List Frame) (link link' : LinkView) : Type 0 where
+  pub spelled : list_all has_spelling (replies who frames) ≡ true
+  pub wrote : Appends link.outgoing link'.outgoing (answers who frames)
+  pub one_write_each : OneWriteEach (replies who frames) link link'
 
 -- some of the answers to frames that stand in front of the bytes and are taken were written, from the first on, and each of
 -- these answers has a spelling
-pub record WroteFront (rules : Rules) (net : Net) (u : ℕ) (bytes : List ℕ) (link link' : LinkView) : Type 0 where
+pub record WroteFront (who : Who) (bytes : List ℕ) (link link' : LinkView) : Type 0 where
   pub frames : List Frame
   pub rest : List ℕ
   pub in_front : bytes ≡ stream frames ++ rest
-  pub taken : AreTaken rules net u frames
-  pub spelled : list_all has_spelling (replies rules net u frames) ≡ true
+  pub taken : AreTaken who frames
+  pub spelled : list_all has_spelling (replies who frames) ≡ true
   pub some : List ℕ
-  pub begins : Begins some (answers rules net u frames)
+  pub begins : Begins some (answers who frames)
   pub wrote : Appends link.outgoing link'.outgoing some
 
 -- frames that stand in front of what comes, where that is told, and are taken have answers that are longer than the room that
 -- is left, which is told
-pub record TooLongAnswers (rules : Rules) (net : Net) (u : ℕ) (link : LinkView) : Type 0 where
+pub record TooLongAnswers (who : Who) (link : LinkView) : Type 0 where
   pub frames : List Frame
   pub in_front : (bytes : List ℕ) → link.incoming ≡ Some bytes → Begins (stream frames) bytes
-  pub taken : AreTaken rules net u frames
+  pub taken : AreTaken who frames
   pub left : ℕ
   pub room : room_left link ≡ Some left
-  pub longer : left < length (answers rules net u frames)
+  pub longer : left < length (answers who frames)
 
--- how node u ends, on a link as it was and as it is then
-pub record Served (rules : Rules) (net : Net) (u : ℕ) (link link' : LinkView) (status : Status) : Type 0 where
-  pub formed : ends_serving status ≡ true
+-- all frames but the newest
+abbrev pub older : List Frame → List Frame
+older [] = []
+older (f ∷ before) = before
+
+-- the statuses of a run that was not broken off
+abbrev pub is_whole : Status → Bool
+is_whole Done = true
+is_whole (BadFrame offset fault) = true
+is_whole (Limit kind number) = true
+is_whole other = false
+
+-- these frames stand in front and are taken; all answers to those before the newest of them were written, and of its answers a
+-- front. Where the run was not broken off they are all that what comes has
+pub record AnswersUpTo (who : Who) (frames : List Frame) (link link' : LinkView) (status : Status) : Type 0 where
+  pub in_front : (bytes : List ℕ) → link.incoming ≡ Some bytes → Begins (stream frames) bytes
+  pub taken : AreTaken who frames
+  pub some : List ℕ
+  pub wrote : Appends link.outgoing link'.outgoing some
+  pub front : Begins some (answers who frames)
+  pub behind : Begins (answers who (older frames)) some
+  pub whole : is_whole status ≡ true → (bytes : List ℕ) → link.incoming ≡ Some bytes → (ending : Ending) × Comes who bytes frames ending
+
+-- how a node ends, on a link as it was and as it is then
+pub record Served (who : Who) (link link' : LinkView) (status : Status) : Type 0 where
+  pub formed : ends_serving (is_some who.records) status ≡ true
   -- Done: what came over the link was a list of frames that the node took, and its answers to them were written
   pub done : status ≡ Done → (bytes : List ℕ) → link.incoming ≡ Some bytes
-      → (frames : List Frame) × Comes rules net u bytes frames End × Answered rules net u frames link link'
+      → (frames : List Frame) × Comes who bytes frames End × Answered who frames link link'
   -- BadFrame: what begins at this offset is refused for this, and the answers to the frames before were written
   pub bad_frame : (offset : ℕ) (fault : FrameFault) → status ≡ BadFrame offset fault → (bytes : List ℕ) → link.incoming ≡ Some bytes
-      → (frames : List Frame) × Comes rules net u bytes frames (Refused fault) × (offset ≡ length (stream frames))
-      × Answered rules net u frames link link'
+      → (frames : List Frame) × Comes who bytes frames (Refused fault) × (offset ≡ length (stream frames))
+      × Answered who frames link link'
   -- Limit: the next frame would take this count above its number, and the answers to the frames before were written
   pub limit : (kind : LimitKind) (number : ℕ) → status ≡ Limit kind number → (bytes : List ℕ) → link.incoming ≡ Some bytes
-      → (frames : List Frame) × Comes rules net u bytes frames (Stopped (record { kind = kind; number = number }))
-      × Answered rules net u frames link link'
+      → (frames : List Frame) × Comes who bytes frames (Stopped (record { kind = kind; number = number }))
+      × Answered who frames link link'
   -- LinkFault: a call of the link failed; after every other answer none has
   pub link_fault : RoseIf (status ≡ LinkFault) link.faults link'.faults
   -- a call of a sure link fails only where answers are longer than the room
-  pub sure : IsSure link → status ≡ LinkFault → TooLongAnswers rules net u link
+  pub sure : IsSure link → status ≡ LinkFault → TooLongAnswers who link
   -- whatever the end, what was written is a front of the answers
-  pub front : (bytes : List ℕ) → link.incoming ≡ Some bytes → WroteFront rules net u bytes link link'
-  -- what the bytes come to is how it ends, unless the link fails or memory runs out
+  pub front : (bytes : List ℕ) → link.incoming ≡ Some bytes → WroteFront who bytes link link'
+  -- what the bytes come to is how it ends, unless it breaks off
   pub complete : (bytes : List ℕ) → link.incoming ≡ Some bytes → (frames : List Frame) (ending : Ending)
-      → Comes rules net u bytes frames ending
-      → (status ≡ status_of (length (stream frames)) ending) ⊎ ((status ≡ NoMemory) ⊎ (status ≡ LinkFault))
+      → Comes who bytes frames ending
+      → (status ≡ status_of (length (stream frames)) ending) ⊎ BreaksOff who.records status
   -- whatever the end, no read was made before the frames that had come by then were answered, where the link tells its acts
   pub prompt : (before : List Act) → link.acts ≡ Some before
-      → (since : List Act) × (link'.acts ≡ Some (since ++ before)) × IsPrompt rules net u since
+      → (since : List Act) × (link'.acts ≡ Some (since ++ before)) × IsPrompt who since
   -- nothing is left to come once it is done
   pub read : status ≡ Done → IsAtEnd link'.incoming
   -- no call changes how much the link can take

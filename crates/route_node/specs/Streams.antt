@@ -1,8 +1,8 @@
--- What a stream of frames comes to at one node. Lists of frames are newest first.
-use Rattle.std.specs.Prelude.{ℕ, true, ◌≡◌, nat_lt, Option, Some, None, List, [], ◌∷◌, ◌++◌, length, filter_map, if◌then◌else◌}
+-- What a stream of frames comes to at a node. Lists of frames are newest first.
+use Rattle.std.specs.Prelude.{ℕ, ◌+◌, true, ◌≡◌, nat_lt, Option, Some, None, List, [], ◌∷◌, ◌++◌, length, drop, filter_map, if◌then◌else◌}
 use Rattle.topology.specs.declared.frame_faults.FrameFault.{FrameFault}
 use Rattle.topology.specs.declared.frame_faults.FrameFault.TheVariants.{Truncated, Direction, Name, Sequence}
-use Rattle.topology.specs.declared.status.LimitKind.TheVariants.{Frames}
+use Rattle.topology.specs.declared.status.LimitKind.TheVariants.{Frames, Journal}
 use Rattle.topology.specs.declared.status.Reason.TheVariants.{WrongSeq}
 use Rattle.topology.specs.Words.{fault_of}
 use Rattle.topology.specs.Net.{Net}
@@ -13,13 +13,16 @@ use Rattle.chronicle.specs.Steps.{Step, Idle}
 use Rattle.node_core.specs.Fits.{fits}
 use Rattle.node_core.specs.NodeLimits.{Reached}
 use Rattle.node_core.specs.Outputs.{outputs}
-use Rattle.admission_laws.specs.NodeRuns.{alone, gives, limit_at}
+use Rattle.acceptor_journal.specs.Records.{place_behind}
+use Rattle.admission_laws.specs.NodeRuns.{gives, limit_at}
 use Rattle.wire_frames.specs.declared.frames.Frame.{Frame}
 use Rattle.wire_frames.specs.Frames.{spell}
 use Rattle.wire_frames.specs.Frames.{fits as has_spelling}
 use Rattle.wire_frames.specs.Reading.{Found, Whole, Partial, Wrong, found}
+use Rattle.route_node.specs.declared.keeping.TheConstants.{MAX_JOURNAL}
 use Rattle.route_node.specs.declared.limits.TheConstants.{MAX_FRAMES}
 use Rattle.route_node.specs.Frames.{brought, telling}
+use Rattle.route_node.specs.Who.{Who, begun_by, run_over, spellings}
 use Rattle.route_node.specs.Writing.{spelled}
 
 -- the frames, one behind the other, the oldest in front
@@ -27,21 +30,13 @@ abbrev pub stream : List Frame → List ℕ
 stream [] = []
 stream (f ∷ before) = stream before ++ spell f
 
--- what the frames brought to the node
-abbrev pub inputs : List Frame → List Input
-inputs frames = filter_map brought frames
+-- the frames that tell what the node handed out since it began, the oldest first
+abbrev pub replies : Who → List Frame → List Frame
+replies who frames = filter_map telling (drop (length (outputs (begun_by who))) (outputs (run_over who frames)))
 
--- the run of node u over these frames
-abbrev pub run_over : Rules → Net → ℕ → List Frame → Chronicle
-run_over rules net u frames = alone rules net u (inputs frames)
-
--- the frames that tell what u handed out, the oldest first
-abbrev pub replies : Rules → Net → ℕ → List Frame → List Frame
-replies rules net u frames = filter_map telling (outputs (run_over rules net u frames))
-
--- what u writes as it answers the frames
-abbrev pub answers : Rules → Net → ℕ → List Frame → List ℕ
-answers rules net u frames = spelled (replies rules net u frames)
+-- what it writes as it answers the frames
+abbrev pub answers : Who → List Frame → List ℕ
+answers who frames = spelled (replies who frames)
 
 -- ---- why a frame is not taken
 
@@ -56,27 +51,38 @@ abbrev pub input_refusal : Rules → Net → ℕ → Chronicle → Option Input 
 input_refusal rules net u past None = Some Direction
 input_refusal rules net u past (Some i) = if fits net u i then out_of_turn (gives rules net u past i) else Some Name
 
--- why u refuses the frame behind those before it
-abbrev pub refusal : Rules → Net → ℕ → List Frame → Frame → Option FrameFault
-refusal rules net u before f = input_refusal rules net u (run_over rules net u before) (brought f)
+-- why the node refuses the frame behind those before it
+abbrev pub refusal : Who → List Frame → Frame → Option FrameFault
+refusal who before f = input_refusal who.rules who.net who.node (run_over who before) (brought f)
 
 -- the count of the node that what a frame brings would take above its number
-abbrev pub input_limit : Rules → Net → ℕ → List Frame → Option Input → Option Reached
-input_limit rules net u before None = None
-input_limit rules net u before (Some i) = limit_at rules net u (inputs before) i
+abbrev pub input_limit : Who → List Frame → Option Input → Option Reached
+input_limit who before None = None
+input_limit who before (Some i) = limit_at who.rules who.net who.node (run_over who before) i
 
--- the first count that one more frame would take above its number: that of frames, then those of the node
-abbrev pub frame_limit : Rules → Net → ℕ → List Frame → Frame → Option Reached
-frame_limit rules net u before f =
-    if nat_lt (length before) MAX_FRAMES then input_limit rules net u before (brought f)
+-- the bytes of its journal, where its record would take them above their number: the record ends with a closed gate behind it
+abbrev pub journal_limit : Option (List Frame) → List Frame → Frame → Option Reached
+journal_limit None before f = None
+journal_limit (Some records) before f =
+    if nat_lt MAX_JOURNAL (place_behind (spellings (before ++ records)) + (6 + length (spell f)))
+    then Some (record { kind = Journal; number = MAX_JOURNAL }) else None
+
+-- the first of two counts that would be above their numbers
+abbrev pub first_of_two : Option Reached → Option Reached → Option Reached
+first_of_two None later = later
+first_of_two (Some reached) later = Some reached
+
+-- the first count that one more frame would take above its number: that of frames, then those of the node, then the journal's
+abbrev pub frame_limit : Who → List Frame → Frame → Option Reached
+frame_limit who before f =
+    if nat_lt (length before) MAX_FRAMES then first_of_two (input_limit who before (brought f)) (journal_limit who.records before f)
     else Some (record { kind = Frames; number = MAX_FRAMES })
 
 -- each frame has a spelling, was not refused, and took no count above its number
-abbrev pub AreTaken : Rules → Net → ℕ → List Frame → Type 0
-AreTaken rules net u [] = Unit {0}
-AreTaken rules net u (f ∷ before) =
-    (has_spelling f ≡ true) × (refusal rules net u before f ≡ None) × (frame_limit rules net u before f ≡ None)
-    × AreTaken rules net u before
+abbrev pub AreTaken : Who → List Frame → Type 0
+AreTaken who [] = Unit {0}
+AreTaken who (f ∷ before) =
+    (has_spelling f ≡ true) × (refusal who before f ≡ None) × (frame_limit who before f ≡ None) × AreTaken who before
 
 -- ---- how a stream ends
 
@@ -88,28 +94,28 @@ pub data Ending : Type 0 where
   Stopped : (reached : Reached) → Ending
 
 -- why what is found behind these frames is refused: a frame for itself, bytes that are none, or the front of one
-abbrev pub found_fault : Rules → Net → ℕ → List Frame → Found → Option FrameFault
-found_fault rules net u before (Whole f n) = refusal rules net u before f
-found_fault rules net u before Partial = Some Truncated
-found_fault rules net u before (Wrong wrong) = Some (fault_of wrong)
+abbrev pub found_fault : Who → List Frame → Found → Option FrameFault
+found_fault who before (Whole f n) = refusal who before f
+found_fault who before Partial = Some Truncated
+found_fault who before (Wrong wrong) = Some (fault_of wrong)
 
 -- what is found is a frame that is not refused, and would take this count above its number
-abbrev pub StopsAt : Rules → Net → ℕ → List Frame → Reached → Found → Type 0
-StopsAt rules net u before reached (Whole f n) =
-    (refusal rules net u before f ≡ None) × (frame_limit rules net u before f ≡ Some reached)
-StopsAt rules net u before reached Partial = ⊥
-StopsAt rules net u before reached (Wrong wrong) = ⊥
+abbrev pub StopsAt : Who → List Frame → Reached → Found → Type 0
+StopsAt who before reached (Whole f n) =
+    (refusal who before f ≡ None) × (frame_limit who before f ≡ Some reached)
+StopsAt who before reached Partial = ⊥
+StopsAt who before reached (Wrong wrong) = ⊥
 
 -- the bytes that are left behind the frames end the stream so
-abbrev pub EndsAt : Rules → Net → ℕ → List Frame → List ℕ → Ending → Type 0
-EndsAt rules net u before rest End = rest ≡ []
-EndsAt rules net u before [] (Refused fault) = ⊥
-EndsAt rules net u before (b ∷ rest) (Refused fault) = found_fault rules net u before (found (b ∷ rest)) ≡ Some fault
-EndsAt rules net u before rest (Stopped reached) = StopsAt rules net u before reached (found rest)
+abbrev pub EndsAt : Who → List Frame → List ℕ → Ending → Type 0
+EndsAt who before rest End = rest ≡ []
+EndsAt who before [] (Refused fault) = ⊥
+EndsAt who before (b ∷ rest) (Refused fault) = found_fault who before (found (b ∷ rest)) ≡ Some fault
+EndsAt who before rest (Stopped reached) = StopsAt who before reached (found rest)
 
 -- these frames stand in front of the bytes and are taken, and the stream ends so behind them
-pub record Comes (rules : Rules) (net : Net) (u : ℕ) (bytes : List ℕ) (frames : List Frame) (ending : Ending) : Type 0 where
+pub record Comes (who : Who) (bytes : List ℕ) (frames : List Frame) (ending : Ending) : Type 0 where
   pub rest : List ℕ
   pub in_front : bytes ≡ stream frames ++ rest
-  pub taken : AreTaken rules net u frames
-  pub ends : EndsAt rules net u frames rest ending
+  pub taken : AreTaken who frames
+  pub ends : EndsAt who frames rest ending

@@ -26,8 +26,8 @@ use route_io::Link;
 use std::alloc::Global;
 use topology::{FrameFault, LimitKind, NodeId, Reason, Status, Topology};
 
-// Why a frame is refused whose input came to this: it is out of turn.
-fn fault_of(outputs: &Outputs) -> Option<FrameFault>
+/// Why a frame is refused whose input came to this: it is out of turn.
+pub(crate) fn fault_of(outputs: &Outputs) -> Option<FrameFault>
     ensures { (past : Chronicle) (step : Step) → Answers past step outputs.now → result ≡ out_of_turn step }
 {
     match outputs {

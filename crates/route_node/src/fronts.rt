@@ -19,11 +19,11 @@ pub enum Front {
     NoMemory,
 }
 
-/// What stands at the front of what was received.
-pub(crate) fn front_of(alloc: Global, received: &Received) -> Front
-    ensures { IsFront result received.now }
+/// What stands at the front of these bytes.
+pub(crate) fn front_in(alloc: Global, bytes: &[u8]) -> Front
+    ensures { IsFront result bytes.now }
 {
-    match decode(received.as_slice()) {
+    match decode(bytes) {
         Decoded::More => Front::More,
         Decoded::Bad(kind) => Front::Bad(kind),
         Decoded::Frame(frame, size) => match to_owned(alloc, &frame) {
@@ -31,4 +31,11 @@ pub(crate) fn front_of(alloc: Global, received: &Received) -> Front
             Err(_) => Front::NoMemory,
         },
     }
+}
+
+/// What stands at the front of what was received.
+pub(crate) fn front_of(alloc: Global, received: &Received) -> Front
+    ensures { IsFront result received.now }
+{
+    front_in(alloc, received.as_slice())
 }

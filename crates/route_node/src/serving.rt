@@ -1,5 +1,5 @@
 //! Answers the frames of a link.
-ghost use Rattle.std.specs.Prelude.{◌≡◌, true, List, IfOk, IfErr};
+ghost use Rattle.std.specs.Prelude.{◌≡◌, ◌≢◌, ◌∷◌, ℕ, true, List, Ok, take, IfOk, IfErr};
 ghost use Rattle.topology.specs.Lists.{has};
 ghost use Rattle.path_vector.specs.GaoRexford.{gao_rexford};
 ghost use Rattle.route_io.specs.Views.{LinkView};
@@ -7,13 +7,20 @@ ghost use Rattle.node_core.specs.Inputs.{input_of as input_seen};
 ghost use Rattle.wire_frames.specs.declared.frames.Frame.{Frame as AnyFrame};
 ghost use Rattle.wire_frames.specs.Reading.{Partial, found};
 ghost use Rattle.route_node.specs.Fronts.{Admits, Holds, RefusesAt};
-ghost use Rattle.route_node.specs.Running.{GoesOn, IsRunning, IsWithin, MayTake, Runs, Setting, left_of};
+ghost use Rattle.route_node.specs.Keeping.{KeptBy};
+ghost use Rattle.route_node.specs.Restored.{IsRestored, MayServe};
+ghost use Rattle.route_node.specs.Running.{Ends, GoesFurther, GoesOn, IsRunning, IsWithin, MayTake, Runs, Setting, Works, left_of, who_at};
 ghost use Rattle.route_node.specs.Served.{Served};
+ghost use Rattle.route_node.specs.ServedKept.{ServedKept};
 ghost use Rattle.route_node.specs.Streams.{refusal};
+ghost use Rattle.route_node.specs.Who.{afresh, again};
 
 use crate::answering::{hear, write_outputs};
 use crate::fronts::{Front, front_of};
 use crate::inputs::input_of;
+use crate::keeping::keep;
+use crate::restoring::Kept;
+use acceptor_journal::{Disk, Journal, MemDisk};
 use node_core::{Input, Node};
 use path_vector::{GaoRexford, Policy};
 use route_io::{Filled, Link, NotFilled, Received};
@@ -22,7 +29,8 @@ use std::rc::Rc;
 use topology::{FrameFault, NodeId, Status, Topology};
 use wire_frames::Frame;
 
-// A node over its link: what came and was not taken yet, how many frames were taken, and how many bytes these had.
+// A node over its link: what came and was not taken yet, how many frames were taken, how many bytes these had, and the
+// journal in which they are kept, if there is one.
 #[derive(Drop)]
 pub(crate) struct Process<P: Policy + Copy> {
     alloc: Global,
@@ -32,6 +40,7 @@ pub(crate) struct Process<P: Policy + Copy> {
     received: Received,
     frames: u32,
     offset: u64,
+    journal: Option<Journal>,
 }
 
 impl<P: Policy + Copy> Process<P> {
@@ -46,10 +55,11 @@ impl<P: Policy + Copy> Process<P> {
     fn wait<L: Link>(mut self, link: &mut L) -> Result<Process<P>, Status>
         ensures ok { IfOk result (λ next. (at : Setting P) (frames : List AnyFrame) →
             Runs (P.rules at.policy) at self (L.seen link.old) frames → IsWithin self → found self.received ≡ Partial →
-            GoesOn (P.rules at.policy) at next (L.seen link.new) (left_of self)) }
+            GoesOn (P.rules at.policy) at next (L.seen link.new) frames (left_of self)) }
+        ensures same_journal { IfOk result (λ next. next.journal ≡ self.journal) }
         ensures err { IfErr result (λ status. (at : Setting P) (frames : List AnyFrame) →
             Runs (P.rules at.policy) at self (L.seen link.old) frames → IsWithin self → found self.received ≡ Partial →
-            Served (P.rules at.policy) at.net at.node at.first (L.seen link.new) status) }
+            Ends (who_at (P.rules at.policy) at) at.first (L.seen link.new) frames status × (status ≢ Status.DiskFault)) }
     {
         match self.received.fill(link) {
             Ok(Filled::More) => Ok(self),
@@ -66,7 +76,7 @@ impl<P: Policy + Copy> Process<P> {
             Runs (P.rules at.policy) at self.now link frames → Admits at.net at.node frame (input_seen input)) }
         ensures err { IfErr result (λ status. (at : Setting P) (link : LinkView) (frames : List AnyFrame) →
             Runs (P.rules at.policy) at self.now link frames →
-            RefusesAt self.now.offset (refusal (P.rules at.policy) at.net at.node frames frame) status) }
+            RefusesAt self.now.offset (refusal (who_at (P.rules at.policy) at) frames frame) status) }
     {
         let Ok(brought) = input_of(self.alloc, frame) else {
             return Err(Status::NoMemory);
@@ -80,19 +90,24 @@ impl<P: Policy + Copy> Process<P> {
         Ok(input)
     }
 
-    // Gives the input of a frame to the node, and writes the replies.
-    fn answer<L: Link>(self, input: Input, size: usize, link: &mut L) -> Result<Process<P>, Status>
+    // Gives the input of a frame to the node, keeps the frame, and writes the replies.
+    fn answer<L: Link, D: Disk>(
+        self,
+        input: Input,
+        size: usize,
+        link: &mut L,
+        disk: &mut D,
+    ) -> Result<Process<P>, Status>
         requires { MayTake (λ policy. P.rules policy) self (L.seen link.old) (input_seen input) size }
         ensures ok { IfOk result (λ next. (at : Setting P) (frames : List AnyFrame) (frame : AnyFrame) →
-            Runs (P.rules at.policy) at self (L.seen link.old) frames → IsWithin self → Holds self.received frame size →
-            Admits at.net at.node frame (input_seen input) →
-            GoesOn (P.rules at.policy) at next (L.seen link.new) (left_of self)) }
+            Works (P.rules at.policy) at self (L.seen link.old) (D.seen disk.old) frames → IsWithin self →
+            Holds self.received frame size → Admits at.net at.node frame (input_seen input) →
+            GoesFurther (P.rules at.policy) at next (L.seen link.new) (D.seen disk.new) (left_of self)) }
         ensures err { IfErr result (λ status. (at : Setting P) (frames : List AnyFrame) (frame : AnyFrame) →
-            Runs (P.rules at.policy) at self (L.seen link.old) frames → IsWithin self → Holds self.received frame size →
-            Admits at.net at.node frame (input_seen input) →
-            Served (P.rules at.policy) at.net at.node at.first (L.seen link.new) status) }
+            Works (P.rules at.policy) at self (L.seen link.old) (D.seen disk.old) frames → IsWithin self →
+            Holds self.received frame size → Admits at.net at.node frame (input_seen input) →
+            ServedKept (who_at (P.rules at.policy) at) at.first (L.seen link.new) at.disk (D.seen disk.new) status) }
     {
-        admission_laws::laws::what_is_handed_out_is_admitted();
         node_core::laws::what_fits_may_come();
         let Process {
             alloc,
@@ -102,12 +117,14 @@ impl<P: Policy + Copy> Process<P> {
             mut received,
             frames,
             offset,
+            journal,
         } = self;
         let answered = match hear(node, input, frames, offset) {
             Ok(answered) => answered,
             Err(status) => return Err(status),
         };
         let (node, outputs) = answered;
+        let journal = keep(journal, disk, &received.as_slice()[..size])?;
         write_outputs(alloc, &topology, id, outputs, link)?;
         received.take_front(size);
         Ok(Process {
@@ -118,26 +135,30 @@ impl<P: Policy + Copy> Process<P> {
             received,
             frames: frames + 1,
             offset: offset + size as u64,
+            journal,
         })
     }
 
     // Takes a frame, or reads once.
-    fn advance<L: Link>(self, link: &mut L) -> Result<Process<P>, Status>
-        requires { IsRunning (λ policy. P.rules policy) self (L.seen link.old) }
+    fn advance<L: Link, D: Disk>(self, link: &mut L, disk: &mut D) -> Result<Process<P>, Status>
+        requires { IsRunning (λ policy. P.rules policy) self (L.seen link.old) (D.seen disk.old) }
         ensures ok { IfOk result (λ next. (at : Setting P) (frames : List AnyFrame) →
-            Runs (P.rules at.policy) at self (L.seen link.old) frames → IsWithin self →
-            GoesOn (P.rules at.policy) at next (L.seen link.new) (left_of self)) }
+            Works (P.rules at.policy) at self (L.seen link.old) (D.seen disk.old) frames → IsWithin self →
+            GoesFurther (P.rules at.policy) at next (L.seen link.new) (D.seen disk.new) (left_of self)) }
         ensures err { IfErr result (λ status. (at : Setting P) (frames : List AnyFrame) →
-            Runs (P.rules at.policy) at self (L.seen link.old) frames → IsWithin self →
-            Served (P.rules at.policy) at.net at.node at.first (L.seen link.new) status) }
+            Works (P.rules at.policy) at self (L.seen link.old) (D.seen disk.old) frames → IsWithin self →
+            ServedKept (who_at (P.rules at.policy) at) at.first (L.seen link.new) at.disk (D.seen disk.new) status) }
     {
         match front_of(self.alloc, &self.received) {
             Front::Frame(frame, size) => {
                 let input = self.admit(frame)?;
-                let next = self.answer(input, size, link)?;
+                let next = self.answer(input, size, link, disk)?;
                 Ok(next)
             }
-            Front::More => self.wait(link),
+            Front::More => {
+                let next = self.wait(link)?;
+                Ok(next)
+            }
             Front::Bad(kind) => Err(self.refuse(kind.into())),
             Front::NoMemory => Err(Status::NoMemory),
         }
@@ -145,15 +166,19 @@ impl<P: Policy + Copy> Process<P> {
 }
 
 // Answers the frames until the run ends, and says how.
-fn ends<P: Policy + Copy, L: Link>(process: Process<P>, link: &mut L) -> Status
-    requires { IsRunning (λ policy. P.rules policy) process (L.seen link.old) }
+fn ends<P: Policy + Copy, L: Link, D: Disk>(
+    process: Process<P>,
+    link: &mut L,
+    disk: &mut D,
+) -> Status
+    requires { IsRunning (λ policy. P.rules policy) process (L.seen link.old) (D.seen disk.old) }
     ensures { (at : Setting P) (frames : List AnyFrame) →
-        Runs (P.rules at.policy) at process (L.seen link.old) frames → IsWithin process →
-        Served (P.rules at.policy) at.net at.node at.first (L.seen link.new) result }
+        Works (P.rules at.policy) at process (L.seen link.old) (D.seen disk.old) frames → IsWithin process →
+        ServedKept (who_at (P.rules at.policy) at) at.first (L.seen link.new) at.disk (D.seen disk.new) result }
 {
     let mut process = process;
     loop {
-        match process.advance(link) {
+        match process.advance(link, disk) {
             Ok(next) => process = next,
             Err(status) => return status,
         }
@@ -165,7 +190,7 @@ fn ends<P: Policy + Copy, L: Link>(process: Process<P>, link: &mut L) -> Status
 /// the run. What a user may rely on stands in `specs/Served.antt`.
 pub fn serve<L: Link>(alloc: Global, id: NodeId, topology: Rc<Topology>, link: &mut L) -> Status
     requires { has topology.value.nodes id ≡ true }
-    ensures { Served gao_rexford topology.value id (L.seen link.old) (L.seen link.new) result }
+    ensures { Served (afresh gao_rexford topology.value id) (L.seen link.old) (L.seen link.new) result }
 {
     // that a network is valid is said where its nodes are read
     let _nodes = topology.nodes();
@@ -183,6 +208,39 @@ pub fn serve<L: Link>(alloc: Global, id: NodeId, topology: Rc<Topology>, link: &
         received: Received::new(alloc),
         frames: 0,
         offset: 0,
+        journal: None,
     };
-    ends(process, link)
+    // without a journal no call is made of it
+    let mut disk = MemDisk::new(alloc, Vec::new(alloc), Vec::new(alloc));
+    ends(process, link, &mut disk)
+}
+
+/// Answers the frames of a link that was dialled, as a node that was started again does: each frame that it takes is in the
+/// journal before its replies are written. Condition: the network is that of the node. What a user may rely on stands in
+/// `specs/ServedKept.antt`.
+pub fn serve_kept<L: Link, D: Disk>(
+    alloc: Global,
+    kept: Kept,
+    topology: Rc<Topology>,
+    link: &mut L,
+    disk: &mut D,
+) -> Status
+    requires { MayServe topology.value kept }
+    ensures { (u : ℕ) (records : List AnyFrame) → IsRestored topology.value kept u records →
+        ServedKept (again gao_rexford topology.value u records) (L.seen link.old) (L.seen link.new) (D.seen disk.old) (D.seen disk.new) result }
+{
+    // that a network is valid is said where its nodes are read
+    let _nodes = topology.nodes();
+    let Kept { node, journal } = kept;
+    let process = Process {
+        alloc,
+        topology,
+        id: node.id(),
+        node,
+        received: Received::new(alloc),
+        frames: 0,
+        offset: 0,
+        journal: Some(journal),
+    };
+    ends(process, link, disk)
 }

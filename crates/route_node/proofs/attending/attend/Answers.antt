@@ -4,6 +4,7 @@ use Rattle.topology.specs.Net.{Net}
 use Rattle.path_vector.specs.GaoRexford.{gao_rexford}
 use Rattle.route_node.specs.Attended.{endpoint}
 use Rattle.route_node.specs.Served.{Served}
+use Rattle.route_node.specs.Who.{afresh}
 use Rattle.route_node.proofs.Networks.{no_place, has_place, dial_fails, never_failed, dialled, ends_missing, ends_at_dial, ends_served}
 use Rattle.route_node.proofs.attending.attend.Goals as goal
 
@@ -37,4 +38,4 @@ returns g c =
     (has_place (has c.deref.result.now.nodes c.args.id) c.rank_of.result c.is_none.result c.rank_of.ensures.none c.is_none.ensures c.if-is_none.false) in
     let same = dialled c.dial.result c.args.address.now link mid (sym c.is_err.ensures.value ∙ c.if-is_err.false) c.dial.ensures.dials c.dial.ensures.others c.dial.ensures.cause in
     ends_served (endpoint c.args.id c.args.address.now) (g.I.Source.seen c.args.source.now) (g.I.Source.seen c.network_of.new.source) net c.in-Ok.ensures.ok there link link' c.serve.result
-    (subst (λ l. Served gao_rexford net c.args.id l link' c.serve.result) same c.serve.ensures)
+    (subst (λ l. Served (afresh gao_rexford net c.args.id) l link' c.serve.result) same c.serve.ensures)

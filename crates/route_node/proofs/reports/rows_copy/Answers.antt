@@ -1,4 +1,3 @@
-use Rattle.std.proofs.Common.{◌∙◌}
 use Rattle.incomplete_closure.specs.Seen.{row_seen}
 use Rattle.route_node.specs.Frames.{row_told}
 use Rattle.route_node.proofs.Copied.{copies_more}

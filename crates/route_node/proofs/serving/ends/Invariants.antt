@@ -4,7 +4,8 @@ use Rattle.route_node.proofs.serving.ends.Given as goal
 
 -- it runs, and from wherever it began it has gone on
 abbrev pub invariant-loop-next : goal.invariant-loop-next
-invariant-loop-next g l = Keeps (λ policy. g.P.Policy.rules policy) l.initial.process (g.L.Link.seen l.initial.link) l.process (g.L.Link.seen l.link)
+invariant-loop-next g l =
+    Keeps (λ policy. g.P.Policy.rules policy) l.initial.process (record { link = g.L.Link.seen l.initial.link; disk = g.D.Disk.seen l.initial.disk }) l.process (record { link = g.L.Link.seen l.link; disk = g.D.Disk.seen l.disk })
 
 -- what is left to do
 abbrev pub decreases-loop-next : goal.decreases-loop-next

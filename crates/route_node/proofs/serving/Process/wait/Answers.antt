@@ -1,14 +1,15 @@
-use Rattle.std.proofs.Common.{ℕ, ◌≡◌, ◌∙◌, Result, Ok, Err, Bool, true, false, ◌==◌, List, [], ◌∷◌, length, sym, ap, subst, true≢false, refl, arith}
+use Rattle.std.proofs.Common.{ℕ, ◌≡◌, ◌≢◌, ◌∙◌, Result, Ok, Err, Bool, true, false, ◌==◌, List, [], ◌∷◌, length, sym, ap, subst, true≢false, refl, arith}
 use Rattle.std.proofs.lemmas.Bool.Decides.{nat_tests}
 use Rattle.std.specs.Prelude.{OnOk}
+use Rattle.topology.specs.declared.status.Status.TheVariants.{DiskFault}
 use Rattle.route_io.specs.Acts.{ReadsMore}
 use Rattle.route_io.specs.Causes.{RoseIf}
 use Rattle.route_io.specs.Views.{LinkView}
 use Rattle.route_io.specs.declared.received.Filled.{Filled}
 use Rattle.route_io.specs.declared.received.NotFilled.{NotFilled}
 use Rattle.route_io.specs.declared.received.NotFilled.TheVariants.{Fault}
-use Rattle.route_node.specs.Served.{Served}
-use Rattle.route_node.proofs.Waiting.{goes_on, served_at_end, served_within, served_without_memory, served_by_fault}
+use Rattle.route_node.specs.Running.{Ends, who_at}
+use Rattle.route_node.proofs.Waiting.{goes_on, ends_at_end, ends_within, ends_without_memory, ends_by_fault}
 use Rattle.route_node.proofs.serving.Process.wait.Goals as goal
 
 -- no call failed
@@ -39,19 +40,23 @@ returns-in-Ok-More-clause-ok g c = λ at frames runs within partial.
 
 pub returns-in-Ok-End-clause-err : goal.returns-in-Ok-End-clause-err
 returns-in-Ok-End-clause-err g c = λ at frames runs within partial.
-    let is = found_as _ _ _ c.in-Ok-End.is c.in-Ok-End.field-0-is in
-    served_at_end _ at frames c.args.self _ _ runs _ c.fill.new.self is c.fill.ensures.grows c.fill.ensures.more c.fill.ensures.end c.fill.ensures.ahead (empty_as _ _ _ c.is_empty.ensures c.if-is_empty.true c.as_slice.ensures) partial (reads_as _ _ _ _ (g.L.Link.seen c.args.link.now) (g.L.Link.seen c.fill.new.link) is c.fill.ensures.acted) c.fill.ensures.others (quiet_at _ _ _ _ is c.fill.ensures.cause)
+    let is = found_as _ _ _ c.in-Ok-End.is c.in-Ok-End.field-0-is in (
+      ends_at_end _ at frames c.args.self _ _ runs _ c.fill.new.self is c.fill.ensures.grows c.fill.ensures.more c.fill.ensures.end c.fill.ensures.ahead (empty_as _ _ _ c.is_empty.ensures c.if-is_empty.true c.as_slice.ensures) partial (reads_as _ _ _ _ (g.L.Link.seen c.args.link.now) (g.L.Link.seen c.fill.new.link) is c.fill.ensures.acted) c.fill.ensures.others (quiet_at _ _ _ _ is c.fill.ensures.cause),
+      λ e. cc e,
+    )
 
 pub returns-in-Ok-End-2-clause-err : goal.returns-in-Ok-End-2-clause-err
 returns-in-Ok-End-2-clause-err g c = λ at frames runs within partial.
     let is = found_as _ _ _ c.in-Ok-End.is c.in-Ok-End.field-0-is in
-    subst (λ s. Served (g.P.Policy.rules at.policy) at.net at.node at.first (g.L.Link.seen c.fill.new.link) s) (sym c.refuse.ensures)
-    (served_within _ at frames c.args.self _ _ runs _ c.fill.new.self is c.fill.ensures.grows c.fill.ensures.more c.fill.ensures.end partial (some_as _ _ _ c.is_empty.ensures c.if-is_empty.false c.as_slice.ensures) (reads_as _ _ _ _ (g.L.Link.seen c.args.link.now) (g.L.Link.seen c.fill.new.link) is c.fill.ensures.acted) c.fill.ensures.others (quiet_at _ _ _ _ is c.fill.ensures.cause))
+    subst (λ s. Ends (who_at (g.P.Policy.rules at.policy) at) at.first (g.L.Link.seen c.fill.new.link) frames s × (s ≢ DiskFault)) (sym c.refuse.ensures) (
+      ends_within _ at frames c.args.self _ _ runs _ c.fill.new.self is c.fill.ensures.grows c.fill.ensures.more c.fill.ensures.end partial (some_as _ _ _ c.is_empty.ensures c.if-is_empty.false c.as_slice.ensures) (reads_as _ _ _ _ (g.L.Link.seen c.args.link.now) (g.L.Link.seen c.fill.new.link) is c.fill.ensures.acted) c.fill.ensures.others (quiet_at _ _ _ _ is c.fill.ensures.cause),
+      λ e. cc e,
+    )
 
 pub returns-in-Err-NoMemory-clause-err : goal.returns-in-Err-NoMemory-clause-err
 returns-in-Err-NoMemory-clause-err g c = λ at frames runs within partial.
-    served_without_memory _ at frames c.args.self _ _ runs (ap g.L.Link.seen (c.fill.ensures.no_memory (c.in-Err-NoMemory.is ∙ ap Err c.in-Err-NoMemory.field-0-is)))
+    (ends_without_memory _ at frames c.args.self _ _ runs (ap g.L.Link.seen (c.fill.ensures.no_memory (c.in-Err-NoMemory.is ∙ ap Err c.in-Err-NoMemory.field-0-is))), λ e. cc e)
 
 pub returns-clause-err : goal.returns-clause-err
 returns-clause-err g c = λ at frames runs within partial.
-    served_by_fault _ at frames c.args.self _ _ runs partial c.fill.ensures.others c.fill.ensures.acted_err c.fill.ensures.sure c.fill.ensures.cause (c.in-Err-Fault.is ∙ ap Err c.in-Err-Fault.field-0-is)
+    (ends_by_fault _ at frames c.args.self _ _ runs partial c.fill.ensures.others c.fill.ensures.acted_err c.fill.ensures.sure c.fill.ensures.cause (c.in-Err-Fault.is ∙ ap Err c.in-Err-Fault.field-0-is), λ e. cc e)

@@ -1,0 +1,5 @@
+use Rattle.route_node.proofs.Stopped.{ends_heard}
+use Rattle.route_node.proofs.records.hear.Goals as goal
+
+pub returns-in-Err-clause-err : goal.returns-in-Err-clause-err
+returns-in-Err-clause-err g c = λ policy net u carried past stands comes. ends_heard _ net u _ _ _ _ c.stopped.ensures (c.in-Err.ensures.stopped policy net u carried past stands comes)
