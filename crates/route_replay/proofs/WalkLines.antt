@@ -38,8 +38,3 @@ module _ (head visits last : List ℕ) where
           let new : PageView = record { sink = mid.sink; pending = end } in
           subst (Gathers old new) (append_assoc head visits (ended last) ∙ pieces)
           (gathers_on old mid new (head ++ visits) (ended last) front (words_spilled mid new end (ended last) made (gathers_nothing new)))
-
--- words that fit into the page
-pub words_gathered : (old : PageView) (now words : List ℕ) → now ≡ old.pending ++ words → Gathers old (record { sink = old.sink; pending = now }) words
-words_gathered old now words is =
-    words_spilled old (record { sink = old.sink; pending = now }) now words is (gathers_nothing (record { sink = old.sink; pending = now }))

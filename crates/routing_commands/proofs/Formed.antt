@@ -1,5 +1,5 @@
 -- Words that are of a form, and words of none.
-use Rattle.std.proofs.Common.{◌≡◌, ◌≢◌, ℕ, suc, ◌<◌, ◌≤◌, ◌+◌, ◌*◌, ◌==◌, false, true≢false, String, Global, List, [], ◌∷◌, length, get_or, map, codes, decimal, refl, sym, ap, subst, ◌∙◌, arith}
+use Rattle.std.proofs.Common.{◌≡◌, ◌≢◌, ℕ, suc, ◌≤◌, ◌+◌, ◌*◌, ◌==◌, false, true≢false, String, Global, List, [], ◌∷◌, length, map, codes, decimal, refl, sym, ap, subst, ◌∙◌, arith}
 use Rattle.std.proofs.lemmas.Fmt.{decimal_injective}
 use Rattle.std.specs.Borrow.{Bor}
 use Rattle.std.specs.String.{string_bytes}
@@ -8,29 +8,6 @@ use Rattle.routing_commands.specs.declared.forms.Form.{Form}
 use Rattle.routing_commands.specs.declared.forms.Form.TheVariants.{Replay, Load, Node, Audit, Lead}
 use Rattle.routing_commands.specs.declared.forms.TheConstants.{MAX_LOAD, MAX_NODE}
 use Rattle.routing_commands.specs.Forms.{HasNoForm, IsForm, form_words}
-
--- one word, two and three
-pub one_word : (words : List (String Global)) (word : String Global) → word ≡ get_or words 0 word → 1 ≤ length words → length words < 2
-    → map (λ w. string_bytes w) words ≡ string_bytes word ∷ []
-one_word [] word is low high = absurd (omega arith)
-one_word (x ∷ []) word is low high = ap (λ (w : String Global). string_bytes w ∷ []) (sym is)
-one_word (x ∷ y ∷ words) word is low high = absurd (omega arith)
-
-pub two_words : (words : List (String Global)) (word other : String Global) → word ≡ get_or words 0 word → other ≡ get_or words 1 other → 2 ≤ length words → length words < 3
-    → map (λ w. string_bytes w) words ≡ string_bytes word ∷ string_bytes other ∷ []
-two_words [] word other is next low high = absurd (omega arith)
-two_words (x ∷ []) word other is next low high = absurd (omega arith)
-two_words (x ∷ y ∷ []) word other is next low high = let first : word ≡ x = is in let second : other ≡ y = next in rw (first, second) refl
-two_words (x ∷ y ∷ z ∷ words) word other is next low high = absurd (omega arith)
-
-pub three_words : (words : List (String Global)) (word other last : String Global) → word ≡ get_or words 0 word → other ≡ get_or words 1 other → last ≡ get_or words 2 last → 3 ≤ length words → length words < 4
-    → map (λ w. string_bytes w) words ≡ string_bytes word ∷ string_bytes other ∷ string_bytes last ∷ []
-three_words [] word other last is next end low high = absurd (omega arith)
-three_words (x ∷ []) word other last is next end low high = absurd (omega arith)
-three_words (x ∷ y ∷ []) word other last is next end low high = absurd (omega arith)
-three_words (x ∷ y ∷ z ∷ []) word other last is next end low high =
-    let first : word ≡ x = is in let second : other ≡ y = next in let third : last ≡ z = end in rw (first, second, third) refl
-three_words (x ∷ y ∷ z ∷ w ∷ words) word other last is next end low high = absurd (omega arith)
 
 head_of : (a b : List ℕ) (xs ys : List (List ℕ)) → ◌≡◌ {A = List (List ℕ)} (a ∷ xs) (b ∷ ys) → a ≡ b
 head_of a b xs ys e = cc
@@ -72,12 +49,6 @@ two_and_one e = omega (arith, e)
 two_and_three : ◌≢◌ {A = ℕ} 2 3
 two_and_three e = omega (arith, e)
 
-three_and_one : ◌≢◌ {A = ℕ} 3 1
-three_and_one e = omega (arith, e)
-
-three_and_two : ◌≢◌ {A = ℕ} 3 2
-three_and_two e = omega (arith, e)
-
 pub not_plain : (word : List ℕ) → (word ≡ codes "replay" → ⊥) → (word ≡ codes "audit" → ⊥) → (word ≡ codes "lead" → ⊥) → HasNoForm (word ∷ [])
 not_plain word replay audit lead Replay is = replay (head_of word (codes "replay") [] [] is.spelled)
 not_plain word replay audit lead Audit is = audit (head_of word (codes "audit") [] [] is.spelled)
@@ -92,26 +63,12 @@ not_load word number other Lead is = no_size (word ∷ number ∷ []) Lead two_a
 not_load word number other (Load n) is = other (head_of word (codes "load") (number ∷ []) (decimal n ∷ []) is.spelled)
 not_load word number other (Node n a) is = no_size (word ∷ number ∷ []) (Node n a) two_and_three is
 
-pub not_node : (word number address : List ℕ) → (word ≡ codes "node" → ⊥) → HasNoForm (word ∷ number ∷ address ∷ [])
-not_node word number address other Replay is = no_size (word ∷ number ∷ address ∷ []) Replay three_and_one is
-not_node word number address other Audit is = no_size (word ∷ number ∷ address ∷ []) Audit three_and_one is
-not_node word number address other Lead is = no_size (word ∷ number ∷ address ∷ []) Lead three_and_one is
-not_node word number address other (Load n) is = no_size (word ∷ number ∷ address ∷ []) (Load n) three_and_two is
-not_node word number address other (Node n a) is = other (head_of word (codes "node") (number ∷ address ∷ []) (decimal n ∷ a.now ∷ []) is.spelled)
-
 pub no_number : (word number : List ℕ) → ((n : ℕ) → n ≤ MAX_LOAD → number ≢ decimal n) → HasNoForm (word ∷ number ∷ [])
 no_number word number none Replay is = no_size (word ∷ number ∷ []) Replay two_and_one is
 no_number word number none Audit is = no_size (word ∷ number ∷ []) Audit two_and_one is
 no_number word number none Lead is = no_size (word ∷ number ∷ []) Lead two_and_one is
 no_number word number none (Load n) is = none n is.in_range (next_of word (codes "load") number (decimal n) [] [] is.spelled)
 no_number word number none (Node n a) is = no_size (word ∷ number ∷ []) (Node n a) two_and_three is
-
-pub no_node : (word number address : List ℕ) → ((n : ℕ) → 1 ≤ n → n ≤ MAX_NODE → number ≢ decimal n) → HasNoForm (word ∷ number ∷ address ∷ [])
-no_node word number address none Replay is = no_size (word ∷ number ∷ address ∷ []) Replay three_and_one is
-no_node word number address none Audit is = no_size (word ∷ number ∷ address ∷ []) Audit three_and_one is
-no_node word number address none Lead is = no_size (word ∷ number ∷ address ∷ []) Lead three_and_one is
-no_node word number address none (Load n) is = no_size (word ∷ number ∷ address ∷ []) (Load n) three_and_two is
-no_node word number address none (Node n a) is = none n is.in_range.0 is.in_range.1 (next_of word (codes "node") number (decimal n) (address ∷ []) (a.now ∷ []) is.spelled)
 
 -- as many words as no form has
 pub no_count : (words : List (List ℕ)) → length words ≢ 1 → length words ≢ 2 → length words ≢ 3 → HasNoForm words
