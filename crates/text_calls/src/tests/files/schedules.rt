@@ -228,3 +228,94 @@ fn prints_schedules(rt: HostRuntime) -> Result<(), Fail> {
     let least: &[u8] = b"hops 128\ntransient deflect\nbegin\n";
     check_printed(&rt, rt.alloc(), b"", least)
 }
+
+// The schedule of an epoch, from the first announcement to the tables.
+const EPOCH: &[u8] = b"node 1 consolidator
+node 2
+node 3
+link 1 2 any
+link 2 3 any
+prefix 10.0.0.0/8
+begin
+originate 1 10.0.0.0/8
+drain 100
+show log
+snap 1
+drain 100
+ctl all 100
+propose 1 1
+ctl all 100
+show tables 1
+";
+
+// The same, with what it leaves out.
+const EPOCH_PRINTED: &[u8] = b"node 1 consolidator
+node 2
+node 3
+link 1 2 any
+link 2 3 any
+prefix 10.0.0.0/8
+hops 128
+transient deflect
+begin
+originate 1 10.0.0.0/8
+drain 100
+show log
+snap 1
+drain 100
+ctl all 100
+propose 1 1
+ctl all 100
+show tables 1
+";
+
+// What both say of the nodes 2 and 3, and what they direct.
+const EPOCH_SAID: &str =
+    "Some(Any) Some(Any) 100 100 Some((NodeId(1), true)) Some((NodeId(2), false)) 128 Deflect
+Originate { node: NodeId(1), prefix: PrefixId(0) }
+Drain { times: 100 }
+ShowLog
+Snap { node: NodeId(1) }
+Drain { times: 100 }
+ControlAll { times: 100 }
+Propose { node: NodeId(1), epoch: Epoch(1) }
+ControlAll { times: 100 }
+ShowTables(Epoch(1))
+";
+
+// Adds what these lines direct, without their numbers.
+fn add_directives(alloc: Global, lines: &[Numbered], text: &mut String) -> Result<(), Fail> {
+    for numbered in lines {
+        let line = format!(in alloc; "{:?}\n", numbered.directive)?;
+        text.push_str(&line)?;
+    }
+    Ok(())
+}
+
+// What a schedule says of the nodes 2 and 3, and what it directs.
+fn words_of(alloc: Global, schedule: &Schedule) -> Result<String, Fail> {
+    let mut text = network_text(alloc, &schedule.topology, 2, 3)?;
+    text.push('\n')?;
+    add_directives(alloc, &schedule.lines, &mut text)?;
+    Ok(text)
+}
+
+// The same of a file.
+fn said(rt: &impl Abort, alloc: Global, file: &[u8]) -> Result<String, Fail> {
+    let schedule = schedule_of(rt, alloc, file)?;
+    words_of(alloc, &schedule)
+}
+
+fn check_said(rt: &impl Abort, alloc: Global, file: &[u8]) -> Result<(), Fail> {
+    let text = said(rt, alloc, file)?;
+    assert_eq!(rt; text.as_str(), EPOCH_SAID);
+    Ok(())
+}
+
+#[test]
+fn a_printed_schedule_is_read_again(rt: HostRuntime) -> Result<(), Fail> {
+    let text = printed(&rt, rt.alloc(), EPOCH)?;
+    assert!(rt; text.as_slice() == EPOCH_PRINTED);
+    check_said(&rt, rt.alloc(), EPOCH)?;
+    check_said(&rt, rt.alloc(), text.as_slice())
+}
