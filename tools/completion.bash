@@ -9,7 +9,7 @@ _routing() {
     local word=${COMP_WORDS[COMP_CWORD]} before=${COMP_WORDS[COMP_CWORD - 1]} options=
     COMPREPLY=()
     if [ "$COMP_CWORD" -eq 1 ]; then
-        COMPREPLY=($(compgen -W "view network text diff inflight fuzz campaign load --help" -- "$word"))
+        COMPREPLY=($(compgen -W "view network text diff inflight fuzz faults campaign load --help" -- "$word"))
         return
     fi
     case $before in
@@ -17,6 +17,7 @@ _routing() {
         --to) COMPREPLY=($(compgen -W "schedule dot graphml" -- "$word")); return ;;
         --relation) COMPREPLY=($(compgen -W "customer provider peer any" -- "$word")); return ;;
         --rule) COMPREPLY=($(compgen -W "links multihomed crashes announce" -- "$word")); return ;;
+        --only) COMPREPLY=($(compgen -W "epoch node large named" -- "$word")); return ;;
         --kind) COMPREPLY=($(compgen -W "rib log cut recorded closure ctl table walk idle probe other" -- "$word")); return ;;
     esac
     case ${COMP_WORDS[1]} in
@@ -26,6 +27,7 @@ _routing() {
         diff) options="--program" ;;
         inflight) options="--line --program" ;;
         fuzz) options="--keep --program" ;;
+        faults) options="--only --most --program" ;;
         campaign) options="--rule --orders --moments --csv --plot --no-pref --most --workers --scheduler --program" ;;
         load) options="--counts" ;;
     esac

@@ -3,10 +3,10 @@ import argparse
 import os
 import sys
 
-from . import campaign, diff, export, fuzz, inflight, load, network_command, view
+from . import campaign, diff, export, faults, fuzz, inflight, load, network_command, view
 from .trouble import BAD_INPUT, Trouble
 
-COMMANDS = [view, network_command, export, diff, inflight, fuzz, campaign, load]
+COMMANDS = [view, network_command, export, diff, inflight, fuzz, faults, campaign, load]
 CODES = "Exit status: 0 done; 1 a difference or a failure was found; 2 wrong words; 3 a bad file or run; 4 a tool is missing."
 
 
