@@ -1,21 +1,24 @@
 #!/usr/bin/env python3
 """Measures the program on generated schedules. Not part of the gate.
 
-    bench/bench.py [PROGRAM] [--runs N] [--keep FOLDER]
+    bench/bench.py [PROGRAM] [--runs N] [--callgrind] [--keep FOLDER]
 
 PROGRAM is the built program, by default out/proved/consensus_routing (PROVED=1 ./consensus_routing builds it).
-For each schedule it prints the events, the seconds of the fastest of N runs (reading the file and
-writing the text among them), the events a second and the peak memory, as /usr/bin/time tells it. The schedules are made from fixed seeds, so that each run measures the same.
+For each schedule it prints the events, the seconds of a processor of the fastest of N runs (with the start of the program, reading
+the file and writing the text), the events a second and the peak memory, as /usr/bin/time tells it; with --callgrind also the
+instructions, which do not change with what else the machine does (two schedules with millions of lines are left out there). The
+schedules are made from fixed seeds, so that each run measures the same.
 """
 import argparse
 import datetime
 import os
 import platform
 import random
+import re
+import resource
 import subprocess
 import sys
 import tempfile
-import time
 
 HERE = os.path.dirname(os.path.abspath(__file__))
 BUILT = os.path.join(HERE, "..", "out", "proved", "consensus_routing")
@@ -153,22 +156,39 @@ SCHEDULES = [
     thirty_two_epochs,
     packets,
 ]
+LONG = [idle_lines, long_log]
+
+
+def used():
+    """The seconds of a processor that ended runs have used."""
+    usage = resource.getrusage(resource.RUSAGE_CHILDREN)
+    return usage.ru_utime + usage.ru_stime
 
 
 def run(program, text, wanted=False):
-    """The seconds and the peak MiB of one run, and its output where it is wanted."""
+    """The seconds of a processor and the peak MiB of one run, and its output where it is wanted."""
     with tempfile.TemporaryFile() as source, tempfile.TemporaryFile() as sink, tempfile.NamedTemporaryFile("r") as peak:
         source.write(text)
         source.seek(0)
         # a small process starts the program: the system counts the memory of whoever starts it too
         words = ["/usr/bin/time", "-o", peak.name, "-f", "%M", program, "replay"]
-        before = time.perf_counter()
+        before = used()
         done = subprocess.run(words, stdin=source, stdout=sink, stderr=subprocess.PIPE, check=False)
-        seconds = time.perf_counter() - before
+        seconds = used() - before
         if done.returncode != 0:
             sys.exit(f"{program} ended with {done.returncode}: {done.stderr.decode().strip()}")
         sink.seek(0)
         return seconds, int(peak.read()) / 1024, sink.read() if wanted else b""
+
+
+def instructions(program, text):
+    """How many instructions a run takes."""
+    with tempfile.TemporaryFile() as source:
+        source.write(text)
+        source.seek(0)
+        words = ["valgrind", "--tool=callgrind", "--callgrind-out-file=/dev/null", program, "replay"]
+        done = subprocess.run(words, stdin=source, stdout=subprocess.DEVNULL, stderr=subprocess.PIPE, check=True)
+    return int(re.search(r"Collected : (\d+)", done.stderr.decode())[1])
 
 
 def text_of(lines):
@@ -201,12 +221,13 @@ def main():
     asked = argparse.ArgumentParser(description=__doc__, formatter_class=argparse.RawDescriptionHelpFormatter)
     asked.add_argument("program", nargs="?", default=BUILT)
     asked.add_argument("--runs", type=int, default=5)
+    asked.add_argument("--callgrind", action="store_true", help="count instructions")
     asked.add_argument("--keep", help="write the schedules to this folder")
     asked = asked.parse_args()
     cores = os.cpu_count()
     print(f"{datetime.date.today()}, {platform.machine()}, {cores} processors, best of {asked.runs} runs")
-    print("| Schedule | KiB | Events | Seconds | Events a second | MiB |")
-    print("|---|---|---|---|---|---|")
+    print("| Schedule | KiB | Events | Seconds | Events a second | MiB |" + (" Instructions, millions |" if asked.callgrind else ""))
+    print("|---|---|---|---|---|---|" + ("---|" if asked.callgrind else ""))
     for make in SCHEDULES:
         lines = make()
         text = text_of(lines)
@@ -218,8 +239,9 @@ def main():
         runs = [run(asked.program, text) for _ in range(asked.runs)]
         seconds = min(r[0] for r in runs)
         memory = max(r[1] for r in runs)
+        counted = f" {'' if make in LONG else round(instructions(asked.program, text) / 1e6)} |" if asked.callgrind else ""
         name = make.__name__.replace("_", " ")
-        print(f"| {name} | {len(text) // 1024} | {events} | {seconds:.3f} | {events / seconds:,.0f} | {memory:.0f} |")
+        print(f"| {name} | {len(text) // 1024} | {events} | {seconds:.3f} | {events / seconds:,.0f} | {memory:.1f} |{counted}", flush=True)
 
 
 if __name__ == "__main__":
