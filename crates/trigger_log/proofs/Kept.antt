@@ -228,6 +228,24 @@ module _ {P : Type 0} (policy : P) (rules : Rules) (net : Net) (u : ℕ) (old ne
             (subst (AllZip (Shows rules net u) (entered_on newer (mid ++ base))) (sym (entries ∙ rest)) parts.4));
       }
 
+  -- what is kept where all are dropped
+  pub keeps_none : (h : List Entry) → KeepsEntries policy rules net u old h → RoutesStandFor policy net u new.base (reads h) → new.from ≡ old.next → new.next ≡ old.next → new.entries.items ≡ []
+      → KeepsEntries policy rules net u new h
+  keeps_none h was live from next entries =
+      let place : new.from ≡ suc (length h) = from ∙ was.next in
+      let now : dropped_before new ≡ length h = omega (arith, place) in
+      let whole : base_of (trimmed (length h) h) ≡ h = let none : length h - length h ≡ 0 = omega arith in ap (λ n. drop n h) none in
+      record {
+        counted = subst (λ m. 1 ≤ m) (sym place) (omega arith);
+        next = next ∙ was.next;
+        within = subst (λ m. m ≤ length h) (sym now) (omega arith);
+        routes = subst (λ n. RoutesStandFor policy net u new.base (reads (base_of (trimmed n h)))) (sym now)
+            (subst (λ b. RoutesStandFor policy net u new.base (reads b)) (sym whole) live);
+        shown = subst (λ n. AllZip (Shows rules net u) (drop n (all_entered h)) new.entries.items) (sym now)
+            (subst (AllZip (Shows rules net u) (drop (length h) (all_entered h))) (sym entries)
+            (subst (λ l. AllZip (Shows rules net u) l []) (sym (drop_all (length h) (all_entered h) (let long = count_steps h in omega (arith, long)))) tt));
+      }
+
   -- the same by places: the entries before this one are dropped
   pub keeps_from : (h : List Entry) (place asked : ℕ) → KeepsEntries policy rules net u old h → Fits h → old.from ≤ place → place ≤ suc (length h) → asked ≡ place - old.from → new.from ≡ place → new.next ≡ old.next
       → ((past : History) → Accepted (fold taken past (take asked old.entries.items)) → RoutesStandFor policy net u old.base past → RoutesStandFor policy net u new.base (fold taken past (take asked old.entries.items)))

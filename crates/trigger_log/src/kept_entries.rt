@@ -4,7 +4,7 @@ ghost use Rattle.topology.specs.Net.{Net};
 ghost use Rattle.path_vector.specs.History.{History, change};
 ghost use Rattle.path_vector.specs.Parts.{Accepted};
 ghost use Rattle.path_vector.specs.Standing.{StandsFor as RoutesStandFor};
-ghost use Rattle.trigger_log.specs.Entries.{Entry as Logged};
+ghost use Rattle.trigger_log.specs.Entries.{Entry as Logged, reads};
 ghost use Rattle.trigger_log.specs.Fits.{Fits};
 ghost use Rattle.trigger_log.specs.KeptEntries.{KeepsEntries, taken};
 ghost use Rattle.trigger_log.specs.Entered.{Shows};
@@ -131,6 +131,20 @@ impl<P: Policy + Copy> KeptEntries<P> {
         self.entries.rotate_left(dropped);
         self.entries.truncate(left);
         self.from = place;
+        Ok(())
+    }
+
+    /// Drops all entries: these are the routes after them. A copy of the routes costs less than to take all entries again.
+    pub(crate) fn drop_all(&mut self, live: &RouteState<P>) -> Result<(), NoMemory>
+        ensures kept { OnOk result ((policy : P) (net : Net) (u : ℕ) (h : List Logged) →
+            KeepsEntries policy (P.rules policy) net u self.old h → RoutesStandFor policy net u live.now (reads h) →
+            KeepsEntries policy (P.rules policy) net u self.new h) }
+        ensures from { OnOk result (self.new.from ≡ self.old.next) }
+    {
+        let base = live.copy()?;
+        self.base = base;
+        self.entries.clear();
+        self.from = self.next;
         Ok(())
     }
 }

@@ -199,7 +199,7 @@ impl<P: Policy + Copy> NodeLog<P> {
         ensures dropped { IfOk result (λ log. dropped_of log ≡ place - 1) }
     {
         let mut log = self;
-        log.kept.drop_before(place)?;
+        log.shorten(place)?;
         Ok(log)
     }
 
@@ -212,8 +212,27 @@ impl<P: Policy + Copy> NodeLog<P> {
         ensures dropped { IfOk result (λ shorter. dropped_of shorter.value ≡ place - 1) }
     {
         let mut shorter = log;
-        shorter.kept.drop_before(place)?;
+        shorter.shorten(place)?;
         Ok(shorter)
+    }
+
+    // Drops the entries before the place. Where all are dropped, the routes after them are those that the log has.
+    fn shorten(&mut self, place: u32) -> Result<(), NoMemory>
+        ensures log { OnOk result ((policy : P) (net : Net) (u : ℕ) (h : List Logged) →
+            StandsFor policy (P.rules policy) net u self.old h →
+            dropped_of self.old < place → place ≤ suc (length h) →
+            StandsFor policy (P.rules policy) net u self.new h) }
+        ensures dropped { OnOk result (dropped_of self.new ≡ place - 1) }
+    {
+        if place == self.kept.from() {
+            return Ok(());
+        }
+        if place == self.kept.next() {
+            self.kept.drop_all(&self.routes)?;
+            return Ok(());
+        }
+        self.kept.drop_before(place)?;
+        Ok(())
     }
 
     /// How many entries were made, those that were dropped among them.
