@@ -3,6 +3,7 @@ pub mod Published
 pub mod Two
 pub mod Keeping
 pub mod Based
+pub mod Again
 pub mod Simple
 pub mod Backed
 pub mod Tabled

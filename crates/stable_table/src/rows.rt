@@ -13,6 +13,7 @@ use crate::backups::backups_of;
 use crate::responders::Responders;
 use path_vector::{Policy, RouteState};
 use std::alloc::Global;
+use std::rc::Rc;
 use topology::{NoMemory, NodeId, Path, PrefixId, Topology};
 
 /// The path of a prefix, where there is one, and its backups.
@@ -66,22 +67,23 @@ fn row_of<P: Policy + Copy>(
     })
 }
 
-/// A row for each prefix, in file order.
+/// A row for each prefix, in file order, in a list that tables may share.
 pub(crate) fn rows_of<P: Policy + Copy>(
     alloc: Global,
     topology: &Topology,
     state: &RouteState<P>,
     responders: &Responders<'_>,
     node: NodeId,
-) -> Result<Vec<Row>, NoMemory>
+) -> Result<Rc<Vec<Row>>, NoMemory>
     ensures { IfOk result (λ rows. (policy : P) (h : History) →
         StandsFor policy topology.now node state.now h →
         AllZip (λ p. IsRow (prefix_row (P.rules policy) topology.now node responders.now.value.now h p))
-        (places topology.now) rows.items) }
+        (places topology.now) rows.value.items) }
 {
     let mut rows = Vec::with_capacity(alloc, topology.prefix_count() as usize)?;
     for place in 0..topology.prefix_count() {
         rows.push(row_of(alloc, state, responders, node, PrefixId::new(place))?)?;
     }
-    Ok(rows)
+    let shared = Rc::new(alloc, rows)?;
+    Ok(shared)
 }

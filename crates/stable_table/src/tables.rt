@@ -1,5 +1,5 @@
 //! The table of an epoch.
-ghost use Rattle.std.specs.Prelude.{ℕ, List, [], ◌≡◌, ◌≤◌, ◌++◌, length, take, slice_get, option_map, option_and_then, unwrap_or, IfOk};
+ghost use Rattle.std.specs.Prelude.{ℕ, List, [], ◌≡◌, ◌≤◌, ◌++◌, length, take, slice_get, option_map, option_and_then, unwrap_or, IfOk, IsTrue};
 ghost use Rattle.trigger_log.specs.Entries.{Entry as Logged};
 ghost use Rattle.trigger_log.specs.Dropping.{trimmed};
 ghost use Rattle.trigger_log.specs.Standing.{StandsFor, dropped_of};
@@ -13,6 +13,7 @@ use incomplete_closure::Value;
 use path_vector::Policy;
 use std::alloc::Global;
 use std::marker::Model;
+use std::rc::Rc;
 use topology::{Epoch, NoMemory, NodeId, Path, PrefixId, Topology};
 use trigger_log::{Entry, NodeLog};
 
@@ -21,7 +22,8 @@ use trigger_log::{Entry, NodeLog};
 pub struct Table {
     epoch: Epoch,
     value: Value,
-    rows: Vec<Row>,
+    // Tables of several epochs may share their rows.
+    rows: Rc<Vec<Row>>,
 }
 
 impl Model for Table {
@@ -34,8 +36,8 @@ impl Model for Table {
     ghost view = { λ t. record {
       epoch = t.epoch;
       value = t.value;
-      paths = map (λ (r : Row). r.path) t.rows.items;
-      backups = map (λ (r : Row). r.backups.items) t.rows.items;
+      paths = map (λ (r : Row). r.path) t.rows.value.items;
+      backups = map (λ (r : Row). r.backups.items) t.rows.value.items;
     } };
 }
 
@@ -45,6 +47,31 @@ impl Table {
         ensures { result ≡ self.now.epoch }
     {
         self.epoch
+    }
+
+    /// The same table for another epoch. The rows are shared, not copied.
+    pub fn again(&self, epoch: Epoch) -> Result<Table, NoMemory>
+        ensures { IfOk result (λ table. table ≡ record self.now { epoch = epoch }) }
+    {
+        Ok(Table {
+            epoch,
+            value: self.value.copy()?,
+            rows: self.rows.clone()?,
+        })
+    }
+
+    /// Whether the table is by an equal value, by which nothing is incomplete.
+    pub fn is_complete_by(&self, value: &Value) -> bool
+        ensures { IsTrue result → (self.now.value ≡ value.now) × (value.now.incomplete ≡ []) }
+    {
+        let own = self.value();
+        if !value.incomplete.is_empty() {
+            return false;
+        }
+        if !own.incomplete.is_empty() {
+            return false;
+        }
+        own.responding.as_slice() == value.responding.as_slice()
     }
 
     /// The value that the table is by.
@@ -81,7 +108,7 @@ impl Table {
         ensures { IfOk result (λ paths. paths.items ≡ self.now.paths) }
     {
         let mut paths = Vec::with_capacity(alloc, self.rows.len())?;
-        for row in &self.rows {
+        for row in self.rows.as_slice() {
             paths.push(copy_path(&row.path)?)?;
         }
         Ok(paths)

@@ -17,4 +17,5 @@ pub returns : goal.returns
 unfolding places
 returns g c = λ policy h stands.
     let end : c.loop-place.place ≡ length c.args.topology.now.prefixes = omega arith in
-    subst (λ n. AllZip (λ p. IsRow (prefix_row (g.P.Policy.rules policy) c.args.topology.now c.args.node c.args.responders.now.value.now h p)) (range_with_len 0 n) c.loop-place.rows.items) end (c.loop-place.invariant policy h stands)
+    rw c.in_ok-shared.ensures.ok
+    (subst (λ n. AllZip (λ p. IsRow (prefix_row (g.P.Policy.rules policy) c.args.topology.now c.args.node c.args.responders.now.value.now h p)) (range_with_len 0 n) c.loop-place.rows.items) end (c.loop-place.invariant policy h stands))

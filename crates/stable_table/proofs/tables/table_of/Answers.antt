@@ -37,9 +37,9 @@ returns-then-not-has_incomplete-clause-table g c = λ policy u newer entries sta
     let same = cut_whole rules net u n c.args.cut value newer entries value.incomplete c.entries.result.now c.first_of-entries.result.now (c.entries.ensures policy net u whole stands) first is few refl none in
     let alone = no_newer newer entries c.args.cut c.len.result is (c.len.ensures policy net u whole stands) c.if-cut-len.true in
     let live = subst (RoutesStandFor policy net u c.live.result.now) (ap (λ h. reads (h ++ entries)) alone ∙ sym same) (c.live.ensures policy net u whole stands) in
-    let rows = subst (λ w. RoutesStandFor policy net w c.live.result.now (kept_reads value cut) → AllZip (λ p. IsRow (prefix_row rules net w value (kept_reads value cut) p)) (places net) c.in_ok-rows.rows.items) own
+    let rows = subst (λ w. RoutesStandFor policy net w c.live.result.now (kept_reads value cut) → AllZip (λ p. IsRow (prefix_row rules net w value (kept_reads value cut) p)) (places net) c.in_ok-rows.rows.value.items) own
     ((rw c.in_ok-responders.ensures at c.in_ok-rows.ensures) policy (kept_reads value cut)) live in
-    table_is rules net u value cut (omega (arith, is, few)) fits c.args.epoch c.in_ok-copy.field-0 c.in_ok-rows.rows.items c.in_ok-copy.ensures rows
+    table_is rules net u value cut (omega (arith, is, few)) fits c.args.epoch c.in_ok-copy.field-0 c.in_ok-rows.rows.value.items c.in_ok-copy.ensures rows
 
 pub returns-clause-table : goal.returns-clause-table
 returns-clause-table g c = λ policy u newer entries stands is few.
@@ -61,6 +61,6 @@ returns-clause-table g c = λ policy u newer entries stands is few.
     kept_alike c.in_ok-incomplete.incomplete c.as_slice.result.now c.in_ok-incomplete.ensures past c.first_of-entries.result.now
     ∙ cut_kept rules net u n c.args.cut value newer entries c.as_slice.result.now c.entries.result.now c.first_of-entries.result.now (c.entries.ensures policy net u whole stands) first is few c.as_slice.ensures.triggers in
     let state = subst (RoutesStandFor policy net u c.in_ok-state.state) same (c.in_ok-state.ensures policy net u past base (subst Accepted (sym same) (reads_accepted value cut fits))) in
-    let rows = subst (λ w. RoutesStandFor policy net w c.in_ok-state.state (kept_reads value cut) → AllZip (λ p. IsRow (prefix_row rules net w value (kept_reads value cut) p)) (places net) c.in_ok-rows-2.rows.items) own
+    let rows = subst (λ w. RoutesStandFor policy net w c.in_ok-state.state (kept_reads value cut) → AllZip (λ p. IsRow (prefix_row rules net w value (kept_reads value cut) p)) (places net) c.in_ok-rows-2.rows.value.items) own
     ((rw c.in_ok-responders.ensures at c.in_ok-rows-2.ensures) policy (kept_reads value cut)) state in
-    table_is rules net u value cut short fits c.args.epoch c.in_ok-copy-2.field-0 c.in_ok-rows-2.rows.items c.in_ok-copy-2.ensures rows
+    table_is rules net u value cut short fits c.args.epoch c.in_ok-copy-2.field-0 c.in_ok-rows-2.rows.value.items c.in_ok-copy-2.ensures rows
