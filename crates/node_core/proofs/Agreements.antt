@@ -23,7 +23,7 @@ use Rattle.chronicle.specs.Steps.{Carried}
 use Rattle.chronicle.proofs.Blocks.{same_number}
 use Rattle.node_core.specs.declared.agreement.Agreement.{Agreement}
 use Rattle.node_core.specs.declared.deciding.Act.{Act}
-use Rattle.node_core.specs.Agreeing.{Agrees, AgreesAs}
+use Rattle.node_core.specs.Agreeing.{Agrees, AgreesAs, IsOver, IsByCut}
 use Rattle.node_core.specs.Deciding.{MayDo, acted}
 use Rattle.node_core.specs.Views.{backups_over, view_of, views}
 use Rattle.node_core.proofs.ByActs.{Quiet, acts_keep}
@@ -46,6 +46,11 @@ module _ (rules : Rules) (net : Net) (u : ℕ) (past now : Chronicle) where
   same_list n cuts (t ∷ ts) low =
       ap₂ (λ v vs. v ∷ vs) (ap (λ c. record { epoch = t.epoch; value = t.value; paths = t.paths; backups = backups_over rules net u t.value c }) (cuts t.epoch low.0)) (same_list n cuts ts low.1)
 
+  -- where they were made by the cuts, they are
+  by_cuts_on : (n : ℕ) → ((e : ℕ) → e ≤ n → table_cut net u e now ≡ table_cut net u e past) → (ts : List Publication) → AreLow n ts → AllByRecursion (IsByCut rules net u past) ts → AllByRecursion (IsByCut rules net u now) ts
+  by_cuts_on n cuts [] low by = tt
+  by_cuts_on n cuts (t ∷ ts) low by = (subst (IsOver rules net u t) (sym (cuts t.epoch low.0)) by.0, by_cuts_on n cuts ts low.1 by.1)
+
   -- so are all that u published
   pub same_views : (n : ℕ) → publications u now ≡ publications u past → ((e : ℕ) → e ≤ n → table_cut net u e now ≡ table_cut net u e past) → AreLow n (publications u past) → views rules net u now ≡ views rules net u past
   same_views n same cuts low = ap (map (view_of rules net u now)) same ∙ same_list n cuts (publications u past) low
@@ -57,6 +62,7 @@ module _ (rules : Rules) (net : Net) (u : ℕ) (past now : Chronicle) where
     part = part;
     tables = subst (TablesStandFor new.tables) (sym (same_views (epoch u past) same cuts was.low)) (subst (λ t. TablesStandFor t (views rules net u past)) (sym tables) was.tables);
     low = subst (AreLow (epoch u now)) (sym same) (low_on (epoch u past) (epoch u now) (publications u past) up was.low);
+    by_cuts = subst (AllByRecursion (IsByCut rules net u now)) (sym same) (by_cuts_on (epoch u past) cuts (publications u past) was.low was.by_cuts);
   }
 
 -- ---- acts
@@ -108,8 +114,9 @@ agrees_as rules net u old new past same was = record {
   part = subst (λ k. PartStandsFor net k (control past) u) (sym same.part) was.part;
   tables = subst (λ t. TablesStandFor t (views rules net u past)) (sym same.tables) was.tables;
   low = was.low;
+  by_cuts = was.by_cuts;
 }
 
 -- at the start nothing is kept
 pub start_agrees : (rules : Rules) (net : Net) (u : ℕ) (kept : Agreement) → PartStandsFor net kept.consolidator [] u → TablesStandFor kept.tables [] → Agrees rules net u kept []
-start_agrees rules net u kept part tables = record { part = part; tables = tables; low = tt }
+start_agrees rules net u kept part tables = record { part = part; tables = tables; low = tt; by_cuts = tt }

@@ -1,6 +1,7 @@
 -- The table that a node publishes.
 use Rattle.std.proofs.Common.{ℕ, suc, ◌-◌, ◌<◌, ◌≤◌, Bool, true, false, not, ◌==◌, ◌&&◌, nat_lt, Option, Some, None, List, [], ◌∷◌, ◌++◌, map, find, ◌≡◌, refl, sym, ◌∙◌, ap, ap₂, subst, arith, length, length-append, option_map, is_some}
 use Rattle.std.specs.Prelude.{Result, Ok, Err, OnOk, OnErr, is_ok, is_err, if◌then◌else◌}
+use Rattle.std.specs.List.{AllByRecursion}
 use Rattle.std.proofs.lemmas.Bool.Decides.{nat_tests}
 use Rattle.topology.specs.Lists.{has}
 use Rattle.topology.specs.Triggers.{lists}
@@ -36,7 +37,7 @@ use Rattle.node_core.specs.declared.agreement.Agreement.{Agreement}
 use Rattle.node_core.specs.declared.node.Node.{Node}
 use Rattle.node_core.specs.declared.parts.NodeParts.{NodeParts}
 use Rattle.node_core.specs.declared.outputs.Output.{Output as Given}
-use Rattle.node_core.specs.Agreeing.{Agrees}
+use Rattle.node_core.specs.Agreeing.{Agrees, IsOver, IsByCut}
 use Rattle.node_core.specs.Answering.{MayComplete, Tabled}
 use Rattle.node_core.specs.Keeping.{Keeps}
 use Rattle.node_core.specs.Outputs.{Published, Hands, output_of}
@@ -142,6 +143,19 @@ module _ (rules : Rules) (net : Net) (u d : ℕ) (now : Chronicle) (t : View) (p
       (ap (λ c. record { epoch = s.epoch; value = s.value; paths = s.paths; backups = backups_over rules net u s.value c }) (cuts_stay net u d s.epoch tabled.value paths now not_above))
       (older_views ts (above_others d s (tables.newest published_epoch ts) above))
 
+  -- it is by its cut, and the older ones are by theirs
+  by_its_cut : IsByCut rules net u with_table (record { epoch = d; value = tabled.value; paths = paths })
+  by_its_cut =
+      let none : nat_lt d d ≡ false = grind (arith, nat_tests) in
+      subst (IsOver rules net u (record { epoch = d; value = tabled.value; paths = paths })) (sym (cuts_stay net u d d tabled.value paths now none ∙ tabled.has_cut)) refl
+
+  by_older_cuts : (ts : List Publication) → is_above d (tables.newest published_epoch ts) ≡ true → AllByRecursion (IsByCut rules net u now) ts → AllByRecursion (IsByCut rules net u with_table) ts
+  by_older_cuts [] above by = tt
+  by_older_cuts (s ∷ ts) above by =
+      let low : nat_lt s.epoch d ≡ true = above_one d s (tables.newest published_epoch ts) above in
+      let not_above : nat_lt d s.epoch ≡ false = grind (arith, nat_tests, low) in
+      (subst (IsOver rules net u s) (sym (cuts_stay net u d s.epoch tabled.value paths now not_above)) by.0, by_older_cuts ts (above_others d s (tables.newest published_epoch ts) above) by.1)
+
   -- it comes before the others
   pub views_then : is_above d (newest u now) ≡ true → views rules net u with_table ≡ t ∷ views rules net u now
   views_then above =
@@ -162,6 +176,8 @@ module _ (rules : Rules) (net : Net) (u d : ℕ) (now : Chronicle) (t : View) (p
     part = subst (λ k. PartStandsFor net k (consolidator.Other ∷ control now) u) (sym same) (stands_beside net old.consolidator (control now) u consolidator.Other tt was.part);
     tables = subst (TablesStandFor new.tables) (sym (views_then above)) stands;
     low = subst (AreLow (epoch u now)) (sym (ap (λ b. if b then record { epoch = d; value = tabled.value; paths = paths } ∷ publications u now else publications u now) (same_number u))) (low, was.low);
+    by_cuts = subst (AllByRecursion (IsByCut rules net u with_table)) (sym (ap (λ b. if b then record { epoch = d; value = tabled.value; paths = paths } ∷ publications u now else publications u now) (same_number u)))
+        (by_its_cut, by_older_cuts (publications u now) above was.by_cuts);
   }
 
 -- a call went well where it did not fail
@@ -202,7 +218,7 @@ cut_low policy rules net u e now node c keeps is =
     ]) refl
 
 -- what was logged since the cut
-since_cut : (u e : ℕ) (past : Chronicle) (c : List Entry) → cut u e past ≡ Some c → (newer : List Entry) × (newer ++ c ≡ log_of u past)
+pub since_cut : (u e : ℕ) (past : Chronicle) (c : List Entry) → cut u e past ≡ Some c → (newer : List Entry) × (newer ++ c ≡ log_of u past)
 since_cut u e [] c is = absurd (cc is)
 since_cut u e (Log node k ∷ past) c is =
     let older = since_cut u e past c is in
@@ -231,14 +247,14 @@ no_decision u e now is = ap (λ o. has (raised u now) e && is_some o) (sym is) �
     by false = refl
 
 -- the table by the cut and the decision, and the place behind what goes then
-pub table_is : {P : Type 0} (policy : P) (rules : Rules) (topo again net : Net) (u e count : ℕ) (log : NodeLog P) (now : Chronicle) (value : Value) (found : Option ℕ) (c : Option (List Entry)) (t : View) (place : ℕ)
-    → topo ≡ net → again ≡ net → LogStandsFor policy rules net u log (log_of u now) → dropped_of log ≡ dropped net u now → found ≡ Some count → found ≡ option_map length c → c ≡ cut u e now → decision u e now ≡ Some value
-    → ((newer entries : List Entry) → LogStandsFor policy rules topo u log (newer ++ entries) → count ≡ length entries → dropped_of log ≤ count → t ≡ trimmed_table_of rules topo u e value (trimmed (dropped_of log) entries))
+pub table_is : {P : Type 0} (policy : P) (rules : Rules) (again net : Net) (u e count : ℕ) (log : NodeLog P) (now : Chronicle) (value : Value) (found : Option ℕ) (c : Option (List Entry)) (t : View) (place : ℕ)
+    → again ≡ net → LogStandsFor policy rules net u log (log_of u now) → dropped_of log ≡ dropped net u now → found ≡ Some count → found ≡ option_map length c → c ≡ cut u e now → decision u e now ≡ Some value
+    → ((newer entries : List Entry) → newer ++ entries ≡ log_of u now → count ≡ length entries → dropped_of log ≤ count → t ≡ trimmed_table_of rules net u e value (trimmed (dropped_of log) entries))
     → ((newer entries : List Entry) → LogStandsFor policy rules again u log (newer ++ entries) → count ≡ length entries → dropped_of log ≤ count
     → place ≡ suc (if all_responded value again.nodes then droppable (lists value.incomplete) (dropped_of log) entries else dropped_of log))
     → is_above e (newest u now) ≡ true → DropsWithin net now u → Tabled rules net u e now t place
-table_is policy rules topo again net u e count log now value found None t place same same_again stands drops is so same_cut knows made goes above within = absurd (cc (sym so ∙ is))
-table_is policy rules topo again net u e count log now value found (Some c) t place same same_again stands drops is so same_cut knows made goes above within =
+table_is policy rules again net u e count log now value found None t place same_again stands drops is so same_cut knows made goes above within = absurd (cc (sym so ∙ is))
+table_is policy rules again net u e count log now value found (Some c) t place same_again stands drops is so same_cut knows made goes above within =
     let has_cut : cut u e now ≡ Some c = sym same_cut in
     let since = since_cut u e now c has_cut in
     let number : count ≡ length c = cc (sym is ∙ so) in
@@ -251,7 +267,7 @@ table_is policy rules topo again net u e count log now value found (Some c) t pl
       value = value;
       has_cut = ap (option_map (trimmed (dropped_below net u e now))) has_cut;
       knows = knows;
-      is = made since.0 c (subst (λ (n : Net). LogStandsFor policy rules n u log (since.0 ++ c)) (sym same) stands_so) number few ∙ ap₂ (λ (n : Net) m. trimmed_table_of rules n u e value (trimmed m c)) same below;
+      is = made since.0 c since.1 number few ∙ ap (λ m. trimmed_table_of rules net u e value (trimmed m c)) below;
       keeps_from = goes since.0 c (subst (λ (n : Net). LogStandsFor policy rules n u log (since.0 ++ c)) (sym same_again) stands_so) number few
           ∙ (ap₂ (λ (n : Net) m. suc (if all_responded value n.nodes then droppable (lists value.incomplete) m c else m)) same_again drops
           ∙ ap suc (sym (dropped_own net u e value (trimmed_table rules net u value (trimmed (dropped_below net u e now) c)) now c has_cut)));

@@ -16,6 +16,7 @@ pub mod ByActs
 pub mod Agreements
 pub mod Completing
 pub mod Concluding
+pub mod Sharing
 pub mod Asking
 pub mod Proposing
 pub mod Others

@@ -33,7 +33,7 @@ module _ (rules : Rules) (net : Net) (u : ℕ) (past : Chronicle) where
   no_view (Some t) q = absurd (cc q)
 
   -- a table is that of a publication
-  its_view : (o : Option Publication) (t : View) → Some t ≡ option_map (view_of rules net u past) o → (q : Publication) × (o ≡ Some q) × (t ≡ view_of rules net u past q)
+  pub its_view : (o : Option Publication) (t : View) → Some t ≡ option_map (view_of rules net u past) o → (q : Publication) × (o ≡ Some q) × (t ≡ view_of rules net u past q)
   its_view None t q = absurd (cc q)
   its_view (Some s) t q = (s, refl, cc q)
 

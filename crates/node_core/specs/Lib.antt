@@ -17,5 +17,6 @@ pub mod Entries
 pub mod Firsts
 pub mod Standing
 pub mod Answering
+pub mod Sharing
 pub mod Beside
 pub mod NodeLimits

@@ -1,15 +1,22 @@
 //! The table that is due, and what the node needs no more once it is published.
-ghost use Rattle.std.specs.Prelude.{ℕ, Some, IfOk, OnOk};
+ghost use Rattle.std.specs.Prelude.{ℕ, ◌≡◌, ◌≤◌, ◌++◌, List, length, Some, IfOk, IfSome, OnOk};
 ghost use Rattle.topology.specs.Net.{Net};
+ghost use Rattle.trigger_log.specs.Dropping.{trimmed};
+ghost use Rattle.trigger_log.specs.Entries.{Entry as Logged};
+ghost use Rattle.trigger_log.specs.Standing.{dropped_of};
+ghost use Rattle.stable_table.specs.Trimming.{trimmed_table_of};
 ghost use Rattle.chronicle.specs.Facts.{Chronicle};
+ghost use Rattle.chronicle.specs.Logs.{log_of};
 ghost use Rattle.chronicle.specs.Publications.{publish};
 ghost use Rattle.cut_laws.specs.Own.{DropsWithin};
 ghost use Rattle.node_core.specs.Answering.{IsDue, MayComplete};
 ghost use Rattle.node_core.specs.Outputs.{Hands};
+ghost use Rattle.node_core.specs.Sharing.{ServesFor};
 ghost use Rattle.node_core.specs.Standing.{Follows};
 
 use crate::node::Node;
 use crate::outputs::{Output, OutputList};
+use incomplete_closure::Value;
 use path_vector::Policy;
 use stable_table::{Table, droppable_before, table_of};
 use std::rc::Rc;
@@ -24,6 +31,42 @@ pub struct Due {
 }
 
 impl<P: Policy + Copy> Node<P> {
+    // The newest table, where it is by a cut of so many entries and by an equal value, by which nothing is incomplete.
+    fn same_newest(&self, cut: u32, value: &Value) -> Option<&Table>
+        ensures { IfSome result (λ table. (policy : P) (net : Net) (u : ℕ) (now : Chronicle) (newer entries : List Logged) →
+            Follows policy (P.rules policy) net u self.now now → newer ++ entries ≡ log_of u now → cut ≡ length entries →
+            ServesFor (P.rules policy) net u value.now entries table.now) }
+    {
+        let newest = self.parts.agreement.tables.newest()?;
+        if !newest.is_complete_by(value) {
+            return None;
+        }
+        let count = self.parts.snapshots.cut_of(newest.epoch())?;
+        if count != cut {
+            return None;
+        }
+        Some(newest)
+    }
+
+    // The table of an epoch by a cut of so many entries and by the value. Where the newest table has the same rows it shares
+    // them: in a network at rest the tables of all epochs do.
+    fn table(&self, epoch: Epoch, cut: u32, value: &Value) -> Result<Table, NoMemory>
+        ensures epoch { IfOk result (λ table. table.epoch ≡ epoch) }
+        ensures table { IfOk result (λ table. (policy : P) (net : Net) (u : ℕ) (now : Chronicle) (newer entries : List Logged) →
+            Follows policy (P.rules policy) net u self.now now → newer ++ entries ≡ log_of u now → cut ≡ length entries →
+            dropped_of self.now.log.value ≤ cut →
+            table ≡ trimmed_table_of (P.rules policy) net u epoch value.now
+            (trimmed (dropped_of self.now.log.value) entries)) }
+    {
+        let Some(newest) = self.same_newest(cut, value) else {
+            let parts = &self.parts;
+            let table = table_of(parts.alloc, &parts.topology, &self.log, cut, epoch, value)?;
+            return Ok(table);
+        };
+        let again = newest.again(epoch)?;
+        Ok(again)
+    }
+
     // The table of the epoch, where the node has its cut and knows its decision. It is made of no use where the node published
     // one that is as new.
     fn due(&self, epoch: Epoch) -> Result<Option<Due>, NoMemory>
@@ -38,7 +81,7 @@ impl<P: Policy + Copy> Node<P> {
         let Some(value) = parts.agreement.consolidator.decision(epoch) else {
             return Ok(None);
         };
-        let table = table_of(parts.alloc, &parts.topology, &self.log, cut, epoch, value)?;
+        let table = self.table(epoch, cut, value)?;
         let place = droppable_before(parts.alloc, &parts.topology, &self.log, cut, value)?;
         Ok(Some(Due { table, place }))
     }

@@ -22,13 +22,13 @@ pub returns : goal.returns
 returns g c = λ policy net u now follows. (
   c.in_ok-table.ensures.epoch,
   λ above within.
-      table_is policy (g.P.Policy.rules policy) c.deref-5.result.now c.deref-9.result.now net u c.args.epoch c.in-Some.cut c.args.self.now.log.value now c.in-Some-decision.value.now c.cut_of.result
-      (cut_of c.args.epoch follows.keeps.acts) c.in_ok-table.table c.in_ok-place.place (net_of c.deref-5.ensures c.deref-4.ensures follows.keeps.same_net)
-      (net_of c.deref-9.ensures c.deref-8.ensures follows.keeps.same_net)
+      table_is policy (g.P.Policy.rules policy) c.deref-5.result.now net u c.args.epoch c.in-Some.cut c.args.self.now.log.value now c.in-Some-decision.value.now c.cut_of.result
+      (cut_of c.args.epoch follows.keeps.acts) c.in_ok-table.table c.in_ok-place.place
+      (net_of c.deref-5.ensures c.deref-4.ensures follows.keeps.same_net)
       follows.keeps.log follows.keeps.drops c.in-Some.is ((rw c.deref.ensures at c.cut_of.ensures) net u follows.keeps.acts follows.keeps.snapshots) (follows.keeps.alike.same_cut c.args.epoch)
       (sym (c.decision.ensures net (control now) u (subst (λ (k : NodeParts). PartStandsFor net k.agreement.consolidator (control now) u) (sym c.deref-2.ensures) follows.agrees.part))
       ∙ ap option_copied c.in-Some-decision.is)
-      (λ newer entries stands count few. (rw c.deref-6.ensures at c.in_ok-table.ensures.table) policy u newer entries stands count few)
-      (λ newer entries stands count few. (rw c.deref-10.ensures at c.in_ok-place.ensures) policy u newer entries stands count few)
+      (λ newer entries whole count few. c.in_ok-table.ensures.table policy net u now newer entries follows whole count few)
+      (λ newer entries stands count few. (rw c.deref-6.ensures at c.in_ok-place.ensures) policy u newer entries stands count few)
       above within,
 )
