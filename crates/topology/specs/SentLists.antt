@@ -1,5 +1,5 @@
 -- The items that an entry sent, as they are kept.
-use Rattle.std.specs.Prelude.{◌≡◌, ◌≤◌, ◌<◌, ◌^◌, List, [], ◌∷◌, length}
+use Rattle.std.specs.Prelude.{ℕ, Bool, ◌+◌, ◌≡◌, ◌≤◌, ◌<◌, ◌^◌, nat_lt, List, [], ◌∷◌, length}
 use Rattle.std.specs.List.{AllByRecursion}
 use Rattle.topology.specs.declared.names.Trigger.{Trigger}
 use Rattle.topology.specs.declared.items.Sent.{Sent}
@@ -35,3 +35,12 @@ abbrev pub laid_items : Laid → List Sent
 laid_items (LaidOne items) = items
 laid_items (LaidTwo items) = items
 laid_items (Lent items) = items.now
+
+-- how many triggers the items list, counted once for each item
+abbrev pub marks_of : List Sent → ℕ
+marks_of [] = 0
+marks_of (item ∷ items) = length item.triggers + marks_of items
+
+-- the item lists more triggers than this
+abbrev pub is_above : ℕ → Sent → Bool
+is_above most item = nat_lt most (length item.triggers)

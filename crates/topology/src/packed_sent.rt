@@ -1,7 +1,8 @@
 //! One or two items that were sent for one trigger, without a list on the heap.
-ghost use Rattle.std.specs.Prelude.{◌≡◌, ◌≢◌, ◌≤◌, ◌^◌, ◌↔◌, ◌∷◌, [], IfSome, IsNone};
+ghost use Rattle.std.specs.Prelude.{◌≡◌, ◌≢◌, ◌≤◌, ◌^◌, ◌↔◌, ◌∷◌, [], length, IfSome, IsNone};
+ghost use Rattle.std.specs.List.{list_any};
 ghost use Rattle.topology.specs.declared.items.Sent.{Sent as TheItem};
-ghost use Rattle.topology.specs.SentLists.{IsSmall};
+ghost use Rattle.topology.specs.SentLists.{IsSmall, is_above, marks_of};
 
 use crate::items::Sent;
 use crate::{NodeId, Session, Trigger, Triggers};
@@ -118,6 +119,30 @@ impl OneSent {
             triggers: Triggers::one(self.trigger),
         }]
     }
+
+    /// How many items there are.
+    pub fn len(&self) -> usize
+        ensures { result ≡ length self.now }
+    {
+        let _to = self.to;
+        1
+    }
+
+    /// How many triggers it lists, counted once for each item.
+    pub fn marks(&self) -> usize
+        ensures { result ≡ marks_of self.now }
+    {
+        let _to = self.to;
+        1
+    }
+
+    /// Whether it lists more triggers than this.
+    pub fn any_above(&self, most: usize) -> bool
+        ensures { result ≡ list_any (is_above most) self.now }
+    {
+        let _to = self.to;
+        most < 1
+    }
 }
 
 impl TwoSent {
@@ -176,5 +201,29 @@ impl TwoSent {
         let one = self.item(self.to.0, self.session.0, self.seq.0);
         let other = self.item(self.to.1, self.session.1, self.seq.1);
         [one, other]
+    }
+
+    /// How many items there are.
+    pub fn len(&self) -> usize
+        ensures { result ≡ length self.now }
+    {
+        let _to = self.to;
+        2
+    }
+
+    /// How many triggers they list, counted once for each item.
+    pub fn marks(&self) -> usize
+        ensures { result ≡ marks_of self.now }
+    {
+        let _to = self.to;
+        2
+    }
+
+    /// Whether one of them lists more triggers than this.
+    pub fn any_above(&self, most: usize) -> bool
+        ensures { result ≡ list_any (is_above most) self.now }
+    {
+        let _to = self.to;
+        most < 1
     }
 }

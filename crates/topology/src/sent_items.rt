@@ -1,6 +1,7 @@
 //! The items that an entry sent.
-ghost use Rattle.std.specs.Prelude.{◌≡◌, [], length, IfOk, IsOk, IfSome, IsNone};
-ghost use Rattle.topology.specs.SentLists.{AreAlike, IsUnlike, listed_sent};
+ghost use Rattle.std.specs.Prelude.{◌≡◌, ◌≤◌, ◌^◌, [], length, IfOk, IsOk, IfSome, IsNone};
+ghost use Rattle.std.specs.List.{list_any};
+ghost use Rattle.topology.specs.SentLists.{AreAlike, IsUnlike, is_above, listed_sent, marks_of};
 
 use crate::packed_sent::{OneSent, TwoSent};
 use crate::{NoMemory, Sent, Trigger};
@@ -63,6 +64,21 @@ fn in_place(items: &[Sent]) -> Option<Kept>
     }
 }
 
+// How many triggers the items list. None where the count ends.
+fn count_marks(items: &[Sent]) -> Option<usize>
+    ensures some { IfSome result (λ marks. marks ≡ marks_of items.now) }
+    ensures none { IsNone result → 2 ^ 64 ≤ marks_of items.now }
+{
+    let mut marks: usize = 0;
+    for item in items {
+        let Some(more) = marks.checked_add(item.triggers.len()) else {
+            return None;
+        };
+        marks = more;
+    }
+    Some(marks)
+}
+
 impl SentItems {
     /// The list of these items. Up to two of them that list one and the same trigger, in sessions and with numbers below 65,536,
     /// take no memory.
@@ -115,9 +131,34 @@ impl SentItems {
     {
         match &self.kept {
             Kept::Nothing => 0,
-            Kept::One(item) => item.to_array().len(),
-            Kept::Two(items) => items.to_array().len(),
+            Kept::One(item) => item.len(),
+            Kept::Two(items) => items.len(),
             Kept::Many(items) => items.len(),
+        }
+    }
+
+    /// How many triggers they list, counted once for each item. None where the count ends. No item is laid out.
+    pub fn marks(&self) -> Option<usize>
+        ensures some { IfSome result (λ marks. marks ≡ marks_of self.now) }
+        ensures none { IsNone result → 2 ^ 64 ≤ marks_of self.now }
+    {
+        match &self.kept {
+            Kept::Nothing => Some(0),
+            Kept::One(item) => Some(item.marks()),
+            Kept::Two(items) => Some(items.marks()),
+            Kept::Many(items) => count_marks(items.as_slice()),
+        }
+    }
+
+    /// Whether one of them lists more triggers than this. No item is laid out.
+    pub fn any_above(&self, most: usize) -> bool
+        ensures { result ≡ list_any (is_above most) self.now }
+    {
+        match &self.kept {
+            Kept::Nothing => false,
+            Kept::One(item) => item.any_above(most),
+            Kept::Two(items) => items.any_above(most),
+            Kept::Many(items) => items.iter().any(|item| item.triggers.len() > most),
         }
     }
 
