@@ -3,7 +3,8 @@ use Rattle.std.proofs.Common.{ℕ, suc, ◌+◌, ◌-◌, ◌<◌, ◌≤◌, �
 use Rattle.std.specs.List.{list_any}
 use Rattle.topology.specs.declared.items.Sent.{Sent}
 use Rattle.node_core.specs.declared.counts.Counts.{Counts}
-use Rattle.node_core.specs.Counted.{is_long, is_long_item, item_marks}
+use Rattle.topology.specs.SentLists.{marks_of}
+use Rattle.node_core.specs.Counted.{is_long_item, item_marks}
 use Rattle.node_core.specs.Counting.{Adds, AreCounts}
 use Rattle.node_core.proofs.Totals.{total_append}
 use Rattle.std.proofs.lemmas.List.{length-append}
@@ -78,38 +79,16 @@ counted_more rules net u k h old mid new shown n was shows adds updates many mar
   long = long ∙ (adds.long ∙ (ap₂ (λ a (items : List Sent). a || list_any is_long_item items) was.long shows.sent ∙ sym (any_append (sent_of rules net u h) (sent_by rules net u h k))));
 }
 
--- no item, one, and one more
-pub adds_none : (counts : Counts) → Adds [] counts counts
-adds_none counts = record { updates = omega arith; marks = omega arith; long = or_false counts.has_long }
-  where
-    or_false : (b : Bool) → b ≡ (b || false)
-    or_false true = refl
-    or_false false = refl
+-- the triggers that items list, by the count that the items tell
+same_marks : (items : List Sent) → marks_of items ≡ item_marks items
+same_marks [] = refl
+same_marks (item ∷ items) = ap (λ n. length item.triggers + n) (same_marks items)
 
--- where there are none
-pub adds_no_more : (items : List Sent) (counts : Counts) → length items ≡ 0 → Adds items counts counts
-adds_no_more [] counts none = adds_none counts
-adds_no_more (item ∷ items) counts none = absurd (cc none)
-
-pub adds_one : (item : Sent) (old new : Counts) (n : ℕ) (b : Bool) → n ≡ length item.triggers → b ≡ is_long item.triggers → new.updates ≡ old.updates + 1 → new.marks ≡ old.marks + n → new.has_long ≡ (old.has_long || b)
-    → Adds (item ∷ []) old new
-adds_one item old new n b many long updates marks either = record {
-  updates = updates;
-  marks = omega (arith, many, marks);
-  long = either ∙ ap (λ x. old.has_long || x) (long ∙ or_false (is_long item.triggers));
+-- items more
+pub adds_items : (items : List Sent) (old new : Counts) (count marks : ℕ) (long : Bool) → count ≡ length items → marks ≡ marks_of items → long ≡ list_any is_long_item items
+    → new.updates ≡ old.updates + count → new.marks ≡ old.marks + marks → new.has_long ≡ (old.has_long || long) → Adds items old new
+adds_items items old new count marks long counts lists any updates more either = record {
+  updates = updates ∙ ap (λ n. old.updates + n) counts;
+  marks = more ∙ ap (λ n. old.marks + n) (lists ∙ same_marks items);
+  long = either ∙ ap (λ b. old.has_long || b) any;
 }
-  where
-    or_false : (b : Bool) → b ≡ (b || false)
-    or_false true = refl
-    or_false false = refl
-
-pub adds_more : (xs ys : List Sent) (old mid new : Counts) → Adds xs old mid → Adds ys mid new → Adds (xs ++ ys) old new
-adds_more xs ys old mid new first then' = record {
-  updates = let a = first.updates in let b = then'.updates in let both = length-append xs ys in omega (arith, a, b, both);
-  marks = let a = first.marks in let b = then'.marks in let both = marks_append xs ys in omega (arith, a, b, both);
-  long = then'.long ∙ (ap (λ b. b || list_any is_long_item ys) first.long ∙ (or_assoc old.has_long (list_any is_long_item xs) (list_any is_long_item ys) ∙ ap (λ b. old.has_long || b) (sym (any_append xs ys))));
-}
-  where
-    or_assoc : (a b c : Bool) → ((a || b) || c) ≡ (a || (b || c))
-    or_assoc true b c = refl
-    or_assoc false b c = refl

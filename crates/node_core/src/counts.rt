@@ -113,47 +113,18 @@ impl Counts {
         }
     }
 
-    // One item more. After want of memory the counts mean nothing.
-    #[inline(always)]
-    fn add_item(&mut self, item: &Sent) -> Result<(), NoMemory>
-        ensures { OnOk result (Adds (item.now ∷ []) self.old self.new) }
-    {
-        self.updates = sum(self.updates, 1)?;
-        self.marks = sum(self.marks, item.triggers.len())?;
-        self.has_long = self.has_long | is_long(&item.triggers);
-        Ok(())
-    }
-
-    // These items more.
-    #[inline(always)]
-    fn add_items(&mut self, items: &[Sent]) -> Result<(), NoMemory>
-        ensures { OnOk result (Adds items.now self.old self.new) }
-    {
-        let mut counts = *self;
-        for item in items {
-            counts.add_item(item)?;
-        }
-        *self = counts;
-        Ok(())
-    }
-
-    // The items of an entry more, which sent some.
-    #[inline(never)]
-    fn add_laid_out(&mut self, sent: &SentItems) -> Result<(), NoMemory>
-        ensures { OnOk result (Adds sent.now self.old self.new) }
-    {
-        self.add_items(sent.laid_out().as_slice())
-    }
-
-    // The items of an entry more: most entries sent none.
+    // The items of an entry more. After want of memory the counts mean nothing.
     #[inline(always)]
     fn add_sent(&mut self, sent: &SentItems) -> Result<(), NoMemory>
         ensures { OnOk result (Adds sent.now self.old self.new) }
     {
-        if sent.len() == 0 {
-            return Ok(());
-        }
-        self.add_laid_out(sent)
+        let Some(marks) = sent.marks() else {
+            return Err(NoMemory);
+        };
+        self.updates = sum(self.updates, sent.len())?;
+        self.marks = sum(self.marks, marks)?;
+        self.has_long = self.has_long | sent.any_above(MOST_TRIGGERS as usize);
+        Ok(())
     }
 
     /// One entry more, or want of memory where a count ends: then the counts mean nothing.
