@@ -84,7 +84,7 @@ pub enum LimitKind {
     /// The triggers that one node lists in its entries, in the items that these sent and in what it holds back, counted once
     /// for each list.
     Marks,
-    /// The bytes of a journal. No run writes one yet.
+    /// The bytes of a journal.
     Journal,
 }
 
@@ -216,9 +216,9 @@ pub enum Status {
     BadFrame(u64, FrameFault),
     /// The network has no node with this number.
     NoSuchNode(NodeId),
-    /// The disk failed. No command uses one yet.
+    /// The disk failed.
     DiskFault,
-    /// The record that begins at this offset of a journal is refused. No command reads one yet.
+    /// The record that begins at this offset of a journal is refused.
     BadJournal(u64, FrameFault),
     /// The first line that begins like one of a table and is none, counted from 1.
     BadTables(u32),
