@@ -3,6 +3,7 @@
 _consensus_routing() {
     local word=${COMP_WORDS[COMP_CWORD]}
     [ "$COMP_CWORD" -ne 1 ] || COMPREPLY=($(compgen -W "replay load node audit lead" -- "$word"))
+    [ "${COMP_WORDS[1]} $COMP_CWORD" != "node 4" ] || COMPREPLY=($(compgen -f -- "$word"))
 }
 
 _routing() {

@@ -36,7 +36,7 @@ class Usage(unittest.TestCase):
     def test_the_manual_and_the_completion_have_the_forms(self):
         synopsis = re.findall(r"^\.B consensus_routing (\w+)$", PAGES[0].read_text(), re.M)
         self.assertEqual(synopsis, FORMS)
-        self.assertIn(f'compgen -W "{" ".join(FORMS)}"', (TOP / "tools" / "completion.bash").read_text())
+        self.assertIn(f'compgen -W "{" ".join(dict.fromkeys(FORMS))}"', (TOP / "tools" / "completion.bash").read_text())
 
 
 class Manual(unittest.TestCase):

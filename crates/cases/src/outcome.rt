@@ -1,4 +1,5 @@
 //! What comes of a run over memory.
+use acceptor_journal::MemDisk;
 use anyhow::Result;
 use route_io::{MemLink, MemSink, MemSource};
 use routing_commands::run::run;
@@ -53,7 +54,16 @@ pub fn outcome_of(
     let mut notes = MemSink::new(zeros(alloc, NOTE_ROOM)?, Vec::new(alloc));
     let room = zeros(alloc, LINK_ROOM)?;
     let mut link = MemLink::new(frames, room, false, Vec::new(alloc), Vec::new(alloc));
-    let status = run(alloc, words, &mut source, &mut sink, &mut notes, &mut link);
+    let mut disk = MemDisk::new(alloc, Vec::new(alloc), Vec::new(alloc));
+    let status = run(
+        alloc,
+        words,
+        &mut source,
+        &mut sink,
+        &mut notes,
+        &mut link,
+        &mut disk,
+    );
     Ok(Outcome {
         end: end_line(alloc, status.code(), held(alloc, &notes)?.as_str())?,
         text: held(alloc, &sink)?,

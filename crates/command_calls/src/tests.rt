@@ -1,7 +1,9 @@
 //! Runs over memory: words, notes, room, and each side failing in turn.
+mod kept_nodes;
 mod over_links;
 mod waiting_peer;
 
+use acceptor_journal::MemDisk;
 use itoa::Buffer;
 use route_io::{MemLink, MemSink, MemSource, PlainLink, PlainSink, PlainSource};
 use routing_commands::notes::tell;
@@ -45,7 +47,7 @@ rib 3 10.0.0.0/8: 3 2 1
 ";
 
 const USAGE_NOTE: &str =
-    "usage: consensus_routing replay | load NUMBER | node ID ADDRESS | audit | lead\n";
+    "usage: consensus_routing replay | load NUMBER | node ID ADDRESS | node ID ADDRESS FILE | audit | lead\n";
 
 fn words_of(alloc: Global, words: &[&str]) -> Result<Vec<String>, Fail> {
     let mut given = Vec::new(alloc);
@@ -65,6 +67,11 @@ fn no_link(alloc: Global) -> MemLink {
         none,
         Vec::new(alloc),
     )
+}
+
+// A disk without a file, for words that ask for none.
+fn no_disk(alloc: Global) -> MemDisk {
+    MemDisk::new(alloc, Vec::new(alloc), Vec::new(alloc))
 }
 
 // A sink with room for so many bytes.
@@ -91,7 +98,16 @@ fn status_of(
     let content = Vec::from_slice(alloc, file.as_bytes())?;
     let mut source = MemSource::new(content, Vec::from_slice(alloc, reads)?);
     let mut link = no_link(alloc);
-    Ok(run(alloc, &given, &mut source, sink, notes, &mut link))
+    let mut disk = no_disk(alloc);
+    Ok(run(
+        alloc,
+        &given,
+        &mut source,
+        sink,
+        notes,
+        &mut link,
+        &mut disk,
+    ))
 }
 
 // The status of a run of the file, what was written, and what was noted.
@@ -158,7 +174,7 @@ fn runs_a_file_and_names_each_fault(rt: HostRuntime) -> Result<(), Fail> {
 }
 
 // Words of no form.
-const NO_FORMS: [&[&str]; 14] = [
+const NO_FORMS: [&[&str]; 15] = [
     &["load"],
     &["load", ""],
     &["load", "x"],
@@ -172,7 +188,8 @@ const NO_FORMS: [&[&str]; 14] = [
     &["node", "0", "127.0.0.1:1"],
     &["node", "02", "127.0.0.1:1"],
     &["node", "65536", "127.0.0.1:1"],
-    &["node", "2", "127.0.0.1:1", "journal"],
+    &["node", "0", "127.0.0.1:1", "journal"],
+    &["node", "2", "127.0.0.1:1", "journal", "2"],
 ];
 
 #[test]
@@ -347,7 +364,16 @@ fn end_of_bytes(alloc: Global, byte: u8, count: usize) -> Result<(Status, String
     let mut sink = sink_of(alloc, 0, &[])?;
     let mut notes = sink_of(alloc, 64, &[])?;
     let mut link = no_link(alloc);
-    let status = run(alloc, &words, &mut source, &mut sink, &mut notes, &mut link);
+    let mut disk = no_disk(alloc);
+    let status = run(
+        alloc,
+        &words,
+        &mut source,
+        &mut sink,
+        &mut notes,
+        &mut link,
+        &mut disk,
+    );
     Ok((status, text_of(alloc, &notes)?))
 }
 
@@ -390,7 +416,16 @@ fn fails_over_plain_memory_only_for_room(rt: HostRuntime) -> Result<(), Fail> {
         let mut sink = PlainSink::new(vec![in alloc; 0; room]?);
         let mut notes = PlainSink::new(vec![in alloc; 0; 64]?);
         let mut link = PlainLink::new(Vec::new(alloc), Vec::new(alloc));
-        let answer = run(alloc, &words, &mut source, &mut sink, &mut notes, &mut link);
+        let mut disk = no_disk(alloc);
+        let answer = run(
+            alloc,
+            &words,
+            &mut source,
+            &mut sink,
+            &mut notes,
+            &mut link,
+            &mut disk,
+        );
         assert_eq!(rt; answer, status, "{room}");
         assert!(rt; TEXT.as_bytes().starts_with(sink.held()), "{room}");
     }

@@ -5,6 +5,7 @@
 mod exit;
 mod standard_files;
 
+use acceptor_journal::FileDisk;
 use exit::exit_of;
 use route_io::{StdSink, StdSource, TcpLink};
 use routing_commands::notes::tell;
@@ -42,6 +43,7 @@ fn main(rt: HostRuntime) -> ExitCode {
             let mut source = StdSource::new(rt.stdin());
             let mut sink = StdSink::new(rt.stdout());
             let mut link = TcpLink::new(&rt);
+            let mut disk = FileDisk::new(&rt);
             let status = run(
                 rt.alloc(),
                 &words,
@@ -49,6 +51,7 @@ fn main(rt: HostRuntime) -> ExitCode {
                 &mut sink,
                 &mut notes,
                 &mut link,
+                &mut disk,
             );
             link.close();
             status

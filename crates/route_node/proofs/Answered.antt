@@ -29,10 +29,10 @@ use Rattle.route_node.specs.declared.limits.TheConstants.{MAX_FRAMES}
 use Rattle.route_node.specs.declared.serving.Process.{Process}
 use Rattle.route_node.specs.Frames.{telling}
 use Rattle.route_node.specs.Fronts.{Holds, Admits, EndsFrame}
-use Rattle.route_node.specs.Running.{Setting, Runs, GoesOn, IsWithin, Ends, left_of, who_at}
+use Rattle.route_node.specs.Running.{Serving, Runs, ServesOn, IsWithin, EndsServing, left_of, who_at}
 use Rattle.route_node.specs.Served.{ends_serving, status_of, BreaksOff, TooLongAnswers}
 use Rattle.route_node.specs.ServedKept.{AreInFront}
-use Rattle.route_node.specs.Streams.{stream, replies, out_of_turn, refusal, journal_limit, frame_limit, AreTaken, Ending, Refused, Stopped, found_fault, StopsAt, EndsAt, Comes}
+use Rattle.route_node.specs.Streams.{stream, replies, out_of_turn, refusal, journal_limit, frame_limit, AreTaken, Ending, Refused, Stopped, found_fault, StopsAt, EndsAt, StreamComesTo}
 use Rattle.route_node.specs.Told.{handed}
 use Rattle.route_node.specs.Who.{run_over}
 use Rattle.route_node.specs.Writing.{spelled, OneWriteEach, Writes, Breaks}
@@ -61,7 +61,7 @@ no_disk_fault_behind replies old new status breaks is = not_either breaks.why
     not_either (inl e) = absurd (cc (sym e ∙ is))
     not_either (inr e) = absurd (cc (sym e ∙ is))
 
-module _ {P : Type 0} (rules : Rules) (at : Setting P) (frames : List Frame) (process : Process P) (old : LinkView) (runs : Runs rules at process old frames)
+module _ {P : Type 0} (rules : Rules) (at : Serving P) (frames : List Frame) (process : Process P) (old : LinkView) (runs : Runs rules at process old frames)
     (frame : Frame) (size : ℕ) (holds : Holds process.received frame size) (i : Input) (admits : Admits at.net at.node frame i) where
   -- the bytes that are left begin with the frame
   left_as : (t : List ℕ) → process.received ++ t ≡ spell frame ++ (drop size process.received ++ t)
@@ -80,7 +80,7 @@ module _ {P : Type 0} (rules : Rules) (at : Setting P) (frames : List Frame) (pr
   stopped_front : (more : List ℕ) (reached : Reached) → refusal (who_at rules at) frames frame ≡ None → frame_limit (who_at rules at) frames frame ≡ Some reached → EndsAt (who_at rules at) frames (spell frame ++ more) (Stopped reached)
   stopped_front more reached none limit = subst (StopsAt (who_at rules at) frames reached) (sym (whole more)) (none, limit)
 
-  comes_to : (ending : Ending) → ((more : List ℕ) → EndsAt (who_at rules at) frames (spell frame ++ more) ending) → (bytes : List ℕ) → at.first.incoming ≡ Some bytes → Comes (who_at rules at) bytes frames ending
+  comes_to : (ending : Ending) → ((more : List ℕ) → EndsAt (who_at rules at) frames (spell frame ++ more) ending) → (bytes : List ℕ) → at.first.incoming ≡ Some bytes → StreamComesTo (who_at rules at) bytes frames ending
   comes_to ending ends bytes told =
       let known = told_as rules at frames process old old runs bytes told in
       record {
@@ -90,13 +90,13 @@ module _ {P : Type 0} (rules : Rules) (at : Setting P) (frames : List Frame) (pr
         ends = ends (drop size process.received ++ known.0);
       }
 
-  ends_here : (status : Status) (ending : Ending) → status ≡ status_of (length (stream frames)) ending → ends_serving (is_some at.records) status ≡ true → ((more : List ℕ) → EndsAt (who_at rules at) frames (spell frame ++ more) ending) → (status ≡ Done → ⊥) → Ends (who_at rules at) at.first old frames status
+  ends_here : (status : Status) (ending : Ending) → status ≡ status_of (length (stream frames)) ending → ends_serving (is_some at.records) status ≡ true → ((more : List ℕ) → EndsAt (who_at rules at) frames (spell frame ++ more) ending) → (status ≡ Done → ⊥) → EndsServing (who_at rules at) at.first old frames status
   ends_here status ending is formed ends never =
       ends_by_ending (who_at rules at) at.first old status frames runs.taken runs.grow runs.same_room runs.same_dialled (prompt_as rules at frames process old old runs refl) ending is formed (comes_to ending ends) (answered_as rules at frames process old old runs refl runs.one_write_each) runs.quiet (λ e. absurd (never e))
 
   -- the run ends at the frame
   pub ends_at_frame : (status : Status) → EndsFrame process.offset process.frames (out_of_turn (gives rules at.net at.node (run_over (who_at rules at) frames) i))
-      (node_limit rules at.net at.node (gives rules at.net at.node (run_over (who_at rules at) frames) i)) status → Ends (who_at rules at) at.first old frames status
+      (node_limit rules at.net at.node (gives rules at.net at.node (run_over (who_at rules at) frames) i)) status → EndsServing (who_at rules at) at.first old frames status
   ends_at_frame NoMemory e = ends_without_memory rules at frames process old old runs refl
   ends_at_frame (BadFrame offset fault) e =
       ends_here (BadFrame offset fault) (Refused fault) (ap (λ n. BadFrame n fault) (e.0 ∙ runs.offset)) refl (λ more. refused_front more fault (same_fault ∙ e.1)) (λ d. absurd (cc d))
@@ -124,7 +124,7 @@ module _ {P : Type 0} (rules : Rules) (at : Setting P) (frames : List Frame) (pr
       (node_limit rules at.net at.node (gives rules at.net at.node (run_over (who_at rules at) frames) i))) is e
 
   -- memory ran out for the journal, or a call of its disk failed, before anything was written
-  pub ends_unkept : (status : Status) → BreaksOff at.records status → (status ≡ LinkFault → ⊥) → Ends (who_at rules at) at.first old frames status
+  pub ends_unkept : (status : Status) → BreaksOff at.records status → (status ≡ LinkFault → ⊥) → EndsServing (who_at rules at) at.first old frames status
   ends_unkept status why not_link =
       ends_unwritten rules at frames process old old runs status refl refl refl (prompt_as rules at frames process old old runs refl) why
       (record { later = let e = runs.quiet in omega (arith, e); rose = λ e. absurd (not_link e); quiet = λ _. runs.quiet }) (λ _ e. not_link e)
@@ -139,7 +139,7 @@ module _ {P : Type 0} (rules : Rules) (at : Setting P) (frames : List Frame) (pr
     limit_now = limit_last (who_at rules at) frame frames i admits.brings (let count = runs.count in omega (arith, few, count)) low
 
     -- the journal has no room for its record
-    pub ends_full : (reached : Reached) → journal_limit at.records frames frame ≡ Some reached → Ends (who_at rules at) at.first old frames (Limit reached.kind reached.number)
+    pub ends_full : (reached : Reached) → journal_limit at.records frames frame ≡ Some reached → EndsServing (who_at rules at) at.first old frames (Limit reached.kind reached.number)
     ends_full reached is =
         ends_here (Limit reached.kind reached.number) (Stopped reached) refl (limit_ends (who_at rules at) frames frame reached (limit_now ∙ is))
         (λ more. stopped_front more reached (same_fault ∙ turn) (limit_now ∙ is)) (λ d. absurd (cc d))
@@ -180,7 +180,7 @@ module _ {P : Type 0} (rules : Rules) (at : Setting P) (frames : List Frame) (pr
           }
 
       -- the replies broke off
-      pub ends_by_replies : (new : LinkView) (status : Status) → Breaks (filter_map telling (handed told)) old new status → Ends (who_at rules at) at.first new (frame ∷ frames) status
+      pub ends_by_replies : (new : LinkView) (status : Status) → Breaks (filter_map telling (handed told)) old new status → EndsServing (who_at rules at) at.first new (frame ∷ frames) status
       ends_by_replies new status breaks =
           let later : old.faults ≤ new.faults = breaks.link_fault.later in
           ends_by_break (who_at rules at) at.first new status (frame ∷ frames) taken_now (grows_more (who_at rules at) frame frames (spelled (filter_map telling (handed told))) spelled_now runs.grow)
@@ -212,7 +212,7 @@ module _ {P : Type 0} (rules : Rules) (at : Setting P) (frames : List Frame) (pr
 
       -- the frame was taken, and its replies were written
       pub goes_on_taken : IsWithin process → (new : LinkView) (received : List ℕ) (journal : Option ℕ) → received ≡ drop size process.received → Writes (filter_map telling (handed told)) old new
-          → GoesOn rules at (record process { node = node; received = received; frames = process.frames + 1; offset = process.offset + size; journal = journal }) new (frame ∷ frames) (left_of process)
+          → ServesOn rules at (record process { node = node; received = received; frames = process.frames + 1; offset = process.offset + size; journal = journal }) new (frame ∷ frames) (left_of process)
       goes_on_taken within new received journal is writes =
           let shorter = ap (λ (l : List ℕ). length l) is ∙ length-drop size process.received in
           let in_all = within.0 in

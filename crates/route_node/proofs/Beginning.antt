@@ -16,7 +16,7 @@ use Rattle.wire_frames.specs.declared.frames.Frame.{Frame}
 use Rattle.wire_frames.specs.Frames.{fits as has_spelling}
 use Rattle.route_node.specs.declared.serving.Process.{Process}
 use Rattle.route_node.specs.declared.limits.TheConstants.{MAX_FRAMES}
-use Rattle.route_node.specs.Running.{Setting, Runs, AreBegun, who_at}
+use Rattle.route_node.specs.Running.{Serving, Runs, AreBegun, who_at}
 use Rattle.route_node.specs.Served.{Served}
 use Rattle.route_node.specs.Streams.{replies, answers}
 use Rattle.route_node.specs.Who.{Who, begun_by}
@@ -38,7 +38,7 @@ none_of : (who : Who) → answers who [] ≡ []
 none_of who = ap spelled (nothing_replied who)
 
 -- a process without a journal, or one that begins behind its records
-pub begins : {P : Type 0} (rules : Rules) (at : Setting P) (process : Process P) → IsValid at.net → has at.net.nodes at.node ≡ true → process.topology.value ≡ at.net → process.id ≡ at.node → AreBegun rules at.net at.node at.records
+pub begins : {P : Type 0} (rules : Rules) (at : Serving P) (process : Process P) → IsValid at.net → has at.net.nodes at.node ≡ true → process.topology.value ≡ at.net → process.id ≡ at.node → AreBegun rules at.net at.node at.records
     → StandsFor at.policy rules at.net at.node process.node (begun_by (who_at rules at)) → process.frames ≡ 0 → process.offset ≡ 0 → process.received ≡ [] → Runs rules at process at.first []
 unfolding going_on
 begins rules at process valid is_node same_net same_id restored stands none zero empty = record {

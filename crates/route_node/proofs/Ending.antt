@@ -16,8 +16,8 @@ use Rattle.node_core.specs.NodeLimits.{Reached}
 use Rattle.wire_frames.specs.declared.frames.Frame.{Frame}
 use Rattle.wire_frames.specs.Frames.{fits as has_spelling}
 use Rattle.route_node.specs.Prompt.{IsPrompt}
-use Rattle.route_node.specs.Running.{AnswersGrow, Ends}
-use Rattle.route_node.specs.Streams.{stream, replies, answers, AreTaken, Ending, End, Refused, Stopped, Comes}
+use Rattle.route_node.specs.Running.{AnswersGrow, EndsServing}
+use Rattle.route_node.specs.Streams.{stream, replies, answers, AreTaken, Ending, End, Refused, Stopped, StreamComesTo}
 use Rattle.route_node.specs.Served.{ends_serving, status_of, is_whole, older, Answered, BreaksOff, TooLongAnswers}
 use Rattle.route_node.specs.Who.{Who}
 use Rattle.route_node.proofs.Unique.{come_once}
@@ -92,17 +92,17 @@ module _ (who : Who) (first link : LinkView) (status : Status) (frames : List Fr
       go (f ∷ fs) grows = grows (f ∷ []) fs refl
 
   -- the stream has come to its end
-  pub ends_by_ending : (ending : Ending) → status ≡ status_of (length (stream frames)) ending → ends_serving (is_some who.records) status ≡ true → ((bytes : List ℕ) → first.incoming ≡ Some bytes → Comes who bytes frames ending) → Answered who frames first link
-      → link.faults ≡ first.faults → (status ≡ Done → IsAtEnd link.incoming) → Ends who first link frames status
+  pub ends_by_ending : (ending : Ending) → status ≡ status_of (length (stream frames)) ending → ends_serving (is_some who.records) status ≡ true → ((bytes : List ℕ) → first.incoming ≡ Some bytes → StreamComesTo who bytes frames ending) → Answered who frames first link
+      → link.faults ≡ first.faults → (status ≡ Done → IsAtEnd link.incoming) → EndsServing who first link frames status
   ends_by_ending ending is formed comes answered quiet read = record {
     served = record {
       formed = formed;
-      done = λ e bytes told. (frames, subst (λ d. Comes who bytes frames d) (is_done (length (stream frames)) ending (sym is ∙ e)) (comes bytes told), answered);
+      done = λ e bytes told. (frames, subst (λ d. StreamComesTo who bytes frames d) (is_done (length (stream frames)) ending (sym is ∙ e)) (comes bytes told), answered);
       bad_frame = λ at fault e bytes told.
           let both = is_bad (length (stream frames)) at fault ending (sym is ∙ e) in
-          (frames, subst (λ d. Comes who bytes frames d) both.0 (comes bytes told), both.1, answered);
+          (frames, subst (λ d. StreamComesTo who bytes frames d) both.0 (comes bytes told), both.1, answered);
       limit = λ kind number e bytes told.
-          (frames, subst (λ d. Comes who bytes frames d) (is_limit (length (stream frames)) kind number ending (sym is ∙ e)) (comes bytes told), answered);
+          (frames, subst (λ d. StreamComesTo who bytes frames d) (is_limit (length (stream frames)) kind number ending (sym is ∙ e)) (comes bytes told), answered);
       link_fault = record {
         later = omega_le (sym quiet);
         rose = λ e. absurd (never_linkfault (length (stream frames)) ending (sym is ∙ e));
@@ -146,7 +146,7 @@ module _ (who : Who) (first link : LinkView) (status : Status) (frames : List Fr
   -- it broke off, when these bytes were written, a front of the answers that has all but those to the newest frame
   pub ends_by_break : BreaksOff who.records status → RoseIf (status ≡ LinkFault) first.faults link.faults → (IsSure first → status ≡ LinkFault → TooLongAnswers who first)
       → ((bytes : List ℕ) → first.incoming ≡ Some bytes → Begins (stream frames) bytes) → list_all has_spelling (replies who frames) ≡ true
-      → (some : List ℕ) → Appends first.outgoing link.outgoing some → Begins some (answers who frames) → Begins (answers who (older frames)) some → Ends who first link frames status
+      → (some : List ℕ) → Appends first.outgoing link.outgoing some → Begins some (answers who frames) → Begins (answers who (older frames)) some → EndsServing who first link frames status
   ends_by_break why rose full in_front spelled some wrote front behind = record {
     served = record {
       formed = break_formed who.records status why;

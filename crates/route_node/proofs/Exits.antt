@@ -18,7 +18,7 @@ use Rattle.wire_frames.specs.declared.frames.Frame.{Frame}
 use Rattle.wire_frames.specs.Frames.{spell}
 use Rattle.route_node.specs.declared.keeping.TheConstants.{MAX_JOURNAL}
 use Rattle.route_node.specs.Keeping.{KeptBy, ended_by, kept_as}
-use Rattle.route_node.specs.Running.{Ends, KeepsFrames}
+use Rattle.route_node.specs.Running.{EndsServing, KeepsFrames}
 use Rattle.route_node.specs.Served.{BreaksOff}
 use Rattle.route_node.specs.ServedKept.{AreInFront, HasKeptBehind, MayBeAhead, ServedKept}
 use Rattle.route_node.specs.Streams.{journal_limit}
@@ -26,7 +26,7 @@ use Rattle.route_node.specs.Who.{Who, spellings}
 use Rattle.route_node.proofs.Journaled.{Tried, WasKept, appended_moments, deeper, kept_not, no_room, rests_behind, room_left, telling_both, what_was_kept}
 
 -- the disk is as its journal was left by the last frame
-pub served_at_rest : (who : Who) (first link : LinkView) (begun disk : DiskView) (now : Option ℕ) (frames : List Frame) (status : Status) → KeepsFrames who first.incoming begun now disk frames → Ends who first link frames status
+pub served_at_rest : (who : Who) (first link : LinkView) (begun disk : DiskView) (now : Option ℕ) (frames : List Frame) (status : Status) → KeepsFrames who first.incoming begun now disk frames → EndsServing who first link frames status
     → (status ≡ DiskFault → ⊥) → ServedKept who first link begun disk status
 served_at_rest who first link begun disk now frames status keeps ends quiet = record {
   served = ends.served;
@@ -72,7 +72,7 @@ breaks records journal.Full not_full = absurd (not_full refl)
 module _ (who : Who) (first link : LinkView) (begun mid : DiskView) (now : Option ℕ) (frames : List Frame) (keeps : KeepsFrames who first.incoming begun now mid frames) (f : Frame) where
   -- an append failed, and may have written the record or not
   served_torn : (with_records : List Frame) → who.records ≡ Some with_records → (end : JournalEnd) (new : DiskView) → Tried with_records frames f mid (Err end) new → (end ≡ journal.Full → ⊥) → AreInFront who first.incoming (f ∷ frames)
-      → Ends who first link frames (ended_by end) → ServedKept who first link begun new (ended_by end)
+      → EndsServing who first link frames (ended_by end) → ServedKept who first link begun new (ended_by end)
   served_torn with_records is end new tried not_full front ends = record {
     served = ends.served;
     moments = appended_moments who first.incoming begun mid now frames keeps f with_records is (Err end) new tried front;
@@ -99,8 +99,8 @@ module _ (who : Who) (first link : LinkView) (begun mid : DiskView) (now : Optio
 
   -- the frame was not kept
   pub served_unkept : (status : Status) (new : DiskView) → KeptBy now (spell f) mid (Err status) new
-      → (BreaksOff who.records status → (status ≡ LinkFault → ⊥) → Ends who first link frames status)
-      → (journal_limit who.records frames f ≡ Some (record { kind = Journal; number = MAX_JOURNAL }) → Ends who first link frames (Limit Journal MAX_JOURNAL))
+      → (BreaksOff who.records status → (status ≡ LinkFault → ⊥) → EndsServing who first link frames status)
+      → (journal_limit who.records frames f ≡ Some (record { kind = Journal; number = MAX_JOURNAL }) → EndsServing who first link frames (Limit Journal MAX_JOURNAL))
       → (journal_limit who.records frames f ≡ None → AreInFront who first.incoming (f ∷ frames)) → ServedKept who first link begun new status
   served_unkept status new kept broken full front = by_case (what_was_kept who.records frames f now mid (kept_not status) new keeps.has kept)
     where
@@ -119,7 +119,7 @@ module _ (who : Who) (first link : LinkView) (begun mid : DiskView) (now : Optio
           (cases_lt MAX_JOURNAL (place_behind (spellings (frames ++ with_records)) + (6 + length (spell f)))) in
           let room = ap (λ r. journal_limit r frames f) is ∙ room_left with_records frames f fits in
           let why : BreaksOff who.records (ended_by end) = subst (λ r. BreaksOff r (ended_by end)) (sym is) (breaks with_records end not_full) in
-          let over : Ends who first link frames (ended_by end) = subst (Ends who first link frames) same (broken (subst (BreaksOff who.records) (sym same) why) (λ e. not_link end (sym same ∙ e))) in
+          let over : EndsServing who first link frames (ended_by end) = subst (EndsServing who first link frames) same (broken (subst (BreaksOff who.records) (sym same) why) (λ e. not_link end (sym same ∙ e))) in
           subst (ServedKept who first link begun new) (sym same) (served_torn with_records is end new tried not_full (front room) over)
 
       is_full : (end : JournalEnd) → (end ≡ journal.Full) ⊎ (end ≡ journal.Full → ⊥)

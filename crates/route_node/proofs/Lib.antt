@@ -21,4 +21,5 @@ pub mod Rehearing
 pub mod Refusing
 pub mod Going
 pub mod Networks
+pub mod KeptNetworks
 pub mod Beginning

@@ -97,54 +97,6 @@ ends_no_memory here source source' link quiet = record {
   read = λ e. absurd (cc e);
 }
 
-pub ends_read_fault : (here : Endpoint) (source source' : SourceView) (link : LinkView) → RoseIf (ReadFault ≡ ReadFault) source.faults source'.faults → Attended here source source' link link ReadFault
-ends_read_fault here source source' link rose = record {
-  formed = refl;
-  served = λ bytes told net is there. inr (inr (inl refl), refl);
-  missing = λ bytes told net is none. inr (inr refl);
-  refused = λ bytes told short line bad first. inr (inr refl);
-  too_long = λ bytes told long. inr (inr refl);
-  over = λ e. absurd (cc e);
-  bad_schedule = λ line bad e. absurd (cc e);
-  no_such_node = λ node e. absurd (cc e);
-  limit = λ number e. absurd (cc e);
-  read_fault = rose;
-  link_fault = stays_quiet link.faults link.faults (λ e. cc e) refl;
-  sure = λ _ e. absurd (cc e);
-  undialled = λ e. refl;
-  dialled = λ e. absurd (cc e);
-  dialled_at_most = inr refl;
-  read = λ e. absurd (cc e);
-}
-
-pub ends_too_long : (here : Endpoint) (source source' : SourceView) (link : LinkView) → IfSome source.left (λ bytes. MAX_BYTES < length bytes) → source'.faults ≡ source.faults
-    → Attended here source source' link link (Limit kind.Bytes MAX_BYTES)
-ends_too_long here source source' link long quiet = record {
-  formed = refl;
-  served = λ bytes told net is there. absurd (over bytes told is.short);
-  missing = λ bytes told net is none. absurd (over bytes told is.short);
-  refused = λ bytes told short line bad first. absurd (over bytes told short);
-  too_long = λ bytes told more. inl refl;
-  over = λ e. absurd (cc e);
-  bad_schedule = λ line bad e. absurd (cc e);
-  no_such_node = λ node e. absurd (cc e);
-  limit = λ number e bytes told. (let same : MAX_BYTES ≡ number = cc e in sym same, above source.left long bytes told);
-  read_fault = stays_quiet source.faults source'.faults (λ e. cc e) quiet;
-  link_fault = stays_quiet link.faults link.faults (λ e. cc e) refl;
-  sure = λ _ e. absurd (cc e);
-  undialled = λ e. refl;
-  dialled = λ e. absurd (cc e);
-  dialled_at_most = inr refl;
-  read = λ e. absurd (cc e);
-}
-  where
-    above : (left : Option (List ℕ)) → IfSome left (λ bytes. MAX_BYTES < length bytes) → (bytes : List ℕ) → left ≡ Some bytes → MAX_BYTES < length bytes
-    above None more bytes e = absurd (cc e)
-    above (Some some) more bytes e = let same : some ≡ bytes = cc e in subst (λ l. MAX_BYTES < length l) same more
-
-    over : (bytes : List ℕ) → source.left ≡ Some bytes → length bytes ≤ MAX_BYTES → ⊥
-    over bytes told short = let more = above source.left long bytes told in omega (arith, short, more)
-
 -- ---- behind the file
 
 -- the source was read to its end, and gave these bytes
@@ -153,10 +105,6 @@ pub record Got (source source' : SourceView) (bytes : List ℕ) : Type 0 where
   pub short : length bytes ≤ MAX_BYTES
   pub at_end : IsAtEnd source'.left
   pub quiet : source'.faults ≡ source.faults
-
-pub gives_network : (source source' : SourceView) (bytes : List ℕ) (net : Net) → Got source source' bytes → IsTopologyFile bytes net → Gives source source' net
-gives_network source source' bytes net got file =
-    record { bytes = bytes; known = got.known; network = record { short = got.short; file = file }; at_end = got.at_end; quiet = got.quiet }
 
 module _ (source source' : SourceView) (bytes : List ℕ) (read : (told : List ℕ) → source.left ≡ Some told → bytes ≡ told) where
   pub not_long : length bytes ≤ MAX_BYTES → (told : List ℕ) → source.left ≡ Some told → MAX_BYTES < length told → ⊥

@@ -20,7 +20,7 @@ use Rattle.wire_frames.specs.Reading.{body_at, Found, Whole, Partial, Wrong, fou
 use Rattle.wire_frames.proofs.Found.{spelled_found}
 use Rattle.route_node.specs.declared.serving.Process.{Process}
 use Rattle.route_node.specs.Fronts.{Holds, RefusesAt}
-use Rattle.route_node.specs.Running.{Setting, Runs, Ends, who_at}
+use Rattle.route_node.specs.Running.{Serving, Runs, EndsServing, who_at}
 use Rattle.route_node.specs.Streams.{refusal, Refused, found_fault, EndsAt}
 use Rattle.route_node.proofs.Ending.{ends_by_ending}
 use Rattle.route_node.proofs.Waiting.{told_as, answered_as, prompt_as, ends_without_memory}
@@ -75,9 +75,9 @@ wrong_stays (v ∷ bytes) more k e =
 
 -- ---- the run ends at what is refused
 
-module _ {P : Type 0} (rules : Rules) (at : Setting P) (frames : List Frame) (process : Process P) (old : LinkView) (runs : Runs rules at process old frames) where
+module _ {P : Type 0} (rules : Rules) (at : Serving P) (frames : List Frame) (process : Process P) (old : LinkView) (runs : Runs rules at process old frames) where
   -- what is found in front of all that is left is refused for this
-  refused_by : (fault : FrameFault) → ((t : List ℕ) → EndsAt (who_at rules at) frames (process.received ++ t) (Refused fault)) → Ends (who_at rules at) at.first old frames (BadFrame process.offset fault)
+  refused_by : (fault : FrameFault) → ((t : List ℕ) → EndsAt (who_at rules at) frames (process.received ++ t) (Refused fault)) → EndsServing (who_at rules at) at.first old frames (BadFrame process.offset fault)
   refused_by fault ends =
       ends_by_ending (who_at rules at) at.first old (BadFrame process.offset fault) frames runs.taken runs.grow runs.same_room runs.same_dialled (prompt_as rules at frames process old old runs refl) (Refused fault) (ap (λ n. BadFrame n fault) runs.offset) refl
       (λ bytes told.
@@ -95,7 +95,7 @@ module _ {P : Type 0} (rules : Rules) (at : Setting P) (frames : List Frame) (pr
   nothing_wrong k (b ∷ rest) e none = absurd (cc none)
 
   -- bytes that are no frame
-  pub ends_wrong : (kind : FrameKind) → found process.received ≡ Wrong kind → Ends (who_at rules at) at.first old frames (BadFrame process.offset (fault_of kind))
+  pub ends_wrong : (kind : FrameKind) → found process.received ≡ Wrong kind → EndsServing (who_at rules at) at.first old frames (BadFrame process.offset (fault_of kind))
   ends_wrong kind e =
       refused_by (fault_of kind)
       (λ t. ends_with (process.received ++ t) (Wrong kind) (fault_of kind) (wrong_stays process.received t kind e) (nothing_wrong kind (process.received ++ t) (wrong_stays process.received t kind e)) refl)
@@ -105,10 +105,10 @@ module _ {P : Type 0} (rules : Rules) (at : Setting P) (frames : List Frame) (pr
   spell_some f rest e = absurd (cc e)
 
   -- a frame that is refused for itself
-  pub ends_refused : (f : Frame) (n : ℕ) → Holds process.received f n → (status : Status) → RefusesAt process.offset (refusal (who_at rules at) frames f) status → Ends (who_at rules at) at.first old frames status
+  pub ends_refused : (f : Frame) (n : ℕ) → Holds process.received f n → (status : Status) → RefusesAt process.offset (refusal (who_at rules at) frames f) status → EndsServing (who_at rules at) at.first old frames status
   ends_refused f n holds NoMemory e = ends_without_memory rules at frames process old old runs refl
   ends_refused f n holds (BadFrame offset fault) e =
-      subst (λ o. Ends (who_at rules at) at.first old frames (BadFrame o fault)) (sym e.0)
+      subst (λ o. EndsServing (who_at rules at) at.first old frames (BadFrame o fault)) (sym e.0)
       (refused_by fault
       (λ t.
       let whole : process.received ++ t ≡ spell f ++ (drop n process.received ++ t) = ap (λ l. l ++ t) holds.splits ∙ append_assoc (spell f) (drop n process.received) t in

@@ -9,7 +9,7 @@ use Rattle.wire_frames.specs.Frames.{fits as has_spelling}
 use Rattle.wire_frames.specs.Reading.{Found, Whole, Partial, Wrong, found}
 use Rattle.wire_frames.proofs.Found.{spelled_found}
 use Rattle.route_node.specs.Who.{Who}
-use Rattle.route_node.specs.Streams.{stream, refusal, frame_limit, AreTaken, Ending, End, Refused, Stopped, found_fault, StopsAt, EndsAt, Comes}
+use Rattle.route_node.specs.Streams.{stream, refusal, frame_limit, AreTaken, Ending, End, Refused, Stopped, found_fault, StopsAt, EndsAt, StreamComesTo}
 
 -- ---- streams
 
@@ -169,7 +169,7 @@ module _ (who : Who) where
           absurd (no_end frames x (stream newer ++ left) ending next (subst (λ t. EndsAt who frames t ending) whole ends))
 
   -- bytes come to one thing
-  pub come_once : (bytes : List ℕ) (frames others : List Frame) (a b : Ending) → Comes who bytes frames a → Comes who bytes others b → (frames ≡ others) × (a ≡ b)
+  pub come_once : (bytes : List ℕ) (frames others : List Frame) (a b : Ending) → StreamComesTo who bytes frames a → StreamComesTo who bytes others b → (frames ≡ others) × (a ≡ b)
   come_once bytes frames others a b first second =
       go (compare frames others first.rest second.rest (all_spelled frames first.taken) (all_spelled others second.taken) (sym first.in_front ∙ second.in_front))
     where

@@ -30,7 +30,7 @@ use Rattle.route_node.specs.declared.serving.Process.{Process}
 use Rattle.route_node.specs.Prompt.{IsPrompt}
 use Rattle.route_node.specs.Writing.{spelled, OneWriteEach}
 use Rattle.route_node.specs.Streams.{stream, replies, answers, End, Refused, found_fault, EndsAt}
-use Rattle.route_node.specs.Running.{Setting, Runs, GoesOn, IsWithin, Ends, left_of, who_at}
+use Rattle.route_node.specs.Running.{Serving, Runs, ServesOn, IsWithin, EndsServing, left_of, who_at}
 use Rattle.route_node.specs.Served.{Answered, BreaksOff}
 use Rattle.route_node.proofs.Ending.{behind_all, by_link, by_memory, ends_by_break, ends_by_ending}
 use Rattle.route_node.proofs.InTime.{told_once, one_write_read, prompt_wait, keeps_read}
@@ -81,7 +81,7 @@ partial_short (v ∷ bytes) e =
 
 -- ---- one more read
 
-module _ {P : Type 0} (rules : Rules) (at : Setting P) (frames : List Frame) (process : Process P) (old new : LinkView) (runs : Runs rules at process old frames) where
+module _ {P : Type 0} (rules : Rules) (at : Serving P) (frames : List Frame) (process : Process P) (old new : LinkView) (runs : Runs rules at process old frames) where
   -- what is told of the bytes
   pub told_as : (bytes : List ℕ) → at.first.incoming ≡ Some bytes → (t : List ℕ) × (old.incoming ≡ Some t) × (bytes ≡ stream frames ++ (process.received ++ t))
   told_as bytes told = go old.incoming refl (runs.bytes ∙ told)
@@ -100,7 +100,7 @@ module _ {P : Type 0} (rules : Rules) (at : Setting P) (frames : List Frame) (pr
   -- nothing was written since: it broke off with all answers written
   pub ends_unwritten : (status : Status) → new.outgoing ≡ old.outgoing → new.room ≡ old.room → new.dialled ≡ old.dialled
       → ((before : List Act) → at.first.acts ≡ Some before → (since : List Act) × (new.acts ≡ Some (since ++ before)) × IsPrompt (who_at rules at) since)
-      → BreaksOff at.records status → RoseIf (status ≡ LinkFault) at.first.faults new.faults → (IsSure at.first → status ≡ LinkFault → ⊥) → Ends (who_at rules at) at.first new frames status
+      → BreaksOff at.records status → RoseIf (status ≡ LinkFault) at.first.faults new.faults → (IsSure at.first → status ≡ LinkFault → ⊥) → EndsServing (who_at rules at) at.first new frames status
   ends_unwritten status same room dialled prompt why rose sure =
       ends_by_break (who_at rules at) at.first new status frames runs.taken runs.grow (room ∙ runs.same_room) (dialled ∙ runs.same_dialled) prompt why rose (λ is e. absurd (sure is e)) front_as
       (replies_spelled (who_at rules at) frames runs.valid runs.is_node runs.restored runs.taken) (answers (who_at rules at) frames)
@@ -129,7 +129,7 @@ module _ {P : Type 0} (rules : Rules) (at : Setting P) (frames : List Frame) (pr
       )
 
   pub goes_on : IsWithin process → found process.received ≡ Partial → (received : List ℕ) → ahead received new ≡ ahead process.received old → GrowsWithin PORTION process.received received → length process.received < length received
-      → ReadsMore process.received received old new → OnlyReads old new → new.faults ≡ old.faults → GoesOn rules at (record process { received = received }) new frames (left_of process)
+      → ReadsMore process.received received old new → OnlyReads old new → new.faults ≡ old.faults → ServesOn rules at (record process { received = received }) new frames (left_of process)
   goes_on within partial received same grows longer reads others quiet =
       let short = partial_short process.received partial in
       let small = grows.2 in
@@ -199,7 +199,7 @@ module _ {P : Type 0} (rules : Rules) (at : Setting P) (frames : List Frame) (pr
 
     -- the end of the link between two frames
     pub ends_at_end : IfSome old.incoming (λ t. OnOk r ((r ≡ Ok filled.End) ↔ (t ≡ []))) → ahead received new ≡ ahead process.received old → received ≡ [] → found process.received ≡ Partial → ReadsMore process.received received old new → OnlyReads old new → new.faults ≡ old.faults
-        → Ends (who_at rules at) at.first new frames Done
+        → EndsServing (who_at rules at) at.first new frames Done
     ends_at_end end same empty partial reads others quiet =
         ends_by_ending (who_at rules at) at.first new Done frames runs.taken runs.grow (ap (λ (l : LinkView). l.room) others ∙ runs.same_room) (ap (λ (l : LinkView). l.dialled) others ∙ runs.same_dialled) (prompt_read partial (Some reads.0) reads.2) End refl refl
         (λ bytes told.
@@ -218,7 +218,7 @@ module _ {P : Type 0} (rules : Rules) (at : Setting P) (frames : List Frame) (pr
 
     -- the end of the link within a frame
     pub ends_within : IfSome old.incoming (λ t. OnOk r ((r ≡ Ok filled.End) ↔ (t ≡ []))) → found process.received ≡ Partial → (received ≡ [] → ⊥) → ReadsMore process.received received old new → OnlyReads old new → new.faults ≡ old.faults
-        → Ends (who_at rules at) at.first new frames (BadFrame process.offset Truncated)
+        → EndsServing (who_at rules at) at.first new frames (BadFrame process.offset Truncated)
     ends_within end partial some reads others quiet =
         ends_by_ending (who_at rules at) at.first new (BadFrame process.offset Truncated) frames runs.taken runs.grow (ap (λ (l : LinkView). l.room) others ∙ runs.same_room) (ap (λ (l : LinkView). l.dialled) others ∙ runs.same_dialled) (prompt_read partial (Some reads.0) reads.2) (Refused Truncated) (ap (λ n. BadFrame n Truncated) runs.offset) refl
         (λ bytes told.
@@ -232,7 +232,7 @@ module _ {P : Type 0} (rules : Rules) (at : Setting P) (frames : List Frame) (pr
         (answered_as (ap (λ (l : LinkView). l.outgoing) others) (one_write_read at.first old new (replies (who_at rules at) frames) (Some reads.0) runs.one_write_each reads.2)) (quiet ∙ runs.quiet) (λ e. absurd (cc e))
 
   -- memory ran out before the link was asked
-  pub ends_without_memory : new ≡ old → Ends (who_at rules at) at.first new frames NoMemory
+  pub ends_without_memory : new ≡ old → EndsServing (who_at rules at) at.first new frames NoMemory
   ends_without_memory same =
       ends_unwritten NoMemory (ap (λ (l : LinkView). l.outgoing) same) (ap (λ (l : LinkView). l.room) same) (ap (λ (l : LinkView). l.dialled) same) (prompt_as (ap (λ (l : LinkView). l.acts) same)) (by_memory at.records)
       (record {
@@ -243,7 +243,7 @@ module _ {P : Type 0} (rules : Rules) (at : Setting P) (frames : List Frame) (pr
       (λ _ e. cc e)
 
   -- a read failed
-  pub ends_by_fault : found process.received ≡ Partial → OnlyReads old new → {failed : Type 0} → (failed → ActsOnce old new (Read None)) → (IsSure old → ¬ failed) → RoseIf failed old.faults new.faults → failed → Ends (who_at rules at) at.first new frames LinkFault
+  pub ends_by_fault : found process.received ≡ Partial → OnlyReads old new → {failed : Type 0} → (failed → ActsOnce old new (Read None)) → (IsSure old → ¬ failed) → RoseIf failed old.faults new.faults → failed → EndsServing (who_at rules at) at.first new frames LinkFault
   ends_by_fault partial others once safe cause failed =
       ends_unwritten LinkFault (ap (λ (l : LinkView). l.outgoing) others) (ap (λ (l : LinkView). l.room) others) (ap (λ (l : LinkView). l.dialled) others) (prompt_read partial None (once failed)) (by_link at.records)
       (record {

@@ -1,17 +1,17 @@
 -- What was written over a link, one frame after the other.
-use Rattle.std.proofs.Common.{ℕ, ◌-◌, ◌≡◌, ◌≤◌, ◌<◌, inl, inr, true, false, Option, Some, None, Result, Ok, Err, is_err, IsErr, IsErrAnd, IfErr, OnOk, OnErr, List, [], ◌∷◌, ◌++◌, take, drop, length, refl, sym, ap, ◌∙◌, subst, append_assoc, option_map, arith}
+use Rattle.std.proofs.Common.{ℕ, ◌-◌, ◌≡◌, ◌≤◌, ◌<◌, inr, true, false, Option, Some, None, Result, Ok, Err, is_err, IsErr, IsErrAnd, IfErr, OnOk, OnErr, List, [], ◌∷◌, ◌++◌, take, drop, length, refl, sym, ap, ◌∙◌, subst, append_assoc, option_map, arith}
 use Rattle.std.specs.Io.KnownBytes.{Appends}
 use Rattle.std.proofs.lemmas.Result.{err_from_is_err_and}
 use Rattle.std.proofs.lemmas.List.{append-nil, length-append, take-append-drop}
 use Rattle.std.proofs.lemmas.Grind.{flat_map-append}
 use Rattle.topology.specs.declared.status.Status.{Status}
-use Rattle.topology.specs.declared.status.Status.TheVariants.{NoMemory, LinkFault}
+use Rattle.topology.specs.declared.status.Status.TheVariants.{LinkFault}
 use Rattle.route_io.specs.Acts.{writes, whole_by, ActsOnce, AddsWrites, AddsFront}
 use Rattle.route_io.specs.Causes.{AppendsFront, HasCause, StaysTold}
 use Rattle.route_io.specs.Links.{HasRoom, IsSure, LacksRoom, OnlyWrites, room_left, room_behind}
 use Rattle.route_io.specs.Views.{Act, Write, LinkView}
-use Rattle.route_io.proofs.Acts.{writes_behind, all_writes, acts_both, adds_none, adds_more}
-use Rattle.route_io.proofs.Bytes.{appends_none, appends_on, told_same, told_on, risen_after}
+use Rattle.route_io.proofs.Acts.{writes_behind, all_writes, acts_both, adds_more}
+use Rattle.route_io.proofs.Bytes.{appends_on, told_on, risen_after}
 use Rattle.route_io.proofs.Links.{only_writes_on, room_before}
 use Rattle.wire_frames.specs.declared.frames.Frame.{Frame}
 use Rattle.wire_frames.specs.Frames.{spell}
@@ -53,17 +53,7 @@ room_after (Some size) (Some old) (Some now) bytes left e is =
     let less : size - length now ≡ left - length bytes = omega (arith, same, more) in
     ap (λ (k : ℕ). Some k) less
 
--- ---- no frame, one, and those behind others
-
-pub writes_none : (link : LinkView) → Writes [] link link
-writes_none link = record {
-  wrote = appends_none link.outgoing;
-  told = told_same link.outgoing;
-  acts = adds_none link;
-  one_write_each = λ left room small before told. ([], told, refl);
-  others = refl;
-  quiet = refl;
-}
+-- ---- one frame, and those behind others
 
 pub writes_one : {T E : Type 0} (r : Result T E) (f : Frame) (bytes : List ℕ) (link link' : LinkView) → is_err r ≡ false → bytes ≡ spell f → OnOk r (Appends link.outgoing link'.outgoing bytes)
     → (HasRoom link bytes → ActsOnce link link' (Write bytes (whole_by r bytes))) → OnOk r (AddsWrites link link' bytes) → StaysTold link.outgoing link'.outgoing → OnlyWrites link link' → HasCause link.faults link'.faults r → Writes (f ∷ []) link link'
@@ -102,19 +92,6 @@ breaks_one (Err e) f bytes link link' failed is wrote acts full only cause =
       full = λ sure e. subst (LacksRoom link) same (full sure);
       others = only;
     }
-
--- memory ran out before anything was written
-pub breaks_none : (frames : List Frame) (link : LinkView) → Breaks frames link link NoMemory
-breaks_none frames link = record {
-  why = inl refl;
-  link_fault = record { later = omega arith; rose = λ e. absurd (cc e); quiet = λ _. refl };
-  some = [];
-  begins = (spelled frames, refl);
-  wrote = appends_none link.outgoing;
-  acts = (let none = adds_none link in (none.more, none.alone, none.behind));
-  full = λ sure e. absurd (cc e);
-  others = refl;
-}
 
 -- frames that are written behind others, each by one write
 pub one_write_behind : (fs gs : List Frame) (link mid link' : LinkView) → Appends link.outgoing mid.outgoing (spelled fs) → mid.room ≡ link.room → OneWriteEach fs link mid → OneWriteEach gs mid link' → OneWriteEach (fs ++ gs) link link'

@@ -13,4 +13,6 @@ pub mod ServedKept
 pub mod Restored
 pub mod Running
 pub mod Attended
+pub mod Early
+pub mod AttendedKept
 pub mod Plain

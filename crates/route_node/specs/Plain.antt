@@ -10,7 +10,7 @@ use Rattle.wire_frames.specs.declared.frames.Frame.{Frame}
 use Rattle.route_node.specs.Attended.{Attended, Endpoint, IsNetwork}
 use Rattle.route_node.specs.Served.{status_of, TooLongAnswers}
 use Rattle.route_node.specs.Who.{afresh}
-use Rattle.route_node.specs.Streams.{stream, Comes, Ending}
+use Rattle.route_node.specs.Streams.{stream, StreamComesTo, Ending}
 
 -- how the node here ends, on a source and a link in plain memory as they were and as they are then
 pub record AttendedPlain (here : Endpoint) (source source' : SourceView) (link link' : LinkView) (status : Status) : Type 0 where
@@ -24,5 +24,5 @@ pub record AttendedPlain (here : Endpoint) (source source' : SourceView) (link l
   -- what the bytes come to is how it ends, unless memory runs out or the room is too short
   pub complete : (file bytes : List ℕ) → source.left ≡ Some file → link.incoming ≡ Some bytes
       → (net : Net) → IsNetwork file net → has net.nodes here.id ≡ true
-      → (frames : List Frame) (ending : Ending) → Comes (afresh gao_rexford net here.id) bytes frames ending
+      → (frames : List Frame) (ending : Ending) → StreamComesTo (afresh gao_rexford net here.id) bytes frames ending
       → (status ≡ status_of (length (stream frames)) ending) ⊎ ((status ≡ NoMemory) ⊎ TooLongAnswers (afresh gao_rexford net here.id) link)

@@ -30,7 +30,7 @@ use Rattle.route_node.specs.Who.{Who, afresh, begun_by, run_over, spellings}
 
 -- who answers: a policy, a network, its node, and the frames of its journal, if it has one; and the link and the disk as
 -- they were first
-pub record Setting (P : Type 0) : Type 0 where
+pub record Serving (P : Type 0) : Type 0 where
   pub policy : P
   pub net : Net
   pub node : ℕ
@@ -39,7 +39,7 @@ pub record Setting (P : Type 0) : Type 0 where
   pub disk : DiskView
 
 -- the same, with the rules of the policy
-abbrev pub who_at : {P : Type 0} → Rules → Setting P → Who
+abbrev pub who_at : {P : Type 0} → Rules → Serving P → Who
 who_at rules at = record { rules = rules; net = at.net; node = at.node; records = at.records }
 
 -- the reads since brought the frames and then what is received, the writes took the answers, and each read came in time
@@ -64,7 +64,7 @@ HandsSince who frames = (since : List Output) × (outputs (run_over who frames) 
 
 -- these frames, the newest first, were taken and answered, and what was received behind them stands in front of what is
 -- still to come
-pub record Runs {P : Type 0} (rules : Rules) (at : Setting P) (process : Process P) (link : LinkView) (frames : List Frame) : Type 0 where
+pub record Runs {P : Type 0} (rules : Rules) (at : Serving P) (process : Process P) (link : LinkView) (frames : List Frame) : Type 0 where
   pub valid : IsValid at.net
   pub is_node : has at.net.nodes at.node ≡ true
   pub same_net : process.topology.value ≡ at.net
@@ -100,13 +100,13 @@ abbrev pub IsWithin : {P : Type 0} → Process P → Type 0
 IsWithin process = (length process.received ≤ 1999999) × (process.frames ≤ MAX_FRAMES)
 
 -- these frames were taken by now, and less is left to do
-pub record GoesOn {P : Type 0} (rules : Rules) (at : Setting P) (process : Process P) (link : LinkView) (frames : List Frame) (before : ℕ) : Type 0 where
+pub record ServesOn {P : Type 0} (rules : Rules) (at : Serving P) (process : Process P) (link : LinkView) (frames : List Frame) (before : ℕ) : Type 0 where
   pub runs : Runs rules at process link frames
   pub within : IsWithin process
   pub less : left_of process < before
 
 -- how a run ends over its link, where these are the frames that it took
-pub record Ends (who : Who) (link link' : LinkView) (frames : List Frame) (status : Status) : Type 0 where
+pub record EndsServing (who : Who) (link link' : LinkView) (frames : List Frame) (status : Status) : Type 0 where
   pub served : Served who link link' status
   pub answered : AnswersUpTo who frames link link' status
 
@@ -121,26 +121,26 @@ pub record KeepsFrames (who : Who) (incoming : Option (List ℕ)) (first : DiskV
   pub telling : KeepsTelling first disk
 
 -- these frames were taken, answered and kept
-pub record Works {P : Type 0} (rules : Rules) (at : Setting P) (process : Process P) (link : LinkView) (disk : DiskView) (frames : List Frame) : Type 0 where
+pub record Works {P : Type 0} (rules : Rules) (at : Serving P) (process : Process P) (link : LinkView) (disk : DiskView) (frames : List Frame) : Type 0 where
   pub runs : Runs rules at process link frames
   pub keeps : KeepsFrames (who_at rules at) at.first.incoming at.disk process.journal disk frames
 
 -- one more frame was taken, or more was received, and less is left to do
-pub record GoesFurther {P : Type 0} (rules : Rules) (at : Setting P) (process : Process P) (link : LinkView) (disk : DiskView) (before : ℕ) : Type 0 where
+pub record GoesFurther {P : Type 0} (rules : Rules) (at : Serving P) (process : Process P) (link : LinkView) (disk : DiskView) (before : ℕ) : Type 0 where
   pub frames : List Frame
-  pub goes : GoesOn rules at process link frames before
+  pub goes : ServesOn rules at process link frames before
   pub keeps : KeepsFrames (who_at rules at) at.first.incoming at.disk process.journal disk frames
 
 -- a process that has taken some frames, whatever these are
 pub record IsRunning {P : Type 0} (rules : P → Rules) (process : Process P) (link : LinkView) (disk : DiskView) : Type 0 where
-  pub at : Setting P
+  pub at : Serving P
   pub frames : List Frame
   pub works : Works (rules at.policy) at process link disk frames
   pub within : IsWithin process
 
 -- and at the front of what it received stands a frame of so many bytes that brings this input, which its node admits
 pub record MayTake {P : Type 0} (rules : P → Rules) (process : Process P) (link : LinkView) (i : Input) (size : ℕ) : Type 0 where
-  pub at : Setting P
+  pub at : Serving P
   pub frames : List Frame
   pub runs : Runs (rules at.policy) at process link frames
   pub within : IsWithin process

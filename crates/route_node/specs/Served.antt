@@ -16,7 +16,7 @@ use Rattle.wire_frames.specs.Frames.{fits as has_spelling}
 use Rattle.route_node.specs.Prompt.{IsPrompt}
 use Rattle.route_node.specs.Who.{Who}
 use Rattle.route_node.specs.Writing.{OneWriteEach}
-use Rattle.route_node.specs.Streams.{stream, replies, answers, AreTaken, Ending, End, Refused, Stopped, Comes}
+use Rattle.route_node.specs.Streams.{stream, replies, answers, AreTaken, Ending, End, Refused, Stopped, StreamComesTo}
 
 -- the statuses with which a node over a link may end, whether it keeps a journal or not
 abbrev pub ends_serving : Bool → Status → Bool
@@ -98,21 +98,21 @@ pub record AnswersUpTo (who : Who) (frames : List Frame) (link link' : LinkView)
   pub wrote : Appends link.outgoing link'.outgoing some
   pub front : Begins some (answers who frames)
   pub behind : Begins (answers who (older frames)) some
-  pub whole : is_whole status ≡ true → (bytes : List ℕ) → link.incoming ≡ Some bytes → (ending : Ending) × Comes who bytes frames ending
+  pub whole : is_whole status ≡ true → (bytes : List ℕ) → link.incoming ≡ Some bytes → (ending : Ending) × StreamComesTo who bytes frames ending
 
 -- how a node ends, on a link as it was and as it is then
 pub record Served (who : Who) (link link' : LinkView) (status : Status) : Type 0 where
   pub formed : ends_serving (is_some who.records) status ≡ true
   -- Done: what came over the link was a list of frames that the node took, and its answers to them were written
   pub done : status ≡ Done → (bytes : List ℕ) → link.incoming ≡ Some bytes
-      → (frames : List Frame) × Comes who bytes frames End × Answered who frames link link'
+      → (frames : List Frame) × StreamComesTo who bytes frames End × Answered who frames link link'
   -- BadFrame: what begins at this offset is refused for this, and the answers to the frames before were written
   pub bad_frame : (offset : ℕ) (fault : FrameFault) → status ≡ BadFrame offset fault → (bytes : List ℕ) → link.incoming ≡ Some bytes
-      → (frames : List Frame) × Comes who bytes frames (Refused fault) × (offset ≡ length (stream frames))
+      → (frames : List Frame) × StreamComesTo who bytes frames (Refused fault) × (offset ≡ length (stream frames))
       × Answered who frames link link'
   -- Limit: the next frame would take this count above its number, and the answers to the frames before were written
   pub limit : (kind : LimitKind) (number : ℕ) → status ≡ Limit kind number → (bytes : List ℕ) → link.incoming ≡ Some bytes
-      → (frames : List Frame) × Comes who bytes frames (Stopped (record { kind = kind; number = number }))
+      → (frames : List Frame) × StreamComesTo who bytes frames (Stopped (record { kind = kind; number = number }))
       × Answered who frames link link'
   -- LinkFault: a call of the link failed; after every other answer none has
   pub link_fault : RoseIf (status ≡ LinkFault) link.faults link'.faults
@@ -122,7 +122,7 @@ pub record Served (who : Who) (link link' : LinkView) (status : Status) : Type 0
   pub front : (bytes : List ℕ) → link.incoming ≡ Some bytes → WroteFront who bytes link link'
   -- what the bytes come to is how it ends, unless it breaks off
   pub complete : (bytes : List ℕ) → link.incoming ≡ Some bytes → (frames : List Frame) (ending : Ending)
-      → Comes who bytes frames ending
+      → StreamComesTo who bytes frames ending
       → (status ≡ status_of (length (stream frames)) ending) ⊎ BreaksOff who.records status
   -- whatever the end, no read was made before the frames that had come by then were answered, where the link tells its acts
   pub prompt : (before : List Act) → link.acts ≡ Some before

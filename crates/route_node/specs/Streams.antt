@@ -114,7 +114,7 @@ EndsAt who before (b ∷ rest) (Refused fault) = found_fault who before (found (
 EndsAt who before rest (Stopped reached) = StopsAt who before reached (found rest)
 
 -- these frames stand in front of the bytes and are taken, and the stream ends so behind them
-pub record Comes (who : Who) (bytes : List ℕ) (frames : List Frame) (ending : Ending) : Type 0 where
+pub record StreamComesTo (who : Who) (bytes : List ℕ) (frames : List Frame) (ending : Ending) : Type 0 where
   pub rest : List ℕ
   pub in_front : bytes ≡ stream frames ++ rest
   pub taken : AreTaken who frames

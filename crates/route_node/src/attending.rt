@@ -1,20 +1,33 @@
 //! A node of a network that a source holds.
-ghost use Rattle.std.specs.Prelude.{IfOk, IfErr};
+ghost use Rattle.std.specs.Prelude.{◌≡◌, true, IfOk, IfErr};
 ghost use Rattle.route_io.specs.Views.{LinkView};
 ghost use Rattle.route_node.specs.Attended.{Attended, Endpoint, Gives, endpoint};
+ghost use Rattle.route_node.specs.AttendedKept.{AttendedKept, kept_endpoint, outside};
+ghost use Rattle.route_node.specs.Early.{ends_early};
 
-use crate::serving::serve;
+use crate::restoring::restore;
+use crate::serving::{serve, serve_kept};
+use acceptor_journal::Disk;
 use route_io::{Link, ReadEnd, Source, read_all};
 use schedule_file::{MAX_BYTES, ParseEnd, parse_topology};
 use std::alloc::Global;
 use std::rc::Rc;
 use topology::{LimitKind, NodeId, Status, Topology};
 
+/// A node that keeps its frames: its number, the address of its peer, and the name of the file of its journal.
+#[derive(Clone, Copy, Debug)]
+pub struct KeptNode<'a> {
+    pub id: NodeId,
+    pub address: &'a str,
+    pub file: &'a str,
+}
+
 // The network that a source holds.
 fn network_of<I: Source>(alloc: Global, source: &mut I) -> Result<Rc<Topology>, Status>
     ensures ok { IfOk result (λ network. Gives (I.seen source.old) (I.seen source.new) network.value) }
     ensures err { IfErr result (λ status. (here : Endpoint) (link : LinkView) →
         Attended here (I.seen source.old) (I.seen source.new) link link status) }
+    ensures early { IfErr result (λ status. ends_early status ≡ true) }
 {
     let bytes = match read_all(alloc, source, MAX_BYTES as usize) {
         Ok(bytes) => bytes,
@@ -55,4 +68,38 @@ pub fn attend<I: Source, L: Link>(
         return Status::LinkFault;
     }
     serve(alloc, id, network, link)
+}
+
+/// Reads a network from the source, starts the node again behind the frames of its journal, dials the address, and answers
+/// the frames, each of which is kept before its replies are written. What a user may rely on stands in
+/// `specs/AttendedKept.antt`.
+pub fn attend_kept<I: Source, L: Link, D: Disk>(
+    alloc: Global,
+    here: KeptNode<'_>,
+    source: &mut I,
+    link: &mut L,
+    disk: &mut D,
+) -> Status
+    ensures { AttendedKept (kept_endpoint here.id here.address.now here.file.now)
+        (outside (I.seen source.old) (L.seen link.old) (D.seen disk.old))
+        (outside (I.seen source.new) (L.seen link.new) (D.seen disk.new)) result }
+{
+    let network = match network_of(alloc, source) {
+        Ok(network) => network,
+        Err(status) => return status,
+    };
+    if network.rank_of(here.id).is_none() {
+        return Status::NoSuchNode(here.id);
+    }
+    let Ok(shared) = network.clone() else {
+        return Status::NoMemory;
+    };
+    let kept = match restore(alloc, here.id, shared, disk, here.file) {
+        Ok(kept) => kept,
+        Err(status) => return status,
+    };
+    if link.dial(here.address).is_err() {
+        return Status::LinkFault;
+    }
+    serve_kept(alloc, kept, network, link, disk)
 }

@@ -1,11 +1,11 @@
 //! Laws of streams of frames. A call of a law brings what it says into the caller's proof.
 ghost use Rattle.std.specs.Prelude.{ℕ, ◌≡◌, List};
 ghost use Rattle.wire_frames.specs.declared.frames.Frame.{Frame};
-ghost use Rattle.route_node.specs.Streams.{Comes, Ending};
+ghost use Rattle.route_node.specs.Streams.{StreamComesTo, Ending};
 ghost use Rattle.route_node.specs.Who.{Who};
 
 /// Bytes come to one thing: the frames that stand in front and are taken, and how the stream ends behind them.
 pub fn a_stream_comes_to_one_thing()
     ensures { (who : Who) (bytes : List ℕ) (frames others : List Frame) (a b : Ending) →
-        Comes who bytes frames a → Comes who bytes others b → (frames ≡ others) × (a ≡ b) }
+        StreamComesTo who bytes frames a → StreamComesTo who bytes others b → (frames ≡ others) × (a ≡ b) }
 {}

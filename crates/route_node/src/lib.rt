@@ -21,7 +21,7 @@ mod reports;
 pub mod restoring;
 pub mod serving;
 
-pub use attending::attend;
+pub use attending::{KeptNode, attend, attend_kept};
 pub use keeping::MAX_JOURNAL;
 pub use limits::MAX_FRAMES;
 pub use plain::attend_plain;

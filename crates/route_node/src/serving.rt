@@ -9,7 +9,7 @@ ghost use Rattle.wire_frames.specs.Reading.{Partial, found};
 ghost use Rattle.route_node.specs.Fronts.{Admits, Holds, RefusesAt};
 ghost use Rattle.route_node.specs.Keeping.{KeptBy};
 ghost use Rattle.route_node.specs.Restored.{IsRestored, MayServe};
-ghost use Rattle.route_node.specs.Running.{Ends, GoesFurther, GoesOn, IsRunning, IsWithin, MayTake, Runs, Setting, Works, left_of, who_at};
+ghost use Rattle.route_node.specs.Running.{EndsServing, GoesFurther, ServesOn, IsRunning, IsWithin, MayTake, Runs, Serving, Works, left_of, who_at};
 ghost use Rattle.route_node.specs.Served.{Served};
 ghost use Rattle.route_node.specs.ServedKept.{ServedKept};
 ghost use Rattle.route_node.specs.Streams.{refusal};
@@ -53,13 +53,13 @@ impl<P: Policy + Copy> Process<P> {
 
     // Reads once, where what came is no whole frame. The end of the link between two frames ends the run.
     fn wait<L: Link>(mut self, link: &mut L) -> Result<Process<P>, Status>
-        ensures ok { IfOk result (λ next. (at : Setting P) (frames : List AnyFrame) →
+        ensures ok { IfOk result (λ next. (at : Serving P) (frames : List AnyFrame) →
             Runs (P.rules at.policy) at self (L.seen link.old) frames → IsWithin self → found self.received ≡ Partial →
-            GoesOn (P.rules at.policy) at next (L.seen link.new) frames (left_of self)) }
+            ServesOn (P.rules at.policy) at next (L.seen link.new) frames (left_of self)) }
         ensures same_journal { IfOk result (λ next. next.journal ≡ self.journal) }
-        ensures err { IfErr result (λ status. (at : Setting P) (frames : List AnyFrame) →
+        ensures err { IfErr result (λ status. (at : Serving P) (frames : List AnyFrame) →
             Runs (P.rules at.policy) at self (L.seen link.old) frames → IsWithin self → found self.received ≡ Partial →
-            Ends (who_at (P.rules at.policy) at) at.first (L.seen link.new) frames status × (status ≢ Status.DiskFault)) }
+            EndsServing (who_at (P.rules at.policy) at) at.first (L.seen link.new) frames status × (status ≢ Status.DiskFault)) }
     {
         match self.received.fill(link) {
             Ok(Filled::More) => Ok(self),
@@ -72,9 +72,9 @@ impl<P: Policy + Copy> Process<P> {
 
     // What the frame brings, where the node admits it.
     fn admit(&self, frame: Frame) -> Result<Input, Status>
-        ensures ok { IfOk result (λ input. (at : Setting P) (link : LinkView) (frames : List AnyFrame) →
+        ensures ok { IfOk result (λ input. (at : Serving P) (link : LinkView) (frames : List AnyFrame) →
             Runs (P.rules at.policy) at self.now link frames → Admits at.net at.node frame (input_seen input)) }
-        ensures err { IfErr result (λ status. (at : Setting P) (link : LinkView) (frames : List AnyFrame) →
+        ensures err { IfErr result (λ status. (at : Serving P) (link : LinkView) (frames : List AnyFrame) →
             Runs (P.rules at.policy) at self.now link frames →
             RefusesAt self.now.offset (refusal (who_at (P.rules at.policy) at) frames frame) status) }
     {
@@ -99,11 +99,11 @@ impl<P: Policy + Copy> Process<P> {
         disk: &mut D,
     ) -> Result<Process<P>, Status>
         requires { MayTake (λ policy. P.rules policy) self (L.seen link.old) (input_seen input) size }
-        ensures ok { IfOk result (λ next. (at : Setting P) (frames : List AnyFrame) (frame : AnyFrame) →
+        ensures ok { IfOk result (λ next. (at : Serving P) (frames : List AnyFrame) (frame : AnyFrame) →
             Works (P.rules at.policy) at self (L.seen link.old) (D.seen disk.old) frames → IsWithin self →
             Holds self.received frame size → Admits at.net at.node frame (input_seen input) →
             GoesFurther (P.rules at.policy) at next (L.seen link.new) (D.seen disk.new) (left_of self)) }
-        ensures err { IfErr result (λ status. (at : Setting P) (frames : List AnyFrame) (frame : AnyFrame) →
+        ensures err { IfErr result (λ status. (at : Serving P) (frames : List AnyFrame) (frame : AnyFrame) →
             Works (P.rules at.policy) at self (L.seen link.old) (D.seen disk.old) frames → IsWithin self →
             Holds self.received frame size → Admits at.net at.node frame (input_seen input) →
             ServedKept (who_at (P.rules at.policy) at) at.first (L.seen link.new) at.disk (D.seen disk.new) status) }
@@ -142,10 +142,10 @@ impl<P: Policy + Copy> Process<P> {
     // Takes a frame, or reads once.
     fn advance<L: Link, D: Disk>(self, link: &mut L, disk: &mut D) -> Result<Process<P>, Status>
         requires { IsRunning (λ policy. P.rules policy) self (L.seen link.old) (D.seen disk.old) }
-        ensures ok { IfOk result (λ next. (at : Setting P) (frames : List AnyFrame) →
+        ensures ok { IfOk result (λ next. (at : Serving P) (frames : List AnyFrame) →
             Works (P.rules at.policy) at self (L.seen link.old) (D.seen disk.old) frames → IsWithin self →
             GoesFurther (P.rules at.policy) at next (L.seen link.new) (D.seen disk.new) (left_of self)) }
-        ensures err { IfErr result (λ status. (at : Setting P) (frames : List AnyFrame) →
+        ensures err { IfErr result (λ status. (at : Serving P) (frames : List AnyFrame) →
             Works (P.rules at.policy) at self (L.seen link.old) (D.seen disk.old) frames → IsWithin self →
             ServedKept (who_at (P.rules at.policy) at) at.first (L.seen link.new) at.disk (D.seen disk.new) status) }
     {
@@ -172,7 +172,7 @@ fn ends<P: Policy + Copy, L: Link, D: Disk>(
     disk: &mut D,
 ) -> Status
     requires { IsRunning (λ policy. P.rules policy) process (L.seen link.old) (D.seen disk.old) }
-    ensures { (at : Setting P) (frames : List AnyFrame) →
+    ensures { (at : Serving P) (frames : List AnyFrame) →
         Works (P.rules at.policy) at process (L.seen link.old) (D.seen disk.old) frames → IsWithin process →
         ServedKept (who_at (P.rules at.policy) at) at.first (L.seen link.new) at.disk (D.seen disk.new) result }
 {

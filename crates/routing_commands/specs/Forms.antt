@@ -3,13 +3,14 @@ use Rattle.std.specs.Prelude.{ℕ, ◌≡◌, ◌≤◌, List, [], ◌∷◌, co
 use Rattle.std.specs.Fmt.{decimal}
 use Rattle.routing_commands.specs.declared.forms.TheConstants.{MAX_LOAD, MAX_NODE}
 use Rattle.routing_commands.specs.declared.forms.Form.{Form}
-use Rattle.routing_commands.specs.declared.forms.Form.TheVariants.{Replay, Load, Node, Audit, Lead}
+use Rattle.routing_commands.specs.declared.forms.Form.TheVariants.{Replay, Load, Node, KeptNode, Audit, Lead}
 
 -- the words of a form
 abbrev pub form_words : Form → List (List ℕ)
 form_words Replay = codes "replay" ∷ []
 form_words (Load number) = codes "load" ∷ decimal number ∷ []
 form_words (Node id address) = codes "node" ∷ decimal id ∷ address.now ∷ []
+form_words (KeptNode id address file) = codes "node" ∷ decimal id ∷ address.now ∷ file.now ∷ []
 form_words Audit = codes "audit" ∷ []
 form_words Lead = codes "lead" ∷ []
 
@@ -18,6 +19,7 @@ abbrev pub InRange : Form → Type 0
 InRange Replay = Unit {0}
 InRange (Load number) = number ≤ MAX_LOAD
 InRange (Node id address) = (1 ≤ id) × (id ≤ MAX_NODE)
+InRange (KeptNode id address file) = (1 ≤ id) × (id ≤ MAX_NODE)
 InRange Audit = Unit {0}
 InRange Lead = Unit {0}
 

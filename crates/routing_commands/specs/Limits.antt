@@ -5,6 +5,8 @@ use Rattle.schedule_file.specs.declared.table.TheConstants as range
 use Rattle.leadership.specs.declared.bounds.TheConstants as script
 use Rattle.node_core.specs.declared.limits.TheConstants as one
 use Rattle.world_core.specs.declared.bounds.TheConstants as all
+use Rattle.acceptor_journal.specs.declared.journal.TheConstants as file
+use Rattle.route_node.specs.declared.keeping.TheConstants.{MAX_JOURNAL}
 use Rattle.route_node.specs.declared.limits.TheConstants.{MAX_FRAMES}
 use Rattle.routing_commands.specs.declared.forms.TheConstants as word
 
@@ -29,6 +31,9 @@ pub record CountsEndAt : Type 0 where
   pub packets : all.MOST_PACKETS ≡ 4096
   -- the frames that a node takes over its link
   pub frames : MAX_FRAMES ≡ 1000000
+  -- the bytes of a journal
+  pub journal : MAX_JOURNAL ≡ 268435456
+  pub journal_file : file.MAX_BYTES ≡ 268435456
   -- the events and the messages of a script of members
   pub script_events : script.MOST_EVENTS ≡ 1000000
   pub script_control : script.MOST_CONTROL ≡ 16384

@@ -18,7 +18,7 @@ fault_numbers other = []
 -- the words of the line, without its end
 abbrev pub note_words : Status → List ℕ
 note_words Done = []
-note_words Usage = codes "usage: consensus_routing replay | load NUMBER | node ID ADDRESS | audit | lead"
+note_words Usage = codes "usage: consensus_routing replay | load NUMBER | node ID ADDRESS | node ID ADDRESS FILE | audit | lead"
 note_words NoMemory = codes "no memory"
 note_words (BadSchedule line kind) = codes "bad schedule: line " ++ decimal line ++ codes ": " ++ bad_words kind
 note_words (Limit kind number) = codes "limit: " ++ limit_words kind ++ codes " " ++ decimal number

@@ -22,6 +22,8 @@ pub enum Form<'a> {
     Load(u32),
     /// The node with this number, over a link to this address.
     Node(NodeId, &'a str),
+    /// The node with this number, over a link to this address, which keeps the frames that it takes in this file.
+    KeptNode(NodeId, &'a str, &'a str),
     /// The audit of the printed tables that the source holds.
     Audit,
     /// The script of members that the source holds.
@@ -38,6 +40,12 @@ pub fn form_of(words: &[String]) -> Option<Form<'_>>
         [word] => plain_form(word.as_str()),
         [word, number] => load_form(word.as_str(), number.as_str()),
         [word, number, address] => node_form(word.as_str(), number.as_str(), address.as_str()),
+        [word, number, address, file] => kept_form(
+            word.as_str(),
+            number.as_str(),
+            address.as_str(),
+            file.as_str(),
+        ),
         _ => None,
     }
 }
@@ -95,6 +103,20 @@ fn node_form<'a>(word: &str, number: &str, address: &'a str) -> Option<Form<'a>>
     if word == "node" {
         return match node_number(number) {
             Some(node) => Some(Form::Node(node, address)),
+            None => None,
+        };
+    }
+    None
+}
+
+// The form of a word, a number, an address and the name of a file.
+fn kept_form<'a>(word: &str, number: &str, address: &'a str, file: &'a str) -> Option<Form<'a>>
+    ensures some { IfSome result (λ form. IsForm (word.now ∷ number.now ∷ address.now ∷ file.now ∷ []) form) }
+    ensures none { IfNone result (HasNoForm (word.now ∷ number.now ∷ address.now ∷ file.now ∷ [])) }
+{
+    if word == "node" {
+        return match node_number(number) {
+            Some(node) => Some(Form::KeptNode(node, address, file)),
             None => None,
         };
     }

@@ -124,7 +124,7 @@ fn words_of(status: &Status) -> ArrayString<ROOM>
         Status::Done => {}
         Status::Usage => {
             text.push_str(
-                "usage: consensus_routing replay | load NUMBER | node ID ADDRESS | audit | lead",
+                "usage: consensus_routing replay | load NUMBER | node ID ADDRESS | node ID ADDRESS FILE | audit | lead",
             );
         }
         Status::NoMemory => text.push_str("no memory"),

@@ -7,26 +7,28 @@ ghost use Rattle.routing_commands.specs.Notes.{Noted};
 
 use crate::forms::{Form, form_of};
 use crate::notes::tell;
+use acceptor_journal::Disk;
 use leadership::lead;
 use route_io::{Link, Sink, Source};
-use route_node::attend;
+use route_node::{KeptNode, attend, attend_kept};
 use route_replay::{load, replay};
 use std::alloc::Global;
 use table_audit::audit;
 use topology::Status;
 
 // Does what the words say. Words of no form leave the three sides as they were.
-fn outcome<I: Source, O: Sink, L: Link>(
+fn outcome<I: Source, O: Sink, L: Link, D: Disk>(
     alloc: Global,
     words: &[String],
     source: &mut I,
     sink: &mut O,
     link: &mut L,
+    disk: &mut D,
 ) -> Status
     ensures headline { Headline (map (λ word. string_bytes word) words.now)
-        (sides (I.seen source.old) (O.seen sink.old) (L.seen link.old))
-        (sides (I.seen source.new) (O.seen sink.new) (L.seen link.new)) result }
-    ensures untouched { result ≡ Status.Usage → (source.new ≡ source.old) × (sink.new ≡ sink.old) × (link.new ≡ link.old) }
+        (sides (I.seen source.old) (O.seen sink.old) (L.seen link.old) (D.seen disk.old))
+        (sides (I.seen source.new) (O.seen sink.new) (L.seen link.new) (D.seen disk.new)) result }
+    ensures untouched { result ≡ Status.Usage → (source.new ≡ source.old) × (sink.new ≡ sink.old) × (link.new ≡ link.old) × (disk.new ≡ disk.old) }
 {
     let Some(form) = form_of(words) else {
         return Status::Usage;
@@ -35,6 +37,10 @@ fn outcome<I: Source, O: Sink, L: Link>(
         Form::Replay => replay(alloc, source, sink),
         Form::Load(number) => load(alloc, number, sink),
         Form::Node(id, address) => attend(alloc, id, address, source, link),
+        Form::KeptNode(id, address, file) => {
+            let here = KeptNode { id, address, file };
+            attend_kept(alloc, here, source, link, disk)
+        }
         Form::Audit => audit(alloc, source, sink),
         Form::Lead => lead(alloc, source, sink),
     }
@@ -50,26 +56,27 @@ fn outcome<I: Source, O: Sink, L: Link>(
 /// user may rely on stands in `specs/Headline.antt` and `specs/Notes.antt`, and command by command in
 /// `route_replay/specs/Replayed.antt` and `Loaded.antt`, `route_node/specs/Attended.antt`,
 /// `table_audit/specs/Audited.antt` and `leadership/specs/Led.antt`.
-pub fn run<I: Source, O: Sink, E: Sink, L: Link>(
+pub fn run<I: Source, O: Sink, E: Sink, L: Link, D: Disk>(
     alloc: Global,
     words: &[String],
     source: &mut I,
     sink: &mut O,
     notes: &mut E,
     link: &mut L,
+    disk: &mut D,
 ) -> Status
     ensures headline { Headline (map (λ word. string_bytes word) words.now)
-        (sides (I.seen source.old) (O.seen sink.old) (L.seen link.old))
-        (sides (I.seen source.new) (O.seen sink.new) (L.seen link.new)) result }
+        (sides (I.seen source.old) (O.seen sink.old) (L.seen link.old) (D.seen disk.old))
+        (sides (I.seen source.new) (O.seen sink.new) (L.seen link.new) (D.seen disk.new)) result }
     // Words of no form leave the source, the sink and the link as they were.
-    ensures untouched { result ≡ Status.Usage → (source.new ≡ source.old) × (sink.new ≡ sink.old) × (link.new ≡ link.old) }
+    ensures untouched { result ≡ Status.Usage → (source.new ≡ source.old) × (sink.new ≡ sink.old) × (link.new ≡ link.old) × (disk.new ≡ disk.old) }
     ensures noted { Noted (E.seen notes.old) (E.seen notes.new) result }
     // Limits and ranges have the numbers that are written there, whatever came.
     ensures limits { LimitsAre }
     // A run that is done leaves the notes as they were.
     ensures silent { result ≡ Status.Done → notes.new ≡ notes.old }
 {
-    let status = outcome(alloc, words, source, sink, link);
+    let status = outcome(alloc, words, source, sink, link, disk);
     tell(notes, &status);
     status
 }

@@ -1,5 +1,5 @@
 //! Runs of one node over a link in memory that fails, or has little room.
-use super::{sink_of, words_of};
+use super::{no_disk, sink_of, words_of};
 use route_io::{MemLink, MemSink, MemSource, PlainLink, PlainSource};
 use route_node::attend_plain;
 use routing_commands::run::run;
@@ -60,7 +60,16 @@ fn status_over(
     let content = Vec::from_slice(alloc, file.as_bytes())?;
     let mut source = MemSource::new(content, Vec::new(alloc));
     let mut sink = sink_of(alloc, 0, &[])?;
-    Ok(run(alloc, &words, &mut source, &mut sink, notes, link))
+    let mut disk = no_disk(alloc);
+    Ok(run(
+        alloc,
+        &words,
+        &mut source,
+        &mut sink,
+        notes,
+        link,
+        &mut disk,
+    ))
 }
 
 #[test]

@@ -5,7 +5,7 @@ ghost use Rattle.std.specs.Io.KnownBytes.{ReadConsumes, WriteAppends};
 ghost use Rattle.route_io.specs.Causes.{HasCause, StaysTold};
 ghost use Rattle.route_io.specs.Links.{Dials, OnlyDials, OnlyReads, OnlyWrites, room_left};
 
-use super::{sink_of, words_of};
+use super::{no_disk, sink_of, words_of};
 use route_io::{Failed, Link, MemLink, MemSource};
 use routing_commands::run::run;
 use std::alloc::Global;
@@ -114,7 +114,16 @@ fn answers_a_frame_before_it_reads_the_next(rt: HostRuntime) -> Result<(), Fail>
         has_begun: false,
         faults: 0,
     };
-    let status = run(alloc, &words, &mut source, &mut sink, &mut notes, &mut peer);
+    let mut disk = no_disk(alloc);
+    let status = run(
+        alloc,
+        &words,
+        &mut source,
+        &mut sink,
+        &mut notes,
+        &mut peer,
+        &mut disk,
+    );
     assert_eq!(rt; status, Status::Done);
     assert_eq!(rt; peer.first.outgoing(), ANSWERS);
     Ok(())

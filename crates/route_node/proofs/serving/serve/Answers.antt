@@ -7,15 +7,15 @@ use Rattle.acceptor_journal.specs.Views.{DiskView}
 use Rattle.acceptor_journal.specs.declared.memory.MemDisk.{MemDisk}
 use Rattle.route_io.specs.Views.{LinkView}
 use Rattle.node_core.specs.Standing.{StandsFor}
-use Rattle.route_node.specs.Running.{Setting}
+use Rattle.route_node.specs.Running.{Serving}
 use Rattle.route_node.specs.Who.{afresh}
 use Rattle.route_node.proofs.Beginning.{begins, within, served_nothing}
 use Rattle.route_node.proofs.Journaled.{keeps_none}
 use Rattle.route_node.proofs.serving.serve.Goals as goal
 
 -- the program's policy, at this node of this network over this link, without a journal
-abbrev setting : Net → ℕ → LinkView → DiskView → Setting GaoRexford
-setting net u first disk = record { policy = record {}; net = net; node = u; records = None; first = first; disk = disk }
+abbrev serving_of : Net → ℕ → LinkView → DiskView → Serving GaoRexford
+serving_of net u first disk = record { policy = record {}; net = net; node = u; records = None; first = first; disk = disk }
 
 -- what the disk tells that nobody calls
 abbrev disk_seen : MemDisk → DiskView
@@ -30,7 +30,7 @@ returns-in_default-new g c = served_nothing (afresh gao_rexford c.args.topology.
 pub ends-requires : goal.ends-requires
 ends-requires g c =
     let stands = subst (λ n. StandsFor {P = GaoRexford} (record {}) gao_rexford n c.args.id c.in-Ok-new.node []) c.in-Ok.ensures.cases c.in-Ok-new.ensures in
-    let at = setting c.args.topology.value c.args.id (g.L.Link.seen c.args.link.now) (disk_seen c.new-disk.result) in
+    let at = serving_of c.args.topology.value c.args.id (g.L.Link.seen c.args.link.now) (disk_seen c.new-disk.result) in
     record {
       at = at;
       frames = [];
@@ -44,7 +44,7 @@ ends-requires g c =
 pub returns : goal.returns
 returns g c =
     let stands = subst (λ n. StandsFor {P = GaoRexford} (record {}) gao_rexford n c.args.id c.in-Ok-new.node []) c.in-Ok.ensures.cases c.in-Ok-new.ensures in
-    let at = setting c.args.topology.value c.args.id (g.L.Link.seen c.args.link.now) (disk_seen c.new-disk.result) in
+    let at = serving_of c.args.topology.value c.args.id (g.L.Link.seen c.args.link.now) (disk_seen c.new-disk.result) in
     (c.ends.ensures at []
     (record {
       runs = begins gao_rexford at _ (subst IsValid c.deref.ensures c.nodes-nodes.ensures.valid) c.requires refl refl tt stands refl refl c.new-2.ensures;

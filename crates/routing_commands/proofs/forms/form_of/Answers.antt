@@ -8,5 +8,5 @@ returns-in_default c =
     let low = c.in_default.len_at_least in
     record {
       some = tt;
-      none = no_count _ (λ e. let no : ⊥ = omega (arith, size, low, e) in no) (λ e. let no : ⊥ = omega (arith, size, low, e) in no) (λ e. let no : ⊥ = omega (arith, size, low, e) in no);
+      none = no_count _ (λ e. let no : ⊥ = omega (arith, size, low, e) in no) (λ e. let no : ⊥ = omega (arith, size, low, e) in no) (λ e. let no : ⊥ = omega (arith, size, low, e) in no) (λ e. let no : ⊥ = omega (arith, size, low, e) in no);
     }

@@ -16,6 +16,8 @@ returns-clause-limits g c = record {
     control = refl;
     packets = refl;
     frames = refl;
+    journal = refl;
+    journal_file = refl;
     script_events = refl;
     script_control = refl;
   };

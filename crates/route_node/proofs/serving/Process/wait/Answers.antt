@@ -8,7 +8,7 @@ use Rattle.route_io.specs.Views.{LinkView}
 use Rattle.route_io.specs.declared.received.Filled.{Filled}
 use Rattle.route_io.specs.declared.received.NotFilled.{NotFilled}
 use Rattle.route_io.specs.declared.received.NotFilled.TheVariants.{Fault}
-use Rattle.route_node.specs.Running.{Ends, who_at}
+use Rattle.route_node.specs.Running.{EndsServing, who_at}
 use Rattle.route_node.proofs.Waiting.{goes_on, ends_at_end, ends_within, ends_without_memory, ends_by_fault}
 use Rattle.route_node.proofs.serving.Process.wait.Goals as goal
 
@@ -48,7 +48,7 @@ returns-in-Ok-End-clause-err g c = λ at frames runs within partial.
 pub returns-in-Ok-End-2-clause-err : goal.returns-in-Ok-End-2-clause-err
 returns-in-Ok-End-2-clause-err g c = λ at frames runs within partial.
     let is = found_as _ _ _ c.in-Ok-End.is c.in-Ok-End.field-0-is in
-    subst (λ s. Ends (who_at (g.P.Policy.rules at.policy) at) at.first (g.L.Link.seen c.fill.new.link) frames s × (s ≢ DiskFault)) (sym c.refuse.ensures) (
+    subst (λ s. EndsServing (who_at (g.P.Policy.rules at.policy) at) at.first (g.L.Link.seen c.fill.new.link) frames s × (s ≢ DiskFault)) (sym c.refuse.ensures) (
       ends_within _ at frames c.args.self _ _ runs _ c.fill.new.self is c.fill.ensures.grows c.fill.ensures.more c.fill.ensures.end partial (some_as _ _ _ c.is_empty.ensures c.if-is_empty.false c.as_slice.ensures) (reads_as _ _ _ _ (g.L.Link.seen c.args.link.now) (g.L.Link.seen c.fill.new.link) is c.fill.ensures.acted) c.fill.ensures.others (quiet_at _ _ _ _ is c.fill.ensures.cause),
       λ e. cc e,
     )
