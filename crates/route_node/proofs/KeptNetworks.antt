@@ -301,7 +301,7 @@ module _ (here : KeptEndpoint) (old : Outside) (source' : SourceView) (link' : L
     read_fault = stays_quiet old.source.faults source'.faults (λ e. never (sym (ap never_back e) ∙ back)) gives.quiet;
     link_fault = link_fault;
     disk_fault = disk_fault;
-    sure = λ is_sure e. let long = sure is_sure e in (net, of_it near old.source source' net gives, there, long);
+    sure = λ is_sure e. let long = sure is_sure e in (net, of_it near old.source source' net gives, there, long.0, long.1, long.2);
     unopened = λ e. absurd (opened status e back);
     undialled = undialled;
     dialled = dialled;

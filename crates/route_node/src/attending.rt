@@ -80,7 +80,7 @@ pub fn attend_kept<I: Source, L: Link, D: Disk>(
     link: &mut L,
     disk: &mut D,
 ) -> Status
-    ensures { AttendedKept (kept_endpoint here.id here.address.now here.file.now)
+    ensures { AttendedKept (kept_endpoint here.entry.id here.entry.address.now here.entry.file.now)
         (outside (I.seen source.old) (L.seen link.old) (D.seen disk.old))
         (outside (I.seen source.new) (L.seen link.new) (D.seen disk.new)) result }
 {
