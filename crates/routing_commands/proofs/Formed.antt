@@ -116,7 +116,7 @@ abbrev pub sign_of : Form → ℕ
 sign_of Replay = 114
 sign_of (Load number) = 364
 sign_of (Node id address) = 622
-sign_of (KeptNode id address file) = 1134
+sign_of (KeptNode id address file) = 878
 sign_of Audit = 97
 sign_of Lead = 108
 
