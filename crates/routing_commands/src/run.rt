@@ -16,7 +16,7 @@ use std::alloc::Global;
 use table_audit::audit;
 use topology::Status;
 
-// Does what the words say. Words of no form leave the three sides as they were.
+// Does what the words say. Words of no form leave all sides as they were.
 fn outcome<I: Source, O: Sink, L: Link, D: Disk>(
     alloc: Global,
     words: &[String],
@@ -50,12 +50,14 @@ fn outcome<I: Source, O: Sink, L: Link, D: Disk>(
 /// schedule from the source, runs it, and writes its text to the sink; `load` with a number makes a
 /// network and its schedule, runs it, and writes counts of the run; `node` with a number and an
 /// address reads a network from the source, dials the address, and answers the frames that come over
-/// the link as that node; `audit` reads printed tables from the source, and writes one line where they
-/// are consistent; `lead` reads a script of members from the source, runs it, and writes its text. The
-/// notes get one line where the run ended before its time; a fault of theirs changes nothing. What a
-/// user may rely on stands in `specs/Headline.antt` and `specs/Notes.antt`, and command by command in
-/// `route_replay/specs/Replayed.antt` and `Loaded.antt`, `route_node/specs/Attended.antt`,
-/// `table_audit/specs/Audited.antt` and `leadership/specs/Led.antt`.
+/// the link as that node; with the name of a file behind the address, it keeps each frame there before
+/// it answers, and begins behind the frames that the file has; `audit` reads printed tables from the
+/// source, and writes one line where they are consistent; `lead` reads a script of members from the
+/// source, runs it, and writes its text. The notes get one line where the run ended before its time; a
+/// fault of theirs changes nothing. What a user may rely on stands in `specs/Headline.antt` and
+/// `specs/Notes.antt`, and command by command in `route_replay/specs/Replayed.antt` and `Loaded.antt`,
+/// `route_node/specs/Attended.antt` and `AttendedKept.antt`, `table_audit/specs/Audited.antt` and
+/// `leadership/specs/Led.antt`.
 pub fn run<I: Source, O: Sink, E: Sink, L: Link, D: Disk>(
     alloc: Global,
     words: &[String],
@@ -68,7 +70,7 @@ pub fn run<I: Source, O: Sink, E: Sink, L: Link, D: Disk>(
     ensures headline { Headline (map (λ word. string_bytes word) words.now)
         (sides (I.seen source.old) (O.seen sink.old) (L.seen link.old) (D.seen disk.old))
         (sides (I.seen source.new) (O.seen sink.new) (L.seen link.new) (D.seen disk.new)) result }
-    // Words of no form leave the source, the sink and the link as they were.
+    // Words of no form leave the source, the sink, the link and the disk as they were.
     ensures untouched { result ≡ Status.Usage → (source.new ≡ source.old) × (sink.new ≡ sink.old) × (link.new ≡ link.old) × (disk.new ≡ disk.old) }
     ensures noted { Noted (E.seen notes.old) (E.seen notes.new) result }
     // Limits and ranges have the numbers that are written there, whatever came.
