@@ -1,9 +1,8 @@
 -- What each end of a node that keeps its frames gives of the promise.
-use Rattle.std.proofs.Common.{ℕ, ◌≡◌, ◌≤◌, ◌<◌, inl, inr, ◌⊎◌, Option, Some, None, Result, Ok, Err, List, length, Bool, true, false, true≢false, refl, sym, ap, ◌∙◌, subst, arith}
+use Rattle.std.proofs.Common.{ℕ, ◌≡◌, inl, inr, ◌⊎◌, Some, None, Result, Ok, Err, List, length, Bool, true, false, true≢false, refl, sym, ap, ◌∙◌, subst}
 use Rattle.topology.specs.declared.frame_faults.FrameFault.{FrameFault}
 use Rattle.topology.specs.declared.status.Status.{Status}
 use Rattle.topology.specs.declared.status.Status.TheVariants.{Done, Usage, NoMemory, BadSchedule, Limit, ReadFault, WriteFault, LinkFault, BadFrame, NoSuchNode, DiskFault, BadJournal, BadTables, Inconsistent}
-use Rattle.topology.specs.declared.status.BadKind.{BadKind}
 use Rattle.topology.specs.declared.status.LimitKind.TheVariants as kind
 use Rattle.topology.specs.Lists.{has}
 use Rattle.topology.specs.Net.{Net}
@@ -15,12 +14,10 @@ use Rattle.acceptor_journal.specs.Views.{DiskView}
 use Rattle.acceptor_journal.specs.Journals.{KeepsTelling}
 use Rattle.acceptor_journal.specs.Records.{Back}
 use Rattle.path_vector.specs.GaoRexford.{gao_rexford}
-use Rattle.schedule_file.specs.declared.parser.TheConstants.{MAX_BYTES}
-use Rattle.schedule_file.specs.Refusals.{FirstBadOfTopology}
 use Rattle.wire_frames.specs.declared.frames.Frame.{Frame}
 use Rattle.route_node.specs.declared.restoring.Kept.{Kept}
 use Rattle.route_node.specs.Attended.{Attended, Endpoint, EndsBefore, Gives, IsNetwork, ends_read, endpoint, once_dialled}
-use Rattle.route_node.specs.AttendedKept.{AttendedKept, BreaksOffKept, EndsUnopened, KeptEndpoint, Outside, RunsKept, ends_answering, ends_attending_kept, ends_behind, ends_read_kept, ends_unopened, outside}
+use Rattle.route_node.specs.AttendedKept.{AttendedKept, BreaksOffKept, KeptEndpoint, Outside, RunsKept, ends_answering, ends_attending_kept, ends_behind, ends_read_kept, ends_unopened, outside}
 use Rattle.route_node.specs.Early.{ends_early}
 use Rattle.route_node.specs.Records.{AreRestored, ComesBack}
 use Rattle.route_node.specs.Restored.{IsRestored, OpensFirst, Restored, ends_restoring, status_in}
