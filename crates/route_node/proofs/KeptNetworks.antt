@@ -3,6 +3,7 @@ use Rattle.std.proofs.Common.{ℕ, ◌≡◌, inl, inr, ◌⊎◌, Some, None, R
 use Rattle.topology.specs.declared.frame_faults.FrameFault.{FrameFault}
 use Rattle.topology.specs.declared.status.Status.{Status}
 use Rattle.topology.specs.declared.status.Status.TheVariants.{Done, Usage, NoMemory, BadSchedule, Limit, ReadFault, WriteFault, LinkFault, BadFrame, NoSuchNode, DiskFault, BadJournal, BadTables, Inconsistent}
+use Rattle.topology.specs.declared.status.BadKind.{BadKind}
 use Rattle.topology.specs.declared.status.LimitKind.TheVariants as kind
 use Rattle.topology.specs.Lists.{has}
 use Rattle.topology.specs.Net.{Net}
@@ -31,144 +32,85 @@ use Rattle.route_node.proofs.Networks.{is_it, not_bad, not_both, not_long, of_it
 
 -- ---- before the journal
 
+-- what holds of each end before the journal
+record EachEarly (P : Status → Type 0) : Type 0 where
+  no_memory : P NoMemory
+  bad_schedule : (line : ℕ) (bad : BadKind) → P (BadSchedule line bad)
+  too_long : (number : ℕ) → P (Limit kind.Bytes number)
+  read_fault : P ReadFault
+  no_such_node : (node : ℕ) → P (NoSuchNode node)
+
+-- it holds of a status that is one of them
+early : (P : Status → Type 0) → EachEarly P → (s : Status) → ends_early s ≡ true → P s
+early P each NoMemory e = each.no_memory
+early P each (BadSchedule line bad) e = each.bad_schedule line bad
+early P each (Limit kind.Bytes number) e = each.too_long number
+early P each (Limit kind.Events number) e = absurd (cc e)
+early P each (Limit kind.Epochs number) e = absurd (cc e)
+early P each (Limit kind.Triggers number) e = absurd (cc e)
+early P each (Limit kind.Entries number) e = absurd (cc e)
+early P each (Limit kind.Updates number) e = absurd (cc e)
+early P each (Limit kind.Control number) e = absurd (cc e)
+early P each (Limit kind.Packets number) e = absurd (cc e)
+early P each (Limit kind.Frames number) e = absurd (cc e)
+early P each (Limit kind.Marks number) e = absurd (cc e)
+early P each (Limit kind.Journal number) e = absurd (cc e)
+early P each ReadFault e = each.read_fault
+early P each (NoSuchNode node) e = each.no_such_node node
+early P each Done e = absurd (cc e)
+early P each Usage e = absurd (cc e)
+early P each WriteFault e = absurd (cc e)
+early P each LinkFault e = absurd (cc e)
+early P each (BadFrame offset fault) e = absurd (cc e)
+early P each DiskFault e = absurd (cc e)
+early P each (BadJournal offset fault) e = absurd (cc e)
+early P each (BadTables line) e = absurd (cc e)
+early P each (Inconsistent line bad) e = absurd (cc e)
+
 early_formed : (s : Status) → ends_early s ≡ true → ends_attending_kept s ≡ true
-early_formed NoMemory e = refl
-early_formed (BadSchedule line bad) e = refl
-early_formed (Limit other number) e = refl
-early_formed ReadFault e = refl
-early_formed (NoSuchNode node) e = refl
-early_formed Done e = absurd (cc e)
-early_formed Usage e = absurd (cc e)
-early_formed WriteFault e = absurd (cc e)
-early_formed LinkFault e = absurd (cc e)
-early_formed (BadFrame offset fault) e = absurd (cc e)
-early_formed DiskFault e = absurd (cc e)
-early_formed (BadJournal offset fault) e = absurd (cc e)
-early_formed (BadTables line) e = absurd (cc e)
-early_formed (Inconsistent line bad) e = absurd (cc e)
+early_formed s is = early (λ s. ends_attending_kept s ≡ true)
+    (record { no_memory = refl; bad_schedule = λ line bad. refl; too_long = λ number. refl; read_fault = refl; no_such_node = λ node. refl }) s is
 
 -- it is no end over a link
 early_unanswered : (s : Status) → ends_early s ≡ true → ends_answering s ≡ true → ⊥
-early_unanswered Done e f = absurd (cc e)
-early_unanswered (BadFrame offset fault) e f = absurd (cc e)
-early_unanswered (Limit kind.Frames number) e f = absurd (cc e)
-early_unanswered (Limit kind.Journal number) e f = absurd (cc e)
-early_unanswered (Limit kind.Bytes number) e f = absurd (cc f)
-early_unanswered (Limit kind.Events number) e f = absurd (cc f)
-early_unanswered (Limit kind.Epochs number) e f = absurd (cc f)
-early_unanswered (Limit kind.Triggers number) e f = absurd (cc f)
-early_unanswered (Limit kind.Entries number) e f = absurd (cc f)
-early_unanswered (Limit kind.Updates number) e f = absurd (cc f)
-early_unanswered (Limit kind.Control number) e f = absurd (cc f)
-early_unanswered (Limit kind.Packets number) e f = absurd (cc f)
-early_unanswered (Limit kind.Marks number) e f = absurd (cc f)
-early_unanswered Usage e f = absurd (cc e)
-early_unanswered NoMemory e f = absurd (cc f)
-early_unanswered (BadSchedule line bad) e f = absurd (cc f)
-early_unanswered ReadFault e f = absurd (cc f)
-early_unanswered WriteFault e f = absurd (cc e)
-early_unanswered LinkFault e f = absurd (cc e)
-early_unanswered (NoSuchNode node) e f = absurd (cc f)
-early_unanswered DiskFault e f = absurd (cc e)
-early_unanswered (BadJournal offset fault) e f = absurd (cc e)
-early_unanswered (BadTables line) e f = absurd (cc e)
-early_unanswered (Inconsistent line bad) e f = absurd (cc e)
+early_unanswered s is = early (λ s. ends_answering s ≡ true → ⊥)
+    (record { no_memory = λ e. cc e; bad_schedule = λ line bad e. cc e; too_long = λ number e. cc e; read_fault = λ e. cc e; no_such_node = λ node e. cc e }) s is
 
--- where a network has the node, it is want of memory or a read that failed
-early_unread : (s : Status) → ends_early s ≡ true → (ends_serving false s ≡ true) ⊎ ((s ≡ NoMemory) ⊎ ((s ≡ ReadFault) ⊎ (s ≡ LinkFault))) → (s ≡ NoMemory) ⊎ (s ≡ ReadFault)
-early_unread NoMemory e w = inl refl
-early_unread ReadFault e w = inr refl
-early_unread (BadSchedule line bad) e (inl f) = absurd (cc f)
-early_unread (BadSchedule line bad) e (inr (inl f)) = absurd (cc f)
-early_unread (BadSchedule line bad) e (inr (inr (inl f))) = absurd (cc f)
-early_unread (BadSchedule line bad) e (inr (inr (inr f))) = absurd (cc f)
-early_unread (Limit kind.Bytes number) e (inl f) = absurd (cc f)
-early_unread (Limit kind.Bytes number) e (inr (inl f)) = absurd (cc f)
-early_unread (Limit kind.Bytes number) e (inr (inr (inl f))) = absurd (cc f)
-early_unread (Limit kind.Bytes number) e (inr (inr (inr f))) = absurd (cc f)
-early_unread (Limit kind.Events number) e w = absurd (cc e)
-early_unread (Limit kind.Epochs number) e w = absurd (cc e)
-early_unread (Limit kind.Triggers number) e w = absurd (cc e)
-early_unread (Limit kind.Entries number) e w = absurd (cc e)
-early_unread (Limit kind.Updates number) e w = absurd (cc e)
-early_unread (Limit kind.Control number) e w = absurd (cc e)
-early_unread (Limit kind.Packets number) e w = absurd (cc e)
-early_unread (Limit kind.Frames number) e w = absurd (cc e)
-early_unread (Limit kind.Marks number) e w = absurd (cc e)
-early_unread (Limit kind.Journal number) e w = absurd (cc e)
-early_unread (NoSuchNode node) e (inl f) = absurd (cc f)
-early_unread (NoSuchNode node) e (inr (inl f)) = absurd (cc f)
-early_unread (NoSuchNode node) e (inr (inr (inl f))) = absurd (cc f)
-early_unread (NoSuchNode node) e (inr (inr (inr f))) = absurd (cc f)
-early_unread Done e w = absurd (cc e)
-early_unread Usage e w = absurd (cc e)
-early_unread WriteFault e w = absurd (cc e)
-early_unread LinkFault e w = absurd (cc e)
-early_unread (BadFrame offset fault) e w = absurd (cc e)
-early_unread DiskFault e w = absurd (cc e)
-early_unread (BadJournal offset fault) e w = absurd (cc e)
-early_unread (BadTables line) e w = absurd (cc e)
-early_unread (Inconsistent line bad) e w = absurd (cc e)
-
--- it is no end at a journal or over a link
+-- nor one at a journal
 early_behind : (s : Status) → ends_early s ≡ true → ends_behind s ≡ true → ⊥
-early_behind NoMemory e f = absurd (cc f)
-early_behind (BadSchedule line bad) e f = absurd (cc f)
-early_behind (Limit kind.Bytes number) e f = absurd (cc f)
-early_behind (Limit kind.Events number) e f = absurd (cc e)
-early_behind (Limit kind.Epochs number) e f = absurd (cc e)
-early_behind (Limit kind.Triggers number) e f = absurd (cc e)
-early_behind (Limit kind.Entries number) e f = absurd (cc e)
-early_behind (Limit kind.Updates number) e f = absurd (cc e)
-early_behind (Limit kind.Control number) e f = absurd (cc e)
-early_behind (Limit kind.Packets number) e f = absurd (cc e)
-early_behind (Limit kind.Frames number) e f = absurd (cc e)
-early_behind (Limit kind.Marks number) e f = absurd (cc e)
-early_behind (Limit kind.Journal number) e f = absurd (cc e)
-early_behind ReadFault e f = absurd (cc f)
-early_behind (NoSuchNode node) e f = absurd (cc f)
-early_behind Done e f = absurd (cc e)
-early_behind Usage e f = absurd (cc e)
-early_behind WriteFault e f = absurd (cc e)
-early_behind LinkFault e f = absurd (cc e)
-early_behind (BadFrame offset fault) e f = absurd (cc e)
-early_behind DiskFault e f = absurd (cc e)
-early_behind (BadJournal offset fault) e f = absurd (cc e)
-early_behind (BadTables line) e f = absurd (cc e)
-early_behind (Inconsistent line bad) e f = absurd (cc e)
+early_behind s is = early (λ s. ends_behind s ≡ true → ⊥)
+    (record { no_memory = λ e. cc e; bad_schedule = λ line bad e. cc e; too_long = λ number e. cc e; read_fault = λ e. cc e; no_such_node = λ node e. cc e }) s is
+
+early_link : (s : Status) → ends_early s ≡ true → s ≡ LinkFault → ⊥
+early_link s is e = true≢false (sym is ∙ ap ends_early e)
+
+early_disk : (s : Status) → ends_early s ≡ true → s ≡ DiskFault → ⊥
+early_disk s is e = true≢false (sym is ∙ ap ends_early e)
 
 -- the file was read to its end where it would be without a journal
 early_read : (s : Status) → ends_early s ≡ true → ends_read_kept s ≡ true → ends_read s ≡ true
-early_read (BadSchedule line bad) e f = refl
-early_read (NoSuchNode node) e f = refl
-early_read NoMemory e f = f
-early_read ReadFault e f = f
-early_read (Limit kind.Bytes number) e f = f
-early_read (Limit kind.Events number) e f = absurd (cc e)
-early_read (Limit kind.Epochs number) e f = absurd (cc e)
-early_read (Limit kind.Triggers number) e f = absurd (cc e)
-early_read (Limit kind.Entries number) e f = absurd (cc e)
-early_read (Limit kind.Updates number) e f = absurd (cc e)
-early_read (Limit kind.Control number) e f = absurd (cc e)
-early_read (Limit kind.Packets number) e f = absurd (cc e)
-early_read (Limit kind.Frames number) e f = absurd (cc e)
-early_read (Limit kind.Marks number) e f = absurd (cc e)
-early_read (Limit kind.Journal number) e f = absurd (cc e)
-early_read Done e f = absurd (cc e)
-early_read Usage e f = absurd (cc e)
-early_read WriteFault e f = absurd (cc e)
-early_read LinkFault e f = absurd (cc e)
-early_read (BadFrame offset fault) e f = absurd (cc e)
-early_read DiskFault e f = absurd (cc e)
-early_read (BadJournal offset fault) e f = absurd (cc e)
-early_read (BadTables line) e f = absurd (cc e)
-early_read (Inconsistent line bad) e f = absurd (cc e)
+early_read s is = early (λ s. ends_read_kept s ≡ true → ends_read s ≡ true)
+    (record { no_memory = λ e. e; bad_schedule = λ line bad e. refl; too_long = λ number e. e; read_fault = λ e. e; no_such_node = λ node e. refl }) s is
 
-early_link : (s : Status) → ends_early s ≡ true → s ≡ LinkFault → ⊥
-early_link s e is = let no : false ≡ true = sym (ap ends_early is) ∙ e in true≢false (sym no)
+-- without a journal it would end so over the link, or before the first frame
+abbrev EndsWithout : Status → Type 0
+EndsWithout s = (ends_serving false s ≡ true) ⊎ ((s ≡ NoMemory) ⊎ ((s ≡ ReadFault) ⊎ (s ≡ LinkFault)))
 
-early_disk : (s : Status) → ends_early s ≡ true → s ≡ DiskFault → ⊥
-early_disk s e is = let no : false ≡ true = sym (ap ends_early is) ∙ e in true≢false (sym no)
+-- where a network has the node, it is want of memory or a read that failed
+early_unread : (s : Status) → ends_early s ≡ true → EndsWithout s → (s ≡ NoMemory) ⊎ (s ≡ ReadFault)
+early_unread s is = early (λ s. EndsWithout s → (s ≡ NoMemory) ⊎ (s ≡ ReadFault)) (record {
+  no_memory = λ e. inl refl;
+  bad_schedule = λ line bad e. absurd (neither (BadSchedule line bad) refl (λ f. cc f) (λ f. cc f) (λ f. cc f) e);
+  too_long = λ number e. absurd (neither (Limit kind.Bytes number) refl (λ f. cc f) (λ f. cc f) (λ f. cc f) e);
+  read_fault = λ e. inr refl;
+  no_such_node = λ node e. absurd (neither (NoSuchNode node) refl (λ f. cc f) (λ f. cc f) (λ f. cc f) e);
+}) s is
+  where
+    neither : (t : Status) → ends_serving false t ≡ false → (t ≡ NoMemory → ⊥) → (t ≡ ReadFault → ⊥) → (t ≡ LinkFault → ⊥) → EndsWithout t → ⊥
+    neither t other memory read link (inl f) = true≢false (sym f ∙ other)
+    neither t other memory read link (inr (inl f)) = memory f
+    neither t other memory read link (inr (inr (inl f))) = read f
+    neither t other memory read link (inr (inr (inr f))) = link f
 
 module _ (here : KeptEndpoint) (old : Outside) (source' : SourceView) where
   -- as it would end without a journal
@@ -201,7 +143,7 @@ module _ (here : KeptEndpoint) (old : Outside) (source' : SourceView) where
       broken (inr e) = inr (inl e)
 
       formed_of : (net : Net) → Served (afresh gao_rexford net here.id) (once_dialled old.link here.address) old.link status ⊎ EndsBefore status old.link old.link
-          → (ends_serving false status ≡ true) ⊎ ((status ≡ NoMemory) ⊎ ((status ≡ ReadFault) ⊎ (status ≡ LinkFault)))
+          → EndsWithout status
       formed_of net (inl served) = inl served.formed
       formed_of net (inr ends) = inr ends.0
 
