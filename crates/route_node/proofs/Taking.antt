@@ -127,13 +127,6 @@ module _ (who : Who) where
       ∙ (ap (λ b. if b then first_of_two (node_limit who.rules who.net who.node (gives who.rules who.net who.node (run_over who frames) i)) (journal_limit who.records frames f) else Some (record { kind = Frames; number = MAX_FRAMES })) test
       ∙ ap (λ o. first_of_two o (journal_limit who.records frames f)) none)
 
-  few_before : (f : Frame) (frames : List Frame) → frame_limit who frames f ≡ None → length frames < MAX_FRAMES
-  few_before f frames none =
-      (elim (nat_lt (length frames) MAX_FRAMES) as (λ t. nat_lt (length frames) MAX_FRAMES ≡ t → (if t then first_of_two (input_limit who frames (brought f)) (journal_limit who.records frames f) else Some (record { kind = Frames; number = MAX_FRAMES })) ≡ None → length frames < MAX_FRAMES) [
-        | true ↦ λ e d. grind (arith, nat_tests, e)
-        | false ↦ λ e d. absurd (cc d)
-      ]) refl none
-
   -- no count of the node is above its number
   input_within : (f : Frame) (frames : List Frame) → frame_limit who frames f ≡ None → input_limit who frames (brought f) ≡ None
   input_within f frames none =
