@@ -1,9 +1,9 @@
 -- Acts of a link, one behind the other.
 use Rattle.std.proofs.Common.{ℕ, ◌+◌, ◌≡◌, ◌<◌, List, [], ◌∷◌, ◌++◌, length, take, drop, Option, Some, None, Result, Ok, Err, IsErr, refl, sym, ap, ◌∙◌, subst, append_assoc, option_map}
-use Rattle.std.proofs.lemmas.List.{append-nil}
+use Rattle.std.proofs.lemmas.List.{append-nil, take-append-drop}
 use Rattle.std.proofs.Math.Seq.{take-add}
-use Rattle.route_io.specs.Acts.{came, written, writes, AreWrites, ActsOnce, AddsWrites, whole_by}
-use Rattle.route_io.specs.Views.{Act, Read, Write, LinkView}
+use Rattle.route_io.specs.Acts.{came, written, writes, AreWrites, ActsOnce, AddsWrites, whole_by, WritesOnce, IsPieceOf, ArePiecesOf, AddsPieces}
+use Rattle.route_io.specs.Views.{Act, Read, Write, LinkView, SinkView}
 
 -- ---- readings of acts behind others
 
@@ -80,3 +80,90 @@ adds_no_more old mid new xs rest before once =
 pub whole_after : {T E : Type 0} (r : Result T E) (old new : LinkView) (piece : List ℕ) → IsErr r → ActsOnce old new (Write piece None) → ActsOnce old new (Write piece (whole_by r piece))
 whole_after (Ok x) old new piece failed once = absurd (cc failed)
 whole_after (Err e) old new piece failed once = once
+
+-- ---- pieces of a text
+
+-- a longer text has the same piece
+piece_of_more : (text more taken piece : List ℕ) → IsPieceOf text taken piece → IsPieceOf (text ++ more) taken piece
+piece_of_more text more taken piece is = record {
+  some = is.some;
+  rest = is.rest ++ more;
+  stands = sym (append_assoc (taken ++ piece) is.rest more) ∙ ap (λ (l : List ℕ). l ++ more) is.stands;
+}
+
+-- and so has one that is behind another
+piece_of_behind : (front text taken piece : List ℕ) → IsPieceOf text taken piece → IsPieceOf (front ++ text) (front ++ taken) piece
+piece_of_behind front text taken piece is = record {
+  some = is.some;
+  rest = is.rest;
+  stands = ap (λ (l : List ℕ). l ++ is.rest) (append_assoc front taken piece) ∙ (append_assoc front (taken ++ piece) is.rest ∙ ap (λ (l : List ℕ). front ++ l) is.stands);
+}
+
+pub pieces_of_more : (text more : List ℕ) (acts : List Act) → ArePiecesOf text acts → ArePiecesOf (text ++ more) acts
+pieces_of_more text more [] are = tt
+pieces_of_more text more (Read bytes ∷ before) are = absurd are
+pieces_of_more text more (Write piece took ∷ before) are = (piece_of_more text more (written before) piece are.0, pieces_of_more text more before are.1)
+
+-- pieces of one text, and then of one behind it
+pub pieces_on : (front text : List ℕ) (later acts : List Act) → ArePiecesOf front acts → written acts ≡ front → ArePiecesOf text later → ArePiecesOf (front ++ text) (later ++ acts)
+pieces_on front text [] acts first whole second = pieces_of_more front text acts first
+pieces_on front text (Read bytes ∷ later) acts first whole second = absurd second
+pieces_on front text (Write piece took ∷ later) acts first whole second = (
+  subst (λ (l : List ℕ). IsPieceOf (front ++ text) l piece) (sym (written_behind later acts ∙ ap (λ (l : List ℕ). l ++ written later) whole)) (piece_of_behind front text (written later) piece second.0),
+  pieces_on front text later acts first whole second.1,
+)
+
+-- no write was made
+pub adds_no_piece : (sink : SinkView) (text : List ℕ) → AddsPieces sink sink text []
+adds_no_piece sink text = record { more = []; pieces = tt; took = refl; behind = same sink.writes }
+  where
+    same : (told : Option (List Act)) → told ≡ option_map (λ before. [] ++ before) told
+    same None = refl
+    same (Some before) = refl
+
+-- the writes of a text, and then those of one behind it
+pub adds_pieces_on : (old mid new : SinkView) (front text taken : List ℕ) → AddsPieces old mid front front → AddsPieces mid new text taken → AddsPieces old new (front ++ text) (front ++ taken)
+adds_pieces_on old mid new front text taken first second = record {
+  more = second.more ++ first.more;
+  pieces = pieces_on front text second.more first.more first.pieces first.took second.pieces;
+  took = written_behind second.more first.more ∙ (ap (λ (l : List ℕ). l ++ written second.more) first.took ∙ ap (λ (l : List ℕ). front ++ l) second.took);
+  behind = second.behind ∙ (ap (option_map (λ before. second.more ++ before)) first.behind ∙ acts_both old.writes second.more first.more);
+}
+
+-- the text is the front of a longer one
+pub adds_pieces_of : (old new : SinkView) (text more taken : List ℕ) → AddsPieces old new text taken → AddsPieces old new (text ++ more) taken
+adds_pieces_of old new text more taken adds = record {
+  more = adds.more;
+  pieces = pieces_of_more text more adds.more adds.pieces;
+  took = adds.took;
+  behind = adds.behind;
+}
+
+module _ (old mid new : SinkView) (piece rest : List ℕ) (i : ℕ) (some : 0 < length rest) (is : rest ≡ drop i piece) (before : AddsPieces old mid piece (take i piece)) where
+  piece_here : IsPieceOf piece (written before.more) rest
+  piece_here = record {
+    some = some;
+    rest = [];
+    stands = append-nil (written before.more ++ rest) ∙ (ap (λ (l : List ℕ). l ++ rest) before.took ∙ (ap (λ (l : List ℕ). take i piece ++ l) is ∙ take-append-drop i piece));
+  }
+
+  once_behind : (act : Act) → WritesOnce mid new act → new.writes ≡ option_map (λ acts. (act ∷ before.more) ++ acts) old.writes
+  once_behind act once = once ∙ (ap (option_map (λ acts. act ∷ acts)) before.behind ∙ acts_both old.writes (act ∷ []) before.more)
+
+  -- the first i bytes of a piece, and then n more of it
+  pub adds_piece : (n : ℕ) → WritesOnce mid new (Write rest (Some n)) → AddsPieces old new piece (take (i + n) piece)
+  adds_piece n once = record {
+    more = Write rest (Some n) ∷ before.more;
+    pieces = (piece_here, before.pieces);
+    took = ap (λ (l : List ℕ). l ++ take n rest) before.took ∙ (ap (λ (l : List ℕ). take i piece ++ take n l) is ∙ sym (take-add i n piece));
+    behind = once_behind (Write rest (Some n)) once;
+  }
+
+  -- and then a write that failed
+  pub adds_piece_failed : WritesOnce mid new (Write rest None) → AddsPieces old new piece (take i piece)
+  adds_piece_failed once = record {
+    more = Write rest None ∷ before.more;
+    pieces = (piece_here, before.pieces);
+    took = before.took;
+    behind = once_behind (Write rest None) once;
+  }

@@ -10,7 +10,7 @@ pub exceeds_room :
     (old new : PlainSink) (piece : List ℕ) →
     AppendsFront (Some old.room.held) (Some new.room.held) piece →
     Some new.room.size ≡ Some old.room.size → Rose old.faults new.faults →
-    ExceedsRoom (record { held = Some old.room.held; room = Some old.room.size; faults = old.faults }) piece
+    ExceedsRoom (record { held = Some old.room.held; room = Some old.room.size; writes = Some old.acts.list; faults = old.faults }) piece
 exceeds_room old new piece (n, below, grown) same rose =
     let full : free new.room ≡ 0 = new.full (omega (arith, rose)) in
     let size : new.room.size ≡ old.room.size = cc in

@@ -1,8 +1,8 @@
--- What the reads and writes of a link brought and took. Lists of acts are newest first.
+-- What the reads and writes of a link or a sink brought and took. Lists of acts are newest first.
 use Rattle.std.specs.Prelude.{ℕ, ◌≡◌, ◌<◌, List, [], ◌∷◌, ◌++◌, length, take, Some, None, Result, Ok, Err, option_map}
 use Rattle.std.specs.Result.{result_ok}
 use Rattle.std.specs.declared.option.Option.{Option}
-use Rattle.route_io.specs.Views.{Act, Read, Write, LinkView}
+use Rattle.route_io.specs.Views.{Act, Read, Write, LinkView, SinkView}
 
 -- what the reads brought, one behind the other
 abbrev pub came : List Act → List ℕ
@@ -57,3 +57,30 @@ AddsFront old new piece = (n : ℕ) × (n < length piece) × AddsWrites old new 
 -- one read was made, and it put these bytes behind those that were there
 abbrev pub ReadsMore : List ℕ → List ℕ → LinkView → LinkView → Type 0
 ReadsMore old new was now = (more : List ℕ) × (new ≡ old ++ more) × ActsOnce was now (Read (Some more))
+
+-- this write of a sink was made, and no other
+abbrev pub WritesOnce : SinkView → SinkView → Act → Type 0
+WritesOnce old new act = new.writes ≡ option_map (λ before. act ∷ before) old.writes
+
+-- some bytes, which stand in the text behind those that were taken of it
+pub record IsPieceOf (text taken piece : List ℕ) : Type 0 where
+  pub some : 0 < length piece
+  pub rest : List ℕ
+  pub stands : (taken ++ piece) ++ rest ≡ text
+
+-- each act is a write, and its piece stands in the text behind what the writes before it took
+abbrev pub ArePiecesOf : List ℕ → List Act → Type 0
+ArePiecesOf text [] = Unit {0}
+ArePiecesOf text (Read bytes ∷ before) = ⊥
+ArePiecesOf text (Write piece took ∷ before) = IsPieceOf text (written before) piece × ArePiecesOf text before
+
+-- some writes of a sink were made, each of a piece of the text, and this is what they took
+pub record AddsPieces (old new : SinkView) (text taken : List ℕ) : Type 0 where
+  pub more : List Act
+  pub pieces : ArePiecesOf text more
+  pub took : written more ≡ taken
+  pub behind : new.writes ≡ option_map (λ before. more ++ before) old.writes
+
+-- and that was a front of the text, and not the whole
+abbrev pub AddsPart : SinkView → SinkView → List ℕ → Type 0
+AddsPart old new text = (n : ℕ) × (n < length text) × AddsPieces old new text (take n text)

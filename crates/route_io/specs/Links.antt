@@ -2,12 +2,13 @@
 use Rattle.std.specs.Prelude.{ℕ, true, ◌≡◌, ◌<◌, ◌≤◌, ◌-◌, List, ◌∷◌, ◌++◌, length, Some, None, option_map}
 use Rattle.std.specs.declared.option.Option.{Option}
 use Rattle.std.specs.Io.KnownBytes.{prepend_known, Consumes, IsAtEnd}
-use Rattle.route_io.specs.Acts.{ActsOnce}
+use Rattle.route_io.specs.Acts.{ActsOnce, writes}
 use Rattle.route_io.specs.Views.{LinkView, Read, SinkView}
 
 -- a link as one writes to it
 abbrev pub as_sink : LinkView → SinkView
-as_sink link = record { held = link.outgoing; room = link.room; faults = link.faults }
+as_sink link =
+    record { held = link.outgoing; room = link.room; writes = option_map writes link.acts; faults = link.faults }
 
 -- nothing changed but what was dialled and the count of faults
 abbrev pub OnlyDials : LinkView → LinkView → Type 0

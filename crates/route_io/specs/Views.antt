@@ -6,18 +6,19 @@ pub record SourceView : Type 0 where
   pub left : Option (List ℕ)
   pub faults : ℕ
 
--- a sink: the bytes that it took and how many it can hold in all, where told, and how many of its
--- calls have failed
-pub record SinkView : Type 0 where
-  pub held : Option (List ℕ)
-  pub room : Option ℕ
-  pub faults : ℕ
-
--- a read of a link, with what it brought; or a write, with its piece and how many bytes of it were
--- taken; neither where the call failed
+-- a read of a link, with what it brought; or a write of a link or a sink, with its piece and how many
+-- bytes of it were taken; neither where the call failed
 pub data Act : Type 0 where
   Read : (brought : Option (List ℕ)) → Act
   Write : (piece : List ℕ) → (took : Option ℕ) → Act
+
+-- a sink: the bytes that it took, how many it can hold in all and which writes were made, the newest
+-- first, where told; and how many of its calls have failed
+pub record SinkView : Type 0 where
+  pub held : Option (List ℕ)
+  pub room : Option ℕ
+  pub writes : Option (List Act)
+  pub faults : ℕ
 
 -- a link to a peer: the bytes that are still to come from it, those that were taken for it, how many
 -- can be taken in all, which reads and writes were made and which addresses were dialled, the newest

@@ -10,7 +10,7 @@ ghost use Rattle.route_io.specs.Views.{LinkView, Read, Write};
 
 use crate::outside::Failed;
 
-mod acts;
+pub(crate) mod acts;
 mod dialled;
 pub mod memory;
 pub mod plain;

@@ -1,11 +1,14 @@
 //! A source and a sink in memory with no call that is listed to fail.
-ghost use Rattle.std.specs.Prelude.{◌≡◌, ◌<◌, ◌↔◌, min, length, [], Some, IfOk, IsOk, IsErr, is_err};
+ghost use Rattle.std.specs.Prelude.{◌≡◌, ◌<◌, ◌↔◌, min, length, [], ◌∷◌, Some, IfOk, IsOk, IsErr, is_err};
 ghost use Rattle.std.specs.Io.{ReadsAtMost};
 ghost use Rattle.std.specs.Io.KnownBytes.{ReadConsumes, WriteAppends};
+ghost use Rattle.std.specs.Result.{result_ok};
 ghost use Rattle.route_io.specs.Causes.{HasCause, counted};
 ghost use Rattle.route_io.specs.Shelf.{FindsNoRoom, free};
+ghost use Rattle.route_io.specs.Views.{Write};
 
 use crate::content::Content;
+use crate::link::acts::Acts;
 use crate::outside::{Failed, Sink, Source};
 use crate::room::Room;
 
@@ -46,18 +49,20 @@ impl Source for PlainSource {
 pub struct PlainSink {
     room: Room,
     faults: u64,
+    acts: Acts,
     ghost full: { 0 < faults → free room ≡ 0 },
 }
 
 impl PlainSink {
-    /// Nothing is held, and as many bytes can be taken as `room` is long.
+    /// Nothing is held, as many bytes can be taken as `room` is long, and no write was made.
     pub fn new(room: Vec<u8>) -> PlainSink
         ensures { ⟦<PlainSink as Sink>⟧.seen result ≡
-            record { held = Some []; room = Some (length room.items); faults = 0 } }
+            record { held = Some []; room = Some (length room.items); writes = Some []; faults = 0 } }
     {
         PlainSink {
             room: Room::new(room),
             faults: 0,
+            acts: Acts::new(),
         }
     }
 
@@ -67,17 +72,13 @@ impl PlainSink {
     {
         self.room.held()
     }
-}
 
-impl Sink for PlainSink {
-    ghost seen = { λ s.
-        record { held = Some s.room.held; room = Some s.room.size; faults = s.faults } };
-
-    fn write(&mut self, piece: &[u8]) -> Result<usize, Failed>
-        ensures some { 0 < length piece.now → IfOk result (λ n. 0 < n) }
+    // Takes bytes from the front of `piece`, as far as it and the free room reach.
+    fn take(&mut self, piece: &[u8]) -> Result<usize, Failed>
         ensures bytes { WriteAppends (Some self.old.room.held) (Some self.new.room.held)
             result piece.now }
-        ensures same_room { Some self.new.room.size ≡ Some self.old.room.size }
+        ensures same_room { self.new.room.size ≡ self.old.room.size }
+        ensures same_acts { self.new.acts ≡ self.old.acts }
         ensures cause { HasCause self.old.faults self.new.faults result }
         ensures fails { IsErr result ↔ FindsNoRoom self.old.room piece.now }
         ensures takes { IfOk result (λ n. n ≡ min (length piece.now) (free self.old.room)) }
@@ -89,5 +90,31 @@ impl Sink for PlainSink {
             return Err(Failed);
         }
         Ok(taken)
+    }
+}
+
+impl Sink for PlainSink {
+    ghost seen = { λ s.
+        record {
+          held = Some s.room.held;
+          room = Some s.room.size;
+          writes = Some s.acts.list;
+          faults = s.faults;
+        } };
+
+    fn write(&mut self, piece: &[u8]) -> Result<usize, Failed>
+        ensures some { 0 < length piece.now → IfOk result (λ n. 0 < n) }
+        ensures bytes { WriteAppends (Some self.old.room.held) (Some self.new.room.held)
+            result piece.now }
+        ensures same_room { Some self.new.room.size ≡ Some self.old.room.size }
+        ensures acted { self.new.acts.list ≡ Write piece.now (result_ok result) ∷ self.old.acts.list }
+        ensures cause { HasCause self.old.faults self.new.faults result }
+        ensures fails { IsErr result ↔ FindsNoRoom self.old.room piece.now }
+        ensures takes { IfOk result (λ n. n ≡ min (length piece.now) (free self.old.room)) }
+        ensures counted { self.new.faults ≡ counted (is_err result) self.old.faults }
+    {
+        let taken = self.take(piece);
+        self.acts = self.acts.write(piece, taken);
+        taken
     }
 }

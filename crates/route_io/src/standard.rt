@@ -64,7 +64,7 @@ impl<W: Write> StdSink<W> {
 }
 
 impl<W: Write> Sink for StdSink<W> {
-    ghost seen = { λ s. record { held = None; room = None; faults = s.faults } };
+    ghost seen = { λ s. record { held = None; room = None; writes = None; faults = s.faults } };
 
     fn write(&mut self, piece: &[u8]) -> Result<usize, Failed>
         ensures bound { IfOk result (λ n. n ≤ length piece.now) }

@@ -1,4 +1,4 @@
-//! Which reads and writes a link has made, for promises alone.
+//! Which reads and writes a link or a sink has made, for promises alone.
 ghost use Rattle.std.specs.Prelude.{◌≡◌, ◌≤◌, List, [], ◌∷◌, None, Some, length, IfOk};
 ghost use Rattle.std.specs.Borrow.{ftrue};
 ghost use Rattle.std.specs.Io.{ReadsAtMost};
@@ -9,7 +9,7 @@ ghost use Rattle.route_io.specs.Views.{Act, Read, Write};
 use crate::outside::Failed;
 use std::marker::Model;
 
-/// The reads and writes of a link, the newest first. It has no bytes: only clauses read it.
+/// The reads and writes of a link or a sink, the newest first. It has no bytes: only clauses read it.
 #[derive(Drop)]
 pub struct Acts {
     pub ghost list: { List Act },
