@@ -36,13 +36,13 @@ pub acts_both : (told : Option (List Act)) (more acts : List Act) → option_map
 acts_both None more acts = refl
 acts_both (Some before) more acts = ap (λ (l : List Act). Some l) (sym (append_assoc more acts before))
 
+pub acts_none : (told : Option (List Act)) → told ≡ option_map (λ before. [] ++ before) told
+acts_none None = refl
+acts_none (Some before) = refl
+
 -- nothing was done
 pub adds_none : (link : LinkView) → AddsWrites link link []
-adds_none link = record { more = []; alone = tt; took = refl; behind = same link.acts }
-  where
-    same : (told : Option (List Act)) → told ≡ option_map (λ before. [] ++ before) told
-    same None = refl
-    same (Some before) = refl
+adds_none link = record { more = []; alone = tt; took = refl; behind = acts_none link.acts }
 
 -- some writes, and then some more
 pub adds_more : (old mid new : LinkView) (xs ys : List ℕ) → AddsWrites old mid xs → AddsWrites mid new ys → AddsWrites old new (xs ++ ys)
@@ -115,11 +115,7 @@ pieces_on front text (Write piece took ∷ later) acts first whole second = (
 
 -- no write was made
 pub adds_no_piece : (sink : SinkView) (text : List ℕ) → AddsPieces sink sink text []
-adds_no_piece sink text = record { more = []; pieces = tt; took = refl; behind = same sink.writes }
-  where
-    same : (told : Option (List Act)) → told ≡ option_map (λ before. [] ++ before) told
-    same None = refl
-    same (Some before) = refl
+adds_no_piece sink text = record { more = []; pieces = tt; took = refl; behind = acts_none sink.writes }
 
 -- the writes of a text, and then those of one behind it
 pub adds_pieces_on : (old mid new : SinkView) (front text taken : List ℕ) → AddsPieces old mid front front → AddsPieces mid new text taken → AddsPieces old new (front ++ text) (front ++ taken)

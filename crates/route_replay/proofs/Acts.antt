@@ -4,6 +4,7 @@ use Rattle.std.specs.Prelude.{IfOk, IsErr, IsErrAnd}
 use Rattle.std.proofs.lemmas.List.{append-nil}
 use Rattle.std.proofs.lemmas.Result.{err_from_is_err_and}
 use Rattle.route_io.specs.Views.{SinkView}
+use Rattle.route_io.proofs.Acts.{adds_no_piece}
 use Rattle.route_io.proofs.Bytes.{appends_none, told_same, stays_quiet, risen_as}
 use Rattle.topology.specs.declared.status.LimitKind.{LimitKind}
 use Rattle.topology.specs.Net.{Net}
@@ -85,6 +86,8 @@ runs_led sink led events x goes =
       limit = λ k n e. absurd (cc e);
       front = ([], ([], refl), appends_none sink.held);
       cut_off = λ e. absurd (cc e);
+      all_pieces = adds_no_piece sink [];
+      pieces = ([], adds_no_piece sink []);
       stays = told_same sink.held;
       same_room = refl;
       cause = stays_quiet sink.faults sink.faults (λ e. cc e) refl;
@@ -103,6 +106,8 @@ runs_as {T = T} {U = U} sink sink' text stopped end other runs same =
       limit = λ k n e. runs.limit k n (as_err other (Limit k n) e);
       front = runs.front;
       cut_off = λ e. runs.cut_off (as_err other WriteFault e);
+      all_pieces = tt;
+      pieces = runs.pieces;
       stays = runs.stays;
       same_room = runs.same_room;
       cause = risen_as sink.faults sink'.faults (as_err other WriteFault) (as_err other WriteFault) runs.cause;
@@ -115,6 +120,8 @@ runs_answer sink sink' text stopped x y runs = record {
   limit = λ k n e. absurd (cc e);
   front = runs.front;
   cut_off = λ e. absurd (cc e);
+  all_pieces = runs.all_pieces;
+  pieces = runs.pieces;
   stays = runs.stays;
   same_room = runs.same_room;
   cause = stays_quiet sink.faults sink'.faults (λ e. cc e) (runs.cause.quiet (λ e. cc e));

@@ -33,9 +33,10 @@ use Rattle.route_replay.specs.declared.ends.RunEnd.TheVariants as end
 use Rattle.route_replay.specs.declared.tasks.Task.{Task}
 use Rattle.route_replay.specs.declared.tasks.Task.TheVariants as task
 use Rattle.schedule_file.specs.declared.parser.TheConstants.{MAX_BYTES}
-use Rattle.route_replay.specs.Text.{Course, Leads, Stops, unless, with_event, then_on, drained, controlled, hopped, is_idle, course, text, stop, stop_by, task_of}
+use Rattle.route_replay.specs.Text.{Course, Leads, Stops, unless, with_event, then_on, drained, controlled, hopped, is_idle, course, text, texts, stop, stop_by, task_of}
 use Rattle.route_replay.specs.Probed.{AreProbed}
 use Rattle.route_replay.specs.Running.{Runs}
+use Rattle.route_replay.specs.Turns.{WritesInTurn}
 use Rattle.world_core.specs.Throughout.{HoldsThroughout}
 use Rattle.route_replay.specs.Replayed.{Replayed, Comes, IsLimit, StopsRun, behind, is_of_run, ends_replay}
 
@@ -74,6 +75,7 @@ ends_bad source source' sink bytes line kind read one short bad at_end quiet = r
   so_far = λ _ told t run. absurd (one.apart run.lines line kind (subst (λ b. Reads [] (words_by_line b) run.lines) (sym (read told t)) run.is_run.read) bad);
   probed = λ written. absurd (written refl);
   front = λ told t. inl refl;
+  in_turn = λ told t. inl refl;
   silent = λ _. refl;
   bad_schedule = λ n k e told t.
       let same = same_bad line n kind k e in
@@ -271,7 +273,8 @@ none_some o x a b = absurd (cc (sym a ∙ b))
 
 module _ (source source' : SourceView) (sink sink' : SinkView) (bytes : List ℕ) (lines : List Line)
     (read : (told : List ℕ) → source.left ≡ Some told → bytes ≡ told) (one : OneReading bytes) (short : length bytes ≤ MAX_BYTES) (reads : Reads [] (words_by_line bytes) lines) (at_end : IsAtEnd source'.left) (quiet : source'.faults ≡ source.faults)
-    (throughout : HoldsThroughout gao_rexford (net_of lines) (behind lines)) (are_probed : AreProbed gao_rexford (net_of lines) [] (directives_of lines)) where
+    (throughout : HoldsThroughout gao_rexford (net_of lines) (behind lines)) (are_probed : AreProbed gao_rexford (net_of lines) [] (directives_of lines))
+    (turns : WritesInTurn sink sink' (texts gao_rexford (net_of lines) [] (directives_of lines))) where
   abbrev written : List ℕ
   written = text gao_rexford (net_of lines) [] (directives_of lines)
 
@@ -318,6 +321,7 @@ module _ (source source' : SourceView) (sink sink' : SinkView) (bytes : List ℕ
     so_far = λ _ told t run. run_throughout told t run;
     probed = λ _ told t run. run_probed told t run;
     front = λ told t. inr (comes told t, runs.front.0, runs.front.1, runs.front.2);
+    in_turn = λ told t. inr (comes told t, turns);
     silent = λ e. absurd (cc e);
     bad_schedule = λ n k e. absurd (cc e);
     limit = λ k n e. absurd (cc e);
@@ -337,6 +341,7 @@ module _ (source source' : SourceView) (sink sink' : SinkView) (bytes : List ℕ
     so_far = λ _ told t run. run_throughout told t run;
     probed = λ _ told t run. run_probed told t run;
     front = λ told t. inr (comes told t, runs.front.0, runs.front.1, runs.front.2);
+    in_turn = λ told t. inr (comes told t, turns);
     silent = λ e. absurd (cc e);
     bad_schedule = λ n k e. absurd (cc e);
     limit = λ k n e. absurd (cc e);
@@ -356,6 +361,7 @@ module _ (source source' : SourceView) (sink sink' : SinkView) (bytes : List ℕ
     so_far = λ _ told t run. run_throughout told t run;
     probed = λ _ told t run. run_probed told t run;
     front = λ told t. inr (comes told t, runs.front.0, runs.front.1, runs.front.2);
+    in_turn = λ told t. inr (comes told t, turns);
     silent = λ e. absurd (cc e);
     bad_schedule = λ n k e. absurd (cc e);
     limit = λ k n e. absurd (cc e);
@@ -378,6 +384,7 @@ module _ (source source' : SourceView) (sink sink' : SinkView) (bytes : List ℕ
         so_far = λ _ told t run. run_throughout told t run;
         probed = λ _ told t run. run_probed told t run;
         front = λ told t. inr (comes told t, runs.front.0, runs.front.1, runs.front.2);
+        in_turn = λ told t. inr (comes told t, turns);
         silent = λ e. absurd (true≢false (sym e ∙ ap not (of_run kind inside)));
         bad_schedule = λ n k e. absurd (cc e);
         limit = λ k n e told t.

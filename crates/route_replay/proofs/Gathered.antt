@@ -1,6 +1,7 @@
 -- Text that is gathered piece by piece.
 use Rattle.std.proofs.Common.{◌≡◌, ℕ, suc, ◌+◌, ◌<◌, ◌≤◌, Option, Some, IfSome, List, [], ◌∷◌, ◌++◌, length, map, take, drop, refl, sym, ap, ◌∙◌, subst, slice_get, get_or, zero-add, add-one, append_assoc, arith, Ok, Err}
 use Rattle.std.specs.Prelude.{Result, IsErr, IsErrAnd, IfErr, OnOk, is_ok, if◌then◌else◌, option_map}
+use Rattle.std.specs.Io.KnownBytes.{Appends}
 use Rattle.std.specs.List.{flat_map, enumerate_from}
 use Rattle.std.proofs.lemmas.Result.{err_from_is_err_and}
 use Rattle.std.proofs.Math.Seq.{drop-cons}
@@ -8,8 +9,10 @@ use Rattle.std.proofs.lemmas.List.{append-nil, take_more, take_all, take-append-
 use Rattle.std.proofs.lemmas.List.FromFn.{length-enumerate_from, get_or-enumerate_from}
 use Rattle.std.proofs.lemmas.Option.{slice_get-get_or, slice_get-map}
 use Rattle.std.proofs.lemmas.Grind.{flat_map-append}
+use Rattle.route_io.specs.Acts.{AddsPart, AddsPieces}
 use Rattle.route_io.specs.Causes.{Rose, AppendsFront, StaysTold}
 use Rattle.route_io.specs.Views.{SinkView}
+use Rattle.route_io.proofs.Acts.{adds_no_piece, adds_pieces_of, adds_pieces_on}
 use Rattle.route_io.proofs.Bytes.{appends_none, appends_on, front_after, front_more, told_same, told_on, stays_quiet, has_risen, risen_after}
 use Rattle.route_replay.specs.declared.ends.RunEnd.{RunEnd}
 use Rattle.route_replay.specs.declared.ends.RunEnd.TheVariants.{NoMemory, WriteFault}
@@ -33,15 +36,28 @@ handed_on r Q P h step =
 pub gathers_nothing : (page : PageView) → Gathers page page []
 gathers_nothing page = record {
   wrote = ([], appends_none page.sink.held, sym (append-nil page.pending));
+  pieces = adds_no_piece page.sink [];
   stays = told_same page.sink.held;
   same_room = refl;
   quiet = refl;
+}
+
+-- what was pending was written
+pub gathers_flushed : (old new : PageView) → Appends old.sink.held new.sink.held old.pending → AddsPieces old.sink new.sink old.pending old.pending → new.pending ≡ []
+    → StaysTold old.sink.held new.sink.held → new.sink.room ≡ old.sink.room → new.sink.faults ≡ old.sink.faults → Gathers old new []
+gathers_flushed old new wrote adds none stays room quiet = record {
+  wrote = (old.pending, wrote, ap (λ bytes. old.pending ++ bytes) none);
+  pieces = adds;
+  stays = stays;
+  same_room = room;
+  quiet = quiet;
 }
 
 -- words were added, and then more was gathered
 pub words_added : (old new : PageView) (now words more : List ℕ) → now ≡ old.pending ++ words → Gathers (record { sink = old.sink; pending = now }) new more → Gathers old new (words ++ more)
 words_added old new now words more is g = record {
   wrote = (g.wrote.0, g.wrote.1, g.wrote.2 ∙ (ap (λ bytes. bytes ++ more) is ∙ append_assoc old.pending words more));
+  pieces = g.pieces;
   stays = g.stays;
   same_room = g.same_room;
   quiet = g.quiet;
@@ -50,6 +66,11 @@ words_added old new now words more is g = record {
 -- words were added, and what is pending may have been written
 pub words_spilled : (old new : PageView) (now words : List ℕ) → now ≡ old.pending ++ words → Gathers (record { sink = old.sink; pending = now }) new [] → Gathers old new words
 words_spilled old new now words is g = subst (Gathers old new) (append-nil words) (words_added old new now words [] is g)
+
+-- so it is where the call that spills may fail
+pub words_if_spilled : {T E : Type 0} (r : Result T E) (old new : PageView) (now words : List ℕ) → now ≡ old.pending ++ words → OnOk r (Gathers (record { sink = old.sink; pending = now }) new []) → OnOk r (Gathers old new words)
+words_if_spilled (Ok x) old new now words is g = words_spilled old new now words is g
+words_if_spilled (Err e) old new now words is g = tt
 
 -- one text and then another
 pub gathers_on : (old mid new : PageView) (xs ys : List ℕ) → Gathers old mid xs → Gathers mid new ys → Gathers old new (xs ++ ys)
@@ -63,6 +84,7 @@ gathers_on old mid new xs ys g h = record {
         ∙ (ap (λ bytes. bytes ++ ys) g.wrote.2
         ∙ append_assoc old.pending xs ys))),
   );
+  pieces = adds_pieces_on old.sink mid.sink new.sink g.wrote.0 h.wrote.0 h.wrote.0 g.pieces h.pieces;
   stays = told_on old.sink.held mid.sink.held new.sink.held g.stays h.stays;
   same_room = h.same_room ∙ g.same_room;
   quiet = h.quiet ∙ g.quiet;
@@ -73,6 +95,7 @@ pub breaks_nothing : (sink : SinkView) (text : List ℕ) → Breaks sink sink te
 breaks_nothing sink text = record {
   front = ([], (text, refl), appends_none sink.held);
   cut_off = λ e. absurd (cc e);
+  pieces = ([], adds_no_piece sink text);
   no_limit = λ kind number e. cc e;
   stays = told_same sink.held;
   same_room = refl;
@@ -84,6 +107,7 @@ pub breaks_more : (sink sink' : SinkView) (xs ys : List ℕ) (why : RunEnd) → 
 breaks_more sink sink' xs ys why b = record {
   front = (b.front.0, (b.front.1.0 ++ ys, sym (append_assoc b.front.0 b.front.1.0 ys) ∙ ap (λ bytes. bytes ++ ys) b.front.1.1), b.front.2);
   cut_off = λ e. front_more sink.held sink'.held xs ys (b.cut_off e);
+  pieces = (b.pieces.0, adds_pieces_of sink sink' xs ys b.pieces.0 b.pieces.1);
   no_limit = b.no_limit;
   stays = b.stays;
   same_room = b.same_room;
@@ -102,6 +126,10 @@ breaks_after old mid sink' xs ys why g b =
         appends_on old.sink.held mid.sink.held sink'.held g.wrote.0 b.front.0 g.wrote.1 b.front.2,
       );
       cut_off = λ e. subst (AppendsFront old.sink.held sink'.held) whole (front_after old.sink.held mid.sink.held sink'.held g.wrote.0 (mid.pending ++ ys) g.wrote.1 (b.cut_off e));
+      pieces = (
+        g.wrote.0 ++ b.pieces.0,
+        subst (λ text. AddsPieces old.sink sink' text (g.wrote.0 ++ b.pieces.0)) whole (adds_pieces_on old.sink mid.sink sink' g.wrote.0 (mid.pending ++ ys) b.pieces.0 g.pieces b.pieces.1),
+      );
       no_limit = b.no_limit;
       stays = told_on old.sink.held mid.sink.held sink'.held g.stays b.stays;
       same_room = b.same_room ∙ g.same_room;
@@ -109,10 +137,11 @@ breaks_after old mid sink' xs ys why g b =
     }
 
 -- a write failed
-pub breaks_fault : (sink sink' : SinkView) (text : List ℕ) → AppendsFront sink.held sink'.held text → StaysTold sink.held sink'.held → sink'.room ≡ sink.room → sink.faults ≤ sink'.faults → Rose sink.faults sink'.faults → Breaks sink sink' text WriteFault
-breaks_fault sink sink' text cut stays room later rose = record {
+pub breaks_fault : (sink sink' : SinkView) (text : List ℕ) → AppendsFront sink.held sink'.held text → AddsPart sink sink' text → StaysTold sink.held sink'.held → sink'.room ≡ sink.room → sink.faults ≤ sink'.faults → Rose sink.faults sink'.faults → Breaks sink sink' text WriteFault
+breaks_fault sink sink' text cut part stays room later rose = record {
   front = (take cut.0 text, (drop cut.0 text, take-append-drop cut.0 text), cut.2);
   cut_off = λ _. cut;
+  pieces = (take part.0 text, part.2);
   no_limit = λ kind number e. cc e;
   stays = stays;
   same_room = room;

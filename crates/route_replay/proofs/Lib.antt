@@ -20,5 +20,6 @@ pub mod Shown
 pub mod Steps
 pub mod Suits
 pub mod Tables
+pub mod Turns
 pub mod WalkLines
 pub mod Written

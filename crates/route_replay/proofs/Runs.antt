@@ -1,8 +1,10 @@
 -- How a run of directives ends.
 use Rattle.std.proofs.Common.{◌≡◌, ◌≢◌, ℕ, true, false, Result, Ok, Err, OnOk, OnErr, is_err, Option, Some, None, List, [], ◌∷◌, ◌++◌, refl, sym, ap, ◌∙◌, subst, append_assoc}
 use Rattle.std.specs.Io.KnownBytes.{Appends}
+use Rattle.route_io.specs.Acts.{AddsPieces}
 use Rattle.route_io.specs.Causes.{AppendsFront, StaysTold}
 use Rattle.route_io.specs.Views.{SinkView}
+use Rattle.route_io.proofs.Acts.{adds_no_piece, adds_pieces_of, adds_pieces_on}
 use Rattle.route_io.proofs.Bytes.{appends_on, appends_none, front_more, front_after, told_same, told_on, stays_quiet, risen_after, risen_as}
 use Rattle.topology.specs.declared.status.LimitKind.{LimitKind}
 use Rattle.node_core.specs.NodeLimits.{Reached}
@@ -24,15 +26,17 @@ no_more [] = refl
 no_more (x ∷ xs) = ap (λ rest. x ∷ rest) (no_more xs)
 
 -- all was written
-pub runs_whole : (sink sink' : SinkView) (all written rest : List ℕ) (stopped : Option Reached) → Appends sink.held sink'.held written → written ++ rest ≡ all → rest ≡ [] → stopped ≡ None
+pub runs_whole : (sink sink' : SinkView) (all written rest : List ℕ) (stopped : Option Reached) → Appends sink.held sink'.held written → AddsPieces sink sink' written written → written ++ rest ≡ all → rest ≡ [] → stopped ≡ None
     → StaysTold sink.held sink'.held → sink'.room ≡ sink.room → sink'.faults ≡ sink.faults → Runs sink sink' all stopped (Ok (tt {0}))
-runs_whole sink sink' all written rest stopped wrote so_far none no_stop stays room quiet =
+runs_whole sink sink' all written rest stopped wrote adds so_far none no_stop stays room quiet =
     let whole : written ≡ all = sym (no_more written) ∙ (ap (λ bytes. written ++ bytes) (sym none) ∙ so_far) in
     record {
       whole = (subst (Appends sink.held sink'.held) whole wrote, no_stop);
       limit = λ k n e. absurd (cc e);
       front = (written, (rest, so_far), wrote);
       cut_off = λ e. absurd (cc e);
+      all_pieces = subst (λ bytes. AddsPieces sink sink' bytes bytes) whole adds;
+      pieces = (all, subst (λ bytes. AddsPieces sink sink' bytes bytes) whole adds);
       stays = stays;
       same_room = room;
       cause = stays_quiet sink.faults sink'.faults (λ e. cc e) quiet;
@@ -46,11 +50,11 @@ pub as_err : {T U : Type 0} (why other : RunEnd) → ◌≡◌ {A = Result U Run
 as_err why other e = let same : why ≡ other = cc in rw same refl
 
 -- a piece behind what was written ended the run
-pub runs_err : {T U : Type 0} (sink mid sink' : SinkView) (all written piece rest : List ℕ) (here stopped : Option Reached) (why : RunEnd) → Appends sink.held mid.held written → written ++ (piece ++ rest) ≡ all
+pub runs_err : {T U : Type 0} (sink mid sink' : SinkView) (all written piece rest : List ℕ) (here stopped : Option Reached) (why : RunEnd) → Appends sink.held mid.held written → AddsPieces sink mid written written → written ++ (piece ++ rest) ≡ all
     → ((one : Reached) → here ≡ Some one → (rest ≡ []) × (stopped ≡ Some one))
     → Runs {T = T} mid sink' piece here (Err why) → StaysTold sink.held mid.held → mid.room ≡ sink.room → mid.faults ≡ sink.faults
     → Runs {T = U} sink sink' all stopped (Err why)
-runs_err {T = T} {U = U} sink mid sink' all written piece rest here stopped why wrote so_far stops runs told room quiet = record {
+runs_err {T = T} {U = U} sink mid sink' all written piece rest here stopped why wrote adds so_far stops runs told room quiet = record {
   whole = tt;
   limit = λ kind number e.
       let was = runs.limit kind number (as_err why (Limit kind number) e) in
@@ -68,6 +72,12 @@ runs_err {T = T} {U = U} sink mid sink' all written piece rest here stopped why 
   );
   cut_off = λ e. subst (AppendsFront sink.held sink'.held) so_far
       (front_after sink.held mid.held sink'.held written (piece ++ rest) wrote (front_more mid.held sink'.held piece rest (runs.cut_off (as_err why WriteFault e))));
+  all_pieces = tt;
+  pieces = (
+    written ++ runs.pieces.0,
+    subst (λ bytes. AddsPieces sink sink' bytes (written ++ runs.pieces.0)) so_far
+        (adds_pieces_on sink mid sink' written (piece ++ rest) runs.pieces.0 adds (adds_pieces_of mid sink' piece rest runs.pieces.0 runs.pieces.1)),
+  );
   stays = told_on sink.held mid.held sink'.held told runs.stays;
   same_room = runs.same_room ∙ room;
   cause = risen_after sink.faults mid.faults sink'.faults quiet (risen_as mid.faults sink'.faults (as_err why WriteFault) (as_err why WriteFault) runs.cause);
@@ -84,6 +94,8 @@ runs_none {T = T} sink text stopped why no_fault stops = record {
       (rw ends.0 (appends_none sink.held), ends.1);
   front = ([], (text, refl), appends_none sink.held);
   cut_off = λ e. absurd (no_fault (let same : why ≡ WriteFault = cc in same));
+  all_pieces = tt;
+  pieces = ([], adds_no_piece sink text);
   stays = told_same sink.held;
   same_room = refl;
   cause = stays_quiet sink.faults sink.faults (λ e. no_fault (let same : why ≡ WriteFault = cc in same)) refl;
@@ -94,11 +106,14 @@ pub runs_gathered : {T : Type 0} (old new : PageView) (text : List ℕ) (x : T) 
 runs_gathered old new text x before after g =
     let written : g.wrote.0 ≡ text = sym (no_more g.wrote.0) ∙ (ap (λ bytes. g.wrote.0 ++ bytes) (sym after) ∙ (g.wrote.2 ∙ ap (λ bytes. bytes ++ text) before)) in
     let wrote : Appends old.sink.held new.sink.held text = subst (Appends old.sink.held new.sink.held) written g.wrote.1 in
+    let adds : AddsPieces old.sink new.sink text text = subst (λ bytes. AddsPieces old.sink new.sink bytes bytes) written g.pieces in
     record {
       whole = (wrote, refl);
       limit = λ k n e. absurd (cc e);
       front = (text, ([], no_more text), wrote);
       cut_off = λ e. absurd (cc e);
+      all_pieces = adds;
+      pieces = (text, adds);
       stays = g.stays;
       same_room = g.same_room;
       cause = stays_quiet old.sink.faults new.sink.faults (λ e. cc e) g.quiet;
@@ -111,6 +126,8 @@ runs_broken {T = T} sink sink' text stopped why b = record {
   limit = λ k n e. absurd (b.no_limit k n (let same : why ≡ Limit k n = cc in same));
   front = b.front;
   cut_off = λ e. b.cut_off (let same : why ≡ WriteFault = cc in same);
+  all_pieces = tt;
+  pieces = b.pieces;
   stays = b.stays;
   same_room = b.same_room;
   cause = risen_as sink.faults sink'.faults (λ same. rw same refl) (λ e. let same : why ≡ WriteFault = cc in same) b.cause;

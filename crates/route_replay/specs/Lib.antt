@@ -19,5 +19,6 @@ pub mod RibText
 pub mod Running
 pub mod TablesText
 pub mod Text
+pub mod Turns
 pub mod Views
 pub mod WalkText

@@ -19,7 +19,8 @@ use Rattle.schedule_file.specs.Grammar.{Reads, net_of, directives_of}
 use Rattle.schedule_file.specs.Refusals.{FirstBad}
 use Rattle.schedule_file.specs.declared.parser.TheConstants.{MAX_BYTES}
 use Rattle.route_replay.specs.Probed.{AreProbed}
-use Rattle.route_replay.specs.Text.{text, stop, events_of}
+use Rattle.route_replay.specs.Text.{text, texts, stop, events_of}
+use Rattle.route_replay.specs.Turns.{WritesInTurn}
 
 -- what the lines of a file come to: the text of their run, up to the directive that a limit stops,
 -- and that limit, where one does
@@ -43,6 +44,13 @@ behind lines = events_of gao_rexford (net_of lines) [] (directives_of lines)
 abbrev pub WroteFront : List ℕ → Option (List ℕ) → Option (List ℕ) → Type 0
 WroteFront bytes held held' =
     (held' ≡ held) ⊎ ((run : Comes bytes) × (some : List ℕ) × Begins some run.written × Appends held held' some)
+
+-- no write was made, or those that were are each of the text of one directive alone, behind all the text of the directives
+-- before
+abbrev pub WroteInTurn : List ℕ → SinkView → SinkView → Type 0
+WroteInTurn bytes sink sink' =
+    (sink'.writes ≡ sink.writes)
+    ⊎ ((run : Comes bytes) × WritesInTurn sink sink' (texts gao_rexford (net_of run.lines) [] (directives_of run.lines)))
 
 -- a limit of the run, and not of the file
 abbrev pub is_of_run : LimitKind → Bool
@@ -156,6 +164,8 @@ pub record Replayed (source source' : SourceView) (sink sink' : SinkView) (statu
       → (run : Comes bytes) × AppendsFront sink.held sink'.held run.written
   -- whatever the end, what was written is a front of the text of the file
   pub front : (bytes : List ℕ) → source.left ≡ Some bytes → WroteFront bytes sink.held sink'.held
+  -- and where the sink tells its writes, it was written directive by directive: the text of each before the next was taken
+  pub in_turn : (bytes : List ℕ) → source.left ≡ Some bytes → WroteInTurn bytes sink sink'
   -- and nothing was written where nothing was run
   pub silent : ends_early status ≡ true → sink'.held ≡ sink.held
   -- nothing is left of the file once it was parsed

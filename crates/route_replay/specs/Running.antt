@@ -2,6 +2,7 @@
 use Rattle.std.specs.Prelude.{ℕ, ◌≡◌, ◌&&◌, nat_lt, length, Option, Some, None, List, [], IsTrue, Result, OnOk, IsErrOf}
 use Rattle.std.specs.List.{All}
 use Rattle.std.specs.Io.KnownBytes.{Appends}
+use Rattle.route_io.specs.Acts.{AddsPieces}
 use Rattle.route_io.specs.Causes.{RoseIf, AppendsFront, StaysTold}
 use Rattle.route_io.specs.Views.{SinkView}
 use Rattle.topology.specs.declared.status.LimitKind.{LimitKind}
@@ -59,13 +60,15 @@ limit_by (Leads events) = None
 limit_by (Stops at) = Some at
 
 -- what came of the run of a text that this limit stops, where one does: it was written whole, or
--- else a front of it, which is not the whole where the sink failed
+-- else a front of it, which is not the whole where the sink failed; and each write was of a piece of it
 pub record Runs {T : Type 0} (sink sink' : SinkView) (text : List ℕ) (stopped : Option Reached) (result : Result T RunEnd) : Type 0 where
   pub whole : OnOk result (Appends sink.held sink'.held text × (stopped ≡ None))
   pub limit : (kind : LimitKind) (number : ℕ) → IsErrOf result (Limit kind number)
       → Appends sink.held sink'.held text × (stopped ≡ Some (record { kind = kind; number = number }))
   pub front : (some : List ℕ) × Begins some text × Appends sink.held sink'.held some
   pub cut_off : IsErrOf result WriteFault → AppendsFront sink.held sink'.held text
+  pub all_pieces : OnOk result (AddsPieces sink sink' text text)
+  pub pieces : (taken : List ℕ) × AddsPieces sink sink' text taken
   pub stays : StaysTold sink.held sink'.held
   pub same_room : sink'.room ≡ sink.room
   pub cause : RoseIf (IsErrOf result WriteFault) sink.faults sink'.faults

@@ -162,6 +162,17 @@ text rules net events [] = []
 text rules net events (d ∷ ds) =
     text_by (said rules net events d) (course rules net events (task_of d.directive)) (λ later. text rules net later ds)
 
+-- what is said, and then the texts of the rest, where no limit stopped it
+abbrev pub texts_by : List ℕ → Course → (List Event → List (List ℕ)) → List (List ℕ)
+texts_by said (Leads events) rest = said ∷ rest events
+texts_by said (Stops at) rest = []
+
+-- the same text directive by directive
+abbrev pub texts : Rules → Net → List Event → List Numbered → List (List ℕ)
+texts rules net events [] = []
+texts rules net events (d ∷ ds) =
+    texts_by (said rules net events d) (course rules net events (task_of d.directive)) (λ later. texts rules net later ds)
+
 -- all events on the way: none of a directive that a limit stops
 abbrev pub events_by : List Event → Course → (List Event → List Event) → List Event
 events_by before (Leads events) rest = rest events

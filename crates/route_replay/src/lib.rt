@@ -7,6 +7,7 @@ pub mod cut_text;
 pub mod directives;
 pub mod draws;
 pub mod ends;
+pub mod laws;
 pub mod load_network;
 pub mod load_schedule;
 pub mod loading;

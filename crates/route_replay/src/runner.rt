@@ -1,9 +1,10 @@
 //! Runs a schedule and writes its text.
 ghost use Rattle.std.specs.Prelude.{[]};
 ghost use Rattle.path_vector.specs.GaoRexford.{gao_rexford};
-ghost use Rattle.route_replay.specs.Text.{stop, text};
+ghost use Rattle.route_replay.specs.Text.{stop, text, texts};
 ghost use Rattle.route_replay.specs.Running.{AllFitting, Runs};
 ghost use Rattle.route_replay.specs.Replayed.{Replayed};
+ghost use Rattle.route_replay.specs.Turns.{WritesInTurn};
 
 use crate::directives::advance;
 use crate::ends::RunEnd;
@@ -23,9 +24,11 @@ pub fn run_lines<P: Policy + Copy, O: Sink>(
     sink: &mut O,
 ) -> Result<(), RunEnd>
     requires { AllFitting world.net lines.now }
-    ensures { Runs (O.seen sink.old) (O.seen sink.new)
+    ensures runs { Runs (O.seen sink.old) (O.seen sink.new)
         (text (P.rules world.policy) world.net world.events lines.now)
         (stop (P.rules world.policy) world.net world.events lines.now) result }
+    ensures in_turn { WritesInTurn (O.seen sink.old) (O.seen sink.new)
+        (texts (P.rules world.policy) world.net world.events lines.now) }
 {
     let mut world = world;
     for numbered in lines {
@@ -37,9 +40,11 @@ pub fn run_lines<P: Policy + Copy, O: Sink>(
 // Runs a schedule in a new world.
 fn run_schedule<O: Sink>(alloc: Global, schedule: Schedule, sink: &mut O) -> Result<(), RunEnd>
     requires { AllFitting schedule.topology schedule.lines.items }
-    ensures { Runs (O.seen sink.old) (O.seen sink.new)
+    ensures runs { Runs (O.seen sink.old) (O.seen sink.new)
         (text gao_rexford schedule.topology [] schedule.lines.items)
         (stop gao_rexford schedule.topology [] schedule.lines.items) result }
+    ensures in_turn { WritesInTurn (O.seen sink.old) (O.seen sink.new)
+        (texts gao_rexford schedule.topology [] schedule.lines.items) }
 {
     let Schedule { topology, lines } = schedule;
     let Ok(topology) = Rc::new(alloc, topology) else {

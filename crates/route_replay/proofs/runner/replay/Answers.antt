@@ -35,8 +35,9 @@ returns-in-Ok-run_schedule g c =
     let throughout = c.a_run_holds_throughout.ensures gao_rexford (net_of file.0) (events_of gao_rexford (net_of file.0) [] (directives_of file.0)) (subst IsValid file.2 c.nodes-nodes.ensures.valid) in
     let each : EachDelivers gao_rexford (net_of file.0) = λ past p u. c.a_walk_over_it_delivers.ensures gao_rexford (net_of file.0) past p u (subst IsValid file.2 c.nodes-nodes.ensures.valid) in
     let probed = are_probed gao_rexford (net_of file.0) each (directives_of file.0) [] (fits_as c.in-Ok-parse.schedule (net_of file.0) (directives_of file.0) file.2 file.3 c.in-Ok-parse.ensures.follow) in
-    let runs = rw (file.2, file.3) at c.in-Ok-run_schedule.ensures in
-    ends_run _ _ _ _ bytes file.0 (known _ bytes c.in-Ok.ensures.ok) (one_reading_of bytes) c.in-Ok.ensures.within file.1 c.in-Ok.ensures.end (c.in-Ok.ensures.cause.quiet (λ e. cc e)) throughout probed (Ok c.in-Ok-run_schedule.field-0) runs
+    let runs = rw (file.2, file.3) at c.in-Ok-run_schedule.ensures.runs in
+    let turns = rw (file.2, file.3) at c.in-Ok-run_schedule.ensures.in_turn in
+    ends_run _ _ _ _ bytes file.0 (known _ bytes c.in-Ok.ensures.ok) (one_reading_of bytes) c.in-Ok.ensures.within file.1 c.in-Ok.ensures.end (c.in-Ok.ensures.cause.quiet (λ e. cc e)) throughout probed turns (Ok c.in-Ok-run_schedule.field-0) runs
 
 pub returns-in-Err-NoMemory-run_schedule : goal.returns-in-Err-NoMemory-run_schedule
 returns-in-Err-NoMemory-run_schedule g c =
@@ -45,8 +46,9 @@ returns-in-Err-NoMemory-run_schedule g c =
     let throughout = c.a_run_holds_throughout.ensures gao_rexford (net_of file.0) (events_of gao_rexford (net_of file.0) [] (directives_of file.0)) (subst IsValid file.2 c.nodes-nodes.ensures.valid) in
     let each : EachDelivers gao_rexford (net_of file.0) = λ past p u. c.a_walk_over_it_delivers.ensures gao_rexford (net_of file.0) past p u (subst IsValid file.2 c.nodes-nodes.ensures.valid) in
     let probed = are_probed gao_rexford (net_of file.0) each (directives_of file.0) [] (fits_as c.in-Ok-parse.schedule (net_of file.0) (directives_of file.0) file.2 file.3 c.in-Ok-parse.ensures.follow) in
-    let runs = rw (file.2, file.3, c.in-Err-NoMemory-run_schedule.field-0-is) at c.in-Err-NoMemory-run_schedule.ensures in
-    ends_run _ _ _ _ bytes file.0 (known _ bytes c.in-Ok.ensures.ok) (one_reading_of bytes) c.in-Ok.ensures.within file.1 c.in-Ok.ensures.end (c.in-Ok.ensures.cause.quiet (λ e. cc e)) throughout probed (Err NoMemory) runs
+    let runs = rw (file.2, file.3, c.in-Err-NoMemory-run_schedule.field-0-is) at c.in-Err-NoMemory-run_schedule.ensures.runs in
+    let turns = rw (file.2, file.3) at c.in-Err-NoMemory-run_schedule.ensures.in_turn in
+    ends_run _ _ _ _ bytes file.0 (known _ bytes c.in-Ok.ensures.ok) (one_reading_of bytes) c.in-Ok.ensures.within file.1 c.in-Ok.ensures.end (c.in-Ok.ensures.cause.quiet (λ e. cc e)) throughout probed turns (Err NoMemory) runs
 
 pub returns-in-Err-WriteFault : goal.returns-in-Err-WriteFault
 returns-in-Err-WriteFault g c =
@@ -55,8 +57,9 @@ returns-in-Err-WriteFault g c =
     let throughout = c.a_run_holds_throughout.ensures gao_rexford (net_of file.0) (events_of gao_rexford (net_of file.0) [] (directives_of file.0)) (subst IsValid file.2 c.nodes-nodes.ensures.valid) in
     let each : EachDelivers gao_rexford (net_of file.0) = λ past p u. c.a_walk_over_it_delivers.ensures gao_rexford (net_of file.0) past p u (subst IsValid file.2 c.nodes-nodes.ensures.valid) in
     let probed = are_probed gao_rexford (net_of file.0) each (directives_of file.0) [] (fits_as c.in-Ok-parse.schedule (net_of file.0) (directives_of file.0) file.2 file.3 c.in-Ok-parse.ensures.follow) in
-    let runs = rw (file.2, file.3, c.in-Err-WriteFault.field-0-is) at c.in-Err-WriteFault.ensures in
-    ends_run _ _ _ _ bytes file.0 (known _ bytes c.in-Ok.ensures.ok) (one_reading_of bytes) c.in-Ok.ensures.within file.1 c.in-Ok.ensures.end (c.in-Ok.ensures.cause.quiet (λ e. cc e)) throughout probed (Err WriteFault) runs
+    let runs = rw (file.2, file.3, c.in-Err-WriteFault.field-0-is) at c.in-Err-WriteFault.ensures.runs in
+    let turns = rw (file.2, file.3) at c.in-Err-WriteFault.ensures.in_turn in
+    ends_run _ _ _ _ bytes file.0 (known _ bytes c.in-Ok.ensures.ok) (one_reading_of bytes) c.in-Ok.ensures.within file.1 c.in-Ok.ensures.end (c.in-Ok.ensures.cause.quiet (λ e. cc e)) throughout probed turns (Err WriteFault) runs
 
 pub returns : goal.returns
 returns g c =
@@ -65,6 +68,7 @@ returns g c =
     let throughout = c.a_run_holds_throughout.ensures gao_rexford (net_of file.0) (events_of gao_rexford (net_of file.0) [] (directives_of file.0)) (subst IsValid file.2 c.nodes-nodes.ensures.valid) in
     let each : EachDelivers gao_rexford (net_of file.0) = λ past p u. c.a_walk_over_it_delivers.ensures gao_rexford (net_of file.0) past p u (subst IsValid file.2 c.nodes-nodes.ensures.valid) in
     let probed = are_probed gao_rexford (net_of file.0) each (directives_of file.0) [] (fits_as c.in-Ok-parse.schedule (net_of file.0) (directives_of file.0) file.2 file.3 c.in-Ok-parse.ensures.follow) in
-    let runs = rw (file.2, file.3, c.in-Err-Limit.field-0-is) at c.in-Err-Limit.ensures in
+    let runs = rw (file.2, file.3, c.in-Err-Limit.field-0-is) at c.in-Err-Limit.ensures.runs in
+    let turns = rw (file.2, file.3) at c.in-Err-Limit.ensures.in_turn in
     rw (c.in-Err-Limit.kind-is, c.in-Err-Limit.number-is)
-    (ends_run _ _ _ _ bytes file.0 (known _ bytes c.in-Ok.ensures.ok) (one_reading_of bytes) c.in-Ok.ensures.within file.1 c.in-Ok.ensures.end (c.in-Ok.ensures.cause.quiet (λ e. cc e)) throughout probed (Err (Limit c.in-Err-Limit.kind c.in-Err-Limit.number)) runs)
+    (ends_run _ _ _ _ bytes file.0 (known _ bytes c.in-Ok.ensures.ok) (one_reading_of bytes) c.in-Ok.ensures.within file.1 c.in-Ok.ensures.end (c.in-Ok.ensures.cause.quiet (λ e. cc e)) throughout probed turns (Err (Limit c.in-Err-Limit.kind c.in-Err-Limit.number)) runs)
