@@ -164,7 +164,7 @@ pub record Replayed (source source' : SourceView) (sink sink' : SinkView) (statu
       → (run : Comes bytes) × AppendsFront sink.held sink'.held run.written
   -- whatever the end, what was written is a front of the text of the file
   pub front : (bytes : List ℕ) → source.left ≡ Some bytes → WroteFront bytes sink.held sink'.held
-  -- and where the sink tells its writes, it was written directive by directive: the text of each before the next was taken
+  -- and where the sink tells its writes, it was written directive by directive: the text of each before that of the next
   pub in_turn : (bytes : List ℕ) → source.left ≡ Some bytes → WroteInTurn bytes sink sink'
   -- and nothing was written where nothing was run
   pub silent : ends_early status ≡ true → sink'.held ≡ sink.held

@@ -1,4 +1,4 @@
--- Writes in turn: the text of a directive is written before the next one is taken.
+-- Writes in turn: the text of a directive is written before that of the next one.
 use Rattle.std.specs.Prelude.{ℕ, ◌≡◌, List, [], ◌∷◌, ◌++◌, option_map}
 use Rattle.std.specs.List.{concat}
 use Rattle.route_io.specs.Acts.{IsPieceOf, written}

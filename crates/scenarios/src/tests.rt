@@ -2,6 +2,7 @@
 mod chains;
 mod limits;
 mod schemes;
+mod turns;
 mod unrest;
 
 use route_io::{MemSink, MemSource};

@@ -1,12 +1,22 @@
-use Rattle.std.proofs.Common.{◌≡◌, ◌∙◌, ◌++◌, List, ℕ, slice_get, reverse, sym, ap}
+use Rattle.std.proofs.Common.{◌≡◌, ◌∙◌, ◌++◌, List, ℕ, slice_get, reverse, sym, ap, subst}
 use Rattle.std.specs.String.{string_bytes}
 use Rattle.topology.specs.Net.{Net}
 use Rattle.deflect_delivery.specs.Progress.{Over}
-use Rattle.route_replay.specs.Gathering.{page_view}
+use Rattle.route_replay.specs.Gathering.{Breaks, page_view}
 use Rattle.route_replay.specs.ProbeText.{probe_line, probe_text}
 use Rattle.route_replay.specs.Views.{past_of}
-use Rattle.route_replay.proofs.Gathered.{gathers_nothing, words_spilled}
+use Rattle.route_replay.proofs.Gathered.{handed_on, breaks_nothing, gathers_nothing, words_spilled}
 use Rattle.route_replay.proofs.probe_text.probe_words.Goals as goal
+
+-- memory ran out before anything was written
+pub returns-in_err-walk-clause-breaks : goal.returns-in_err-walk-clause-breaks
+returns-in_err-walk-clause-breaks g c =
+    handed_on c.from_residual.result _ _ c.from_residual.ensures (λ why same. subst (Breaks _ _ _) (sym same) (breaks_nothing _ _))
+
+pub returns-in_err-line_words-clause-breaks : goal.returns-in_err-line_words-clause-breaks
+returns-in_err-line_words-clause-breaks g c =
+    handed_on c.from_residual-in_err-line_words.result _ _ c.from_residual-in_err-line_words.ensures (λ why same.
+    subst (Breaks _ _ _) (sym same) (breaks_nothing _ _))
 
 -- the line is gathered
 pub returns-clause-gathers : goal.returns-clause-gathers

@@ -11,9 +11,12 @@ use Rattle.world_core.specs.Publications.{PublicationView}
 use Rattle.route_replay.specs.Gathering.{Breaks, Gathers}
 use Rattle.route_replay.specs.TablesText.{last_of, published_for, table_in, table_text, tables_text}
 use Rattle.route_replay.specs.Views.{past_of}
-use Rattle.route_replay.proofs.Gathered.{handed_on, gathers_step, breaks_step}
+use Rattle.route_replay.proofs.Gathered.{handed_on, gathers_nothing, gathers_step, breaks_step}
 use Rattle.route_replay.proofs.Tables.{published_last}
 use Rattle.route_replay.proofs.tables_text.all_tables.Goals as goal
+
+pub loop-node-init : goal.loop-node-init
+loop-node-init g c = record { gathers = gathers_nothing _; same_sink = refl }
 
 -- what a node published last for the epoch is its table
 same_text : (net known : Net) (past : Chronicle) (e n : ℕ) (list : List PublicationView) → known ≡ net → list ≡ published_for e past

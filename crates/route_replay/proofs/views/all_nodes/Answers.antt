@@ -9,8 +9,11 @@ use Rattle.topology.proofs.Ascending.{has-ascending}
 use Rattle.topology.proofs.Sets.{has_at}
 use Rattle.route_replay.specs.Gathering.{Breaks}
 use Rattle.route_replay.specs.Views.{node_text, past_of, view_text}
-use Rattle.route_replay.proofs.Gathered.{handed_on, gathers_step, breaks_step}
+use Rattle.route_replay.proofs.Gathered.{handed_on, gathers_nothing, gathers_step, breaks_step}
 use Rattle.route_replay.proofs.views.all_nodes.Goals as goal
+
+pub loop-id-init : goal.loop-id-init
+loop-id-init g c = record { gathers = gathers_nothing _; same_sink = refl }
 
 -- the node at hand is one of the network
 pub one_node-requires : goal.one_node-requires

@@ -2,8 +2,11 @@ use Rattle.std.proofs.Common.{refl, sym, ◌∙◌, subst}
 use Rattle.std.proofs.lemmas.Option.{slice_get_read}
 use Rattle.route_replay.specs.Gathering.{Breaks}
 use Rattle.route_replay.specs.WalkText.{visit_text}
-use Rattle.route_replay.proofs.Gathered.{handed_on, words_spilled, gathers_step, breaks_step, breaks_short}
+use Rattle.route_replay.proofs.Gathered.{handed_on, gathers_nothing, words_spilled, gathers_step, breaks_step, breaks_short}
 use Rattle.route_replay.proofs.walk_text.add_visits.Goals as goal
+
+pub loop-visit-init : goal.loop-visit-init
+loop-visit-init g c = record { gathers = gathers_nothing _; same_sink = refl }
 
 -- one more visit is gathered
 pub loop-visit-preserved : goal.loop-visit-preserved

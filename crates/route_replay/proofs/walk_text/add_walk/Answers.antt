@@ -3,9 +3,14 @@ use Rattle.std.specs.List.{flat_map}
 use Rattle.std.specs.String.{string_bytes}
 use Rattle.route_replay.specs.Gathering.{Breaks, page_view}
 use Rattle.route_replay.specs.WalkText.{end_text, visit_text, walk_head}
-use Rattle.route_replay.proofs.Gathered.{handed_on}
+use Rattle.route_replay.proofs.Gathered.{handed_on, breaks_nothing}
 use Rattle.route_replay.proofs.WalkLines.{visits_break, end_breaks, line_gathers}
 use Rattle.route_replay.proofs.walk_text.add_walk.Goals as goal
+
+-- memory ran out before anything was written
+pub returns-in_err-head_words-clause-breaks : goal.returns-in_err-head_words-clause-breaks
+returns-in_err-head_words-clause-breaks g c =
+    handed_on c.from_residual.result _ _ c.from_residual.ensures (λ why same. subst (Breaks _ _ _) (sym same) (breaks_nothing _ _))
 
 -- a page of the visits was not written, or memory ran out among them
 pub returns-in_err-add_visits-clause-breaks : goal.returns-in_err-add_visits-clause-breaks
