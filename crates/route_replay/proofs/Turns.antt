@@ -12,7 +12,7 @@ use Rattle.chronicle.specs.declared.events.Event.{Event}
 use Rattle.schedule_file.specs.declared.lines.Numbered.{Numbered}
 use Rattle.route_replay.specs.Running.{lines_by}
 use Rattle.route_replay.specs.Text.{Course, Leads, Stops, course, said, task_of, text, texts, text_by, texts_by}
-use Rattle.route_replay.specs.Turns.{IsInTurn, AreInTurn, WritesInTurn}
+use Rattle.route_replay.specs.Turns.{AreInTurn, WritesInTurn}
 use Rattle.route_replay.proofs.Steps.{next_of}
 
 -- ---- the texts are the text
@@ -87,10 +87,6 @@ pub record TakesTexts (old new : SinkView) (many : List (List ℕ)) : Type 0 whe
 
 pub takes_none : (sink : SinkView) → TakesTexts sink sink []
 takes_none sink = record { since = []; in_turn = tt; took = refl; behind = acts_none sink.writes }
-
--- no write was made
-pub turns_none : (sink : SinkView) (many : List (List ℕ)) → WritesInTurn sink sink many
-turns_none sink many = record { since = []; in_turn = tt; behind = acts_none sink.writes }
 
 -- all of them are
 pub turns_all : (old new : SinkView) (many : List (List ℕ)) → TakesTexts old new many → WritesInTurn old new many
