@@ -1,5 +1,8 @@
-use Rattle.std.proofs.Common.{sym, subst}
+use Rattle.std.proofs.Common.{None, ◌++◌, ◌∙◌, ap, sym, subst}
+use Rattle.std.specs.String.{string_bytes}
+use Rattle.std.proofs.lemmas.List.{append-nil}
 use Rattle.route_replay.specs.Gathering.{Breaks}
+use Rattle.route_replay.specs.TablesText.{table_text, unpublished_line}
 use Rattle.route_replay.proofs.Gathered.{handed_on, breaks_nothing, words_if_spilled}
 use Rattle.route_replay.proofs.tables_text.add_unpublished.Goals as goal
 
@@ -10,4 +13,6 @@ returns-in_err-unpublished_words-clause-breaks g c =
 
 -- the line is gathered
 pub returns-clause-gathers : goal.returns-clause-gathers
-returns-clause-gathers g c = words_if_spilled c.spill.result _ _ _ _ c.in_ok-unpublished_words.ensures c.spill.ensures.gathers
+returns-clause-gathers g c =
+    let made = c.in_ok-unpublished_words.ensures ∙ ap (λ bytes. string_bytes c.args.page.now.text ++ bytes) (sym (append-nil (unpublished_line c.args.node c.args.epoch))) in
+    words_if_spilled c.spill.result _ _ _ (table_text c.args.topology.now c.args.node c.args.epoch None) made c.spill.ensures.gathers

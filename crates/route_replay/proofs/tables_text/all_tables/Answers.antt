@@ -8,10 +8,10 @@ use Rattle.topology.specs.Net.{Net}
 use Rattle.chronicle.specs.Facts.{Chronicle}
 use Rattle.chronicle.specs.Publications.{published}
 use Rattle.world_core.specs.Publications.{PublicationView}
-use Rattle.route_replay.specs.Gathering.{Breaks, Gathers}
+use Rattle.route_replay.specs.Gathering.{Breaks, Gathers, page_view}
 use Rattle.route_replay.specs.TablesText.{last_of, published_for, table_in, table_text, tables_text}
 use Rattle.route_replay.specs.Views.{past_of}
-use Rattle.route_replay.proofs.Gathered.{handed_on, gathers_nothing, gathers_step, breaks_step}
+use Rattle.route_replay.proofs.Gathered.{handed_on, gathers_all, gathers_nothing, gathers_step, breaks_step}
 use Rattle.route_replay.proofs.Tables.{published_last}
 use Rattle.route_replay.proofs.tables_text.all_tables.Goals as goal
 
@@ -59,3 +59,16 @@ returns-in_err-one_table-clause-breaks g c =
     (subst (Breaks _ _ (string_bytes c.args.page.now.text ++ flat_map shown nodes)) (sym is)
     (breaks_step shown nodes i _ _ _ n c.in_err-one_table.field-0.0 c.loop-node-test.true (slice_get_read nodes _ i n refl c.loop-node-test.true c.node-item.is)
     c.loop-node.invariant.gathers (subst (λ words. Breaks (g.O.Sink.seen c.loop-node.page.sink.now) (g.O.Sink.seen c.one_table.new.page.sink.now) (string_bytes c.loop-node.page.text ++ words) c.in_err-one_table.field-0.0) same c.in_err-one_table.ensures.breaks))))
+
+-- all nodes are shown
+pub returns-clause-gathers : goal.returns-clause-gathers
+unfolding tables_text
+returns-clause-gathers g c =
+    let world = c.args.world.now in
+    let past = past_of (g.P.Policy.rules world.policy) world in
+    let e = c.args.epoch in
+    let shown : ℕ → List ℕ = λ u. table_text world.net u e (published u e past) in
+    let nodes = c.nodes-node-items.result.now in
+    let all : nodes ≡ ascending world.net.nodes = c.nodes-node-items.ensures.nodes ∙ ap (λ (net : Net). ascending net.nodes) c.topology-topology.ensures in
+    subst (λ ns. Gathers (page_view g.O.Sink.seen c.args.page.now) (page_view g.O.Sink.seen c.loop-node.page) (flat_map shown ns)) all
+    (gathers_all shown nodes c.loop-node.node-index _ _ c.loop-node-test.false c.loop-node.invariant.gathers)
