@@ -1,5 +1,5 @@
 -- The walks that the probes of a schedule show.
-use Rattle.std.proofs.Common.{◌≡◌, ℕ, ◌&&◌, true, nat_lt, List, [], ◌∷◌, length}
+use Rattle.std.proofs.Common.{◌≡◌, ℕ, true, nat_lt, List, [], ◌∷◌, length}
 use Rattle.std.proofs.lemmas.List.Elements.{All-head, All-tail}
 use Rattle.topology.specs.Lists.{has}
 use Rattle.topology.specs.Net.{Net}

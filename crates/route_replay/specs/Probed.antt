@@ -1,5 +1,5 @@
 -- What holds of the walks that the probes of a schedule show.
-use Rattle.std.specs.Prelude.{ℕ, List, [], ◌∷◌}
+use Rattle.std.specs.Prelude.{List, [], ◌∷◌}
 use Rattle.topology.specs.Net.{Net}
 use Rattle.path_vector.specs.Rules.{Rules}
 use Rattle.chronicle.specs.declared.events.Event.{Event}

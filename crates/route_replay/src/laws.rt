@@ -11,5 +11,4 @@ ghost use Rattle.route_replay.specs.Text.{text, texts};
 pub fn the_texts_are_the_text()
     ensures { (rules : Rules) (net : Net) (events : List Event) (lines : List Numbered) →
         concat (texts rules net events lines) ≡ text rules net events lines }
-{
-}
+{}

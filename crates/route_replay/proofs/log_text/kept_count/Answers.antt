@@ -1,4 +1,4 @@
-use Rattle.std.proofs.Common.{◌≡◌, ◌-◌, length, arith}
+use Rattle.std.proofs.Common.{arith}
 use Rattle.chronicle.specs.Logs.{log_of}
 use Rattle.route_replay.proofs.log_text.kept_count.Goals as goal
 

@@ -1,4 +1,4 @@
-use Rattle.std.proofs.Common.{◌≡◌, suc, [], ◌∷◌, ◌≤◌, ◌-◌, ◌+◌, ◌++◌, length, drop, arith, ap, ◌∙◌, subst, ⊎_elim}
+use Rattle.std.proofs.Common.{◌≡◌, suc, ◌≤◌, ◌-◌, ◌+◌, ◌++◌, length, drop, arith, ap, ◌∙◌, subst, ⊎_elim}
 use Rattle.std.specs.Prelude.{OnOk}
 use Rattle.std.specs.String.{string_bytes}
 use Rattle.path_vector.specs.History.{change}

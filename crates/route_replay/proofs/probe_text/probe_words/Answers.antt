@@ -1,4 +1,4 @@
-use Rattle.std.proofs.Common.{◌≡◌, ◌∙◌, ◌++◌, List, ℕ, slice_get, reverse, sym, ap, subst}
+use Rattle.std.proofs.Common.{◌∙◌, ◌++◌, slice_get, reverse, sym, ap, subst}
 use Rattle.std.specs.String.{string_bytes}
 use Rattle.topology.specs.Net.{Net}
 use Rattle.deflect_delivery.specs.Progress.{Over}
