@@ -10,6 +10,6 @@ pub mod parts;
 pub use consolidators::Consolidator;
 #[doc(hidden)]
 pub use held_reports::HeldReports;
-pub use messages::{Mail, Mails, Message, Reply};
+pub use messages::{Mail, Message, Outbox, Reply};
 #[doc(hidden)]
 pub use parts::Part;

@@ -125,11 +125,11 @@ pub struct Mail {
 
 /// Messages in the order in which they are sent.
 #[derive(Debug, Drop)]
-pub struct Mails {
+pub struct Outbox {
     list: Vec<Mail>,
 }
 
-impl Model for Mails {
+impl Model for Outbox {
     ghost use Rattle.std.specs.Prelude.{List};
     ghost use Rattle.consolidator.specs.declared.messages.Mail.{Mail};
 
@@ -138,12 +138,12 @@ impl Model for Mails {
     ghost view = { λ m. m.list.items };
 }
 
-impl Mails {
+impl Outbox {
     /// These messages. Takes no memory.
-    pub fn new(list: Vec<Mail>) -> Mails
+    pub fn new(list: Vec<Mail>) -> Outbox
         ensures { result ≡ list.items }
     {
-        Mails { list }
+        Outbox { list }
     }
 
     pub fn as_slice(&self) -> &[Mail]
@@ -161,16 +161,20 @@ impl Mails {
 }
 
 // One message.
-pub(crate) fn one(alloc: Global, to: NodeId, message: Message) -> Result<Mails, NoMemory>
+pub(crate) fn one(alloc: Global, to: NodeId, message: Message) -> Result<Outbox, NoMemory>
     ensures { IfOk result (λ mails. mails_seen mails ≡ (to, message_seen message) ∷ []) }
 {
     let mut list = Vec::new(alloc);
     list.push(Mail { to, message })?;
-    Ok(Mails::new(list))
+    Ok(Outbox::new(list))
 }
 
 // The message to each of the nodes.
-pub(crate) fn to_each(alloc: Global, nodes: &[NodeId], message: &Message) -> Result<Mails, NoMemory>
+pub(crate) fn to_each(
+    alloc: Global,
+    nodes: &[NodeId],
+    message: &Message,
+) -> Result<Outbox, NoMemory>
     ensures { IfOk result (λ mails. mails_seen mails ≡ map (λ to. (to, message_seen message.now)) nodes.now) }
 {
     let mut list = Vec::with_capacity(alloc, nodes.len())?;
@@ -181,12 +185,12 @@ pub(crate) fn to_each(alloc: Global, nodes: &[NodeId], message: &Message) -> Res
             message: copy,
         })?;
     }
-    Ok(Mails::new(list))
+    Ok(Outbox::new(list))
 }
 
 /// What a node does with a message, or when it is to propose: it sends messages, or nothing happens.
 #[derive(Debug, Drop)]
 pub enum Reply {
-    Sent(Mails),
+    Sent(Outbox),
     Idle(Reason),
 }

@@ -19,7 +19,7 @@ ghost use Rattle.consolidator.specs.Seen.{message_seen, mails_seen};
 ghost use Rattle.consolidator.specs.Standing.{IsPart, Hears as HearsMessage};
 
 use crate::messages::{one, to_each};
-use crate::{HeldReports, Mails, Message, Reply};
+use crate::{HeldReports, Message, Outbox, Reply};
 use incomplete_closure::{Report, Value};
 use paxos_core::{Acceptor, Prepared, Proposer, Tally, Took};
 use std::alloc::Global;
@@ -103,7 +103,7 @@ impl Part {
             return Ok(Reply::Idle(Reason::Duplicate));
         }
         self.reports.keep(report)?;
-        Ok(Reply::Sent(Mails::new(Vec::new(alloc))))
+        Ok(Reply::Sent(Outbox::new(Vec::new(alloc))))
     }
 
     /// Another consolidator, or this one, asks for a promise.
@@ -176,7 +176,7 @@ impl Part {
         members: &[NodeId],
         ballot: Ballot,
         value: Value,
-    ) -> Result<Mails, NoMemory>
+    ) -> Result<Outbox, NoMemory>
         requires preparing { IsPreparing self.old.proposer.phase }
         requires majority { self.old.proposer.won ≡ true }
         ensures epoch { OnOk result (self.new.reports.epoch ≡ self.old.reports.epoch) }
@@ -223,7 +223,7 @@ impl Part {
         {
             Tally::Stale => Ok(Reply::Idle(Reason::StaleBallot)),
             Tally::Duplicate => Ok(Reply::Idle(Reason::Duplicate)),
-            Tally::Counted => Ok(Reply::Sent(Mails::new(Vec::new(alloc)))),
+            Tally::Counted => Ok(Reply::Sent(Outbox::new(Vec::new(alloc)))),
             Tally::Majority(named) => {
                 let value = self.value_to_propose(alloc, named)?;
                 Ok(Reply::Sent(self.accept_all(alloc, members, ballot, value)?))
@@ -237,12 +237,12 @@ impl Part {
         alloc: Global,
         nodes: &[NodeId],
         chosen: Option<&Value>,
-    ) -> Result<Mails, NoMemory>
+    ) -> Result<Outbox, NoMemory>
         ensures { IfOk result (λ mails. mails_seen mails ≡
             of_epoch self.now.reports.epoch (announce nodes.now (option_copied chosen.entry))) }
     {
         match chosen {
-            None => Ok(Mails::new(Vec::new(alloc))),
+            None => Ok(Outbox::new(Vec::new(alloc))),
             Some(value) => {
                 let epoch = self.reports.epoch();
                 let copy = value.copy()?;
@@ -293,7 +293,7 @@ impl Part {
         }
         self.decision = Some(value);
         self.forget();
-        Reply::Sent(Mails::new(Vec::new(alloc)))
+        Reply::Sent(Outbox::new(Vec::new(alloc)))
     }
 
     // Why no ballot can be started, where there is a reason.
@@ -314,7 +314,7 @@ impl Part {
     }
 
     // Starts the next ballot.
-    fn ask_all(&mut self, alloc: Global, members: &[NodeId]) -> Result<Mails, NoMemory>
+    fn ask_all(&mut self, alloc: Global, members: &[NodeId]) -> Result<Outbox, NoMemory>
         requires promised { round_of self.old.acceptor.promised < 4294967295 }
         requires own { self.old.proposer.last_round < 4294967295 }
         ensures epoch { OnOk result (self.new.reports.epoch ≡ self.old.reports.epoch) }

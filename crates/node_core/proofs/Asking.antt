@@ -13,7 +13,7 @@ use Rattle.incomplete_closure.specs.declared.values.Value.{Value}
 use Rattle.paxos_core.specs.Facts.{Message as Ballots, Prepare, Promise, Accept, Accepted, Decision}
 use Rattle.paxos_core.specs.Answers.{refusal, decided, Decided}
 use Rattle.paxos_core.specs.Decisions.{decision_by}
-use Rattle.consolidator.specs.declared.messages.Mails.{Mails}
+use Rattle.consolidator.specs.declared.messages.Outbox.{Outbox}
 use Rattle.consolidator.specs.declared.messages.Reply.{Reply}
 use Rattle.consolidator.specs.declared.messages.Reply.TheVariants as reply
 use Rattle.consolidator.specs.Answers.{refusal_of, replies, received_as, received, proposal_refusal, asks, ballot_of, proposed_as, proposed, reason_where}
@@ -73,7 +73,7 @@ pub still : (net : Net) (u : ℕ) (past : Chronicle) → Quietly net u past past
 still net u past = record { logs = refl; epochs = refl; cuts = λ e. refl; items = λ v s. refl; tables = refl; drops = no_drops; table_cuts = λ e. refl }
 
 -- the step goes on, the messages are sent, and of no other epoch than this may u have both its cut and its decision now
-pub record Went (net : Net) (u : ℕ) (past : Chronicle) (step : Step) (list : Mails) (kept : Kept) (due : Option ℕ) : Type 0 where
+pub record Went (net : Net) (u : ℕ) (past : Chronicle) (step : Step) (list : Outbox) (kept : Kept) (due : Option ℕ) : Type 0 where
   pub now : Chronicle
   pub goes : step ≡ Goes now
   pub part : PartStandsFor net kept (control now) u
@@ -142,7 +142,7 @@ module _ (rules : Rules) (net : Net) (carried : Carried) (u : ℕ) (past : Chron
         (ap (λ o. unless o (proposes net u past e)) is, subst (λ o. PartStandsFor net kept (proposed_as o net (control past) u e) u) is c.stands)
 
     -- the ballot starts
-    propose_sent : (list : Mails) → Consults net (reply.Sent list) kept (control past) u (Propose e) → Went net u past (answer rules net carried u past (Propose e)) list kept None
+    propose_sent : (list : Outbox) → Consults net (reply.Sent list) kept (control past) u (Propose e) → Went net u past (answer rules net carried u past (Propose e)) list kept None
     unfolding answer proposed proposes
     propose_sent list c =
         let is : proposal_refusal net (control past) u e ≡ None = c.answer.0 in
@@ -177,7 +177,7 @@ module _ (rules : Rules) (net : Net) (carried : Carried) (u : ℕ) (past : Chron
         (ap (λ o. unless o (hears net u past from m)) is, subst (λ o. PartStandsFor net kept (received_as o net (control past) u from m) u) is c.stands)
 
     -- it is heard
-    hear_sent : (list : Mails) → Consults net (reply.Sent list) kept (control past) u (Control from m) → Went net u past (answer rules net carried u past (Control from m)) list kept (decided_by (Control from m))
+    hear_sent : (list : Outbox) → Consults net (reply.Sent list) kept (control past) u (Control from m) → Went net u past (answer rules net carried u past (Control from m)) list kept (decided_by (Control from m))
     unfolding answer received hears
     hear_sent list c =
         let is : refusal_of net (control past) u from m ≡ None = c.answer.0 in
@@ -211,7 +211,7 @@ module _ (rules : Rules) (net : Net) (carried : Carried) (u : ℕ) (past : Chron
   asked_idle other why c = absurd c
 
   -- messages are sent
-  pub asked_sent : (i : Input) (list : Mails) → Consults net (reply.Sent list) kept (control past) u i → Went net u past (answer rules net carried u past i) list kept (decided_by i)
+  pub asked_sent : (i : Input) (list : Outbox) → Consults net (reply.Sent list) kept (control past) u i → Went net u past (answer rules net carried u past i) list kept (decided_by i)
   asked_sent (Propose e) list c = propose_sent rules net carried u past e kept list c
   asked_sent (Control from m) list c = hear_sent rules net carried u past from m kept list c
   asked_sent other list c = absurd c
@@ -228,7 +228,7 @@ module _ (rules : Rules) (net : Net) (carried : Carried) (u : ℕ) (past : Chron
       ap (limit_before_marks rules net u) went.goes ∙ triggers_above rules net u went.now (omega (arith, same, low)) more
 
 -- no such message goes out
-pub small_sent : (net : Net) (u : ℕ) (past : Chronicle) (step : Step) (r : Reply) (list : Mails) (kept : Kept) (due : Option ℕ) (went : Went net u past step list kept due) → r ≡ reply.Sent list → proposes_large r ≡ false
+pub small_sent : (net : Net) (u : ℕ) (past : Chronicle) (step : Step) (r : Reply) (list : Outbox) (kept : Kept) (due : Option ℕ) (went : Went net u past step list kept due) → r ≡ reply.Sent list → proposes_large r ≡ false
     → has_large_value u past ≡ false → has_large_value u went.now ≡ false
 small_sent net u past step r list kept due went is small was = went.proposed ∙ ap₂ (λ a b. a || b) (reply_large r list false is small) was
 
@@ -264,7 +264,7 @@ pub says_why : (u : ℕ) (past : Chronicle) (step : Step) (why : Reason) (out : 
 says_why u past step why out is = subst (λ s. Says u past s (told.Idle why) out) (sym is) refl
 
 -- or the messages
-pub hands_posted : (past now : Chronicle) (list : Mails) (old new : List Given) → old ≡ [] → map output_of new ≡ map output_of old ++ posts (mails_seen list) → outputs now ≡ outputs past ++ posts (mails_seen list)
+pub hands_posted : (past now : Chronicle) (list : Outbox) (old new : List Given) → old ≡ [] → map output_of new ≡ map output_of old ++ posts (mails_seen list) → outputs now ≡ outputs past ++ posts (mails_seen list)
     → Hands past new now
 hands_posted past now list old new none are shown =
     ap (λ l. outputs past ++ l) (are ∙ ap (λ l. map output_of l ++ posts (mails_seen list)) none) ∙ sym shown

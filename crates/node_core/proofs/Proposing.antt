@@ -5,7 +5,7 @@ use Rattle.topology.specs.Net.{Net}
 use Rattle.path_vector.specs.Rules.{Rules}
 use Rattle.epoch_report.specs.Trimming.{trimmed_report}
 use Rattle.consolidator.specs.declared.messages.Mail.{Mail as Given}
-use Rattle.consolidator.specs.declared.messages.Mails.{Mails}
+use Rattle.consolidator.specs.declared.messages.Outbox.{Outbox}
 use Rattle.consolidator.specs.declared.messages.Reply.{Reply}
 use Rattle.consolidator.specs.declared.messages.Reply.TheVariants as reply
 use Rattle.consolidator.specs.Messages.{Message, Reports}
@@ -37,7 +37,7 @@ seen_large [] = refl
 seen_large (mail ∷ list) = ap (λ b. is_large (message_seen mail.message) || b) (seen_large list)
 
 -- the messages of a reply
-pub reply_large : (r : Reply) (list : Mails) (b : Bool) → r ≡ reply.Sent list → proposes_large r ≡ b → any_large (mails_seen list) ≡ b
+pub reply_large : (r : Reply) (list : Outbox) (b : Bool) → r ≡ reply.Sent list → proposes_large r ≡ b → any_large (mails_seen list) ≡ b
 reply_large r list b is same = seen_large list ∙ subst (λ s. proposes_large s ≡ b) is same
 
 -- ---- facts

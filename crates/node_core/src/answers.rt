@@ -25,7 +25,7 @@ use crate::limits::{MOST_TRIGGERS, proposes_large};
 use crate::node::Node;
 use crate::outputs::{Output, OutputList, Stop};
 use crate::parts::NodeParts;
-use consolidator::{Consolidator, Mails, Reply};
+use consolidator::{Consolidator, Outbox, Reply};
 use path_vector::{Cause, Policy};
 use topology::{Epoch, Item, LimitKind, NoMemory, NodeId, Reason, Scope, Session, Topology};
 
@@ -49,7 +49,7 @@ fn risen(before: Epoch, now: Epoch) -> Option<Epoch>
 }
 
 // Adds the control messages, as outputs.
-fn mail_all(mails: Mails, outputs: &mut OutputList) -> Result<(), NoMemory>
+fn mail_all(mails: Outbox, outputs: &mut OutputList) -> Result<(), NoMemory>
     ensures { OnOk result (map output_of outputs.new ≡ map output_of outputs.old ++ posts (mails_seen mails)) }
 {
     let list = mails.into_list();

@@ -1,6 +1,6 @@
 //! Calls of `consolidator`: the ballots of an epoch, step by step.
 use super::making::{node, nodes_in, number, split};
-use consolidator::{Consolidator, Mail, Mails, Message, Reply};
+use consolidator::{Consolidator, Mail, Message, Outbox, Reply};
 use incomplete_closure::{Nodes, PendingRows, Report, Rows, SessionRows, Value};
 use std::alloc::Global;
 use std::process::Abort;
@@ -174,7 +174,7 @@ fn reason(text: &str) -> Result<Reason, Fail> {
 fn reply(alloc: Global, text: &str) -> Result<Reply, Fail> {
     let mut list = Vec::new(alloc);
     let Some((first, rest)) = text.split_once(' ') else {
-        return Ok(Reply::Sent(Mails::new(list)));
+        return Ok(Reply::Sent(Outbox::new(list)));
     };
     if first == "idle" {
         return Ok(Reply::Idle(reason(rest)?));
@@ -183,7 +183,7 @@ fn reply(alloc: Global, text: &str) -> Result<Reply, Fail> {
         let message = message(alloc, rest)?;
         list.push(Mail { to, message })?;
     }
-    Ok(Reply::Sent(Mails::new(list)))
+    Ok(Reply::Sent(Outbox::new(list)))
 }
 
 // What the consolidator replies to what comes.
@@ -196,7 +196,7 @@ fn reply_of(
     let mut consolidator = at;
     let Some((first, rest)) = text.split_once(' ') else {
         consolidator.forget();
-        return Ok((consolidator, Reply::Sent(Mails::new(Vec::new(alloc)))));
+        return Ok((consolidator, Reply::Sent(Outbox::new(Vec::new(alloc)))));
     };
     if first == "propose" {
         return Ok(consolidator.propose(net, Epoch::new(number(rest)?))?);
