@@ -7,7 +7,7 @@ ghost use Rattle.topology.specs.Paths.{differ};
 ghost use Rattle.deflect_delivery.specs.Stills.{AreOrders, IsOrderOf, IsStill};
 
 use crate::{Orders, Still, UpLinks};
-use epoch_packet::Nodes;
+use epoch_packet::NodeList;
 use topology::{NodeId, Topology};
 
 // Whether none of the nodes is there twice.
@@ -52,7 +52,7 @@ fn are_links(topology: &Topology, links: &UpLinks) -> bool
 }
 
 // Whether the nodes are those of the network.
-fn are_nodes(topology: &Topology, nodes: &Nodes) -> bool
+fn are_nodes(topology: &Topology, nodes: &NodeList) -> bool
     ensures { result ≡ list_all (has topology.now.nodes) nodes.now }
 {
     nodes.as_slice().iter().all(|node| is_node(topology, *node))
@@ -72,7 +72,7 @@ fn is_order(topology: &Topology, node: NodeId, order: &[NodeId]) -> bool
 }
 
 // Whether there is such an order for each of the nodes.
-fn are_orders(topology: &Topology, nodes: &[NodeId], orders: &[Nodes]) -> bool
+fn are_orders(topology: &Topology, nodes: &[NodeId], orders: &[NodeList]) -> bool
     ensures { result ≡ true ↔ AreOrders topology.now nodes.now orders.now }
 {
     match nodes {

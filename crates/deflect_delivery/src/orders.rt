@@ -1,13 +1,13 @@
 //! The orders in which nodes try their neighbours.
 ghost use Rattle.std.specs.Prelude.{◌≡◌};
 
-use epoch_packet::Nodes;
+use epoch_packet::NodeList;
 use std::marker::Model;
 
 /// For each node, as the nodes ascend, the order in which it tries its neighbours.
 #[derive(Debug, Drop)]
 pub struct Orders {
-    list: Vec<Nodes>,
+    list: Vec<NodeList>,
 }
 
 impl Model for Orders {
@@ -20,13 +20,13 @@ impl Model for Orders {
 
 impl Orders {
     /// These orders. Takes no memory.
-    pub fn new(list: Vec<Nodes>) -> Orders
+    pub fn new(list: Vec<NodeList>) -> Orders
         ensures { result ≡ list.items }
     {
         Orders { list }
     }
 
-    pub fn as_slice(&self) -> &[Nodes]
+    pub fn as_slice(&self) -> &[NodeList]
         ensures { result.now ≡ self.now }
     {
         &self.list

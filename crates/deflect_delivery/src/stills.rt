@@ -1,13 +1,13 @@
 //! A network that does not move.
 use crate::orders::Orders;
 use crate::up_links::UpLinks;
-use epoch_packet::Nodes;
+use epoch_packet::NodeList;
 
 /// A network that does not move, as packets of one prefix meet it.
 #[derive(Debug, Drop)]
 pub struct Still {
     pub up: UpLinks,
     /// The nodes that own the prefix.
-    pub owners: Nodes,
+    pub owners: NodeList,
     pub orders: Orders,
 }

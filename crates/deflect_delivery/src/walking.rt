@@ -8,7 +8,7 @@ ghost use Rattle.deflect_delivery.specs.Progress.{whole_walk, one_more, set_out,
 ghost use Rattle.deflect_delivery.specs.Delivering.{Delivers};
 
 use crate::Still;
-use epoch_packet::{End, Nodes, Packet, stamp};
+use epoch_packet::{End, NodeList, Packet, stamp};
 use std::alloc::Global;
 use topology::{NoMemory, NodeId, PrefixId, Topology};
 use transient_mode::{Move, deflect};
@@ -17,7 +17,7 @@ use transient_mode::{Move, deflect};
 #[derive(Debug, Drop)]
 pub struct StillWalk {
     /// Where the packet was, the first node at the front.
-    pub visits: Nodes,
+    pub visits: NodeList,
     pub end: End,
 }
 
@@ -123,7 +123,7 @@ pub fn still_walk(
         let (next, end) = walk.go_on(alloc, topology, still)?;
         if let Some(end) = end {
             return Ok(StillWalk {
-                visits: Nodes::new(next.visits),
+                visits: NodeList::new(next.visits),
                 end,
             });
         }

@@ -11,7 +11,7 @@ pub mod stable;
 pub mod visited;
 pub mod walks;
 
-pub use node_lists::Nodes;
+pub use node_lists::NodeList;
 pub use packets::{Packet, stamp};
 pub use stable::{StableStep, stable_hop};
 pub use visited::{has_visited, with_visited};

@@ -7,11 +7,11 @@ use topology::{NoMemory, NodeId};
 
 /// A list of nodes, as they come.
 #[derive(Debug, Drop)]
-pub struct Nodes {
+pub struct NodeList {
     list: Vec<NodeId>,
 }
 
-impl Model for Nodes {
+impl Model for NodeList {
     ghost use Rattle.std.specs.Prelude.{ℕ, List};
 
     ghost Value = { List ℕ };
@@ -19,12 +19,12 @@ impl Model for Nodes {
     ghost view = { λ n. n.list.items };
 }
 
-impl Nodes {
+impl NodeList {
     /// The list of these nodes. Takes no memory.
-    pub fn new(list: Vec<NodeId>) -> Nodes
+    pub fn new(list: Vec<NodeId>) -> NodeList
         ensures { result ≡ list.items }
     {
-        Nodes { list }
+        NodeList { list }
     }
 
     pub fn as_slice(&self) -> &[NodeId]

@@ -2,7 +2,7 @@
 ghost use Rattle.std.specs.Prelude.{◌≡◌};
 
 use crate::visited::only_visited;
-use crate::{Mode, Nodes, with_visited};
+use crate::{Mode, NodeList, with_visited};
 use std::alloc::Global;
 use topology::{Epoch, NodeId, PrefixId, Scheme, Topology};
 
@@ -21,9 +21,9 @@ pub struct Packet {
     /// The nodes that count as visited: bit i stands for the i-th node, ascending, from 0.
     pub visited: u64,
     /// The way back, the last node at the end.
-    pub trail: Nodes,
+    pub trail: NodeList,
     /// The nodes that are still to come of the route that it took.
-    pub route: Nodes,
+    pub route: NodeList,
 }
 
 impl Packet {
@@ -82,7 +82,7 @@ pub fn stamp(
         budget: topology.hops(),
         reached: false,
         visited: only_visited(topology, at),
-        trail: Nodes::new(Vec::new(alloc)),
-        route: Nodes::new(Vec::new(alloc)),
+        trail: NodeList::new(Vec::new(alloc)),
+        route: NodeList::new(Vec::new(alloc)),
     }
 }

@@ -1,7 +1,7 @@
 //! Frames, and how much of one stands at the front of some bytes.
 use crate::FrameKind;
 use crate::paths::Paths;
-use epoch_packet::{End, Nodes, Packet};
+use epoch_packet::{End, NodeList, Packet};
 use incomplete_closure::{Report, Value};
 use topology::{Ballot, Epoch, NodeId, Path, PrefixId, Session, Triggers};
 
@@ -80,7 +80,7 @@ pub enum Frame {
     },
     Hop {
         packet: Packet,
-        up: Nodes,
+        up: NodeList,
     },
     Forward {
         next: NodeId,

@@ -17,7 +17,7 @@ use crate::reading::Fields;
 use crate::series::{
     AnyOrder, PathRun, ReportRows, ReportSessions, Rising, RisingTriggers, read_many,
 };
-use epoch_packet::{Nodes, Packet};
+use epoch_packet::{NodeList, Packet};
 use incomplete_closure::{Nodes as Responding, PendingRows, Report, Rows, SessionRows, Value};
 use std::alloc::Global;
 use topology::{NodeId, Path, Triggers};
@@ -53,21 +53,21 @@ pub(crate) fn read_path(alloc: Global, fields: &mut Fields<'_>) -> Result<Option
 }
 
 #[tactic(auto, unfolding(crate::specs::Fields::nodes))]
-fn read_nodes(alloc: Global, fields: &mut Fields<'_>) -> Result<Nodes, ReadError>
+fn read_nodes(alloc: Global, fields: &mut Fields<'_>) -> Result<NodeList, ReadError>
     ensures { IfOk result (λ x. nodes.reads fields.old ≡ Ok (x, fields.new)) }
 {
     let count = fields.few(64)?;
     let list = read_many(&mut AnyOrder, alloc, count, fields)?;
-    Ok(Nodes::new(list))
+    Ok(NodeList::new(list))
 }
 
 #[tactic(auto, unfolding(crate::specs::Fields::links))]
-fn read_links(alloc: Global, fields: &mut Fields<'_>) -> Result<Nodes, ReadError>
+fn read_links(alloc: Global, fields: &mut Fields<'_>) -> Result<NodeList, ReadError>
     ensures { IfOk result (λ x. links.reads fields.old ≡ Ok (x, fields.new)) }
 {
     let count = fields.few(63)?;
     let list = read_many(&mut Rising::first(), alloc, count, fields)?;
-    Ok(Nodes::new(list))
+    Ok(NodeList::new(list))
 }
 
 fn read_responding(alloc: Global, fields: &mut Fields<'_>) -> Result<Responding, ReadError>
@@ -290,7 +290,7 @@ pub(crate) fn owned_packet(alloc: Global, part: &[u8]) -> Result<Packet, ReadErr
 }
 
 /// What is spelled by a part that spells the links that are up.
-pub(crate) fn owned_links(alloc: Global, part: &[u8]) -> Result<Nodes, ReadError>
+pub(crate) fn owned_links(alloc: Global, part: &[u8]) -> Result<NodeList, ReadError>
     ensures { IfOk result (λ x. (y : List ℕ) → links.fits y ≡ true → part.now ≡ links.spells y
         → x ≡ y) }
 {

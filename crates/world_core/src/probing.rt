@@ -16,7 +16,7 @@ ghost use Rattle.world_core.specs.StillLinks.{up_among};
 use crate::passing::is_up;
 use crate::world::World;
 use deflect_delivery::{Orders, Still, StillWalk, UpLinks, still_walk};
-use epoch_packet::Nodes;
+use epoch_packet::NodeList;
 use link_model::Links;
 use path_vector::Policy;
 use std::alloc::Global;
@@ -99,7 +99,7 @@ impl<P: Policy + Copy> World<P> {
     }
 
     // The order of each node, ascending.
-    fn orders(&self, alloc: Global, prefix: PrefixId) -> Result<Vec<Nodes>, NoMemory>
+    fn orders(&self, alloc: Global, prefix: PrefixId) -> Result<Vec<NodeList>, NoMemory>
         requires { prefix < length self.now.net.prefixes }
         ensures { IfOk result (λ orders. orders.items
             ≡ orders_of (P.rules self.now.policy) self.now.net (run (P.rules self.now.policy) self.now.net self.now.events) prefix) }
@@ -107,7 +107,7 @@ impl<P: Policy + Copy> World<P> {
         let mut orders = Vec::new(alloc);
         for id in self.topology().nodes() {
             let tried = self.order(alloc, *id, prefix)?;
-            let order = Nodes::new(tried);
+            let order = NodeList::new(tried);
             orders.push(order)?;
         }
         Ok(orders)
@@ -123,7 +123,7 @@ impl<P: Policy + Copy> World<P> {
         let owning = self.owners(alloc, prefix)?;
         let tried = self.orders(alloc, prefix)?;
         let up = UpLinks::new(ends);
-        let owners = Nodes::new(owning);
+        let owners = NodeList::new(owning);
         let orders = Orders::new(tried);
         Ok(Still { up, owners, orders })
     }

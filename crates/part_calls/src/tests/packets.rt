@@ -1,6 +1,6 @@
 //! Calls of `epoch_packet`: what a packet carries, and its way along the stable tables.
 use super::making::{ids, network};
-use epoch_packet::{Mode, Nodes, Packet, StableStep, has_visited, stable_hop, stamp};
+use epoch_packet::{Mode, NodeList, Packet, StableStep, has_visited, stable_hop, stamp};
 use std::alloc::Global;
 use std::process::Abort;
 use std::test::Fail;
@@ -91,7 +91,7 @@ fn a_packet_carries_what_it_did(rt: HostRuntime) -> Result<(), Fail> {
 }
 
 // Nodes are put at the end, and taken off at both ends.
-fn change(nodes: &mut Nodes) -> Result<(), NoMemory> {
+fn change(nodes: &mut NodeList) -> Result<(), NoMemory> {
     nodes.replace(&[NodeId::new(1), NodeId::new(2)])?;
     nodes.push(NodeId::new(3))?;
     nodes.drop_last();
@@ -102,7 +102,7 @@ fn change(nodes: &mut Nodes) -> Result<(), NoMemory> {
 
 #[test]
 fn lists_are_changed_at_both_ends(rt: HostRuntime) {
-    let mut nodes = Nodes::new(Vec::new(rt.alloc()));
+    let mut nodes = NodeList::new(Vec::new(rt.alloc()));
     nodes.drop_last();
     nodes.drop_first();
     assert!(rt; change(&mut nodes) == Ok(()));

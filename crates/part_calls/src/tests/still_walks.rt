@@ -1,7 +1,7 @@
 //! Calls of `deflect_delivery`: whole walks over networks that do not move.
 use super::making::{AnyLink, network, node, nodes_in, split};
 use deflect_delivery::{Orders, Still, StillWalk, UpLinks, still_walk};
-use epoch_packet::{End, Nodes};
+use epoch_packet::{End, NodeList};
 use std::alloc::Global;
 use std::process::Abort;
 use std::test::Fail;
@@ -38,7 +38,7 @@ fn up_links(alloc: Global, word: &str) -> Result<UpLinks, Fail> {
 fn orders(alloc: Global, text: &str) -> Result<Orders, Fail> {
     let mut orders = Vec::new(alloc);
     for word in text.split(' ') {
-        orders.push(Nodes::new(nodes_in(alloc, word)?))?;
+        orders.push(NodeList::new(nodes_in(alloc, word)?))?;
     }
     Ok(Orders::new(orders))
 }
@@ -48,7 +48,7 @@ fn still(alloc: Global, text: &str) -> Result<Box<Still>, Fail> {
     let (up, rest) = split(text, ' ')?;
     let (owners, rest) = split(rest, ' ')?;
     let up = up_links(alloc, up)?;
-    let owners = Nodes::new(nodes_in(alloc, owners)?);
+    let owners = NodeList::new(nodes_in(alloc, owners)?);
     let orders = orders(alloc, rest)?;
     Ok(Box::new(alloc, Still { up, owners, orders })?)
 }

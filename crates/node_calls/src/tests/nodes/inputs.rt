@@ -1,7 +1,7 @@
 //! What comes to a node, by its words.
 use super::super::words::{epoch, node, nodes, number, prefix, session, word};
 use super::messages::control;
-use epoch_packet::{Mode, Nodes, Packet};
+use epoch_packet::{Mode, NodeList, Packet};
 use node_core::Input;
 use std::alloc::Global;
 use std::test::Fail;
@@ -49,8 +49,8 @@ fn packet_of(alloc: Global, words: &[&str]) -> Result<Packet, Fail> {
         budget: 1,
         reached: false,
         visited: 0,
-        trail: Nodes::new(nodes(alloc, words, 4)?),
-        route: Nodes::new(Vec::new(alloc)),
+        trail: NodeList::new(nodes(alloc, words, 4)?),
+        route: NodeList::new(Vec::new(alloc)),
     })
 }
 

@@ -1,7 +1,7 @@
 use Rattle.std.proofs.Common.{ap, ◌∙◌, arith}
 use Rattle.epoch_packet.specs.NodeLists.{but_last}
 use Rattle.epoch_packet.proofs.LastNodes.{popped}
-use Rattle.epoch_packet.proofs.node_lists.Nodes.drop_last.Goals as goal
+use Rattle.epoch_packet.proofs.node_lists.NodeList.drop_last.Goals as goal
 
 pub returns : goal.returns
 returns c =

@@ -1,6 +1,6 @@
 use Rattle.std.proofs.Common.{◌-◌, length, slice_get, ap, ◌∙◌}
 use Rattle.epoch_packet.proofs.LastNodes.{last_at}
-use Rattle.epoch_packet.proofs.node_lists.Nodes.last.Goals as goal
+use Rattle.epoch_packet.proofs.node_lists.NodeList.last.Goals as goal
 
 pub returns : goal.returns
 returns c =
