@@ -19,7 +19,7 @@ use crate::reached::Reached;
 use crate::search::search;
 use crate::steps::Steps;
 use crate::wiring::{graph_of_rows, wire_open};
-use crate::{Nodes, Report, Value};
+use crate::{Report, RespondingNodes, Value};
 use std::alloc::Global;
 use std::marker::Brand;
 use std::rc::Rc;
@@ -115,7 +115,7 @@ pub fn closure<L: Ledger>(
     let nodes = responding(alloc, reports)?;
     let marks = incomplete(alloc, reports, steps)?;
     Ok(Value {
-        responding: Nodes::new(nodes),
+        responding: RespondingNodes::new(nodes),
         incomplete: Triggers::from_ascending(marks.list(alloc)?)?,
     })
 }

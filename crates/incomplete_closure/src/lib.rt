@@ -25,4 +25,4 @@ pub use pending_rows::PendingRows;
 pub use reports::{Report, missing};
 pub use session_rows::{SessionRow, SessionRows};
 pub use steps::Steps;
-pub use values::{Nodes, Value};
+pub use values::{RespondingNodes, Value};

@@ -6,11 +6,11 @@ use topology::{NoMemory, NodeId, Triggers};
 
 /// Nodes, ascending in a value.
 #[derive(Debug, Drop)]
-pub struct Nodes {
+pub struct RespondingNodes {
     list: Vec<NodeId>,
 }
 
-impl Model for Nodes {
+impl Model for RespondingNodes {
     ghost use Rattle.std.specs.Prelude.{ℕ, List};
 
     ghost Value = { List ℕ };
@@ -18,12 +18,12 @@ impl Model for Nodes {
     ghost view = { λ n. n.list.items };
 }
 
-impl Nodes {
+impl RespondingNodes {
     /// These nodes. Takes no memory.
-    pub fn new(list: Vec<NodeId>) -> Nodes
+    pub fn new(list: Vec<NodeId>) -> RespondingNodes
         ensures { result ≡ list.items }
     {
-        Nodes { list }
+        RespondingNodes { list }
     }
 
     pub fn as_slice(&self) -> &[NodeId]
@@ -32,10 +32,10 @@ impl Nodes {
         &self.list
     }
 
-    fn copy(&self) -> Result<Nodes, NoMemory>
+    fn copy(&self) -> Result<RespondingNodes, NoMemory>
         ensures { IfOk result (λ nodes. nodes ≡ self.now) }
     {
-        Ok(Nodes {
+        Ok(RespondingNodes {
             list: self.list.clone()?,
         })
     }
@@ -44,7 +44,7 @@ impl Nodes {
 /// The nodes that responded, ascending, and the incomplete triggers.
 #[derive(Debug, Drop)]
 pub struct Value {
-    pub responding: Nodes,
+    pub responding: RespondingNodes,
     pub incomplete: Triggers,
 }
 

@@ -18,7 +18,7 @@ use crate::series::{
     AnyOrder, PathRun, ReportRows, ReportSessions, Rising, RisingTriggers, read_many,
 };
 use epoch_packet::{NodeList, Packet};
-use incomplete_closure::{Nodes as Responding, PendingRows, Report, Rows, SessionRows, Value};
+use incomplete_closure::{PendingRows, Report, RespondingNodes, Rows, SessionRows, Value};
 use std::alloc::Global;
 use topology::{NodeId, Path, Triggers};
 
@@ -70,12 +70,12 @@ fn read_links(alloc: Global, fields: &mut Fields<'_>) -> Result<NodeList, ReadEr
     Ok(NodeList::new(list))
 }
 
-fn read_responding(alloc: Global, fields: &mut Fields<'_>) -> Result<Responding, ReadError>
+fn read_responding(alloc: Global, fields: &mut Fields<'_>) -> Result<RespondingNodes, ReadError>
     ensures { IfOk result (λ x. (listed (few 64) rising 0).reads fields.old ≡ Ok (x, fields.new)) }
 {
     let count = fields.few(64)?;
     let list = read_many(&mut Rising::first(), alloc, count, fields)?;
-    Ok(Responding::new(list))
+    Ok(RespondingNodes::new(list))
 }
 
 fn read_incomplete(alloc: Global, fields: &mut Fields<'_>) -> Result<Triggers, ReadError>

@@ -1,7 +1,7 @@
 //! Calls of `consolidator`: the ballots of an epoch, step by step.
 use super::making::{node, nodes_in, number, split};
 use consolidator::{Consolidator, Mail, Message, Outbox, Reply};
-use incomplete_closure::{Nodes, PendingRows, Report, Rows, SessionRows, Value};
+use incomplete_closure::{PendingRows, Report, RespondingNodes, Rows, SessionRows, Value};
 use std::alloc::Global;
 use std::process::Abort;
 use std::rc::Rc;
@@ -91,7 +91,7 @@ fn ballot_in(word: &str) -> Result<Ballot, Fail> {
 
 fn value(alloc: Global, word: &str) -> Result<Value, Fail> {
     Ok(Value {
-        responding: Nodes::new(nodes_in(alloc, word)?),
+        responding: RespondingNodes::new(nodes_in(alloc, word)?),
         incomplete: Triggers::none(),
     })
 }

@@ -1,7 +1,7 @@
 //! Calls of `stable_table`: the tables of epochs, and the two that a node keeps.
 use super::entering::{appended, log_of, shorter};
 use super::making::{STAR, network, node, nodes_in, number, split, trigger};
-use incomplete_closure::{Nodes, Value};
+use incomplete_closure::{RespondingNodes, Value};
 use path_vector::{Cause, ShortestAll};
 use stable_table::{Table, TwoTables, droppable_before, table_of};
 use std::alloc::Global;
@@ -86,7 +86,7 @@ fn value(alloc: Global, responding: &str, incomplete: &str) -> Result<Value, Fai
         Triggers::none()
     };
     Ok(Value {
-        responding: Nodes::new(nodes_in(alloc, responding)?),
+        responding: RespondingNodes::new(nodes_in(alloc, responding)?),
         incomplete,
     })
 }

@@ -2,7 +2,7 @@
 use super::super::networks::APART;
 use super::desk::Desk;
 use consolidator::Message;
-use incomplete_closure::{Nodes, Value};
+use incomplete_closure::{RespondingNodes, Value};
 use node_core::limits::MOST_TRIGGERS;
 use node_core::{Input, Node, Stop};
 use path_vector::ShortestAll;
@@ -129,7 +129,7 @@ fn first_ballot() -> Ballot {
 fn promise_of(alloc: Global, count: u32) -> Result<Input, Fail> {
     let incomplete = triggers_of(alloc, count)?;
     let value = Value {
-        responding: Nodes::new(Vec::new(alloc)),
+        responding: RespondingNodes::new(Vec::new(alloc)),
         incomplete,
     };
     let message = Message::Promise {

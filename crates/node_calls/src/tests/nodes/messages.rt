@@ -1,7 +1,7 @@
 //! Messages of the control network, by their words.
 use super::super::words::{ballot, epoch, node, nodes, number, word};
 use consolidator::Message;
-use incomplete_closure::{Nodes, PendingRows, Report, Rows, SessionRows, Value};
+use incomplete_closure::{PendingRows, Report, RespondingNodes, Rows, SessionRows, Value};
 use node_core::Input;
 use std::alloc::Global;
 use std::rc::Rc;
@@ -11,7 +11,7 @@ use topology::{Ballot, Epoch, NodeId, Triggers};
 // The value of these nodes, without incomplete triggers.
 fn value_of(alloc: Global, nodes: Vec<NodeId>) -> Value {
     Value {
-        responding: Nodes::new(nodes),
+        responding: RespondingNodes::new(nodes),
         incomplete: Triggers::none(),
     }
 }
