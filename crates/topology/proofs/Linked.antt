@@ -10,28 +10,28 @@ use Rattle.topology.specs.declared.links.Link.{Link}
 use Rattle.topology.specs.Building.{put_preference}
 use Rattle.topology.specs.declared.links.Pref.{Pref}
 use Rattle.topology.specs.declared.pref_table.Side.{Side}
-use Rattle.topology.specs.declared.link_table.Ends.{Ends}
+use Rattle.topology.specs.declared.link_table.LinkKey.{LinkKey}
 use Rattle.topology.proofs.Tests.{and_left, and_right, or_left, or_right, same_is, same_sym}
 
 -- two links have the same ends where one joins the ends of the other
 pub same_ends : (a b c d : ℕ) → (min a b == min c d && max a b == max c d) ≡ ((c == a && d == b) || (c == b && d == a))
 same_ends a b c d = grind (arith, nat_tests)
 
-module _ (a b : ℕ) (p : Ends → Bool) (is : (link : Link) → p (ends link.a link.b) ≡ joins a b link) where
-  pub found_by_ends : (entries : List (Ends × Link)) → UnderTheirEnds entries → lookup p entries ≡ find (joins a b) (values_of entries)
+module _ (a b : ℕ) (p : LinkKey → Bool) (is : (link : Link) → p (ends link.a link.b) ≡ joins a b link) where
+  pub found_by_ends : (entries : List (LinkKey × Link)) → UnderTheirEnds entries → lookup p entries ≡ find (joins a b) (values_of entries)
   found_by_ends [] under = refl
   found_by_ends (e ∷ es) under =
       rw (under.each.0, is e.1) (ap (λ o. cond (joins a b e.1) (Some e.1) o) (found_by_ends es (record { each = under.each.1 })))
 
-module _ (eq : Ends → Ends → Bool) (a b : ℕ) (is : (link : Link) → eq (ends a b) (ends link.a link.b) ≡ joins a b link) where
-  pub inserted_last : (entries : List (Ends × Link)) (link : Link) → UnderTheirEnds entries → list_any (joins a b) (values_of entries) ≡ false → insert_entry eq entries (ends a b) link ≡ entries ++ (ends a b, link) ∷ []
+module _ (eq : LinkKey → LinkKey → Bool) (a b : ℕ) (is : (link : Link) → eq (ends a b) (ends link.a link.b) ≡ joins a b link) where
+  pub inserted_last : (entries : List (LinkKey × Link)) (link : Link) → UnderTheirEnds entries → list_any (joins a b) (values_of entries) ≡ false → insert_entry eq entries (ends a b) link ≡ entries ++ (ends a b, link) ∷ []
   inserted_last [] link under none = refl
   inserted_last (e ∷ es) link under none =
       let here : joins a b e.1 ≡ false = or_left (joins a b e.1) (list_any (joins a b) (values_of es)) none in
       let later = or_right (joins a b e.1) (list_any (joins a b) (values_of es)) none in
       rw (under.each.0, is e.1, here) (ap (λ l. (ends e.1.a e.1.b, e.1) ∷ l) (inserted_last es link (record { each = under.each.1 }) later))
 
-pub under-append : (entries : List (Ends × Link)) (link : Link) → UnderTheirEnds entries → UnderTheirEnds (entries ++ (ends link.a link.b, link) ∷ [])
+pub under-append : (entries : List (LinkKey × Link)) (link : Link) → UnderTheirEnds entries → UnderTheirEnds (entries ++ (ends link.a link.b, link) ∷ [])
 under-append [] link under = record { each = (refl, tt) }
 under-append (e ∷ es) link under = record { each = (under.each.0, (under-append es link (record { each = under.each.1 })).each) }
 

@@ -7,7 +7,7 @@ use Rattle.topology.specs.Lists.{ascending}
 use Rattle.topology.specs.declared.links.Link.{Link}
 use Rattle.topology.specs.declared.links.Pref.{Pref}
 use Rattle.topology.specs.declared.pref_table.Side.{Side}
-use Rattle.topology.specs.declared.link_table.Ends.{Ends}
+use Rattle.topology.specs.declared.link_table.LinkKey.{LinkKey}
 
 -- different nodes in the order in which they were added, and how many more fit without memory
 pub record Members : Type 0 where
@@ -20,11 +20,11 @@ pub record InBothOrders (added rising : List ℕ) : Type 0 where
   pub sorted : rising ≡ ascending added
 
 -- the two nodes, the lower first
-abbrev pub ends : ℕ → ℕ → Ends
+abbrev pub ends : ℕ → ℕ → LinkKey
 ends a b = record { low = min a b; high = max a b }
 
 -- each link is kept under its two ends
-pub record UnderTheirEnds (entries : List (Ends × Link)) : Type 0 where
+pub record UnderTheirEnds (entries : List (LinkKey × Link)) : Type 0 where
   pub each : AllByRecursion (λ e. e.0 ≡ ends e.1.a e.1.b) entries
 
 -- the two nodes, the one that prefers first

@@ -11,19 +11,19 @@ use std::marker::Model;
 
 /// The two ends of a link, the lower first.
 #[derive(Clone, Copy, Debug, PartialEq, Eq, Hash)]
-pub struct Ends {
+pub struct LinkKey {
     low: NodeId,
     high: NodeId,
 }
 
-impl Ends {
-    fn of(a: NodeId, b: NodeId) -> Ends
+impl LinkKey {
+    fn of(a: NodeId, b: NodeId) -> LinkKey
         ensures { result ≡ ends a b }
     {
         if a < b {
-            Ends { low: a, high: b }
+            LinkKey { low: a, high: b }
         } else {
-            Ends { low: b, high: a }
+            LinkKey { low: b, high: a }
         }
     }
 }
@@ -31,7 +31,7 @@ impl Ends {
 /// Links in the order in which they were added, at most one between two nodes.
 #[derive(Drop)]
 pub struct LinkTable {
-    links: IndexMap<Ends, Link>,
+    links: IndexMap<LinkKey, Link>,
 }
 
 impl Model for LinkTable {
@@ -67,7 +67,7 @@ impl LinkTable {
     pub fn find(&self, a: NodeId, b: NodeId) -> Option<Link>
         ensures { result ≡ find (joins a b) self.now }
     {
-        self.links.get(&Ends::of(a, b)).copied()
+        self.links.get(&LinkKey::of(a, b)).copied()
     }
 
     /// Whether two nodes have a link.
@@ -92,7 +92,7 @@ impl LinkTable {
         ensures ok { OnOk result (self.new ≡ self.old ++ link ∷ []) }
         ensures err { OnErr result (self.new ≡ self.old) }
     {
-        self.links.insert(Ends::of(link.a, link.b), link)?;
+        self.links.insert(LinkKey::of(link.a, link.b), link)?;
         Ok(())
     }
 }
