@@ -6,7 +6,7 @@ ghost use Rattle.topology.specs.Net.{Net, linked};
 ghost use Rattle.trigger_log.specs.Going.{item_of};
 ghost use Rattle.consolidator.specs.Seen.{message_seen};
 ghost use Rattle.chronicle.specs.Control.{mailed};
-ghost use Rattle.chronicle.specs.Facts.{Chronicle, Fact, Sent, Mail as Mailed, Visit as Came, End as Ends, happen};
+ghost use Rattle.chronicle.specs.Facts.{Chronicle, Fact, Sent, Mail as Mailed, Visit as Came, End as Finished, happen};
 ghost use Rattle.chronicle.specs.Links.{link};
 ghost use Rattle.chronicle.specs.Walks.{standing, visit_of};
 ghost use Rattle.node_core.specs.Entries.{first_of};
@@ -125,7 +125,7 @@ fn forward(
 fn end(number: u32, end: End, walks: &mut Walks, account: &mut Account) -> Result<(), NoMemory>
     ensures asked { OnOk result (account.new.asked ≡ account.old.asked) }
     ensures done { OnOk result ((away : ℕ → Bool) (net : Net) (past : Chronicle) → AreWalksBut away net past walks.old → is_some (standing number past) ≡ true →
-        AreWalksBut (still (Ends number end) away) net (Ends number end ∷ past) walks.new
+        AreWalksBut (still (Finished number end) away) net (Finished number end ∷ past) walks.new
         × (account.old.asked ≡ true → account.new.list ≡ account.old.list ++ Ended number end ∷ [])) }
 {
     walks.end(number, end);

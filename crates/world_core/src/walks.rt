@@ -2,7 +2,7 @@
 ghost use Rattle.std.specs.Prelude.{◌≡◌, ◌∷◌, ◌++◌, [], ℕ, Bool, true, None, Some, find, length, is_some, OnOk, OnErr, IfOk, IfErr};
 ghost use Rattle.std.specs.Option.{option_copied};
 ghost use Rattle.topology.specs.Net.{Net};
-ghost use Rattle.chronicle.specs.Facts.{Chronicle, Visit as Came, End as Ends};
+ghost use Rattle.chronicle.specs.Facts.{Chronicle, Visit as Came, End as Finished};
 ghost use Rattle.chronicle.specs.Run.{does};
 ghost use Rattle.chronicle.specs.Steps.{Idle};
 ghost use Rattle.chronicle.specs.Walks.{standing, visit_of};
@@ -213,7 +213,7 @@ impl Walks {
     pub fn end(&mut self, number: u32, end: End)
         ensures { (away : ℕ → Bool) (net : Net) (past : Chronicle) → AreWalksBut away net past self.old →
             is_some (standing number past) ≡ true →
-            AreWalksBut (still (Ends number end) away) net (Ends number end ∷ past) self.new }
+            AreWalksBut (still (Finished number end) away) net (Finished number end ∷ past) self.new }
     {
         if let Some(place) = self.numbers.get_index_of(&number) {
             self.journeys[place].finish(end);
