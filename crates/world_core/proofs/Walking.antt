@@ -11,7 +11,7 @@ use Rattle.std.proofs.lemmas.List.Folds.{find_at, find-set}
 use Rattle.topology.specs.Net.{Net}
 use Rattle.epoch_packet.specs.declared.packets.Packet.{Packet}
 use Rattle.epoch_packet.specs.declared.walks.End.{End as Ending}
-use Rattle.epoch_packet.specs.declared.walks.Visit.{Visit as Stop}
+use Rattle.epoch_packet.specs.declared.walks.Visit.{Visit as WalkStop}
 use Rattle.chronicle.specs.Facts.{Chronicle, Visit, End}
 use Rattle.chronicle.specs.Run.{does, hopped, stands_at}
 use Rattle.chronicle.specs.Steps.{Idle}
@@ -140,11 +140,11 @@ module _ (p : JourneyView → Bool) where
 -- ---- what is read of a packet
 
 -- packet k where it stands, with what is kept of it
-abbrev told : ℕ → Option Packet → List Stop → Option Ending → Standing → JourneyView
+abbrev told : ℕ → Option Packet → List WalkStop → Option Ending → Standing → JourneyView
 told k kept visits end at = record { number = k; node = at.node; packet = kept; visits = visits; ending = end }
 
 -- what a run has of a packet that stands somewhere
-read_of : (o : Option Standing) (k : ℕ) (kept : Option Packet) (visits : List Stop) (end : Option Ending) (x : JourneyView)
+read_of : (o : Option Standing) (k : ℕ) (kept : Option Packet) (visits : List WalkStop) (end : Option Ending) (x : JourneyView)
     → option_map (told k kept visits end) o ≡ Some x
     → (x.visits ≡ visits) × (x.ending ≡ end) × (is_some o ≡ true)
 read_of None k kept visits end x e = absurd (cc e)
@@ -153,7 +153,7 @@ read_of (Some at) k kept visits end x e =
     (sym (ap (λ (j : JourneyView). j.visits) same), sym (ap (λ (j : JourneyView). j.ending) same), refl)
 
 -- of one that stands nowhere
-none_of : (o : Option Standing) (k : ℕ) (kept : Option Packet) (visits : List Stop) (end : Option Ending) → option_map (told k kept visits end) o ≡ None → o ≡ None
+none_of : (o : Option Standing) (k : ℕ) (kept : Option Packet) (visits : List WalkStop) (end : Option Ending) → option_map (told k kept visits end) o ≡ None → o ≡ None
 none_of None k kept visits end e = refl
 none_of (Some at) k kept visits end e = absurd (cc e)
 
@@ -176,7 +176,7 @@ pub stands_by : (k : ℕ) (past : Chronicle) (at : Standing) → standing k past
 stands_by k past at is = (stands k past at is).number
 
 -- one visit more, the newest last
-more_visits : (v : Stop) (vs : List Stop) → reverse (v ∷ vs) ≡ reverse vs ++ v ∷ []
+more_visits : (v : WalkStop) (vs : List WalkStop) → reverse (v ∷ vs) ≡ reverse vs ++ v ∷ []
 more_visits v vs = reverse-append (v ∷ []) vs
 
 -- ---- the packets after a fact
@@ -188,7 +188,7 @@ walks_stay net past now js same was = record {
   each = λ k.
       was.each k
       ∙ (ap (option_map (told k (was.kept k) (reverse (walk k past)) (ending k past))) (sym (same.same_standing k))
-      ∙ ap₂ (λ (vs : List Stop) (e : Option Ending). option_map (told k (was.kept k) (reverse vs) e) (standing k now)) (sym (same.same_walk k)) (sym (same.same_ending k)));
+      ∙ ap₂ (λ (vs : List WalkStop) (e : Option Ending). option_map (told k (was.kept k) (reverse vs) e) (standing k now)) (sym (same.same_walk k)) (sym (same.same_ending k)));
   is_kept = λ k at here is on. was.is_kept k at here (sym (same.same_standing k) ∙ is) (sym (same.same_ending k) ∙ on);
   count = was.count ∙ sym same.same_packets;
   inside = λ k at is. was.inside k at (sym (same.same_standing k) ∙ is);
@@ -326,7 +326,7 @@ module _ {away : ℕ → Bool} (net : Net) (past : Chronicle) (js : List Journey
                   subst (λ n. find (is_of n) (set js i y) ≡ Some (record { number = n; node = u; packet = Some packet; visits = reverse (v ∷ walk n past); ending = ending n past })) same
                   (at_place k i x place y number
                   ∙ (ap (λ n. Some (record y { number = n })) number
-                  ∙ ap₂ (λ (l : List Stop) (o : Option Ending). Some (record { number = k; node = u; packet = Some packet; visits = l; ending = o })) visits is.1))
+                  ∙ ap₂ (λ (l : List WalkStop) (o : Option Ending). Some (record { number = k; node = u; packet = Some packet; visits = l; ending = o })) visits is.1))
               | false ↦ λ e. beside k i x place y number m e ∙ was.each m
             ]) refl;
         is_kept = visit_kept u packet;
@@ -351,10 +351,10 @@ module _ {away : ℕ → Bool} (net : Net) (past : Chronicle) (js : List Journey
             ≡ option_map (λ (at : Standing). record { number = m; node = at.node; packet = if t then Some packet else was.kept m; visits = reverse (if t then v ∷ walk m past else walk m past); ending = ending m past }) (if t then Some (record { node = u; packet = packet }) else standing m past)) [
               | true ↦ λ e.
                   let same : k ≡ m = grind (arith, nat_tests) in
-                  let visits : v ∷ [] ≡ reverse (v ∷ walk k past) = ap (λ (l : List Stop). reverse (v ∷ l)) (sym (no_walk k past nowhere)) in
+                  let visits : v ∷ [] ≡ reverse (v ∷ walk k past) = ap (λ (l : List WalkStop). reverse (v ∷ l)) (sym (no_walk k past nowhere)) in
                   subst (λ n. find (is_of n) (js ++ y ∷ []) ≡ Some (record { number = n; node = u; packet = Some packet; visits = reverse (v ∷ walk n past); ending = ending n past })) same
                   (find_new (is_of k) js y new own
-                  ∙ ap₂ (λ (l : List Stop) (o : Option Ending). Some (record { number = k; node = u; packet = Some packet; visits = l; ending = o })) visits (sym (was.unended k nowhere)))
+                  ∙ ap₂ (λ (l : List WalkStop) (o : Option Ending). Some (record { number = k; node = u; packet = Some packet; visits = l; ending = o })) visits (sym (was.unended k nowhere)))
               | false ↦ λ e. find_old (is_of m) js y e ∙ was.each m
             ]) refl;
         is_kept = visit_kept u packet;
@@ -401,7 +401,7 @@ module _ {away : ℕ → Bool} (net : Net) (past : Chronicle) (js : List Journey
             ]) refl;
       }
     where
-      ended_reading : (o : Option Standing) (k : ℕ) (kept : Option Packet) (visits : List Stop) (before : Option Ending) (x : JourneyView) (end : Ending)
+      ended_reading : (o : Option Standing) (k : ℕ) (kept : Option Packet) (visits : List WalkStop) (before : Option Ending) (x : JourneyView) (end : Ending)
           → option_map (told k kept visits before) o ≡ Some x
           → ◌≡◌ {A = Option JourneyView} (Some (record x { ending = Some end })) (option_map (told k kept visits (Some end)) o)
       ended_reading None k kept visits before x end e = absurd (cc e)

@@ -4,7 +4,7 @@ use Rattle.topology.specs.Lists.{has}
 use Rattle.topology.specs.Net.{Net}
 use Rattle.epoch_packet.specs.declared.packets.Packet.{Packet}
 use Rattle.epoch_packet.specs.declared.walks.End.{End as Ending}
-use Rattle.epoch_packet.specs.declared.walks.Visit.{Visit as Stop}
+use Rattle.epoch_packet.specs.declared.walks.Visit.{Visit as WalkStop}
 use Rattle.chronicle.specs.Facts.{Chronicle, Fact, Visit, End}
 use Rattle.chronicle.specs.Walks.{Standing, standing, walk, ending, packets}
 
@@ -14,7 +14,7 @@ pub record JourneyView : Type 0 where
   pub number : ℕ
   pub node : ℕ
   pub packet : Option Packet
-  pub visits : List Stop
+  pub visits : List WalkStop
   pub ending : Option Ending
 
 -- the packet has this number
@@ -31,7 +31,7 @@ journey kept k past =
     (standing k past)
 
 -- the visits of packet k, the oldest first, and how its walk ended, where it has
-abbrev pub walk_of : ℕ → Chronicle → Option (List Stop × Option Ending)
+abbrev pub walk_of : ℕ → Chronicle → Option (List WalkStop × Option Ending)
 walk_of k past = option_map (λ (at : Standing). (reverse (walk k past), ending k past)) (standing k past)
 
 -- the node and the prefix of the packet are of the network
