@@ -13,7 +13,7 @@ use Rattle.incomplete_closure.specs.declared.values.Value.{Value}
 use Rattle.paxos_core.specs.Facts.{Message as Ballots, Prepare, Promise, Accept, Accepted, Decision}
 use Rattle.paxos_core.specs.Facts as paxos
 use Rattle.paxos_core.specs.Readings.{accepted, promises, voters}
-use Rattle.paxos_core.specs.Answers.{just_majority, to_each, or_fresh, named_value, announce, setting_of, answers, proposed}
+use Rattle.paxos_core.specs.Answers.{just_majority, to_each, or_fresh, named_value, announce, ballot_setup, answers, proposed}
 use Rattle.consolidator.specs.Answers.{is_decision, refused, refusal_of, of_epoch, replies, not_proposing, proposal_refusal, ballot_of, asks}
 use Rattle.consolidator.specs.Facts.{Chronicle, agreement}
 use Rattle.consolidator.specs.Messages.{Message, Reports, Agrees}
@@ -108,7 +108,7 @@ module _ (net : Net) (u : ℕ) where
 
     -- what u answers
     pub answers_fit : (m : Ballots Value) → (has net.consolidators u || is_decision m) ≡ true → ballots_fit net from m ≡ true
-        → list_all is_small (answers (setting_of members nodes v) past u from m) ≡ true → list_all (going_fits net u) (answers (setting_of members nodes v) past u from m) ≡ true
+        → list_all is_small (answers (ballot_setup members nodes v) past u from m) ≡ true → list_all (going_fits net u) (answers (ballot_setup members nodes v) past u from m) ≡ true
     unfolding answers
     answers_fit (Prepare b) here fit small =
         let own = or_off (has net.consolidators u) here in
@@ -182,7 +182,7 @@ module _ (net : Net) (valid : IsValid net) (u : ℕ) (here : has net.nodes u ≡
   unfolding replies refusal_of
   replies_fit from (Reports r) up fit free small = refl
   replies_fit from (Agrees e m) up fit free small =
-      let out = answers (setting_of (ascending net.consolidators) (ascending net.nodes) (fresh u e past)) (agreement e past) u from m in
+      let out = answers (ballot_setup (ascending net.consolidators) (ascending net.nodes) (fresh u e past)) (agreement e past) u from m in
       of_epoch_fits net u e out here
       (and_left (epoch_fits e) (ballots_fit net from m) (and_right (has net.nodes from) (epoch_fits e && ballots_fit net from m) fit))
       (answers_fit net u (ascending net.consolidators) (ascending net.nodes) (consolidators_known net valid) (nodes_known net)

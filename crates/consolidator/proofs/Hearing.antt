@@ -22,7 +22,7 @@ use Rattle.paxos_core.specs.AcceptorCalls.{AnswersPrepare, AnswersAccept, GoesOn
 use Rattle.paxos_core.specs.Tallying.{Tallying, Leaves}
 use Rattle.paxos_core.specs.Tallying as tallying
 use Rattle.paxos_core.specs.ProposerCalls.{IsPreparing, prepares, gathers, tally_of, promise_tally, vote_tally, after_promise, after_vote, promise_delivery, vote_delivery, SaysPromise, SaysVote}
-use Rattle.paxos_core.specs.Answers.{opened, next_ballot, Refusal, Promised, Decided, refusal, decided, setting_of, answers, received, received_as, posted, proposed, or_fresh, announce, to_each}
+use Rattle.paxos_core.specs.Answers.{opened, next_ballot, Refusal, Promised, Decided, refusal, decided, ballot_setup, answers, received, received_as, posted, proposed, or_fresh, announce, to_each}
 use Rattle.paxos_core.proofs.Ballots.{same_ballot_true, same_parts}
 use Rattle.incomplete_closure.specs.Reports.{Report}
 use Rattle.incomplete_closure.specs.Marking.{value_of}
@@ -54,26 +54,26 @@ pub is_refused : (members nodes : List ℕ) (old new : Part) (past : Chronicle V
 unfolding received
 is_refused members nodes old new past reports u from m why refused h = record {
   answer = ap reason_where refused;
-  stands = subst (λ w. StandsFor (length members) new (received_as w (setting_of members nodes (value_of reports)) past u from m) reports u) (sym refused) h;
+  stands = subst (λ w. StandsFor (length members) new (received_as w (ballot_setup members nodes (value_of reports)) past u from m) reports u) (sym refused) h;
 }
 
 pub is_heard : (members nodes : List ℕ) (mails : List TheMail) (old new : Part) (past : Chronicle Value) (reports : List Report) (u from : ℕ) (m : Message Value) (out : List (ℕ × Message Value))
-    → refusal past u from m ≡ None → answers (setting_of members nodes (value_of reports)) past u from m ≡ out → mails_seen mails ≡ of_epoch old.reports.epoch out
+    → refusal past u from m ≡ None → answers (ballot_setup members nodes (value_of reports)) past u from m ≡ out → mails_seen mails ≡ of_epoch old.reports.epoch out
     → StandsFor (length members) new (posted u out (Heard u from m ∷ past)) reports u → Hears (addressees members nodes) (told.Sent mails) old new (epoch_past past reports) (delivery u from m)
 unfolding received
 is_heard members nodes mails old new past reports u from m out taken says sent h = record {
   answer = (ap reason_where taken, sent ∙ ap (of_epoch old.reports.epoch) (sym says));
-  stands = subst (λ w. StandsFor (length members) new (received_as w (setting_of members nodes (value_of reports)) past u from m) reports u) (sym taken)
+  stands = subst (λ w. StandsFor (length members) new (received_as w (ballot_setup members nodes (value_of reports)) past u from m) reports u) (sym taken)
       (subst (λ ms. StandsFor (length members) new (posted u ms (Heard u from m ∷ past)) reports u) (sym says) h);
 }
 
 -- ---- the acceptor
 
-prepare_says : (members nodes : List ℕ) (fresh : Value) (past : Chronicle Value) (u from : ℕ) (b : Ballot) → answers (setting_of members nodes fresh) past u from (Prepare b) ≡ (from, Promise b (accepted past u)) ∷ []
+prepare_says : (members nodes : List ℕ) (fresh : Value) (past : Chronicle Value) (u from : ℕ) (b : Ballot) → answers (ballot_setup members nodes fresh) past u from (Prepare b) ≡ (from, Promise b (accepted past u)) ∷ []
 unfolding answers
 prepare_says members nodes fresh past u from b = refl
 
-accept_says : (members nodes : List ℕ) (fresh : Value) (past : Chronicle Value) (u from : ℕ) (b : Ballot) (v : Value) → answers (setting_of members nodes fresh) past u from (Accept b v) ≡ (from, Accepted b) ∷ []
+accept_says : (members nodes : List ℕ) (fresh : Value) (past : Chronicle Value) (u from : ℕ) (b : Ballot) (v : Value) → answers (ballot_setup members nodes fresh) past u from (Accept b v) ≡ (from, Accepted b) ∷ []
 unfolding answers
 accept_says members nodes fresh past u from b v = refl
 
@@ -235,7 +235,7 @@ decision_refusal : (past : Chronicle Value) (u from : ℕ) (v : Value) → refus
 unfolding refusal
 decision_refusal past u from v = refl
 
-decision_says : (members nodes : List ℕ) (fresh : Value) (past : Chronicle Value) (u from : ℕ) (v : Value) → answers (setting_of members nodes fresh) past u from (Decision v) ≡ []
+decision_says : (members nodes : List ℕ) (fresh : Value) (past : Chronicle Value) (u from : ℕ) (v : Value) → answers (ballot_setup members nodes fresh) past u from (Decision v) ≡ []
 unfolding answers
 decision_says members nodes fresh past u from v = refl
 

@@ -8,7 +8,7 @@ use Rattle.topology.specs.Lists.{has, ascending}
 use Rattle.topology.specs.Net.{Net, IsValid}
 use Rattle.topology.proofs.Ascending.{has-ascending, length-ascending}
 use Rattle.paxos_core.specs.Facts as paxos
-use Rattle.paxos_core.specs.Answers.{Refusal, refusal, setting_of, answers, to_each, next_ballot, received, opened}
+use Rattle.paxos_core.specs.Answers.{Refusal, refusal, ballot_setup, answers, to_each, next_ballot, received, opened}
 use Rattle.paxos_core.specs.Answers as paxos_answers
 use Rattle.incomplete_closure.specs.Reports.{Report}
 use Rattle.incomplete_closure.specs.Marking.{value_of}
@@ -53,7 +53,7 @@ either false x = refl
 
 -- what it sends when it heard the message
 abbrev said : Net → Chronicle → ℕ → ℕ → ℕ → paxos.Message Value → List (ℕ × paxos.Message Value)
-said net past u e from m = answers (setting_of (ascending net.consolidators) (ascending net.nodes) (value_of (reports_held u e past))) (agreement e past) u from m
+said net past u e from m = answers (ballot_setup (ascending net.consolidators) (ascending net.nodes) (value_of (reports_held u e past))) (agreement e past) u from m
 
 replies_of : (net : Net) (past : Chronicle) (u e from : ℕ) (m : paxos.Message Value) → replies net past u from (Agrees e m) ≡ of_epoch e (said net past u e from m)
 unfolding replies
@@ -71,7 +71,7 @@ reports_received : (net : Net) (past : Chronicle) (u e from : ℕ) (m : paxos.Me
 reports_received net past u e from m = reports_posted e u u (replies net past u from (Agrees e m)) (Heard u from (Agrees e m) ∷ past) ∙ either (u == u) (reports_held u e past)
 
 received_in : (net : Net) (new : Part) (past : Chronicle) (u e from : ℕ) (m : paxos.Message Value) (why : Option Refusal)
-    → part.StandsFor (length (ascending net.consolidators)) new (paxos_answers.received_as why (setting_of (ascending net.consolidators) (ascending net.nodes) (value_of (reports_held u e past))) (agreement e past) u from m) (reports_held u e past) u
+    → part.StandsFor (length (ascending net.consolidators)) new (paxos_answers.received_as why (ballot_setup (ascending net.consolidators) (ascending net.nodes) (value_of (reports_held u e past))) (agreement e past) u from m) (reports_held u e past) u
     → IsPart net new (received_as (reason_where why) net past u from (Agrees e m)) u e
 received_in net new past u e from m (Some why) h = h
 received_in net new past u e from m None h =
@@ -81,14 +81,14 @@ received_in net new past u e from m None h =
     (sym (reports_received net past u e from m)) h)
 
 said_is : (net : Net) (reply : Reply) (why : Option Reason) (past : Chronicle) (u e d from : ℕ) (m : paxos.Message Value) → e ≡ d
-    → Says reply why (of_epoch d (answers (setting_of (ascending net.consolidators) (ascending net.nodes) (value_of (reports_held u e past))) (agreement e past) u from m))
+    → Says reply why (of_epoch d (answers (ballot_setup (ascending net.consolidators) (ascending net.nodes) (value_of (reports_held u e past))) (agreement e past) u from m))
     → Says reply why (replies net past u from (Agrees e m))
 said_is net reply why past u e d from m same h =
     subst (λ ms. Says reply why ms) (sym (replies_of net past u e from m))
     (subst (λ x. Says reply why (of_epoch x (said net past u e from m))) (sym same) h)
 
 received_is : (members nodes : List ℕ) (v : Value) (past : paxos.Chronicle Value) (u from : ℕ) (m : paxos.Message Value)
-    → received (setting_of members nodes v) past u from m ≡ paxos_answers.received_as (refusal past u from m) (setting_of members nodes v) past u from m
+    → received (ballot_setup members nodes v) past u from m ≡ paxos_answers.received_as (refusal past u from m) (ballot_setup members nodes v) past u from m
 unfolding received
 received_is members nodes v past u from m = refl
 

@@ -12,7 +12,7 @@ use Rattle.paxos_core.specs.Decisions.{decision}
 use Rattle.paxos_core.specs.Accepting as accepting
 use Rattle.paxos_core.specs.Tallying as tallying
 use Rattle.paxos_core.specs.ProposerCalls.{forgotten}
-use Rattle.paxos_core.specs.Answers.{refusal, setting_of, answers, received, proposed, opened, next_ballot, to_each}
+use Rattle.paxos_core.specs.Answers.{refusal, ballot_setup, answers, received, proposed, opened, next_ballot, to_each}
 use Rattle.incomplete_closure.specs.Reports.{Report}
 use Rattle.incomplete_closure.specs.Marking.{value_of}
 use Rattle.incomplete_closure.specs.declared.values.Value.{Value}
@@ -80,9 +80,9 @@ pub record Hears (who : Addressees) (reply : Reply) (old new : Part) (before : E
     (d : Delivery (paxos.Message Value)) : Type 0 where
   pub answer : Says reply (reason_where (refusal before.past d.node d.from d.message))
       (of_epoch old.reports.epoch
-      (answers (setting_of who.members who.nodes (value_of before.reports)) before.past d.node d.from d.message))
+      (answers (ballot_setup who.members who.nodes (value_of before.reports)) before.past d.node d.from d.message))
   pub stands : StandsFor (length who.members) new
-      (received (setting_of who.members who.nodes (value_of before.reports)) before.past d.node d.from d.message)
+      (received (ballot_setup who.members who.nodes (value_of before.reports)) before.past d.node d.from d.message)
       before.reports d.node
 
 -- the reports after one more that came, where a decision is known, or one of its node is held, or neither

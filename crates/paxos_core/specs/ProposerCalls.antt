@@ -10,7 +10,7 @@ use Rattle.topology.specs.Ballots.{same_ballot}
 use Rattle.paxos_core.specs.Facts.{Pair, Heard, Message, Promise, Accept, Accepted, Decision, Delivery, delivery, Chronicle}
 use Rattle.paxos_core.specs.Readings.{Proposed}
 use Rattle.paxos_core.specs.Rules.{higher, MaySend}
-use Rattle.paxos_core.specs.Answers.{Refusal, Duplicate as refused_twice, StaleBallot, refusal, just_majority, to_each, or_fresh, announce, proposed, setting_of, answers}
+use Rattle.paxos_core.specs.Answers.{Refusal, Duplicate as refused_twice, StaleBallot, refusal, just_majority, to_each, or_fresh, announce, proposed, ballot_setup, answers}
 use Rattle.paxos_core.specs.Tallying.{Tallying, StandsFor}
 
 -- nothing is prepared, gathered or counted
@@ -94,7 +94,7 @@ pub record Takes {V : Type 0} (members : ℕ) (new : Tallying V) (past : Chronic
   pub heard : refusal past d.node d.from d.message ≡ None
   pub stands : StandsFor members new (Heard d.node d.from d.message ∷ past) d.node
   pub sends : (ms nodes : List ℕ) (fresh : V) → length ms ≡ members →
-      answers (setting_of ms nodes fresh) past d.node d.from d.message ≡ sent ms nodes fresh
+      answers (ballot_setup ms nodes fresh) past d.node d.from d.message ≡ sent ms nodes fresh
 
 -- the message that comes is refused for this reason, and nothing changes
 pub record Refuses {V : Type 0} (old new : Tallying V) (past : Chronicle V)

@@ -7,7 +7,7 @@ ghost use Rattle.paxos_core.specs.Facts.{Chronicle, Fact, Message, Heard, Mail, 
 ghost use Rattle.paxos_core.specs.Readings.{Has};
 ghost use Rattle.paxos_core.specs.Rules.{MayHear, Obeys};
 ghost use Rattle.paxos_core.specs.Chosen.{Chosen};
-ghost use Rattle.paxos_core.specs.Answers.{refusal, setting_of, received, opened, proposed, posted, to_each};
+ghost use Rattle.paxos_core.specs.Answers.{refusal, ballot_setup, received, opened, proposed, posted, to_each};
 ghost use Rattle.paxos_core.specs.Accepting.{Accepting, StandsFor, Unread};
 ghost use Rattle.paxos_core.specs.Tallying.{Tallying};
 ghost use Rattle.paxos_core.specs.Tallying.{Leaves, StandsFor as StandsTally, Unread as UnreadTally};
@@ -46,7 +46,7 @@ pub fn starts_follow<V>()
 pub fn answers_follow<V>()
     ensures { (members nodes : List ℕ) (fresh : V) (past : Chronicle V) (u from : ℕ)
         (m : Message V) → Obeys members past → Has past (Mail from u m) →
-        Obeys members (received (setting_of members nodes fresh) past u from m) }
+        Obeys members (received (ballot_setup members nodes fresh) past u from m) }
 {}
 
 /// A fact that an acceptor does not read leaves it as it is; it reads nothing that is sent.

@@ -5,7 +5,7 @@ use Rattle.paxos_core.specs.Facts.{Chronicle, Prepare, Promise, Accept, Heard, M
 use Rattle.paxos_core.specs.Readings.{Has}
 use Rattle.paxos_core.specs.Rules.{Obeys}
 use Rattle.paxos_core.specs.Chosen.{Differ}
-use Rattle.paxos_core.specs.Answers.{opened, setting_of, received, refusal, answers}
+use Rattle.paxos_core.specs.Answers.{opened, ballot_setup, received, refusal, answers}
 use Rattle.paxos_core.proofs.Following.{opened_obeys, received_obeys}
 use Rattle.paxos_core.proofs.laws.some_choice.Goals as goal
 
@@ -17,7 +17,7 @@ members = 1 ∷ 2 ∷ 3 ∷ []
 
 -- what the chronicle is after this message was received, with v as the fresh value
 abbrev after : ℕ → Chronicle ℕ → ℕ → ℕ → Message ℕ → Chronicle ℕ
-after v past u from m = received (setting_of members members v) past u from m
+after v past u from m = received (ballot_setup members members v) past u from m
 
 -- node 1 prepares its ballot; 1 and 3 promise it; 1 proposes, and 1 and 3 accept
 abbrev asked : Chronicle ℕ
