@@ -18,7 +18,7 @@ use Rattle.paxos_core.specs.Decisions.{decision}
 use Rattle.paxos_core.specs.Rules.{round_of, higher}
 use Rattle.paxos_core.specs.Accepting.{Accepting}
 use Rattle.paxos_core.specs.Accepting as accepting
-use Rattle.paxos_core.specs.AcceptorCalls.{AnswersPrepare, AnswersAccept, GoesOn}
+use Rattle.paxos_core.specs.AcceptorCalls.{AnswersPrepare, AnswersAccept, AcceptorAfter}
 use Rattle.paxos_core.specs.Tallying.{Tallying, Leaves}
 use Rattle.paxos_core.specs.Tallying as tallying
 use Rattle.paxos_core.specs.ProposerCalls.{IsPreparing, prepares, gathers, tally_of, promise_tally, vote_tally, after_promise, after_vote, promise_delivery, vote_delivery, SaysPromise, SaysVote}
@@ -83,7 +83,7 @@ pub promises : (members nodes : List ℕ) (mails : List TheMail) (old : Part) (a
 promises members nodes mails old a past reports u from b says sent h =
     let out : List (ℕ × Message Value) = (from, Promise b (accepted past u)) ∷ [] in
     let made : Option (Pair Value) → List (ℕ × mail.Message) = λ named. (from, Agrees old.reports.epoch (Promise b named)) ∷ [] in
-    let takes : accepting.StandsFor a (Heard u from (Prepare b) ∷ past) u = subst (λ w. GoesOn w old.acceptor a past u (Heard u from (Prepare b))) says.answer says.state in
+    let takes : accepting.StandsFor a (Heard u from (Prepare b) ∷ past) u = subst (λ w. AcceptorAfter w old.acceptor a past u (Heard u from (Prepare b))) says.answer says.state in
     is_heard members nodes mails old (record old { acceptor = a }) past reports u from (Prepare b) out says.answer (prepare_says members nodes (value_of reports) past u from b)
     (sent ∙ ap made h.acceptor.accepted)
     (answered (length members) old a past reports u from (Prepare b) out (λ d. refl) tt (tt, tt) takes h)
@@ -104,7 +104,7 @@ pub accepts : (members nodes : List ℕ) (mails : List TheMail) (old : Part) (a 
     → StandsFor (length members) old past reports u → Hears (addressees members nodes) (told.Sent mails) old (record old { acceptor = a }) (epoch_past past reports) (delivery u from (Accept b v))
 accepts members nodes mails old a past reports u from b v says sent h =
     let out : List (ℕ × Message Value) = (from, Accepted b) ∷ [] in
-    let takes : accepting.StandsFor a (Heard u from (Accept b v) ∷ past) u = subst (λ w. GoesOn w old.acceptor a past u (Heard u from (Accept b v))) says.answer says.state in
+    let takes : accepting.StandsFor a (Heard u from (Accept b v) ∷ past) u = subst (λ w. AcceptorAfter w old.acceptor a past u (Heard u from (Accept b v))) says.answer says.state in
     is_heard members nodes mails old (record old { acceptor = a }) past reports u from (Accept b v) out says.answer (accept_says members nodes (value_of reports) past u from b v) sent
     (answered (length members) old a past reports u from (Accept b v) out (λ d. refl) tt (tt, tt) takes h)
 
@@ -116,14 +116,14 @@ pub prepare_refused : (members nodes : List ℕ) (old : Part) (a : Accepting Val
     → AnswersPrepare (prepared.Refused c) old.acceptor a past (delivery u from (Prepare b))
     → StandsFor (length members) old past reports u → Hears (addressees members nodes) (told.Idle (reason.Promised c)) old (record old { acceptor = a }) (epoch_past past reports) (delivery u from (Prepare b))
 prepare_refused members nodes old a past reports u from b c says h =
-    let same : a ≡ old.acceptor = subst (λ w. GoesOn w old.acceptor a past u (Heard u from (Prepare b))) says.answer says.state in
+    let same : a ≡ old.acceptor = subst (λ w. AcceptorAfter w old.acceptor a past u (Heard u from (Prepare b))) says.answer says.state in
     is_refused members nodes old (record old { acceptor = a }) past reports u from (Prepare b) (Promised c) says.answer (keeps_acceptor (length members) old a past reports u same h)
 
 pub accept_refused : (members nodes : List ℕ) (old : Part) (a : Accepting Value) (past : Chronicle Value) (reports : List Report) (u from : ℕ) (b : Ballot) (v : Value) (why : Refusal)
-    → refusal past u from (Accept b v) ≡ Some why → GoesOn (refusal past u from (Accept b v)) old.acceptor a past u (Heard u from (Accept b v))
+    → refusal past u from (Accept b v) ≡ Some why → AcceptorAfter (refusal past u from (Accept b v)) old.acceptor a past u (Heard u from (Accept b v))
     → StandsFor (length members) old past reports u → Hears (addressees members nodes) (told.Idle (reason_of why)) old (record old { acceptor = a }) (epoch_past past reports) (delivery u from (Accept b v))
 accept_refused members nodes old a past reports u from b v why refused state h =
-    let same : a ≡ old.acceptor = subst (λ w. GoesOn w old.acceptor a past u (Heard u from (Accept b v))) refused state in
+    let same : a ≡ old.acceptor = subst (λ w. AcceptorAfter w old.acceptor a past u (Heard u from (Accept b v))) refused state in
     is_refused members nodes old (record old { acceptor = a }) past reports u from (Accept b v) why refused (keeps_acceptor (length members) old a past reports u same h)
 
 -- ---- the proposer

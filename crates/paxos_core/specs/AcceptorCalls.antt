@@ -22,23 +22,23 @@ SaysTook took.Again why = why ≡ Some Duplicate
 
 -- after a message that is taken the acceptor stands for one more fact, after one that is refused it
 -- is as it was
-abbrev pub GoesOn : {V : Type 0} → Option Refusal → (old new : Accepting V) → Chronicle V → ℕ →
+abbrev pub AcceptorAfter : {V : Type 0} → Option Refusal → (old new : Accepting V) → Chronicle V → ℕ →
     Fact V → Type 0
-GoesOn None old new past u f = StandsFor new (f ∷ past) u
-GoesOn (Some why) old new past u f = new ≡ old
+AcceptorAfter None old new past u f = StandsFor new (f ∷ past) u
+AcceptorAfter (Some why) old new past u f = new ≡ old
 
 -- a node's acceptor answers a Prepare that comes to the node as it must, and goes on
 pub record AnswersPrepare {V : Type 0} (said : Prepared) (old new : Accepting V)
     (past : Chronicle V) (d : Delivery (Message V)) : Type 0 where
   pub answer : SaysPrepared said (refusal past d.node d.from d.message)
-  pub state : GoesOn (refusal past d.node d.from d.message) old new past d.node
+  pub state : AcceptorAfter (refusal past d.node d.from d.message) old new past d.node
       (Heard d.node d.from d.message)
 
 -- a node's acceptor answers an Accept that comes to the node as it must, and goes on
 pub record AnswersAccept {V : Type 0} (said : Took) (old new : Accepting V)
     (past : Chronicle V) (d : Delivery (Message V)) : Type 0 where
   pub answer : SaysTook said (refusal past d.node d.from d.message)
-  pub state : GoesOn (refusal past d.node d.from d.message) old new past d.node
+  pub state : AcceptorAfter (refusal past d.node d.from d.message) old new past d.node
       (Heard d.node d.from d.message)
 
 -- what is kept: as before where the message is refused, else the new one
