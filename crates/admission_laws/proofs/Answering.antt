@@ -43,7 +43,7 @@ use Rattle.node_core.specs.declared.limits.TheConstants.{MOST_EPOCHS, MOST_PREFE
 use Rattle.admission_laws.proofs.Facts.{cause_fits, AllFacts}
 use Rattle.admission_laws.proofs.Bounds.{below_from, most_is, most_from, Within, Reportable, within_before}
 use Rattle.admission_laws.proofs.Sessions.{held_number, neighbour_is}
-use Rattle.admission_laws.proofs.Packets.{parts_of, stamped_fits, moved_fits, turned_fits, GoesOn, hop_goes}
+use Rattle.admission_laws.proofs.Packets.{parts_of, stamped_fits, moved_fits, turned_fits, MoveFits, hop_goes}
 use Rattle.admission_laws.proofs.Logs.{log_fits, newest_epoch_low, newest_path_carried, newest_backups_carried}
 use Rattle.admission_laws.proofs.Replying.{one_more}
 use Rattle.admission_laws.proofs.Entries.{local_is, write_fits, open_fits, raise_fits}
@@ -264,7 +264,7 @@ module _ (rules : Rules) (net : Net) (u : ℕ) (valid : IsValid net) (own : has 
       stable_fits (Some path) = along_fits path
 
       -- it goes off the tables
-      off_fits : (h : Hop) → GoesOn net up h → AllFacts net u (off_tables past packet h)
+      off_fits : (h : Hop) → MoveFits net up h → AllFacts net u (off_tables past packet h)
       off_fits (transient.Next w moved) goes = visit_fits w moved (up_node w goes.0) goes.1
       off_fits (Ended ending) goes = one_more net u (End packet.id ending) past few_packets all
 

@@ -229,9 +229,9 @@ turned_fits net packet u valid fits =
 -- ---- off the tables
 
 -- a packet that goes on goes over a link that is up, and fits
-abbrev pub GoesOn : Net → List ℕ → Hop → Type 0
-GoesOn net up (Next w moved) = (has up w ≡ true) × (packet_fits net moved ≡ true)
-GoesOn net up (Ended end) = Unit {0}
+abbrev pub MoveFits : Net → List ℕ → Hop → Type 0
+MoveFits net up (Next w moved) = (has up w ≡ true) × (packet_fits net moved ≡ true)
+MoveFits net up (Ended end) = Unit {0}
 
 module _ (net : Net) (valid : IsValid net) (view : Sight) (own : has net.nodes view.at ≡ true) where
   -- the node that is given is one whose link is up
@@ -260,22 +260,22 @@ module _ (net : Net) (valid : IsValid net) (view : Sight) (own : has net.nodes v
         })
 
     -- back along the trail
-    back_goes : (to : Option ℕ) → IsUp to → GoesOn net view.up (back net packet to)
+    back_goes : (to : Option ℕ) → IsUp to → MoveFits net view.up (back net packet to)
     unfolding IsUp
     back_goes None up = tt
     back_goes (Some w) up = (up, spent_fits w (but_last packet.trail) packet.route (but_last_carried net packet.trail parts.way_back) parts.way_on)
 
     -- along a route that can be carried
-    follow_goes : (route : List ℕ) → carried_fits net route ≡ true → GoesOn net view.up (follow net packet view route)
+    follow_goes : (route : List ℕ) → carried_fits net route ≡ true → MoveFits net view.up (follow net packet view route)
     follow_goes [] fits = tt
     follow_goes (w ∷ rest) fits =
-        (elim (has view.up w) as (λ t. has view.up w ≡ t → GoesOn net view.up (along net packet (w ∷ rest) (cond t (Some w) None))) [
+        (elim (has view.up w) as (λ t. has view.up w ≡ t → MoveFits net view.up (along net packet (w ∷ rest) (cond t (Some w) None))) [
           | true ↦ λ e. (e, spent_fits w packet.trail rest parts.way_back (rest_carried net w rest fits))
           | false ↦ λ e. tt
         ]) refl
 
     -- forward, where one was found
-    forward_goes : (to : Option ℕ) → find (is_new net packet.visited view.up) view.order ≡ to → length packet.trail < 64 → GoesOn net view.up (deflect_by net packet view to)
+    forward_goes : (to : Option ℕ) → find (is_new net packet.visited view.up) view.order ≡ to → length packet.trail < 64 → MoveFits net view.up (deflect_by net packet view to)
     forward_goes None is room = back_goes (if_up view (last_of packet.trail)) (up_given (last_of packet.trail))
     forward_goes (Some w) is room =
         let new = (found (is_new net packet.visited view.up) view.order w is).1 in (
@@ -284,17 +284,17 @@ module _ (net : Net) (valid : IsValid net) (view : Sight) (own : has net.nodes v
         )
 
     -- a deflection
-    deflected_goes : GoesOn net view.up (deflected net packet view)
+    deflected_goes : MoveFits net view.up (deflected net packet view)
     unfolding deflected
     deflected_goes =
         (elim (nat_lt (length packet.trail) 64) as (λ t. nat_lt (length packet.trail) 64 ≡ t
-        → GoesOn net view.up (deflect_by net packet view (cond t (find (is_new net packet.visited view.up) view.order) None))) [
+        → MoveFits net view.up (deflect_by net packet view (cond t (find (is_new net packet.visited view.up) view.order) None))) [
           | true ↦ λ e. forward_goes (find (is_new net packet.visited view.up) view.order) refl (below_from (length packet.trail) 64 e)
           | false ↦ λ e. back_goes (if_up view (last_of packet.trail)) (up_given (last_of packet.trail))
         ]) refl
 
     -- along a backup, where one qualifies
-    backup_goes : (path : Option (List ℕ)) → IfSome path (λ l. carried_fits net l ≡ true) → GoesOn net view.up (take_backup net packet view path)
+    backup_goes : (path : Option (List ℕ)) → IfSome path (λ l. carried_fits net l ≡ true) → MoveFits net view.up (take_backup net packet view path)
     backup_goes None fits = tt
     backup_goes (Some path) fits = follow_goes (after_first path) (after_carried net path fits)
 
@@ -305,24 +305,24 @@ module _ (net : Net) (valid : IsValid net) (view : Sight) (own : has net.nodes v
       found_fits (Some path) is = one_of (carried_fits net) view.backups path kept (found (qualifies net packet.visited view.up) view.backups path is).0
 
       -- along the first that qualifies
-      new_goes : GoesOn net view.up (new_backup net packet view)
+      new_goes : MoveFits net view.up (new_backup net packet view)
       new_goes = let path = backup_for net view.backups packet.visited view.up in backup_goes path (found_fits path refl)
 
       -- along the route, or along one
-      by_route : (route : List ℕ) → packet.route ≡ route → GoesOn net view.up (backup_by net packet view (next_up view route))
+      by_route : (route : List ℕ) → packet.route ≡ route → MoveFits net view.up (backup_by net packet view (next_up view route))
       by_route [] is = new_goes
       by_route (w ∷ rest) is =
-          (elim (has view.up w) as (λ t. has view.up w ≡ t → GoesOn net view.up (backup_by net packet view (cond t (Some w) None))) [
+          (elim (has view.up w) as (λ t. has view.up w ≡ t → MoveFits net view.up (backup_by net packet view (cond t (Some w) None))) [
             | true ↦ λ e. (e, spent_fits w packet.trail (after_first packet.route) parts.way_back (after_carried net packet.route parts.way_on))
             | false ↦ λ e. new_goes
           ]) refl
 
   -- a detour
-  detour_goes : (packet : Packet) (n : ℕ) → Parts net packet → IfSome view.stable (λ l. carried_fits net l ≡ true) → GoesOn net view.up (detoured net n packet view)
+  detour_goes : (packet : Packet) (n : ℕ) → Parts net packet → IfSome view.stable (λ l. carried_fits net l ≡ true) → MoveFits net view.up (detoured net n packet view)
   detour_goes packet n parts path =
-      elim packet.reached as (λ a. GoesOn net view.up (cond a (follow net packet view packet.route) (cond (view.at == n) (set_out net packet view) (deflected net packet view)))) [
+      elim packet.reached as (λ a. MoveFits net view.up (cond a (follow net packet view packet.route) (cond (view.at == n) (set_out net packet view) (deflected net packet view)))) [
         | true ↦ follow_goes packet parts packet.route parts.way_on
-        | false ↦ elim (view.at == n) as (λ b. GoesOn net view.up (cond b (set_out net packet view) (deflected net packet view))) [
+        | false ↦ elim (view.at == n) as (λ b. MoveFits net view.up (cond b (set_out net packet view) (deflected net packet view))) [
           | true ↦ follow_goes (record packet { reached = true }) (record {
             number = parts.number;
             placed = parts.placed;
@@ -343,17 +343,17 @@ module _ (net : Net) (valid : IsValid net) (view : Sight) (own : has net.nodes v
 
   module _ (packet : Packet) (fits : packet_fits net packet ≡ true) (path : IfSome view.stable (λ l. carried_fits net l ≡ true)) (kept : list_all (carried_fits net) view.backups ≡ true) where
     -- as each scheme says
-    scheme_goes : (s : Scheme) → GoesOn net view.up (by_scheme s net packet view)
+    scheme_goes : (s : Scheme) → MoveFits net view.up (by_scheme s net packet view)
     scheme_goes scheme.Deflect = deflected_goes packet (parts_of net packet fits)
     scheme_goes (scheme.Detour n) = detour_goes packet n (parts_of net packet fits) path
     scheme_goes scheme.Backup = by_route packet (parts_of net packet fits) kept packet.route refl
 
     -- a hop off the tables
-    pub hop_goes : (s : Scheme) → GoesOn net view.up (hop_under s net packet view)
+    pub hop_goes : (s : Scheme) → MoveFits net view.up (hop_under s net packet view)
     unfolding hop_under
     hop_goes s = ended (end_at packet view)
       where
         -- where the walk ends here, or goes on
-        ended : (o : Option Ending) → GoesOn net view.up (unless_ended o (by_scheme s net packet view))
+        ended : (o : Option Ending) → MoveFits net view.up (unless_ended o (by_scheme s net packet view))
         ended None = scheme_goes s
         ended (Some end) = tt
