@@ -26,7 +26,7 @@ use Rattle.leadership.specs.Sites.{IsSite, nodes_of}
 use Rattle.leadership.proofs.Knowing.{addressee_known}
 use Rattle.leadership.proofs.Rounding.{run_few}
 use Rattle.leadership.proofs.Sited.{round_is}
-use Rattle.leadership.specs.Network.{AreSites, AreToMembers, HaveRounds, Stands, ComesTo, GoesOn, StopsBy}
+use Rattle.leadership.specs.Network.{AreSites, AreToMembers, HaveRounds, Stands, ComesTo, HappensIn, StopsBy}
 use Rattle.leadership.specs.Run.{Step, Idle, Goes, at_place, mailed, step, chronicle_of, after, run}
 
 -- the run of one event more
@@ -60,7 +60,7 @@ all_more test (x ∷ xs) y h k = and_both (test x) (list_all test (xs ++ y ∷ [
 
 pub step_holds : (old new : Network) (before now : BTreeSet ℕ) (events : List LeadEvent) (event : LeadEvent) (why : Option LeadReason) → Holds old before events → fits old.members.items event ≡ true
     → ((k : ℕ) → contains nat_cmp now k ≡ ((delivers k event && (nat_lt 0 k && nat_le k (length old.mails))) || contains nat_cmp before k))
-    → new.members.items ≡ old.members.items → (length old.mails ≤ MOST_CONTROL → length new.mails ≤ MOST_CONTROL) → GoesOn event old new why
+    → new.members.items ≡ old.members.items → (length old.mails ≤ MOST_CONTROL → length new.mails ≤ MOST_CONTROL) → HappensIn event old new why
     → Holds new now (events ++ event ∷ []) × (why ≡ reason_of (step old.members.items (run old.members.items events) event))
 step_holds old new before now events event why h fit marked members few goes =
     let past = run old.members.items events in

@@ -31,8 +31,8 @@ ComesTo (Idle reason) past why net = (why ≡ Some reason) × Stands past net
 ComesTo (Goes now) past why net = (why ≡ None) × Stands now net
 
 -- the network goes on as the event does
-abbrev pub GoesOn : LeadEvent → (old new : Network) → Option LeadReason → Type 0
-GoesOn event old new why = (past : Chronicle) → Stands past old → ComesTo (step old.members.items past event) past why new
+abbrev pub HappensIn : LeadEvent → (old new : Network) → Option LeadReason → Type 0
+HappensIn event old new why = (past : Chronicle) → Stands past old → ComesTo (step old.members.items past event) past why new
 
 -- it stops where there was no memory, or where the event sends too many messages
 abbrev pub StopsBy : LeadEvent → Network → LeadStop → Type 0

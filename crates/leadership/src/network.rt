@@ -8,7 +8,7 @@ ghost use Rattle.leadership.specs.Facts.{Chronicle};
 ghost use Rattle.leadership.specs.Sites.{IsAt, nodes_of};
 ghost use Rattle.leadership.specs.declared.bounds.TheConstants.{MOST_CONTROL};
 ghost use Rattle.leadership.specs.Fits.{fits};
-ghost use Rattle.leadership.specs.Network.{AreToMembers, HaveRounds, Stands, GoesOn, StopsBy, Hears, HearStops};
+ghost use Rattle.leadership.specs.Network.{AreToMembers, HaveRounds, Stands, HappensIn, StopsBy, Hears, HearStops};
 
 use crate::events::LeadEvent;
 use crate::mail_list::MailList;
@@ -91,7 +91,7 @@ impl Network {
         requires member { has (nodes_of self.old.sites.items) node ≡ true }
         requires rounds { HaveRounds self.old }
         ensures members { OnOk result (self.new.members.items ≡ self.old.members.items) }
-        ensures goes_on { IfOk result (GoesOn (event.Lead node epoch) self.old self.new) }
+        ensures goes_on { IfOk result (HappensIn (event.Lead node epoch) self.old self.new) }
         ensures few { OnOk result (length self.old.mails ≤ MOST_CONTROL → length self.new.mails ≤ MOST_CONTROL) }
         ensures stopped { IfErr result (StopsBy (event.Lead node epoch) self.old) }
     {
@@ -121,7 +121,7 @@ impl Network {
     ) -> Result<Option<LeadReason>, LeadStop>
         requires member { has (nodes_of self.old.sites.items) node ≡ true }
         ensures members { OnOk result (self.new.members.items ≡ self.old.members.items) }
-        ensures goes_on { IfOk result (GoesOn (event.Offer node epoch value) self.old self.new) }
+        ensures goes_on { IfOk result (HappensIn (event.Offer node epoch value) self.old self.new) }
         ensures few { OnOk result (length self.old.mails ≤ MOST_CONTROL → length self.new.mails ≤ MOST_CONTROL) }
         ensures stopped { IfErr result (StopsBy (event.Offer node epoch value) self.old) }
     {
@@ -153,7 +153,7 @@ impl Network {
     pub(crate) fn crash(&mut self, node: NodeId) -> Result<Option<LeadReason>, LeadStop>
         requires member { has (nodes_of self.old.sites.items) node ≡ true }
         ensures members { OnOk result (self.new.members.items ≡ self.old.members.items) }
-        ensures goes_on { IfOk result (GoesOn (event.Crash node) self.old self.new) }
+        ensures goes_on { IfOk result (HappensIn (event.Crash node) self.old self.new) }
         ensures few { OnOk result (length self.old.mails ≤ MOST_CONTROL → length self.new.mails ≤ MOST_CONTROL) }
         ensures stopped { IfErr result (StopsBy (event.Crash node) self.old) }
     {
@@ -169,7 +169,7 @@ impl Network {
     pub(crate) fn restart(&mut self, node: NodeId) -> Result<Option<LeadReason>, LeadStop>
         requires member { has (nodes_of self.old.sites.items) node ≡ true }
         ensures members { OnOk result (self.new.members.items ≡ self.old.members.items) }
-        ensures goes_on { IfOk result (GoesOn (event.Restart node) self.old self.new) }
+        ensures goes_on { IfOk result (HappensIn (event.Restart node) self.old self.new) }
         ensures few { OnOk result (length self.old.mails ≤ MOST_CONTROL → length self.new.mails ≤ MOST_CONTROL) }
         ensures stopped { IfErr result (StopsBy (event.Restart node) self.old) }
     {
@@ -185,7 +185,7 @@ impl Network {
     pub(crate) fn deliver(&mut self, number: u32) -> Result<Option<LeadReason>, LeadStop>
         requires addressees { AreToMembers self.old }
         ensures members { OnOk result (self.new.members.items ≡ self.old.members.items) }
-        ensures goes_on { IfOk result (GoesOn (event.Control number) self.old self.new) }
+        ensures goes_on { IfOk result (HappensIn (event.Control number) self.old self.new) }
         ensures few { OnOk result (length self.old.mails ≤ MOST_CONTROL → length self.new.mails ≤ MOST_CONTROL) }
         ensures stopped { IfErr result (StopsBy (event.Control number) self.old) }
     {
@@ -216,7 +216,7 @@ impl Network {
         requires addressees { AreToMembers self.old }
         requires rounds { HaveRounds self.old }
         ensures members { OnOk result (self.new.members.items ≡ self.old.members.items) }
-        ensures goes_on { IfOk result (GoesOn event.now self.old self.new) }
+        ensures goes_on { IfOk result (HappensIn event.now self.old self.new) }
         ensures few { OnOk result (length self.old.mails ≤ MOST_CONTROL → length self.new.mails ≤ MOST_CONTROL) }
         ensures stopped { IfErr result (StopsBy event.now self.old) }
     {
