@@ -1,7 +1,7 @@
 //! Backups: along the first path of the newest table, by rank, that leads over no node that was visited.
 ghost use Rattle.std.specs.Prelude.{◌≡◌, IfOk, OnErr};
 ghost use Rattle.topology.specs.declared.names.Scheme.TheVariants as scheme;
-ghost use Rattle.transient_mode.specs.TransientHops.{answered, GoesOn, new_backup, by_backup};
+ghost use Rattle.transient_mode.specs.TransientHops.{answered, IsMove, new_backup, by_backup};
 ghost use Rattle.transient_mode.specs.TransientHops.{hop_under};
 
 use crate::moves::end_at;
@@ -19,7 +19,7 @@ fn new_backup(
 ) -> Result<(Packet, Move), NoMemory>
     ensures hop { IfOk result (λ pair.
         pair ≡ answered packet (new_backup topology.now packet view.now)) }
-    ensures memory { OnErr result (GoesOn (new_backup topology.now packet view.now)) }
+    ensures memory { OnErr result (IsMove (new_backup topology.now packet view.now)) }
 {
     match backup_for(topology, view.backups, packet.visited, view.up) {
         Some(path) => start(topology, packet, view, after_first(path.nodes())),
@@ -36,7 +36,7 @@ fn by_backup(
 ) -> Result<(Packet, Move), NoMemory>
     ensures hop { IfOk result (λ pair.
         pair ≡ answered packet (by_backup topology.now packet view.now)) }
-    ensures memory { OnErr result (GoesOn (by_backup topology.now packet view.now)) }
+    ensures memory { OnErr result (IsMove (by_backup topology.now packet view.now)) }
 {
     match next_up(view, packet.route.as_slice()) {
         Some(next) => Ok(along(topology, packet, next)),
@@ -54,7 +54,7 @@ pub(crate) fn backup(
     ensures hop { IfOk result (λ pair.
         pair ≡ answered packet (hop_under scheme.Backup topology.now packet view.entry)) }
     ensures memory { OnErr result
-        (GoesOn (hop_under scheme.Backup topology.now packet view.entry)) }
+        (IsMove (hop_under scheme.Backup topology.now packet view.entry)) }
 {
     match end_at(&packet, &view) {
         Some(end) => Ok((packet, Move::Ended(end))),

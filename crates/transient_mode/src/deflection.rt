@@ -2,7 +2,7 @@
 ghost use Rattle.std.specs.Prelude.{◌≡◌, find, option_copied, IfOk, OnErr};
 ghost use Rattle.topology.specs.declared.names.Scheme.TheVariants as scheme;
 ghost use Rattle.epoch_packet.specs.NodeLists.{last_of};
-ghost use Rattle.transient_mode.specs.TransientHops.{answered, GoesOn, is_new, forward, if_up};
+ghost use Rattle.transient_mode.specs.TransientHops.{answered, IsMove, is_new, forward, if_up};
 ghost use Rattle.transient_mode.specs.Sights.{Sight};
 ghost use Rattle.transient_mode.specs.TransientHops.{back, deflected, hop_under};
 ghost use Rattle.transient_mode.specs.TransientHops.{asks_for_order};
@@ -88,7 +88,7 @@ pub(crate) fn deflected(
 ) -> Result<(Packet, Move), NoMemory>
     ensures hop { IfOk result (λ pair.
         pair ≡ answered packet (deflected topology.now packet view.now)) }
-    ensures memory { OnErr result (GoesOn (deflected topology.now packet view.now)) }
+    ensures memory { OnErr result (IsMove (deflected topology.now packet view.now)) }
 {
     match forward(topology, &packet, view) {
         Some(node) => {
@@ -114,7 +114,7 @@ pub fn deflect(
     ensures hop { IfOk result (λ pair.
         pair ≡ answered packet (hop_under scheme.Deflect topology.now packet view.entry)) }
     ensures memory { OnErr result
-        (GoesOn (hop_under scheme.Deflect topology.now packet view.entry)) }
+        (IsMove (hop_under scheme.Deflect topology.now packet view.entry)) }
 {
     match end_at(&packet, &view) {
         Some(end) => Ok((packet, Move::Ended(end))),

@@ -1,7 +1,7 @@
 //! Detours: as a deflection up to a node, then along the path that this node published.
 ghost use Rattle.std.specs.Prelude.{◌≡◌, true, IfOk, OnErr, option_copied};
 ghost use Rattle.topology.specs.declared.names.Scheme.TheVariants as scheme;
-ghost use Rattle.transient_mode.specs.TransientHops.{answered, GoesOn, route_of, set_out, detoured};
+ghost use Rattle.transient_mode.specs.TransientHops.{answered, IsMove, route_of, set_out, detoured};
 ghost use Rattle.transient_mode.specs.TransientHops.{hop_under, transient_hop, IsDetour};
 
 use crate::deflection::deflected;
@@ -25,7 +25,7 @@ fn route_of<'a>(path: Option<&'a [NodeId]>) -> &'a [NodeId]
 fn set_out(topology: &Topology, packet: Packet, view: &View<'_>) -> Result<(Packet, Move), NoMemory>
     ensures hop { IfOk result (λ pair.
         pair ≡ answered packet (set_out topology.now packet view.now)) }
-    ensures memory { OnErr result (GoesOn (set_out topology.now packet view.now)) }
+    ensures memory { OnErr result (IsMove (set_out topology.now packet view.now)) }
 {
     let (moved, to) = start(topology, packet, view, route_of(view.stable))?;
     match to {
@@ -49,7 +49,7 @@ fn detoured(
 ) -> Result<(Packet, Move), NoMemory>
     ensures hop { IfOk result (λ pair.
         pair ≡ answered packet (detoured topology.now node packet view.now)) }
-    ensures memory { OnErr result (GoesOn (detoured topology.now node packet view.now)) }
+    ensures memory { OnErr result (IsMove (detoured topology.now node packet view.now)) }
 {
     if packet.reached {
         return Ok(follow(topology, packet, view));
@@ -71,7 +71,7 @@ fn detour_by(
     ensures hop { IfOk result (λ pair.
         pair ≡ answered packet (hop_under (scheme.Detour node) topology.now packet view.entry)) }
     ensures memory { OnErr result
-        (GoesOn (hop_under (scheme.Detour node) topology.now packet view.entry)) }
+        (IsMove (hop_under (scheme.Detour node) topology.now packet view.entry)) }
 {
     match end_at(&packet, &view) {
         Some(end) => Ok((packet, Move::Ended(end))),
@@ -93,7 +93,7 @@ pub fn detour(
     requires { IsDetour topology.now.scheme }
     ensures hop { IfOk result (λ pair.
         pair ≡ answered packet (transient_hop topology.now packet view.entry)) }
-    ensures memory { OnErr result (GoesOn (transient_hop topology.now packet view.entry)) }
+    ensures memory { OnErr result (IsMove (transient_hop topology.now packet view.entry)) }
 {
     match topology.scheme() {
         Scheme::Detour(node) => detour_by(topology, node, packet, view),

@@ -1,6 +1,6 @@
 //! A hop under the scheme of the network.
 ghost use Rattle.std.specs.Prelude.{◌≡◌, IfOk, OnErr};
-ghost use Rattle.transient_mode.specs.TransientHops.{answered, GoesOn, transient_hop};
+ghost use Rattle.transient_mode.specs.TransientHops.{answered, IsMove, transient_hop};
 
 use crate::backups::backup;
 use crate::{Move, View, deflect, detour};
@@ -21,7 +21,7 @@ pub fn transient_hop(
 ) -> Result<(Packet, Move), NoMemory>
     ensures hop { IfOk result (λ pair.
         pair ≡ answered packet (transient_hop topology.now packet view.entry)) }
-    ensures memory { OnErr result (GoesOn (transient_hop topology.now packet view.entry)) }
+    ensures memory { OnErr result (IsMove (transient_hop topology.now packet view.entry)) }
 {
     match topology.scheme() {
         Scheme::Deflect => deflect(topology, packet, view),

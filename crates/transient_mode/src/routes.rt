@@ -1,7 +1,7 @@
 //! Along a route: the nodes that are still to come, one after the other.
 ghost use Rattle.std.specs.Prelude.{◌≡◌, IfOk, OnErr, Some};
 ghost use Rattle.epoch_packet.specs.NodeLists.{after_first};
-ghost use Rattle.transient_mode.specs.TransientHops.{answered, GoesOn, next_up, along, follow};
+ghost use Rattle.transient_mode.specs.TransientHops.{answered, IsMove, next_up, along, follow};
 
 use crate::moves::{if_up, spent};
 use crate::{Move, View};
@@ -56,7 +56,7 @@ pub(crate) fn start(
 ) -> Result<(Packet, Move), NoMemory>
     ensures hop { IfOk result (λ pair.
         pair ≡ answered packet (follow topology.now packet view.now nodes.now)) }
-    ensures memory { OnErr result (GoesOn (follow topology.now packet view.now nodes.now)) }
+    ensures memory { OnErr result (IsMove (follow topology.now packet view.now nodes.now)) }
 {
     match next_up(view, nodes) {
         Some(next) => {
