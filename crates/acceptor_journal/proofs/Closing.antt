@@ -5,7 +5,7 @@ use Rattle.std.specs.Int.{w32, to_be_bytes}
 use Rattle.std.proofs.lemmas.List.{length-take, take-take, take-append-le, drop_at, drop_more, get_or_past}
 use Rattle.std.proofs.lemmas.Bool.{cases_lt}
 use Rattle.route_io.specs.Causes.{RoseIf}
-use Rattle.acceptor_journal.specs.Views.{Act, Settled, DiskView}
+use Rattle.acceptor_journal.specs.Views.{DiskAct, Settled, DiskView}
 use Rattle.acceptor_journal.specs.Images.{MayLeave, LeavesNow, LeavesOnly, ReadsAnImage, IsDurable}
 use Rattle.acceptor_journal.specs.Disks.{synced, written, settled_by, overlaid}
 use Rattle.acceptor_journal.specs.Ends.{end_of}
@@ -37,10 +37,10 @@ durable_left old file image durable left =
     let all : durable.acts ≡ left.0 = cc (sym durable.told ∙ left.1) in
     durable.only image (subst (λ l. MayLeave l image) (sym all) left.2)
 
-pub durable_synced : (mid : DiskView) (file : List ℕ) (acts : List Act) → mid.content ≡ Some file → mid.acts ≡ Some acts → IsDurable (synced mid) file
+pub durable_synced : (mid : DiskView) (file : List ℕ) (acts : List DiskAct) → mid.content ≡ Some file → mid.acts ≡ Some acts → IsDurable (synced mid) file
 durable_synced mid file acts content told = record {
   acts = Settled file ∷ acts;
-  told = ap₂ (λ (c : Option (List ℕ)) (a : Option (List Act)). option_map (settled_by c) a) content told;
+  told = ap₂ (λ (c : Option (List ℕ)) (a : Option (List DiskAct)). option_map (settled_by c) a) content told;
   content = content;
   only = settled_left file acts;
 }

@@ -2,7 +2,7 @@
 use Rattle.std.proofs.Common.{ℕ, ◌≡◌, Option, Some, None, List, [], ◌∷◌, Result, Ok, Err, IsErr, IsErrAnd, OnOk, refl, sym, ap, ◌∙◌, subst, arith, option_map}
 use Rattle.std.specs.Result.{IsErrOf}
 use Rattle.route_io.specs.Causes.{RoseIf}
-use Rattle.acceptor_journal.specs.Views.{Act, Opened, Wrote, Settled, DiskView}
+use Rattle.acceptor_journal.specs.Views.{DiskAct, Opened, Wrote, Settled, DiskView}
 use Rattle.acceptor_journal.specs.Images.{MayLeave, LeavesNow, LeavesOnly, ReadsAnImage}
 use Rattle.acceptor_journal.specs.Disks.{Fails, opened, synced, written}
 use Rattle.acceptor_journal.specs.Journals.{KeepsTelling}
@@ -24,7 +24,7 @@ rose_after F before mid now same rose = subst (λ n. RoseIf F n now) same rose
 -- ---- what was left
 
 -- one act more, which a view is told by
-acts_left : (act : Act) (acts : Option (List Act)) (now : List Act) → option_map (λ before. act ∷ before) acts ≡ Some now → (before : List Act) × (acts ≡ Some before) × (now ≡ act ∷ before)
+acts_left : (act : DiskAct) (acts : Option (List DiskAct)) (now : List DiskAct) → option_map (λ before. act ∷ before) acts ≡ Some now → (before : List DiskAct) × (acts ≡ Some before) × (now ≡ act ∷ before)
 acts_left act None now is = absurd (cc is)
 acts_left act (Some before) now is = (before, refl, cc is)
 
@@ -37,7 +37,7 @@ pub written_leaves : (at : ℕ) (piece : List ℕ) (old : DiskView) (image : Lis
 written_leaves at piece old image left =
     (Wrote at piece ∷ left.0, ap (option_map (λ before. Wrote at piece ∷ before)) left.1, wrote_may at piece left.0 image left.2)
 
-synced_left : (content : Option (List ℕ)) (acts : Option (List Act)) (faults : ℕ) (image : List ℕ) → ReadsAnImage (record { content = content; acts = acts; faults = faults })
+synced_left : (content : Option (List ℕ)) (acts : Option (List DiskAct)) (faults : ℕ) (image : List ℕ) → ReadsAnImage (record { content = content; acts = acts; faults = faults })
     → LeavesNow (synced (record { content = content; acts = acts; faults = faults })) image → LeavesNow (record { content = content; acts = acts; faults = faults }) image
 synced_left content None faults image reads left = absurd (cc left.1)
 synced_left None (Some before) faults image reads left = left
@@ -51,7 +51,7 @@ synced_leaves old image reads left = synced_left old.content old.acts old.faults
 
 -- ---- a step of a disk
 
-synced_acts : (content : Option (List ℕ)) (acts : Option (List Act)) (faults : ℕ) (P : List ℕ → Type 0)
+synced_acts : (content : Option (List ℕ)) (acts : Option (List DiskAct)) (faults : ℕ) (P : List ℕ → Type 0)
     → ((image : List ℕ) → LeavesNow (record { content = content; acts = acts; faults = faults }) image → P image)
     → ((image : List ℕ) → LeavesNow (synced (record { content = content; acts = acts; faults = faults })) image → P image)
     → LeavesOnly (record { content = content; acts = acts; faults = faults }) (synced (record { content = content; acts = acts; faults = faults })) P
@@ -89,7 +89,7 @@ goes_wrong NoMemory old new w F so not into failed none =
     }
 
 -- the same where it was to make an act
-pub goes_wrong_at : (why : DiskEnd) (act : Act) (old new w : DiskView) (F : Type 0) → (why ≡ Failed → F) → (why ≡ NoMemory → ¬ F) → ((image : List ℕ) → LeavesNow old image → LeavesNow w image)
+pub goes_wrong_at : (why : DiskEnd) (act : DiskAct) (old new w : DiskView) (F : Type 0) → (why ≡ Failed → F) → (why ≡ NoMemory → ¬ F) → ((image : List ℕ) → LeavesNow old image → LeavesNow w image)
     → ((image : List ℕ) → new.acts ≡ option_map (λ before. act ∷ before) old.acts → LeavesNow new image → LeavesNow w image)
     → (why ≡ Failed → Fails (act ∷ []) old new) → (why ≡ NoMemory → new ≡ old) → ActsWithin old new w F
 goes_wrong_at Failed act old new w F so not into onto failed none =

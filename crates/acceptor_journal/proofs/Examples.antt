@@ -1,6 +1,6 @@
 -- Worked files and calls, computed.
 use Rattle.std.proofs.Common.{ℕ, zero, suc, ◌≤◌, ◌<◌, ◌≡◌, ◌⊎◌, inl, ⊎_elim, false, get_or, drop, Some, None, List, [], ◌∷◌, Ok, Err, refl, sym, ◌∙◌, arith}
-use Rattle.acceptor_journal.specs.Views.{Act, Wrote, Settled}
+use Rattle.acceptor_journal.specs.Views.{DiskAct, Wrote, Settled}
 use Rattle.acceptor_journal.specs.Images.{MayLeave}
 use Rattle.acceptor_journal.specs.Disks.{overlaid}
 use Rattle.acceptor_journal.specs.Records.{Back, IsKept, records_behind, place_behind}
@@ -54,7 +54,7 @@ beyond : overlaid (4 ∷ []) 3 (9 ∷ []) ≡ 4 ∷ 0 ∷ 0 ∷ 9 ∷ []
 beyond = refl
 
 -- ---- what a crash may leave: two bytes were written behind one
-abbrev acts : List Act
+abbrev acts : List DiskAct
 acts = Wrote 1 (5 ∷ 6 ∷ []) ∷ Settled (0 ∷ []) ∷ []
 
 nothing_of_it : MayLeave acts (0 ∷ [])

@@ -2,7 +2,7 @@
 use Rattle.std.proofs.Common.{ℕ, ◌+◌, ◌≤◌, ◌<◌, ◌^◌, ◌≡◌, inl, inr, true, false, Option, Some, None, List, [], ◌∷◌, ◌++◌, length, Result, Ok, Err, refl, sym, ap, ◌∙◌, subst, arith, option_map, length-append}
 use Rattle.std.proofs.lemmas.Bool.{cases_lt}
 use Rattle.route_io.specs.Causes.{StaysTold}
-use Rattle.acceptor_journal.specs.Views.{Act, Settled, DiskView}
+use Rattle.acceptor_journal.specs.Views.{DiskAct, Settled, DiskView}
 use Rattle.acceptor_journal.specs.Images.{MayLeave, LeavesNow, LeftSince, LeavesOnly, ReadsAnImage, IsDurable}
 use Rattle.acceptor_journal.specs.Disks.{opened}
 use Rattle.acceptor_journal.specs.Records.{Back, place_behind}
@@ -43,7 +43,7 @@ Holds (Reading reader) view past = HasRead reader view (given_so_far past)
 Holds (Appending gate) view past = HasKept gate view (kept past) (pending past)
 
 record Between (view : DiskView) (holder : Stage) (past : List Call) : Type 0 where
-  acts : List Act
+  acts : List DiskAct
   told : view.acts ≡ Some acts
   file : List ℕ
   content : view.content ≡ Some file

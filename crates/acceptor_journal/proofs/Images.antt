@@ -2,39 +2,39 @@
 use Rattle.std.proofs.Common.{ℕ, suc, ◌+◌, ◌-◌, ◌≤◌, ◌<◌, max, ◌≡◌, ◌⊎◌, inl, inr, ⊎_elim, List, [], ◌∷◌, ◌++◌, length, get_or, set, take, drop, replicate, refl, sym, ap, ◌∙◌, subst, arith, length-append, length-drop}
 use Rattle.std.proofs.lemmas.List.{length-take, length-set, length-replicate, get_or-set_same, get_or-set_other, get_or-take, get_or-drop, get_or-append_right, get_or_append_left, ext_get_or, append-nil}
 use Rattle.std.proofs.lemmas.Bool.{cases_lt}
-use Rattle.acceptor_journal.specs.Views.{Act, Opened, Wrote, Settled}
+use Rattle.acceptor_journal.specs.Views.{DiskAct, Opened, Wrote, Settled}
 use Rattle.acceptor_journal.specs.Images.{settled, IsWritten, reach, MayLeave}
 use Rattle.acceptor_journal.specs.Disks.{overlaid}
 
 -- ---- the file that was settled
 
-pub settled_reach : (acts : List Act) → length (settled acts) ≤ reach acts
+pub settled_reach : (acts : List DiskAct) → length (settled acts) ≤ reach acts
 settled_reach [] = omega arith
 settled_reach (Opened name ∷ before) = settled_reach before
 settled_reach (Wrote at piece ∷ before) = let le = settled_reach before in omega (arith, le)
 settled_reach (Settled file ∷ before) = omega arith
 
-pub settled_may : (acts : List Act) → MayLeave acts (settled acts)
+pub settled_may : (acts : List DiskAct) → MayLeave acts (settled acts)
 settled_may acts = record { no_shorter = omega arith; no_longer = settled_reach acts; others_stay = λ i lt untouched. refl }
 
 -- ---- one act more
 
-pub opened_may : (name : List ℕ) (acts : List Act) (image : List ℕ) → MayLeave acts image → MayLeave (Opened name ∷ acts) image
+pub opened_may : (name : List ℕ) (acts : List DiskAct) (image : List ℕ) → MayLeave acts image → MayLeave (Opened name ∷ acts) image
 opened_may name acts image may = record { no_shorter = may.no_shorter; no_longer = may.no_longer; others_stay = may.others_stay }
 
-pub opened_left : (name : List ℕ) (acts : List Act) (image : List ℕ) → MayLeave (Opened name ∷ acts) image → MayLeave acts image
+pub opened_left : (name : List ℕ) (acts : List DiskAct) (image : List ℕ) → MayLeave (Opened name ∷ acts) image → MayLeave acts image
 opened_left name acts image may = record { no_shorter = may.no_shorter; no_longer = may.no_longer; others_stay = may.others_stay }
 
-pub settled_left : (file : List ℕ) (acts : List Act) (image : List ℕ) → MayLeave (Settled file ∷ acts) image → image ≡ file
+pub settled_left : (file : List ℕ) (acts : List DiskAct) (image : List ℕ) → MayLeave (Settled file ∷ acts) image → image ≡ file
 settled_left file acts image may =
     let same : length image ≡ length file = omega (arith, may.no_shorter, may.no_longer) in
     ext_get_or 0 image file same (λ i lt. may.others_stay i (omega (arith, lt, same)) (λ none. none))
 
-pub settled_stays : (file : List ℕ) (acts : List Act) → MayLeave (Settled file ∷ acts) file
+pub settled_stays : (file : List ℕ) (acts : List DiskAct) → MayLeave (Settled file ∷ acts) file
 settled_stays file acts = settled_may (Settled file ∷ acts)
 
 -- a write may leave what could be left before
-pub wrote_may : (at : ℕ) (piece : List ℕ) (acts : List Act) (image : List ℕ) → MayLeave acts image → MayLeave (Wrote at piece ∷ acts) image
+pub wrote_may : (at : ℕ) (piece : List ℕ) (acts : List DiskAct) (image : List ℕ) → MayLeave acts image → MayLeave (Wrote at piece ∷ acts) image
 wrote_may at piece acts image may = record {
   no_shorter = may.no_shorter;
   no_longer = omega (arith, may.no_longer);
@@ -76,7 +76,7 @@ overlaid_same file at piece i lt (inr behind) =
     ∙ (get_or-drop (at + length piece) file (i - at - length piece) 0 ∙ ap (λ (n : ℕ). get_or file n 0) (omega (arith, behind))))
 
 -- what a read gives after the write may be left
-pub overlaid_may : (at : ℕ) (piece : List ℕ) (acts : List Act) (file : List ℕ) → MayLeave acts file → MayLeave (Wrote at piece ∷ acts) (overlaid file at piece)
+pub overlaid_may : (at : ℕ) (piece : List ℕ) (acts : List DiskAct) (file : List ℕ) → MayLeave acts file → MayLeave (Wrote at piece ∷ acts) (overlaid file at piece)
 overlaid_may at piece acts file may =
     let long = length-overlaid file at piece in
     record {
@@ -107,7 +107,7 @@ pub record Torn (at n : ℕ) (file image : List ℕ) : Type 0 where
   pub no_longer : length image ≤ max (length file) (at + n)
   pub same : (i : ℕ) → i < length file → (i < at) ⊎ (at + n ≤ i) → get_or image i 0 ≡ get_or file i 0
 
-module _ (acts : List Act) (file : List ℕ) (durable : (image : List ℕ) → MayLeave acts image → image ≡ file) where
+module _ (acts : List DiskAct) (file : List ℕ) (durable : (image : List ℕ) → MayLeave acts image → image ≡ file) where
   pub is_settled : settled acts ≡ file
   is_settled = durable (settled acts) (settled_may acts)
 

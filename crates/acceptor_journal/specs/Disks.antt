@@ -2,7 +2,7 @@
 use Rattle.std.specs.Prelude.{ℕ, ◌+◌, ◌-◌, ◌<◌, ◌≤◌, ◌≡◌, ◌↔◌, Some, None, List, ◌∷◌, ◌++◌, length, take, drop, replicate, option_map, Result, Err}
 use Rattle.std.specs.declared.option.Option.{Option}
 use Rattle.route_io.specs.Causes.{Rose, StaysTold, next_count}
-use Rattle.acceptor_journal.specs.Views.{Act, Opened, Wrote, Settled, DiskView}
+use Rattle.acceptor_journal.specs.Views.{DiskAct, Opened, Wrote, Settled, DiskView}
 use Rattle.acceptor_journal.specs.declared.disk.DiskEnd.{DiskEnd}
 use Rattle.acceptor_journal.specs.declared.disk.DiskEnd.TheVariants.{Failed}
 use Rattle.acceptor_journal.specs.Images.{ReadsAnImage}
@@ -23,7 +23,7 @@ written at piece disk = record disk {
 }
 
 -- the file as it is read was settled; whoever tells no content is never said to settle one
-abbrev pub settled_by : Option (List ℕ) → List Act → List Act
+abbrev pub settled_by : Option (List ℕ) → List DiskAct → List DiskAct
 settled_by None before = before
 settled_by (Some file) before = Settled file ∷ before
 
@@ -32,7 +32,7 @@ abbrev pub synced : DiskView → DiskView
 synced disk = record disk { acts = option_map (settled_by disk.content) disk.acts }
 
 -- a call failed that was to make these acts. They count as made, and a read gives from then on any file that a crash may leave
-pub record Fails (made : List Act) (old new : DiskView) : Type 0 where
+pub record Fails (made : List DiskAct) (old new : DiskView) : Type 0 where
   pub behind : new.acts ≡ option_map (λ before. made ++ before) old.acts
   pub told : StaysTold old.content new.content
   pub image : ReadsAnImage old → ReadsAnImage new

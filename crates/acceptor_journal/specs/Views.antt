@@ -5,10 +5,10 @@ use Rattle.std.specs.Prelude.{ℕ, Option, List}
 --   Opened: the file was opened under this name, or was to be
 --   Wrote: a piece was written from this place on, or was to be; a crash may leave any bytes in its range
 --   Settled: the disk was made to hold this file for good
-pub data Act : Type 0 where
-  Opened : (name : List ℕ) → Act
-  Wrote : (at : ℕ) → (piece : List ℕ) → Act
-  Settled : (file : List ℕ) → Act
+pub data DiskAct : Type 0 where
+  Opened : (name : List ℕ) → DiskAct
+  Wrote : (at : ℕ) → (piece : List ℕ) → DiskAct
+  Settled : (file : List ℕ) → DiskAct
 
 -- a disk with one file
 --   content: what a read gives of the file, where told
@@ -16,5 +16,5 @@ pub data Act : Type 0 where
 --   faults: how many of its calls have failed
 pub record DiskView : Type 0 where
   pub content : Option (List ℕ)
-  pub acts : Option (List Act)
+  pub acts : Option (List DiskAct)
   pub faults : ℕ

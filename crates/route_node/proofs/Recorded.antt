@@ -11,7 +11,7 @@ use Rattle.topology.specs.Lists.{has}
 use Rattle.path_vector.specs.GaoRexford.{gao_rexford}
 use Rattle.path_vector.specs.declared.policy.GaoRexford.{GaoRexford}
 use Rattle.route_io.specs.Causes.{Rose, RoseIf}
-use Rattle.acceptor_journal.specs.Views.{Act, Opened, Settled, Wrote, DiskView}
+use Rattle.acceptor_journal.specs.Views.{DiskAct, Opened, Settled, Wrote, DiskView}
 use Rattle.acceptor_journal.specs.Images.{IsDurable, LeavesOnly}
 use Rattle.acceptor_journal.specs.Disks.{settled_by, synced, written}
 use Rattle.acceptor_journal.specs.JournalFiles.{IsJournalFile}
@@ -55,17 +55,17 @@ pub record ReadSoFar (name : List ℕ) (old now : DiskView) (reader : Place) (fr
   pub telling : KeepsTelling old now
   pub opens : OpensFirst name old now
 
-settled_acts : (content : Option (List ℕ)) (name : List ℕ) (before : List Act) (acts : Option (List Act)) → acts ≡ Some before
-    → (made : List Act) × (option_map (settled_by content) (option_map (λ acts. Opened name ∷ acts) acts) ≡ Some (made ++ Opened name ∷ before))
-settled_acts None name before acts told = ([], ap (λ a. option_map (settled_by None) (option_map (λ (acts : List Act). Opened name ∷ acts) a)) told)
-settled_acts (Some file) name before acts told = (Settled file ∷ [], ap (λ a. option_map (settled_by (Some file)) (option_map (λ (acts : List Act). Opened name ∷ acts) a)) told)
+settled_acts : (content : Option (List ℕ)) (name : List ℕ) (before : List DiskAct) (acts : Option (List DiskAct)) → acts ≡ Some before
+    → (made : List DiskAct) × (option_map (settled_by content) (option_map (λ acts. Opened name ∷ acts) acts) ≡ Some (made ++ Opened name ∷ before))
+settled_acts None name before acts told = ([], ap (λ a. option_map (settled_by None) (option_map (λ (acts : List DiskAct). Opened name ∷ acts) a)) told)
+settled_acts (Some file) name before acts told = (Settled file ∷ [], ap (λ a. option_map (settled_by (Some file)) (option_map (λ (acts : List DiskAct). Opened name ∷ acts) a)) told)
 
 -- what a sync makes of acts comes in front of them
-settled_more : (content : Option (List ℕ)) (acts : List Act) → (more : List Act) × (settled_by content acts ≡ more ++ acts)
+settled_more : (content : Option (List ℕ)) (acts : List DiskAct) → (more : List DiskAct) × (settled_by content acts ≡ more ++ acts)
 settled_more None acts = ([], refl)
 settled_more (Some file) acts = (Settled file ∷ [], refl)
 
-none_more : (acts : Option (List Act)) → acts ≡ option_map (λ was. [] ++ was) acts
+none_more : (acts : Option (List DiskAct)) → acts ≡ option_map (λ was. [] ++ was) acts
 none_more None = refl
 none_more (Some acts) = refl
 
@@ -376,20 +376,20 @@ module _ (net : Net) (u : ℕ) (old : DiskView) where
     pub opens_first : (now : DiskView) (gate : ℕ) → Finishes reader.at mid (Ok gate) now → OpensFirst name old now
     opens_first now gate f before told = by_way (f.does gate refl)
       where
-        known : (made : List Act) × (mid.acts ≡ Some (made ++ Opened name ∷ before))
+        known : (made : List DiskAct) × (mid.acts ≡ Some (made ++ Opened name ∷ before))
         known = r.opens before told
 
-        synced_behind : (content : Option (List ℕ)) (written : List Act) (acts : Option (List Act)) → acts ≡ option_map (λ was. written ++ was) mid.acts
-            → (made : List Act) × (option_map (settled_by content) acts ≡ Some (made ++ Opened name ∷ before))
+        synced_behind : (content : Option (List ℕ)) (written : List DiskAct) (acts : Option (List DiskAct)) → acts ≡ option_map (λ was. written ++ was) mid.acts
+            → (made : List DiskAct) × (option_map (settled_by content) acts ≡ Some (made ++ Opened name ∷ before))
         synced_behind content written acts is =
             let whole : acts ≡ Some (written ++ (known.0 ++ Opened name ∷ before)) = is ∙ ap (option_map (λ was. written ++ was)) known.1 in
             let more = settled_more content (written ++ (known.0 ++ Opened name ∷ before)) in (
               more.0 ++ (written ++ known.0),
-              ap (option_map (settled_by content)) whole ∙ ap Some (more.1 ∙ (ap (λ (l : List Act). more.0 ++ l) (sym (append_assoc written known.0 (Opened name ∷ before)))
+              ap (option_map (settled_by content)) whole ∙ ap Some (more.1 ∙ (ap (λ (l : List DiskAct). more.0 ++ l) (sym (append_assoc written known.0 (Opened name ∷ before)))
                   ∙ sym (append_assoc more.0 (written ++ known.0) (Opened name ∷ before)))),
             )
 
-        by_way : (now ≡ synced mid) ⊎ (now ≡ synced (written reader.at (0 ∷ []) mid)) → (made : List Act) × (now.acts ≡ Some (made ++ Opened name ∷ before))
+        by_way : (now ≡ synced mid) ⊎ (now ≡ synced (written reader.at (0 ∷ []) mid)) → (made : List DiskAct) × (now.acts ≡ Some (made ++ Opened name ∷ before))
         by_way (inl same) = let all = synced_behind mid.content [] mid.acts (none_more mid.acts) in (all.0, ap (λ (d : DiskView). d.acts) same ∙ all.1)
         by_way (inr same) =
             let disk = written reader.at (0 ∷ []) mid in

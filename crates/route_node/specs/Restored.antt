@@ -9,7 +9,7 @@ use Rattle.topology.specs.Lists.{has}
 use Rattle.topology.specs.Net.{Net}
 use Rattle.path_vector.specs.GaoRexford.{gao_rexford}
 use Rattle.route_io.specs.Causes.{RoseIf}
-use Rattle.acceptor_journal.specs.Views.{Act, Opened, DiskView}
+use Rattle.acceptor_journal.specs.Views.{DiskAct, Opened, DiskView}
 use Rattle.acceptor_journal.specs.Images.{IsDurable, LeavesOnly}
 use Rattle.acceptor_journal.specs.JournalFiles.{IsJournalFile}
 use Rattle.acceptor_journal.specs.Journals.{KeepsTelling}
@@ -68,7 +68,7 @@ IsFormed (Err status) = ends_restoring status ≡ true
 -- the file was opened under this name before all else
 abbrev pub OpensFirst : List ℕ → DiskView → DiskView → Type 0
 OpensFirst name old new =
-    (before : List Act) → old.acts ≡ Some before → (made : List Act) × (new.acts ≡ Some (made ++ Opened name ∷ before))
+    (before : List DiskAct) → old.acts ≡ Some before → (made : List DiskAct) × (new.acts ≡ Some (made ++ Opened name ∷ before))
 
 -- the file is as it was: at no moment does a crash leave another, nor does a read give another then
 pub record LeavesFile (old new : DiskView) : Type 0 where
