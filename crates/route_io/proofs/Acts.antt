@@ -3,40 +3,40 @@ use Rattle.std.proofs.Common.{ℕ, ◌+◌, ◌≡◌, ◌<◌, List, [], ◌∷
 use Rattle.std.proofs.lemmas.List.{append-nil, take-append-drop}
 use Rattle.std.proofs.Math.Seq.{take-add}
 use Rattle.route_io.specs.Acts.{came, written, writes, AreWrites, ActsOnce, AddsWrites, whole_by, WritesOnce, IsPieceOf, ArePiecesOf, AddsPieces}
-use Rattle.route_io.specs.Views.{Act, Read, Write, LinkView, SinkView}
+use Rattle.route_io.specs.Views.{StreamAct, Read, Write, LinkView, SinkView}
 
 -- ---- readings of acts behind others
 
 -- writes bring nothing
-pub came_behind : (more acts : List Act) → AreWrites more → came (more ++ acts) ≡ came acts
+pub came_behind : (more acts : List StreamAct) → AreWrites more → came (more ++ acts) ≡ came acts
 came_behind [] acts alone = refl
 came_behind (Read bytes ∷ more) acts alone = absurd alone
 came_behind (Write piece took ∷ more) acts alone = came_behind more acts alone
 
-pub written_behind : (more acts : List Act) → written (more ++ acts) ≡ written acts ++ written more
+pub written_behind : (more acts : List StreamAct) → written (more ++ acts) ≡ written acts ++ written more
 written_behind [] acts = sym (append-nil (written acts))
 written_behind (Read bytes ∷ more) acts = written_behind more acts
 written_behind (Write piece None ∷ more) acts = written_behind more acts
 written_behind (Write piece (Some n) ∷ more) acts =
     ap (λ (l : List ℕ). l ++ take n piece) (written_behind more acts) ∙ append_assoc (written acts) (written more) (take n piece)
 
-pub writes_behind : (more acts : List Act) → writes (more ++ acts) ≡ writes more ++ writes acts
+pub writes_behind : (more acts : List StreamAct) → writes (more ++ acts) ≡ writes more ++ writes acts
 writes_behind [] acts = refl
 writes_behind (Read bytes ∷ more) acts = writes_behind more acts
-writes_behind (Write piece took ∷ more) acts = ap (λ (l : List Act). Write piece took ∷ l) (writes_behind more acts)
+writes_behind (Write piece took ∷ more) acts = ap (λ (l : List StreamAct). Write piece took ∷ l) (writes_behind more acts)
 
-pub all_writes : (more acts : List Act) → AreWrites more → AreWrites acts → AreWrites (more ++ acts)
+pub all_writes : (more acts : List StreamAct) → AreWrites more → AreWrites acts → AreWrites (more ++ acts)
 all_writes [] acts first second = second
 all_writes (Read bytes ∷ more) acts first second = absurd first
 all_writes (Write piece took ∷ more) acts first second = all_writes more acts first second
 
 -- ---- acts that are told
 
-pub acts_both : (told : Option (List Act)) (more acts : List Act) → option_map (λ before. more ++ before) (option_map (λ before. acts ++ before) told) ≡ option_map (λ before. (more ++ acts) ++ before) told
+pub acts_both : (told : Option (List StreamAct)) (more acts : List StreamAct) → option_map (λ before. more ++ before) (option_map (λ before. acts ++ before) told) ≡ option_map (λ before. (more ++ acts) ++ before) told
 acts_both None more acts = refl
-acts_both (Some before) more acts = ap (λ (l : List Act). Some l) (sym (append_assoc more acts before))
+acts_both (Some before) more acts = ap (λ (l : List StreamAct). Some l) (sym (append_assoc more acts before))
 
-pub acts_none : (told : Option (List Act)) → told ≡ option_map (λ before. [] ++ before) told
+pub acts_none : (told : Option (List StreamAct)) → told ≡ option_map (λ before. [] ++ before) told
 acts_none None = refl
 acts_none (Some before) = refl
 
@@ -99,13 +99,13 @@ piece_of_behind front text taken piece is = record {
   stands = ap (λ (l : List ℕ). l ++ is.rest) (append_assoc front taken piece) ∙ (append_assoc front (taken ++ piece) is.rest ∙ ap (λ (l : List ℕ). front ++ l) is.stands);
 }
 
-pub pieces_of_more : (text more : List ℕ) (acts : List Act) → ArePiecesOf text acts → ArePiecesOf (text ++ more) acts
+pub pieces_of_more : (text more : List ℕ) (acts : List StreamAct) → ArePiecesOf text acts → ArePiecesOf (text ++ more) acts
 pieces_of_more text more [] are = tt
 pieces_of_more text more (Read bytes ∷ before) are = absurd are
 pieces_of_more text more (Write piece took ∷ before) are = (piece_of_more text more (written before) piece are.0, pieces_of_more text more before are.1)
 
 -- pieces of one text, and then of one behind it
-pub pieces_on : (front text : List ℕ) (later acts : List Act) → ArePiecesOf front acts → written acts ≡ front → ArePiecesOf text later → ArePiecesOf (front ++ text) (later ++ acts)
+pub pieces_on : (front text : List ℕ) (later acts : List StreamAct) → ArePiecesOf front acts → written acts ≡ front → ArePiecesOf text later → ArePiecesOf (front ++ text) (later ++ acts)
 pieces_on front text [] acts first whole second = pieces_of_more front text acts first
 pieces_on front text (Read bytes ∷ later) acts first whole second = absurd second
 pieces_on front text (Write piece took ∷ later) acts first whole second = (
@@ -143,7 +143,7 @@ module _ (old mid new : SinkView) (piece rest : List ℕ) (i : ℕ) (some : 0 < 
     stands = append-nil (written before.more ++ rest) ∙ (ap (λ (l : List ℕ). l ++ rest) before.took ∙ (ap (λ (l : List ℕ). take i piece ++ l) is ∙ take-append-drop i piece));
   }
 
-  once_behind : (act : Act) → WritesOnce mid new act → new.writes ≡ option_map (λ acts. (act ∷ before.more) ++ acts) old.writes
+  once_behind : (act : StreamAct) → WritesOnce mid new act → new.writes ≡ option_map (λ acts. (act ∷ before.more) ++ acts) old.writes
   once_behind act once = once ∙ (ap (option_map (λ acts. act ∷ acts)) before.behind ∙ acts_both old.writes (act ∷ []) before.more)
 
   -- the first i bytes of a piece, and then n more of it

@@ -2,30 +2,30 @@
 use Rattle.std.specs.Prelude.{ℕ, ◌≡◌, ◌<◌, List, [], ◌∷◌, ◌++◌, length, take, Some, None, Result, Ok, Err, option_map}
 use Rattle.std.specs.Result.{result_ok}
 use Rattle.std.specs.declared.option.Option.{Option}
-use Rattle.route_io.specs.Views.{Act, Read, Write, LinkView, SinkView}
+use Rattle.route_io.specs.Views.{StreamAct, Read, Write, LinkView, SinkView}
 
 -- what the reads brought, one behind the other
-abbrev pub came : List Act → List ℕ
+abbrev pub came : List StreamAct → List ℕ
 came [] = []
 came (Read (Some bytes) ∷ before) = came before ++ bytes
 came (Read None ∷ before) = came before
 came (Write piece took ∷ before) = came before
 
 -- what the writes took, one behind the other
-abbrev pub written : List Act → List ℕ
+abbrev pub written : List StreamAct → List ℕ
 written [] = []
 written (Read bytes ∷ before) = written before
 written (Write piece (Some n) ∷ before) = written before ++ take n piece
 written (Write piece None ∷ before) = written before
 
 -- the writes alone
-abbrev pub writes : List Act → List Act
+abbrev pub writes : List StreamAct → List StreamAct
 writes [] = []
 writes (Read bytes ∷ before) = writes before
 writes (Write piece took ∷ before) = Write piece took ∷ writes before
 
 -- no act is a read
-abbrev pub AreWrites : List Act → Type 0
+abbrev pub AreWrites : List StreamAct → Type 0
 AreWrites [] = Unit {0}
 AreWrites (Read bytes ∷ before) = ⊥
 AreWrites (Write piece took ∷ before) = AreWrites before
@@ -40,12 +40,12 @@ whole_by (Ok x) piece = Some (length piece)
 whole_by (Err e) piece = None
 
 -- this act was made, and no other
-abbrev pub ActsOnce : LinkView → LinkView → Act → Type 0
+abbrev pub ActsOnce : LinkView → LinkView → StreamAct → Type 0
 ActsOnce old new act = new.acts ≡ option_map (λ before. act ∷ before) old.acts
 
 -- some writes were made, which took these bytes, and no read
 pub record AddsWrites (old new : LinkView) (bytes : List ℕ) : Type 0 where
-  pub more : List Act
+  pub more : List StreamAct
   pub alone : AreWrites more
   pub took : written more ≡ bytes
   pub behind : new.acts ≡ option_map (λ before. more ++ before) old.acts
@@ -59,7 +59,7 @@ abbrev pub ReadsMore : List ℕ → List ℕ → LinkView → LinkView → Type 
 ReadsMore old new was now = (more : List ℕ) × (new ≡ old ++ more) × ActsOnce was now (Read (Some more))
 
 -- this write of a sink was made, and no other
-abbrev pub WritesOnce : SinkView → SinkView → Act → Type 0
+abbrev pub WritesOnce : SinkView → SinkView → StreamAct → Type 0
 WritesOnce old new act = new.writes ≡ option_map (λ before. act ∷ before) old.writes
 
 -- some bytes, which stand in the text behind those that were taken of it
@@ -69,14 +69,14 @@ pub record IsPieceOf (text taken piece : List ℕ) : Type 0 where
   pub stands : (taken ++ piece) ++ rest ≡ text
 
 -- each act is a write, and its piece stands in the text behind what the writes before it took
-abbrev pub ArePiecesOf : List ℕ → List Act → Type 0
+abbrev pub ArePiecesOf : List ℕ → List StreamAct → Type 0
 ArePiecesOf text [] = Unit {0}
 ArePiecesOf text (Read bytes ∷ before) = ⊥
 ArePiecesOf text (Write piece took ∷ before) = IsPieceOf text (written before) piece × ArePiecesOf text before
 
 -- some writes of a sink were made, each of a piece of the text, and this is what they took
 pub record AddsPieces (old new : SinkView) (text taken : List ℕ) : Type 0 where
-  pub more : List Act
+  pub more : List StreamAct
   pub pieces : ArePiecesOf text more
   pub took : written more ≡ taken
   pub behind : new.writes ≡ option_map (λ before. more ++ before) old.writes

@@ -8,7 +8,7 @@ ghost use Rattle.route_io.specs.Shelf.{FindsNoRoom, free};
 ghost use Rattle.route_io.specs.Views.{Write};
 
 use crate::content::Content;
-use crate::link::acts::Acts;
+use crate::link::acts::StreamActs;
 use crate::outside::{Failed, Sink, Source};
 use crate::room::Room;
 
@@ -49,7 +49,7 @@ impl Source for PlainSource {
 pub struct PlainSink {
     room: Room,
     faults: u64,
-    acts: Acts,
+    acts: StreamActs,
     ghost full: { 0 < faults → free room ≡ 0 },
 }
 
@@ -62,7 +62,7 @@ impl PlainSink {
         PlainSink {
             room: Room::new(room),
             faults: 0,
-            acts: Acts::new(),
+            acts: StreamActs::new(),
         }
     }
 

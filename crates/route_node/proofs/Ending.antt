@@ -11,7 +11,7 @@ use Rattle.topology.specs.declared.frame_faults.FrameFault.{FrameFault}
 use Rattle.topology.specs.Lists.{Begins}
 use Rattle.route_io.specs.Causes.{RoseIf}
 use Rattle.route_io.specs.Links.{IsSure}
-use Rattle.route_io.specs.Views.{Act, LinkView}
+use Rattle.route_io.specs.Views.{StreamAct, LinkView}
 use Rattle.node_core.specs.NodeLimits.{Reached}
 use Rattle.wire_frames.specs.declared.frames.Frame.{Frame}
 use Rattle.wire_frames.specs.Frames.{fits as has_spelling}
@@ -82,7 +82,7 @@ by_link None = inr refl
 by_link (Some records) = inr (inl refl)
 
 module _ (who : Who) (first link : LinkView) (status : Status) (frames : List Frame) (taken : AreTaken who frames) (grow : AnswersGrow who frames) (same_room : link.room ≡ first.room) (same_dialled : link.dialled ≡ first.dialled)
-    (prompt : (before : List Act) → first.acts ≡ Some before → (since : List Act) × (link.acts ≡ Some (since ++ before)) × IsPrompt who since) where
+    (prompt : (before : List StreamAct) → first.acts ≡ Some before → (since : List StreamAct) × (link.acts ≡ Some (since ++ before)) × IsPrompt who since) where
   -- the answers to all frames begin with those to all but the newest
   pub behind_all : Begins (answers who (older frames)) (answers who frames)
   behind_all = go frames grow

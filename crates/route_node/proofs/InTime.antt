@@ -3,7 +3,7 @@ use Rattle.std.proofs.Common.{ℕ, ◌≡◌, ◌⊎◌, inl, inr, Option, Some,
 use Rattle.std.proofs.lemmas.List.{append-nil}
 use Rattle.topology.specs.Lists.{Begins}
 use Rattle.route_io.specs.Acts.{came, written, AreWrites, ActsOnce}
-use Rattle.route_io.specs.Views.{Act, Read, Write, LinkView}
+use Rattle.route_io.specs.Views.{StreamAct, Read, Write, LinkView}
 use Rattle.route_io.proofs.Acts.{came_behind, written_behind}
 use Rattle.wire_frames.specs.declared.frames.Frame.{Frame}
 use Rattle.wire_frames.specs.Frames.{spell}
@@ -16,13 +16,13 @@ use Rattle.route_node.specs.Writing.{OneWriteEach}
 use Rattle.route_node.proofs.Unique.{Longer, compare, oldest, from_oldest, in_front, all_spelled, taken_oldest}
 
 -- what is told of acts once one more was made
-pub told_once : (was now : Option (List Act)) (act : Act) (acts : List Act) → now ≡ option_map (λ before. act ∷ before) was → was ≡ Some acts → now ≡ Some (act ∷ acts)
+pub told_once : (was now : Option (List StreamAct)) (act : StreamAct) (acts : List StreamAct) → now ≡ option_map (λ before. act ∷ before) was → was ≡ Some acts → now ≡ Some (act ∷ acts)
 told_once was now act acts once is = once ∙ ap (option_map (λ before. act ∷ before)) is
 
 -- and once some more were
-pub told_behind : (was now : Option (List Act)) (more since before : List Act) → now ≡ option_map (λ acts. more ++ acts) was → was ≡ Some (since ++ before) → now ≡ Some ((more ++ since) ++ before)
+pub told_behind : (was now : Option (List StreamAct)) (more since before : List StreamAct) → now ≡ option_map (λ acts. more ++ acts) was → was ≡ Some (since ++ before) → now ≡ Some ((more ++ since) ++ before)
 told_behind was now more since before behind is =
-    behind ∙ (ap (option_map (λ acts. more ++ acts)) is ∙ ap (λ (l : List Act). Some l) (sym (append_assoc more since before)))
+    behind ∙ (ap (option_map (λ acts. more ++ acts)) is ∙ ap (λ (l : List StreamAct). Some l) (sym (append_assoc more since before)))
 
 -- a read is no write
 pub one_write_read : (link mid link' : LinkView) (frames : List Frame) (brought : Option (List ℕ)) → OneWriteEach frames link mid → ActsOnce mid link' (Read brought) → OneWriteEach frames link link'
@@ -80,26 +80,26 @@ module _ (who : Who) where
   prompt_none (act ∷ later) earlier brought e = absurd (cc e)
 
   -- one write behind others
-  prompt_write : (piece : List ℕ) (took : Option ℕ) (acts : List Act) → IsPrompt who acts → IsPrompt who (Write piece took ∷ acts)
+  prompt_write : (piece : List ℕ) (took : Option ℕ) (acts : List StreamAct) → IsPrompt who acts → IsPrompt who (Write piece took ∷ acts)
   prompt_write piece took acts prompt [] earlier brought e = absurd (cc e)
   prompt_write piece took acts prompt (act ∷ later) earlier brought e = prompt later earlier brought (cc e)
 
   -- and several
-  pub prompt_writes : (more acts : List Act) → AreWrites more → IsPrompt who acts → IsPrompt who (more ++ acts)
+  pub prompt_writes : (more acts : List StreamAct) → AreWrites more → IsPrompt who acts → IsPrompt who (more ++ acts)
   prompt_writes [] acts alone prompt = prompt
   prompt_writes (Read bytes ∷ more) acts alone prompt = absurd alone
   prompt_writes (Write piece took ∷ more) acts alone prompt = prompt_write piece took (more ++ acts) (prompt_writes more acts alone prompt)
 
   -- one read behind others, which came in time
-  prompt_read : (acts : List Act) (bytes : Option (List ℕ)) → IsPrompt who acts
+  prompt_read : (acts : List StreamAct) (bytes : Option (List ℕ)) → IsPrompt who acts
       → ((frames : List Frame) → Begins (stream frames) (came acts) → AreTaken who frames → Begins (answers who frames) (written acts))
       → IsPrompt who (Read bytes ∷ acts)
   prompt_read acts bytes prompt now [] earlier brought e =
       let same : acts ≡ earlier = cc e in
-      subst (λ (l : List Act). (frames : List Frame) → Begins (stream frames) (came l) → AreTaken who frames → Begins (answers who frames) (written l)) same now
+      subst (λ (l : List StreamAct). (frames : List Frame) → Begins (stream frames) (came l) → AreTaken who frames → Begins (answers who frames) (written l)) same now
   prompt_read acts bytes prompt now (act ∷ later) earlier brought e = prompt later earlier brought (cc e)
 
-  module _ (frames : List Frame) (received : List ℕ) (since : List Act) (keeps : KeepsUp who frames received since) where
+  module _ (frames : List Frame) (received : List ℕ) (since : List StreamAct) (keeps : KeepsUp who frames received since) where
     -- a read where only the front of a frame is left
     pub prompt_wait : (bytes : Option (List ℕ)) → AnswersGrow who frames → AreTaken who frames → found received ≡ Partial → IsPrompt who (Read bytes ∷ since)
     prompt_wait bytes grow taken partial =
@@ -117,7 +117,7 @@ module _ (who : Who) where
     }
 
     -- a frame was taken, and the writes took its answers
-    pub keeps_taken : (f : Frame) (next told : List ℕ) (more : List Act) → AreWrites more → written more ≡ told → received ≡ spell f ++ next
+    pub keeps_taken : (f : Frame) (next told : List ℕ) (more : List StreamAct) → AreWrites more → written more ≡ told → received ≡ spell f ++ next
         → answers who (f ∷ frames) ≡ answers who frames ++ told → KeepsUp who (f ∷ frames) next (more ++ since)
     keeps_taken f next told more alone took splits is = record {
       brought =

@@ -20,7 +20,7 @@ use Rattle.topology.specs.declared.status.Status.TheVariants.{Done, NoMemory, Li
 use Rattle.route_io.specs.Causes.{RoseIf, Rose, StaysTold}
 use Rattle.route_io.specs.Links.{ahead, GrowsWithin, IsSure, OnlyReads}
 use Rattle.route_io.specs.Acts.{ActsOnce, ReadsMore}
-use Rattle.route_io.specs.Views.{Act, Read, LinkView}
+use Rattle.route_io.specs.Views.{StreamAct, Read, LinkView}
 use Rattle.route_io.specs.declared.received.TheConstants.{PORTION}
 use Rattle.route_io.specs.declared.received.Filled.{Filled}
 use Rattle.route_io.specs.declared.received.Filled.TheVariants as filled
@@ -99,7 +99,7 @@ module _ {P : Type 0} (rules : Rules) (at : Serving P) (frames : List Frame) (pr
 
   -- nothing was written since: it broke off with all answers written
   pub ends_unwritten : (status : Status) → new.outgoing ≡ old.outgoing → new.room ≡ old.room → new.dialled ≡ old.dialled
-      → ((before : List Act) → at.first.acts ≡ Some before → (since : List Act) × (new.acts ≡ Some (since ++ before)) × IsPrompt (who_at rules at) since)
+      → ((before : List StreamAct) → at.first.acts ≡ Some before → (since : List StreamAct) × (new.acts ≡ Some (since ++ before)) × IsPrompt (who_at rules at) since)
       → BreaksOff at.records status → RoseIf (status ≡ LinkFault) at.first.faults new.faults → (IsSure at.first → status ≡ LinkFault → ⊥) → EndsServing (who_at rules at) at.first new frames status
   ends_unwritten status same room dialled prompt why rose sure =
       ends_by_break (who_at rules at) at.first new status frames runs.taken runs.grow (room ∙ runs.same_room) (dialled ∙ runs.same_dialled) prompt why rose (λ is e. absurd (sure is e)) front_as
@@ -115,12 +115,12 @@ module _ {P : Type 0} (rules : Rules) (at : Serving P) (frames : List Frame) (pr
   }
 
   -- no act was made since
-  pub prompt_as : new.acts ≡ old.acts → (before : List Act) → at.first.acts ≡ Some before → (since : List Act) × (new.acts ≡ Some (since ++ before)) × IsPrompt (who_at rules at) since
+  pub prompt_as : new.acts ≡ old.acts → (before : List StreamAct) → at.first.acts ≡ Some before → (since : List StreamAct) × (new.acts ≡ Some (since ++ before)) × IsPrompt (who_at rules at) since
   prompt_as same before told = let known = runs.acts before told in (known.0, same ∙ known.1, known.2.prompt)
 
   -- one read was, where only the front of a frame was left
-  pub prompt_read : found process.received ≡ Partial → (brought : Option (List ℕ)) → ActsOnce old new (Read brought) → (before : List Act) → at.first.acts ≡ Some before
-      → (since : List Act) × (new.acts ≡ Some (since ++ before)) × IsPrompt (who_at rules at) since
+  pub prompt_read : found process.received ≡ Partial → (brought : Option (List ℕ)) → ActsOnce old new (Read brought) → (before : List StreamAct) → at.first.acts ≡ Some before
+      → (since : List StreamAct) × (new.acts ≡ Some (since ++ before)) × IsPrompt (who_at rules at) since
   prompt_read partial brought once before told =
       let known = runs.acts before told in (
         Read brought ∷ known.0,

@@ -9,7 +9,7 @@ use Rattle.topology.specs.declared.status.Status.TheVariants.{LinkFault}
 use Rattle.route_io.specs.Acts.{writes, whole_by, ActsOnce, AddsWrites, AddsFront}
 use Rattle.route_io.specs.Causes.{AppendsFront, HasCause, StaysTold}
 use Rattle.route_io.specs.Links.{HasRoom, IsSure, LacksRoom, OnlyWrites, room_left, room_behind}
-use Rattle.route_io.specs.Views.{Act, Write, LinkView}
+use Rattle.route_io.specs.Views.{StreamAct, Write, LinkView}
 use Rattle.route_io.proofs.Acts.{writes_behind, all_writes, acts_both, adds_more}
 use Rattle.route_io.proofs.Bytes.{appends_on, told_on, risen_after}
 use Rattle.route_io.proofs.Links.{only_writes_on, room_before}
@@ -35,7 +35,7 @@ spelled_both fs gs = flat_map-append spell fs gs
 
 each_both : (fs gs : List Frame) → each_whole (fs ++ gs) ≡ each_whole gs ++ each_whole fs
 each_both [] gs = sym (append-nil (each_whole gs))
-each_both (f ∷ fs) gs = ap (λ (l : List Act). l ++ whole f ∷ []) (each_both fs gs) ∙ append_assoc (each_whole gs) (each_whole fs) (whole f ∷ [])
+each_both (f ∷ fs) gs = ap (λ (l : List StreamAct). l ++ whole f ∷ []) (each_both fs gs) ∙ append_assoc (each_whole gs) (each_whole fs) (whole f ∷ [])
 
 -- so their number is that of the frames
 pub as_many : (frames : List Frame) → length (each_whole frames) ≡ length frames
@@ -103,8 +103,8 @@ one_write_behind fs gs link mid link' wrote same_room first second = λ left roo
     let earlier = first left room (omega (arith, small, sizes)) before told in
     let later = second (left - length (spelled fs)) behind (omega (arith, small, sizes)) (earlier.0 ++ before) earlier.1 in (
       later.0 ++ earlier.0,
-      later.1 ∙ ap (λ (l : List Act). Some l) (sym (append_assoc later.0 earlier.0 before)),
-      writes_behind later.0 earlier.0 ∙ (ap (λ (l : List Act). l ++ writes earlier.0) later.2 ∙ (ap (λ (l : List Act). each_whole gs ++ l) earlier.2 ∙ sym (each_both fs gs))),
+      later.1 ∙ ap (λ (l : List StreamAct). Some l) (sym (append_assoc later.0 earlier.0 before)),
+      writes_behind later.0 earlier.0 ∙ (ap (λ (l : List StreamAct). l ++ writes earlier.0) later.2 ∙ (ap (λ (l : List StreamAct). each_whole gs ++ l) earlier.2 ∙ sym (each_both fs gs))),
     )
 
 pub writes_more : (fs gs : List Frame) (link mid link' : LinkView) → Writes fs link mid → Writes gs mid link' → Writes (fs ++ gs) link link'

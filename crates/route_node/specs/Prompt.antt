@@ -2,14 +2,14 @@
 use Rattle.std.specs.Prelude.{ℕ, ◌≡◌, Option, List, ◌∷◌, ◌++◌}
 use Rattle.topology.specs.Lists.{Begins}
 use Rattle.route_io.specs.Acts.{came, written}
-use Rattle.route_io.specs.Views.{Act, Read}
+use Rattle.route_io.specs.Views.{StreamAct, Read}
 use Rattle.wire_frames.specs.declared.frames.Frame.{Frame}
 use Rattle.route_node.specs.Who.{Who}
 use Rattle.route_node.specs.Streams.{stream, answers, AreTaken}
 
 -- at each read, the frames that lay whole in front of what had come before it, and are taken, had been answered
-abbrev pub IsPrompt : Who → List Act → Type 0
+abbrev pub IsPrompt : Who → List StreamAct → Type 0
 IsPrompt who acts =
-    (later earlier : List Act) (brought : Option (List ℕ)) → acts ≡ later ++ Read brought ∷ earlier
+    (later earlier : List StreamAct) (brought : Option (List ℕ)) → acts ≡ later ++ Read brought ∷ earlier
     → (frames : List Frame) → Begins (stream frames) (came earlier) → AreTaken who frames
     → Begins (answers who frames) (written earlier)

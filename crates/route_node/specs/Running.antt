@@ -7,7 +7,7 @@ use Rattle.topology.specs.Net.{Net, IsValid}
 use Rattle.route_io.specs.Acts.{came, written}
 use Rattle.route_io.specs.Causes.{StaysTold}
 use Rattle.route_io.specs.Links.{ahead}
-use Rattle.route_io.specs.Views.{Act, LinkView}
+use Rattle.route_io.specs.Views.{StreamAct, LinkView}
 use Rattle.path_vector.specs.Rules.{Rules}
 use Rattle.acceptor_journal.specs.Views.{DiskView}
 use Rattle.acceptor_journal.specs.Images.{LeavesOnly}
@@ -43,7 +43,7 @@ abbrev pub who_at : {P : Type 0} → Rules → Serving P → Who
 who_at rules at = record { rules = rules; net = at.net; node = at.node; records = at.records }
 
 -- the reads since brought the frames and then what is received, the writes took the answers, and each read came in time
-pub record KeepsUp (who : Who) (frames : List Frame) (received : List ℕ) (since : List Act) : Type 0 where
+pub record KeepsUp (who : Who) (frames : List Frame) (received : List ℕ) (since : List StreamAct) : Type 0 where
   pub brought : came since ≡ stream frames ++ received
   pub took : written since ≡ answers who frames
   pub prompt : IsPrompt who since
@@ -80,8 +80,8 @@ pub record Runs {P : Type 0} (rules : Rules) (at : Serving P) (process : Process
   pub one_write_each : OneWriteEach (replies (who_at rules at) frames) at.first link
   pub grow : AnswersGrow (who_at rules at) frames
   pub since : HandsSince (who_at rules at) frames
-  pub acts : (before : List Act) → at.first.acts ≡ Some before
-      → (since : List Act) × (link.acts ≡ Some (since ++ before)) × KeepsUp (who_at rules at) frames process.received since
+  pub acts : (before : List StreamAct) → at.first.acts ≡ Some before
+      → (since : List StreamAct) × (link.acts ≡ Some (since ++ before)) × KeepsUp (who_at rules at) frames process.received since
   pub same_room : link.room ≡ at.first.room
   pub same_dialled : link.dialled ≡ at.first.dialled
   pub same_sure : link.sure ≡ at.first.sure

@@ -10,7 +10,7 @@ use Rattle.topology.specs.declared.frame_faults.FrameFault.{FrameFault}
 use Rattle.topology.specs.Lists.{Begins}
 use Rattle.route_io.specs.Causes.{RoseIf}
 use Rattle.route_io.specs.Links.{IsSure, room_left}
-use Rattle.route_io.specs.Views.{Act, LinkView}
+use Rattle.route_io.specs.Views.{StreamAct, LinkView}
 use Rattle.wire_frames.specs.declared.frames.Frame.{Frame}
 use Rattle.wire_frames.specs.Frames.{fits as has_spelling}
 use Rattle.route_node.specs.Prompt.{IsPrompt}
@@ -125,8 +125,8 @@ pub record Served (who : Who) (link link' : LinkView) (status : Status) : Type 0
       → StreamComesTo who bytes frames ending
       → (status ≡ status_of (length (stream frames)) ending) ⊎ BreaksOff who.records status
   -- whatever the end, no read was made before the frames that had come by then were answered, where the link tells its acts
-  pub prompt : (before : List Act) → link.acts ≡ Some before
-      → (since : List Act) × (link'.acts ≡ Some (since ++ before)) × IsPrompt who since
+  pub prompt : (before : List StreamAct) → link.acts ≡ Some before
+      → (since : List StreamAct) × (link'.acts ≡ Some (since ++ before)) × IsPrompt who since
   -- nothing is left to come once it is done
   pub read : status ≡ Done → IsAtEnd link'.incoming
   -- no call changes how much the link can take

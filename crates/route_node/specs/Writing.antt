@@ -8,7 +8,7 @@ use Rattle.topology.specs.Lists.{Begins}
 use Rattle.route_io.specs.Acts.{writes, AddsWrites, AreWrites}
 use Rattle.route_io.specs.Causes.{RoseIf, StaysTold}
 use Rattle.route_io.specs.Links.{IsSure, LacksRoom, OnlyWrites, room_left}
-use Rattle.route_io.specs.Views.{Act, Write, LinkView}
+use Rattle.route_io.specs.Views.{StreamAct, Write, LinkView}
 use Rattle.wire_frames.specs.declared.frames.Frame.{Frame}
 use Rattle.wire_frames.specs.Frames.{spell}
 
@@ -17,11 +17,11 @@ abbrev pub spelled : List Frame → List ℕ
 spelled frames = flat_map spell frames
 
 -- a frame by one write: the piece is its spelling, and was taken whole
-abbrev pub whole : Frame → Act
+abbrev pub whole : Frame → StreamAct
 whole f = Write (spell f) (Some (length (spell f)))
 
 -- each frame so, in order; the newest act comes first
-abbrev pub each_whole : List Frame → List Act
+abbrev pub each_whole : List Frame → List StreamAct
 each_whole [] = []
 each_whole (f ∷ frames) = each_whole frames ++ whole f ∷ []
 
@@ -29,8 +29,8 @@ each_whole (f ∷ frames) = each_whole frames ++ whole f ∷ []
 abbrev pub OneWriteEach : List Frame → LinkView → LinkView → Type 0
 OneWriteEach frames link link' =
     (left : ℕ) → room_left link ≡ Some left → length (spelled frames) ≤ left
-    → (before : List Act) → link.acts ≡ Some before
-    → (since : List Act) × (link'.acts ≡ Some (since ++ before)) × (writes since ≡ each_whole frames)
+    → (before : List StreamAct) → link.acts ≡ Some before
+    → (since : List StreamAct) × (link'.acts ≡ Some (since ++ before)) × (writes since ≡ each_whole frames)
 
 -- the frames were written whole, and no call failed
 pub record Writes (frames : List Frame) (link link' : LinkView) : Type 0 where
@@ -48,6 +48,6 @@ pub record Breaks (frames : List Frame) (link link' : LinkView) (status : Status
   pub some : List ℕ
   pub begins : Begins some (spelled frames)
   pub wrote : Appends link.outgoing link'.outgoing some
-  pub acts : (more : List Act) × AreWrites more × (link'.acts ≡ option_map (λ before. more ++ before) link.acts)
+  pub acts : (more : List StreamAct) × AreWrites more × (link'.acts ≡ option_map (λ before. more ++ before) link.acts)
   pub full : IsSure link → status ≡ LinkFault → LacksRoom link (spelled frames)
   pub others : OnlyWrites link link'

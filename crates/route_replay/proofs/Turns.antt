@@ -4,7 +4,7 @@ use Rattle.std.specs.List.{concat}
 use Rattle.std.proofs.lemmas.List.{append-nil}
 use Rattle.std.proofs.lemmas.List.Folds.{concat-append}
 use Rattle.route_io.specs.Acts.{IsPieceOf, ArePiecesOf, AddsPieces, written}
-use Rattle.route_io.specs.Views.{Act, Read, Write, SinkView}
+use Rattle.route_io.specs.Views.{StreamAct, Read, Write, SinkView}
 use Rattle.route_io.proofs.Acts.{acts_both, acts_none, written_behind}
 use Rattle.topology.specs.Net.{Net}
 use Rattle.path_vector.specs.Rules.{Rules}
@@ -31,7 +31,7 @@ texts_text rules net events (d ∷ ds) =
 -- ---- writes behind others
 
 -- there are further texts
-turn_more : (done more : List (List ℕ)) (acts : List Act) → AreInTurn done acts → AreInTurn (done ++ more) acts
+turn_more : (done more : List (List ℕ)) (acts : List StreamAct) → AreInTurn done acts → AreInTurn (done ++ more) acts
 turn_more done more [] are = tt
 turn_more done more (Read bytes ∷ before) are = absurd are
 turn_more done more (Write piece took ∷ before) are = (
@@ -48,7 +48,7 @@ turn_more done more (Write piece took ∷ before) are = (
 )
 
 -- the next text is written piece by piece, behind all those before
-turn_on : (done left : List (List ℕ)) (text : List ℕ) (later acts : List Act) → AreInTurn done acts → written acts ≡ concat done → ArePiecesOf text later
+turn_on : (done left : List (List ℕ)) (text : List ℕ) (later acts : List StreamAct) → AreInTurn done acts → written acts ≡ concat done → ArePiecesOf text later
     → AreInTurn (done ++ text ∷ left) (later ++ acts)
 turn_on done left text [] acts are took pieces = turn_more done (text ∷ left) acts are
 turn_on done left text (Read bytes ∷ later) acts are took pieces = absurd pieces
@@ -71,7 +71,7 @@ no_piece_of_none taken piece is =
     let none = ap (λ (l : List ℕ). length l) is.stands in
     omega (arith, is.some, none, length-append (taken ++ piece) is.rest, length-append taken piece)
 
-turn_none : (done : List (List ℕ)) (later acts : List Act) → AreInTurn done acts → ArePiecesOf [] later → AreInTurn done (later ++ acts)
+turn_none : (done : List (List ℕ)) (later acts : List StreamAct) → AreInTurn done acts → ArePiecesOf [] later → AreInTurn done (later ++ acts)
 turn_none done [] acts are pieces = are
 turn_none done (Read bytes ∷ later) acts are pieces = absurd pieces
 turn_none done (Write piece n ∷ later) acts are pieces = absurd (no_piece_of_none (written later) piece pieces.0)
@@ -80,7 +80,7 @@ turn_none done (Write piece n ∷ later) acts are pieces = absurd (no_piece_of_n
 
 -- these texts were written, the one behind the other
 pub record TakesTexts (old new : SinkView) (many : List (List ℕ)) : Type 0 where
-  pub since : List Act
+  pub since : List StreamAct
   pub in_turn : AreInTurn many since
   pub took : written since ≡ concat many
   pub behind : new.writes ≡ option_map (λ before. since ++ before) old.writes

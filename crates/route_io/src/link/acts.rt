@@ -4,31 +4,31 @@ ghost use Rattle.std.specs.Borrow.{ftrue};
 ghost use Rattle.std.specs.Io.{ReadsAtMost};
 ghost use Rattle.std.specs.Result.{result_ok};
 ghost use Rattle.route_io.specs.Acts.{brought_by};
-ghost use Rattle.route_io.specs.Views.{Act, Read, Write};
+ghost use Rattle.route_io.specs.Views.{StreamAct, Read, Write};
 
 use crate::outside::Failed;
 use std::marker::Model;
 
 /// The reads and writes of a link or a sink, the newest first. It has no bytes: only clauses read it.
 #[derive(Drop)]
-pub struct Acts {
-    pub ghost list: { List Act },
+pub struct StreamActs {
+    pub ghost list: { List StreamAct },
 }
 
-impl Model for Acts {
+impl Model for StreamActs {
     ghost also_owns = { λ _. ftrue };
 }
 
-impl Acts {
+impl StreamActs {
     /// None was made yet.
-    pub fn new() -> Acts
+    pub fn new() -> StreamActs
         ensures { result.list ≡ [] }
     {
-        Acts {}
+        StreamActs {}
     }
 
     /// A read has answered this, and filled the front of the buffer.
-    pub fn read(&self, read: Result<usize, Failed>, buf: &[u8]) -> Acts
+    pub fn read(&self, read: Result<usize, Failed>, buf: &[u8]) -> StreamActs
         requires { ReadsAtMost read buf.now }
         ensures { result.list ≡ Read (brought_by read buf.now) ∷ self.now.list }
     {
@@ -39,7 +39,7 @@ impl Acts {
     }
 
     /// A write of the piece has answered this.
-    pub fn write(&self, piece: &[u8], written: Result<usize, Failed>) -> Acts
+    pub fn write(&self, piece: &[u8], written: Result<usize, Failed>) -> StreamActs
         requires { IfOk written (λ n. n ≤ length piece.now) }
         ensures { result.list ≡ Write piece.now (result_ok written) ∷ self.now.list }
     {
@@ -49,27 +49,27 @@ impl Acts {
         }
     }
 
-    fn brought(&self, _bytes: &[u8]) -> Acts
+    fn brought(&self, _bytes: &[u8]) -> StreamActs
         ensures { result.list ≡ Read (Some _bytes.now) ∷ self.now.list }
     {
-        Acts {}
+        StreamActs {}
     }
 
-    fn read_failed(&self) -> Acts
+    fn read_failed(&self) -> StreamActs
         ensures { result.list ≡ Read None ∷ self.now.list }
     {
-        Acts {}
+        StreamActs {}
     }
 
-    fn took(&self, _piece: &[u8], _taken: &[u8]) -> Acts
+    fn took(&self, _piece: &[u8], _taken: &[u8]) -> StreamActs
         ensures { result.list ≡ Write _piece.now (Some (length _taken.now)) ∷ self.now.list }
     {
-        Acts {}
+        StreamActs {}
     }
 
-    fn write_failed(&self, _piece: &[u8]) -> Acts
+    fn write_failed(&self, _piece: &[u8]) -> StreamActs
         ensures { result.list ≡ Write _piece.now None ∷ self.now.list }
     {
-        Acts {}
+        StreamActs {}
     }
 }

@@ -10,7 +10,7 @@ ghost use Rattle.route_io.specs.Shelf.{FindsNoRoom, free};
 ghost use Rattle.route_io.specs.Views.{Read, Write};
 
 use crate::link::Link;
-use crate::link::acts::Acts;
+use crate::link::acts::StreamActs;
 use crate::link::dialled::Dialled;
 use crate::memory::{MemSink, MemSource};
 use crate::outside::{Failed, Sink, Source};
@@ -23,7 +23,7 @@ pub struct MemLink {
     fail_dial: bool,
     dial_faults: u64,
     dialled: Dialled,
-    acts: Acts,
+    acts: StreamActs,
 }
 
 impl MemLink {
@@ -56,7 +56,7 @@ impl MemLink {
             fail_dial,
             dial_faults: 0,
             dialled: Dialled::new(),
-            acts: Acts::new(),
+            acts: StreamActs::new(),
         }
     }
 

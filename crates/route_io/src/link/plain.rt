@@ -9,7 +9,7 @@ ghost use Rattle.route_io.specs.Shelf.{FindsNoRoom, free};
 ghost use Rattle.route_io.specs.Views.{Read, Write};
 
 use crate::link::Link;
-use crate::link::acts::Acts;
+use crate::link::acts::StreamActs;
 use crate::link::dialled::Dialled;
 use crate::outside::{Failed, Sink, Source};
 use crate::plain::{PlainSink, PlainSource};
@@ -21,7 +21,7 @@ pub struct PlainLink {
     source: PlainSource,
     sink: PlainSink,
     dialled: Dialled,
-    acts: Acts,
+    acts: StreamActs,
 }
 
 impl PlainLink {
@@ -42,7 +42,7 @@ impl PlainLink {
             source: PlainSource::new(incoming),
             sink: PlainSink::new(room),
             dialled: Dialled::new(),
-            acts: Acts::new(),
+            acts: StreamActs::new(),
         }
     }
 

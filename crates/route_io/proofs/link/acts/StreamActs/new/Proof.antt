@@ -20,11 +20,11 @@ use denote.Triple.Entry.{on_entry, alive}
 use denote.Triple.Spec.{Meets, triple_of}
 use denote.Triple.Table.{entered}
 use denote.Triple.Walked.{says, Stays, walk_of, Walks, ends_at, walked, walk_Meets}
-use Rattle.route_io.specs.contracts.link.acts.Acts.new.Key.{name as key}
-use Rattle.route_io.specs.contracts.link.acts.Acts.new as f
-use Rattle.route_io.proofs.link.acts.Acts.new.Statement as stated
-use Rattle.route_io.proofs.link.acts.Acts.new.Code as code
-use Rattle.route_io.specs.contracts.link.acts.Acts as made
+use Rattle.route_io.specs.contracts.link.acts.StreamActs.new.Key.{name as key}
+use Rattle.route_io.specs.contracts.link.acts.StreamActs.new as f
+use Rattle.route_io.proofs.link.acts.StreamActs.new.Statement as stated
+use Rattle.route_io.proofs.link.acts.StreamActs.new.Code as code
+use Rattle.route_io.specs.contracts.link.acts.StreamActs as made
 
 abbrev stayed : Stays (f.ended).signature.params (f.ended).kept
 stayed = tt

@@ -26,13 +26,13 @@ use denote.Triple.Entry.{on_entry, alive, Args}
 use denote.Triple.Spec.{Meets, triple_of}
 use denote.Triple.Table.{entered}
 use denote.Triple.Walked.{says, stay_none_ref, Stays, walk_of, Walks, ends_at, walked, Goes-none_ref, walk_Meets}
-use Rattle.route_io.specs.declared.link.acts.Acts.{Acts}
+use Rattle.route_io.specs.declared.link.acts.StreamActs.{StreamActs}
 use Rattle.route_io.specs.Views.{Read}
-use Rattle.route_io.specs.contracts.link.acts.Acts.read_failed.Key.{name as key}
-use Rattle.route_io.specs.contracts.link.acts.Acts.read_failed as f
-use Rattle.route_io.proofs.link.acts.Acts.read_failed.Statement as stated
-use Rattle.route_io.proofs.link.acts.Acts.read_failed.Code as code
-use Rattle.route_io.specs.contracts.link.acts.Acts as made
+use Rattle.route_io.specs.contracts.link.acts.StreamActs.read_failed.Key.{name as key}
+use Rattle.route_io.specs.contracts.link.acts.StreamActs.read_failed as f
+use Rattle.route_io.proofs.link.acts.StreamActs.read_failed.Statement as stated
+use Rattle.route_io.proofs.link.acts.StreamActs.read_failed.Code as code
+use Rattle.route_io.specs.contracts.link.acts.StreamActs as made
 
 abbrev stayed : Stays (f.ended).signature.params (f.ended).kept
 stayed = (stay_none_ref (0 ∷ []) tt (plain (λ _. made.the_row)) yes, tt)
@@ -50,7 +50,7 @@ module _ {M : Type 1} {𝓤 : Ura M} (𝓛 : Logic 𝓤) (mem : Memory → SProp
     abbrev passed : Fml
     passed = owns (types_at f.signature.params κs) a (before ∷ [], tt)
 
-    abbrev after : Acts
+    abbrev after : StreamActs
     after = record { list = Read None ∷ a.0.now.list }
 
     walk : ent 𝓤 (on_entry 𝓛 f.signature κs qs a (before ∷ [], tt))

@@ -28,13 +28,13 @@ use denote.Triple.Entry.{on_entry, alive, Args}
 use denote.Triple.Spec.{Meets, triple_of}
 use denote.Triple.Table.{entered}
 use denote.Triple.Walked.{says, stay_none_ref, stay_none_slice, Stays, walk_of, Walks, ends_at, walked, Goes-none_ref, Goes-none_slice, walk_Meets}
-use Rattle.route_io.specs.declared.link.acts.Acts.{Acts}
+use Rattle.route_io.specs.declared.link.acts.StreamActs.{StreamActs}
 use Rattle.route_io.specs.Views.{Write}
-use Rattle.route_io.specs.contracts.link.acts.Acts.took.Key.{name as key}
-use Rattle.route_io.specs.contracts.link.acts.Acts.took as f
-use Rattle.route_io.proofs.link.acts.Acts.took.Statement as stated
-use Rattle.route_io.proofs.link.acts.Acts.took.Code as code
-use Rattle.route_io.specs.contracts.link.acts.Acts as made
+use Rattle.route_io.specs.contracts.link.acts.StreamActs.took.Key.{name as key}
+use Rattle.route_io.specs.contracts.link.acts.StreamActs.took as f
+use Rattle.route_io.proofs.link.acts.StreamActs.took.Statement as stated
+use Rattle.route_io.proofs.link.acts.StreamActs.took.Code as code
+use Rattle.route_io.specs.contracts.link.acts.StreamActs as made
 
 abbrev stayed : Stays (f.ended).signature.params (f.ended).kept
 stayed = (stay_none_ref (0 ∷ []) tt (plain (λ _. made.the_row)) yes, (stay_none_slice (1 ∷ []) tt (plain (λ _. u8)) yes, (stay_none_slice (2 ∷ []) tt (plain (λ _. u8)) yes, tt)))
@@ -58,7 +58,7 @@ module _ {M : Type 1} {𝓤 : Ura M} (𝓛 : Logic 𝓤) (mem : Memory → SProp
     abbrev passed : Fml
     passed = owns (types_at f.signature.params κs) a (before ∷ [], (piece ∷ [], (taken ∷ [], tt)))
 
-    abbrev after : Acts
+    abbrev after : StreamActs
     after = record { list = Write a.1.0.now (Some (length a.1.1.0.now)) ∷ a.0.now.list }
 
     walk : length a.1.0.now < 2 ^ 64 → length a.1.1.0.now < 2 ^ 64 → ent 𝓤 (on_entry 𝓛 f.signature κs qs a (before ∷ [], (piece ∷ [], (taken ∷ [], tt))))
