@@ -3,7 +3,7 @@ use Rattle.std.proofs.Common.{ℕ, ◌≡◌, ◌<◌, ◌^◌, Bool, true, fals
 use Rattle.std.proofs.lemmas.List.Elements.{All-map, All-weaker}
 use Rattle.topology.specs.Net.{Net}
 use Rattle.marker_snapshot.specs.declared.recording.Row.{Row}
-use Rattle.marker_snapshot.specs.Acts.{Acts, Hears}
+use Rattle.marker_snapshot.specs.Acts.{SnapshotActs, Hears}
 use Rattle.marker_snapshot.specs.Cuts.{is_of, done, recorded, Continues, IsNext}
 use Rattle.marker_snapshot.specs.Rows.{added, heard}
 use Rattle.marker_snapshot.specs.Keeping.{Kept}
@@ -11,7 +11,7 @@ use Rattle.marker_snapshot.specs.Standing.{IsRow, StandsFor}
 use Rattle.marker_snapshot.proofs.Ranges.{extended, extended_first}
 use Rattle.marker_snapshot.proofs.Held.{both_same, has_map}
 
-module _ (acts : Acts) (v s n : ℕ) where
+module _ (acts : SnapshotActs) (v s n : ℕ) where
   elsewhere : (row : Row) → IsRow acts row → is_of v s row.nbr row.recording.session ≡ false → IsRow (Hears v s n ∷ acts) row
   elsewhere row is other = record {
     in_cut = is.in_cut;
@@ -77,7 +77,7 @@ heard_nbr v s n row = elim (is_of v s row.nbr row.recording.session) as (λ b. (
 ]
 
 -- the snapshots stand for one act more
-pub update_stands : (net : Net) (u : ℕ) (kept : Kept) (acts : Acts) (v s n : ℕ) (rows : List Row) → StandsFor net u kept acts → Continues acts v s n → n < 2 ^ 32
+pub update_stands : (net : Net) (u : ℕ) (kept : Kept) (acts : SnapshotActs) (v s n : ℕ) (rows : List Row) → StandsFor net u kept acts → Continues acts v s n → n < 2 ^ 32
     → rows ≡ map (heard v s n) kept.rows → StandsFor net u (record { epoch = kept.epoch; cuts = kept.cuts; rows = rows }) (Hears v s n ∷ acts)
 update_stands net u kept acts v s n rows stands continues small is = record {
   epoch = stands.epoch;

@@ -6,7 +6,7 @@ use Rattle.std.proofs.lemmas.Bool.Decides.{nat_tests}
 use Rattle.marker_snapshot.specs.declared.recording.Row.{Row}
 use Rattle.topology.specs.Lists.{has}
 use Rattle.topology.specs.Net.{Net, neighbours}
-use Rattle.marker_snapshot.specs.Acts.{Acts}
+use Rattle.marker_snapshot.specs.Acts.{SnapshotActs}
 use Rattle.marker_snapshot.specs.Cuts.{recorded_session}
 use Rattle.marker_snapshot.specs.Keeping.{Kept}
 use Rattle.marker_snapshot.specs.Standing.{HasRow, StandsFor}
@@ -28,7 +28,7 @@ has_map f epochs nbrs rows e v has = record {
 }
 
 -- where there is no row, no session was held
-pub not_recorded : (net : Net) (u : ℕ) (kept : Kept) (acts : Acts) (e v : ℕ) → StandsFor net u kept acts → has (neighbours net u) v ≡ true
+pub not_recorded : (net : Net) (u : ℕ) (kept : Kept) (acts : SnapshotActs) (e v : ℕ) → StandsFor net u kept acts → has (neighbours net u) v ≡ true
     → ((row : Row) → Contains kept.rows row → row.epoch ≡ e → row.nbr ≡ v → ⊥) → recorded_session e v acts ≡ None
 not_recorded net u kept acts e v stands near none =
     (elim (recorded_session e v acts) as (λ o. recorded_session e v acts ≡ o → o ≡ None) [

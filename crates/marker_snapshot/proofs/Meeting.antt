@@ -6,14 +6,14 @@ use Rattle.std.proofs.lemmas.List.Elements.{All-map, All-weaker}
 use Rattle.std.proofs.lemmas.List.Sorted.{All-permutation, Contains-permutation}
 use Rattle.topology.specs.Net.{Net}
 use Rattle.marker_snapshot.specs.declared.recording.Row.{Row}
-use Rattle.marker_snapshot.specs.Acts.{Acts, Meets}
+use Rattle.marker_snapshot.specs.Acts.{SnapshotActs, Meets}
 use Rattle.marker_snapshot.specs.Cuts.{is_of}
 use Rattle.marker_snapshot.specs.Rows.{ended, met}
 use Rattle.marker_snapshot.specs.Keeping.{Kept}
 use Rattle.marker_snapshot.specs.Standing.{IsRow, HasRow, StandsFor}
 use Rattle.marker_snapshot.proofs.Held.{has_map}
 
-row_met : (acts : Acts) (v s d : ℕ) (row : Row) → IsRow acts row → IsRow (Meets v s d ∷ acts) (met v s d row)
+row_met : (acts : SnapshotActs) (v s d : ℕ) (row : Row) → IsRow acts row → IsRow (Meets v s d ∷ acts) (met v s d row)
 row_met acts v s d row is =
     (elim (is_of v s row.nbr row.recording.session && nat_le row.epoch d) as (λ b. (is_of v s row.nbr row.recording.session && nat_le row.epoch d) ≡ b
     → IsRow (Meets v s d ∷ acts) (if b then ended row else row)) [
@@ -42,7 +42,7 @@ has_moved rows moved same e v has = record {
 }
 
 -- the snapshots stand for one act more
-pub mark_stands : (net : Net) (u : ℕ) (kept : Kept) (acts : Acts) (v s d : ℕ) (rows : List Row) → StandsFor net u kept acts
+pub mark_stands : (net : Net) (u : ℕ) (kept : Kept) (acts : SnapshotActs) (v s d : ℕ) (rows : List Row) → StandsFor net u kept acts
     → IsPermutation (map (met v s d) kept.rows) rows → StandsFor net u (record { epoch = kept.epoch; cuts = kept.cuts; rows = rows }) (Meets v s d ∷ acts)
 mark_stands net u kept acts v s d rows stands same = record {
   epoch = stands.epoch;

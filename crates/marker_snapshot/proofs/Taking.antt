@@ -12,7 +12,7 @@ use Rattle.path_vector.specs.History.{held}
 use Rattle.trigger_log.specs.Entries.{Entry, reads}
 use Rattle.marker_snapshot.specs.declared.recording.Row.{Row}
 use Rattle.marker_snapshot.specs.declared.recording.Cut.{Cut}
-use Rattle.marker_snapshot.specs.Acts.{Acts, Takes}
+use Rattle.marker_snapshot.specs.Acts.{SnapshotActs, Takes}
 use Rattle.marker_snapshot.specs.Cuts.{epoch_of, cut_of, recorded_session}
 use Rattle.marker_snapshot.specs.Rows.{begun, begun_by}
 use Rattle.marker_snapshot.specs.Keeping.{Kept}
@@ -21,7 +21,7 @@ use Rattle.marker_snapshot.specs.Standing.{IsRow, IsCut, HasRow, HasCut, StandsF
 none_is_no_some : {A : Type 0} (o : Option A) (x : A) → o ≡ None → o ≡ Some x → ⊥
 none_is_no_some o x e f = cc
 
-module _ (d : ℕ) (h : List Entry) (acts : Acts) where
+module _ (d : ℕ) (h : List Entry) (acts : SnapshotActs) where
   -- the sessions that are held
   abbrev pub begun_with : ℕ → List Row
   begun_with v = begun_by d v (held (reads h) v)
@@ -78,7 +78,7 @@ cut_with d n = record { epoch = d; entries = n }
 abbrev pub new_cut : ℕ → List Entry → Cut
 new_cut d h = cut_with d (length h)
 
-module _ (net : Net) (u : ℕ) (kept : Kept) (acts : Acts) (d : ℕ) (h : List Entry) (stands : StandsFor net u kept acts) (above : epoch_of acts < d) where
+module _ (net : Net) (u : ℕ) (kept : Kept) (acts : SnapshotActs) (d : ℕ) (h : List Entry) (stands : StandsFor net u kept acts) (above : epoch_of acts < d) where
   newest_of : (e : ℕ) → d < e → cut_of e (Takes d h ∷ acts) ≡ None
   newest_of e more = rw (ne_eqb d e (λ same. omega arith)) (stands.newest e (omega arith))
 

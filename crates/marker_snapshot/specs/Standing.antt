@@ -7,24 +7,24 @@ use Rattle.trigger_log.specs.Entries.{Entry}
 use Rattle.marker_snapshot.specs.declared.recording.Recording.{Recording}
 use Rattle.marker_snapshot.specs.declared.recording.Row.{Row}
 use Rattle.marker_snapshot.specs.declared.recording.Cut.{Cut}
-use Rattle.marker_snapshot.specs.Acts.{Acts}
+use Rattle.marker_snapshot.specs.Acts.{SnapshotActs}
 use Rattle.marker_snapshot.specs.Cuts.{epoch_of, cut_of, done, recorded, recorded_session}
 use Rattle.marker_snapshot.specs.Keeping.{Kept}
 
 -- this is the recording of epoch e with v: the session that the cut holds, the numbers recorded, the first
 -- of them or 0, and whether it is done
-pub record Shows (acts : Acts) (e v : ℕ) (recording : Recording) : Type 0 where
+pub record Shows (acts : SnapshotActs) (e v : ℕ) (recording : Recording) : Type 0 where
   pub in_cut : recorded_session e v acts ≡ Some recording.session
   pub numbers : range_with_len recording.first recording.count ≡ recorded e v recording.session acts
   pub none_or_first : (recording.first == 0) ≡ (recording.count == 0)
   pub ended : done e v recording.session acts ≡ recording.done
 
 -- the row is that of its epoch and neighbour
-abbrev pub IsRow : Acts → Row → Type 0
+abbrev pub IsRow : SnapshotActs → Row → Type 0
 IsRow acts row = Shows acts row.epoch row.nbr row.recording
 
 -- the cut of this epoch has as many entries
-abbrev pub IsCut : Acts → Cut → Type 0
+abbrev pub IsCut : SnapshotActs → Cut → Type 0
 IsCut acts cut = option_map length (cut_of cut.epoch acts) ≡ Some cut.entries
 
 -- there is a cut of e
@@ -41,7 +41,7 @@ pub record HasRow (rows : List Row) (e v : ℕ) : Type 0 where
   pub of_nbr : row.nbr ≡ v
 
 -- the snapshots are those of node u in this net, after these acts
-pub record StandsFor (net : Net) (u : ℕ) (kept : Kept) (acts : Acts) : Type 0 where
+pub record StandsFor (net : Net) (u : ℕ) (kept : Kept) (acts : SnapshotActs) : Type 0 where
   pub epoch : kept.epoch ≡ epoch_of acts
   pub newest : (e : ℕ) → epoch_of acts < e → cut_of e acts ≡ None
   pub cuts : All (IsCut acts) kept.cuts

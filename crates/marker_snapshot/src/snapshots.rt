@@ -6,7 +6,7 @@ ghost use Rattle.topology.specs.Net.{Net, neighbours};
 ghost use Rattle.path_vector.specs.History.{held};
 ghost use Rattle.trigger_log.specs.Entries.{Entry, reads};
 ghost use Rattle.trigger_log.specs.Standing.{StandsFor as LogStandsFor};
-ghost use Rattle.marker_snapshot.specs.Acts.{Acts, Takes, Meets, Hears};
+ghost use Rattle.marker_snapshot.specs.Acts.{SnapshotActs, Takes, Meets, Hears};
 ghost use Rattle.marker_snapshot.specs.Cuts.{epoch_of, cut_of, recorded_session, Continues};
 ghost use Rattle.marker_snapshot.specs.Rows.{begun_by};
 ghost use Rattle.marker_snapshot.specs.Standing.{StandsFor, Shows};
@@ -73,7 +73,7 @@ impl Snapshots {
         log: &NodeLog<P>,
         topology: &Topology,
     ) -> Result<Snapshots, NoMemory>
-        ensures { IfOk result (λ taken. (policy : P) (u : ℕ) (h : List Entry) (acts : Acts) →
+        ensures { IfOk result (λ taken. (policy : P) (u : ℕ) (h : List Entry) (acts : SnapshotActs) →
             StandsFor topology.now u self acts → LogStandsFor policy (P.rules policy) topology.now u log.now h →
             epoch_of acts < epoch → StandsFor topology.now u taken (Takes epoch h ∷ acts)) }
     {
@@ -91,7 +91,7 @@ impl Snapshots {
     /// A marker or hello of an epoch came in a session: it ends the recordings of that session of this
     /// epoch and of those before. Takes no memory.
     pub fn on_marker(&mut self, nbr: NodeId, session: Session, epoch: Epoch)
-        ensures { (net : Net) (u : ℕ) (acts : Acts) → StandsFor net u self.old acts →
+        ensures { (net : Net) (u : ℕ) (acts : SnapshotActs) → StandsFor net u self.old acts →
             StandsFor net u self.new (Meets nbr session epoch ∷ acts) }
     {
         self.recordings.meet(nbr, session, epoch);
@@ -101,7 +101,7 @@ impl Snapshots {
     /// has it from now on. The number is from 1, and one above the last one of each of these recordings
     /// that has one (`recorded` tells it): of another number nothing is promised. Takes no memory.
     pub fn on_update(&mut self, nbr: NodeId, session: Session, seq: u32)
-        ensures { (net : Net) (u : ℕ) (acts : Acts) → StandsFor net u self.old acts →
+        ensures { (net : Net) (u : ℕ) (acts : SnapshotActs) → StandsFor net u self.old acts →
             Continues acts nbr session seq → StandsFor net u self.new (Hears nbr session seq ∷ acts) }
     {
         self.recordings.hear(nbr, session, seq);
@@ -109,7 +109,7 @@ impl Snapshots {
 
     /// The epoch of the last cut, 0 before the first one. Takes no memory.
     pub fn epoch(&self) -> Epoch
-        ensures { (net : Net) (u : ℕ) (acts : Acts) → StandsFor net u self.now acts →
+        ensures { (net : Net) (u : ℕ) (acts : SnapshotActs) → StandsFor net u self.now acts →
             result ≡ epoch_of acts }
     {
         self.epoch
@@ -118,7 +118,7 @@ impl Snapshots {
     /// How many entries the cut of an epoch has. None exactly where there is no cut of it. Takes no
     /// memory.
     pub fn cut_of(&self, epoch: Epoch) -> Option<u32>
-        ensures { (net : Net) (u : ℕ) (acts : Acts) → StandsFor net u self.now acts →
+        ensures { (net : Net) (u : ℕ) (acts : SnapshotActs) → StandsFor net u self.now acts →
             result ≡ option_map length (cut_of epoch acts) }
     {
         let cut = self.cuts.iter().find(|cut| cut.epoch == epoch)?;
@@ -128,9 +128,9 @@ impl Snapshots {
     /// What was recorded after the cut of an epoch of the session with a neighbour that was held in it.
     /// None exactly where there is no cut of that epoch, or it holds no such session. Takes no memory.
     pub fn recorded(&self, epoch: Epoch, nbr: NodeId) -> Option<Recording>
-        ensures some { IfSome result (λ recording. (net : Net) (u : ℕ) (acts : Acts) →
+        ensures some { IfSome result (λ recording. (net : Net) (u : ℕ) (acts : SnapshotActs) →
             StandsFor net u self.now acts → Shows acts epoch nbr recording) }
-        ensures none { IfNone result ((net : Net) (u : ℕ) (acts : Acts) → StandsFor net u self.now acts →
+        ensures none { IfNone result ((net : Net) (u : ℕ) (acts : SnapshotActs) → StandsFor net u self.now acts →
             has (neighbours net u) nbr ≡ true → recorded_session epoch nbr acts ≡ None) }
     {
         let Some(row) = self.recordings.find(epoch, nbr) else {

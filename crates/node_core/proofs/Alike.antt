@@ -8,7 +8,7 @@ use Rattle.path_vector.specs.Rules.{Rules}
 use Rattle.path_vector.specs.History.{held}
 use Rattle.trigger_log.specs.Entries.{Entry, Update, inbox, reads}
 use Rattle.trigger_log.specs.Going.{Item, News, Marker, Hello, mark_of, numbered}
-use Rattle.marker_snapshot.specs.Acts.{Acts, Takes, Meets, Hears}
+use Rattle.marker_snapshot.specs.Acts.{SnapshotActs, Takes, Meets, Hears}
 use Rattle.marker_snapshot.specs.Cuts.{cut_of, is_of, done, more, recorded, IsNext, Continues}
 use Rattle.chronicle.specs.Facts.{Chronicle, Took}
 use Rattle.chronicle.specs.Logs.{log_of}
@@ -33,7 +33,7 @@ start_alike u = record {
 }
 
 -- only epochs, cuts and what was taken matter
-pub same_alike : (acts : Acts) (u : ℕ) (past now : Chronicle) → epoch u now ≡ epoch u past → ((e : ℕ) → cut u e now ≡ cut u e past) → ((v s : ℕ) → took v u s now ≡ took v u s past)
+pub same_alike : (acts : SnapshotActs) (u : ℕ) (past now : Chronicle) → epoch u now ≡ epoch u past → ((e : ℕ) → cut u e now ≡ cut u e past) → ((v s : ℕ) → took v u s now ≡ took v u s past)
     → Alike acts u past → Alike acts u now
 same_alike acts u past now epochs cuts items was = record {
   same_epoch = was.same_epoch ∙ sym epochs;
@@ -93,7 +93,7 @@ recorded_news true e n x k xs false before d r low =
     ∙ (ap (λ z. numbers (drop k z)) (updates_append xs (News n x ∷ []))
     ∙ (ap numbers (drop-append-le k (updates xs) (News n x ∷ []) short) ∙ numbers_append (drop k (updates xs)) (News n x ∷ []))))
 
-module _ (rules : Rules) (net : Net) (u : ℕ) (past : Chronicle) (acts : Acts) (own : Own rules net past u) (was : Alike acts u past) where
+module _ (rules : Rules) (net : Net) (u : ℕ) (past : Chronicle) (acts : SnapshotActs) (own : Own rules net past u) (was : Alike acts u past) where
   -- what a cut received was taken before the mark
   heard_so_far : (e v s : ℕ) (c : List Entry) → cut u e past ≡ Some c → length (inbox c v s) ≤ length (updates (until e (took v u s past)))
   heard_so_far e v s c is =
@@ -152,7 +152,7 @@ recorded_mark true e d x xs is =
     none false = no_update x d is
 
 -- a mark is met
-pub mark_alike : (u : ℕ) (past : Chronicle) (acts : Acts) (v s d : ℕ) (x : Item) → mark_of x ≡ Some d → Alike acts u past → Alike (Meets v s d ∷ acts) u (Took v u s x ∷ past)
+pub mark_alike : (u : ℕ) (past : Chronicle) (acts : SnapshotActs) (v s d : ℕ) (x : Item) → mark_of x ≡ Some d → Alike acts u past → Alike (Meets v s d ∷ acts) u (Took v u s x ∷ past)
 mark_alike u past acts v s d x is was = record {
   same_epoch = was.same_epoch;
   same_cut = was.same_cut;
@@ -170,7 +170,7 @@ cut_which : (e d : ℕ) (log c : List Entry) (older : Option (List Entry)) (t : 
 cut_which e d log c older true is on = cc is
 cut_which e d log c older false is on = absurd (cc on)
 
-module _ (rules : Rules) (net : Net) (u : ℕ) (carried : Carried) (e : ℕ) (past : Chronicle) (acts : Acts) (own : Own rules net past u) (was : Alike acts u past) (high : epoch u past < e) where
+module _ (rules : Rules) (net : Net) (u : ℕ) (carried : Carried) (e : ℕ) (past : Chronicle) (acts : SnapshotActs) (own : Own rules net past u) (was : Alike acts u past) (high : epoch u past < e) where
   -- no mark of the new epoch was taken
   none_yet : (v s : ℕ) → marked e (took v u s past) ≡ false
   none_yet v s = unmarked_higher (suc (epoch u past)) e (took v u s past) (omega (arith, high)) (own.marks.took_below v s)
@@ -228,7 +228,7 @@ next_numbered m zero n xs is = next_all m n xs is
 next_numbered m (suc k) n [] is = tt
 next_numbered m (suc k) n (x ∷ xs) is = next_numbered (suc m) k n xs (omega (arith, is))
 
-module _ (rules : Rules) (net : Net) (u : ℕ) (past : Chronicle) (acts : Acts) (own : Own rules net past u) (was : Alike acts u past) where
+module _ (rules : Rules) (net : Net) (u : ℕ) (past : Chronicle) (acts : SnapshotActs) (own : Own rules net past u) (was : Alike acts u past) where
   -- the next update of a session continues each recording of it that is not done
   pub continues : (v s n : ℕ) → n ≡ suc (length (inbox (log_of u past) v s)) → Continues acts v s n
   continues v s n turn = record {

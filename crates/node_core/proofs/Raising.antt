@@ -16,7 +16,7 @@ use Rattle.trigger_log.specs.Entries.{Entry, closes, closing, reads}
 use Rattle.trigger_log.specs.Fits.{AllInherit, Inherits}
 use Rattle.trigger_log.specs.Going.{Item, Marker, Going, mark_of, going_in, spread}
 use Rattle.trigger_log.specs.Standing.{StandsFor as LogStandsFor, dropped_of}
-use Rattle.marker_snapshot.specs.Acts.{Acts, Takes, Meets}
+use Rattle.marker_snapshot.specs.Acts.{SnapshotActs, Takes, Meets}
 use Rattle.marker_snapshot.specs.Cuts.{epoch_of}
 use Rattle.marker_snapshot.specs.Keeping.{Kept}
 use Rattle.marker_snapshot.specs.Standing.{StandsFor as SnapshotsStandFor}
@@ -76,14 +76,14 @@ module _ (h : List Entry) (e : ℕ) where
 -- ---- what a node keeps
 
 -- the snapshots take their cut in the network of the node
-pub taken_at : {P : Type 0} (policy : P) (rules : Rules) (topo net : Net) (u : ℕ) (log : NodeLog P) (h : List Entry) (old new : Kept) (acts : Acts) (e : ℕ) → topo ≡ net
+pub taken_at : {P : Type 0} (policy : P) (rules : Rules) (topo net : Net) (u : ℕ) (log : NodeLog P) (h : List Entry) (old new : Kept) (acts : SnapshotActs) (e : ℕ) → topo ≡ net
     → (SnapshotsStandFor topo u old acts → LogStandsFor policy rules topo u log h → epoch_of acts < e → SnapshotsStandFor topo u new (Takes e h ∷ acts))
     → SnapshotsStandFor net u old acts → LogStandsFor policy rules net u log h → epoch_of acts < e → SnapshotsStandFor net u new (Takes e h ∷ acts)
 taken_at policy rules topo net u log h old new acts e same taken =
     subst (λ n. SnapshotsStandFor n u old acts → LogStandsFor policy rules n u log h → epoch_of acts < e → SnapshotsStandFor n u new (Takes e h ∷ acts)) same taken
 
 -- its snapshots were told more, its reports are those of its cuts, and the log is as it was
-pub told_keeps : {P : Type 0} (policy : P) (rules : Rules) (net : Net) (u : ℕ) (past now : Chronicle) (old new : Node P) (acts : Acts)
+pub told_keeps : {P : Type 0} (policy : P) (rules : Rules) (net : Net) (u : ℕ) (past now : Chronicle) (old new : Node P) (acts : SnapshotActs)
     → Keeps policy rules net u old past → KeepsAllBut old new → log_of u now ≡ log_of u past → dropped net u now ≡ dropped net u past
     → SnapshotsStandFor net u new.parts.value.snapshots acts → Alike acts u now → AreReports rules net u now new.parts.value.agreement.reports
     → Keeps policy rules net u new now
@@ -114,7 +114,7 @@ risen_cuts rules net u carried past e d =
 -- the epoch rises
 pub risen : {P : Type 0} (policy : P) (rules : Rules) (net : Net) (u : ℕ) (carried : Carried) (past : Chronicle) (e : ℕ) (old new : Node P)
     → Own rules net past u → Keeps policy rules net u old past → epoch u past < e → KeepsAllBut old new
-    → ((acts : Acts) → SnapshotsStandFor net u old.parts.value.snapshots acts → epoch_of acts < e → SnapshotsStandFor net u new.parts.value.snapshots (Takes e (log_of u past) ∷ acts))
+    → ((acts : SnapshotActs) → SnapshotsStandFor net u old.parts.value.snapshots acts → epoch_of acts < e → SnapshotsStandFor net u new.parts.value.snapshots (Takes e (log_of u past) ∷ acts))
     → new.parts.value.agreement.reports ≡ old.parts.value.agreement.reports ++ trimmed_report rules net u e (trimmed (dropped_of old.log.value) (log_of u past)) ∷ []
     → Keeps policy rules net u new (raise rules net carried u e past)
 risen policy rules net u carried past e old new own was high rest taken kept =
@@ -179,7 +179,7 @@ is_below a b c t test off same = let so : is_lt (nat_cmp a b) ≡ false = sym te
 
 module _ {P : Type 0} (policy : P) (rules : Rules) (net : Net) (u : ℕ) (carried : Carried) (past : Chronicle) (v s e : ℕ) (x : Item) (old mid new : Node P)
     (own : Own rules net past u) (was : Keeps policy rules net u old past) (is : mark_of x ≡ Some e)
-    (meets : (acts : Acts) → SnapshotsStandFor net u mid.parts.value.snapshots acts → SnapshotsStandFor net u new.parts.value.snapshots (Meets v s e ∷ acts)) (rest : KeepsAllBut mid new) (same_reports : new.parts.value.agreement.reports ≡ mid.parts.value.agreement.reports) where
+    (meets : (acts : SnapshotActs) → SnapshotsStandFor net u mid.parts.value.snapshots acts → SnapshotsStandFor net u new.parts.value.snapshots (Meets v s e ∷ acts)) (rest : KeepsAllBut mid new) (same_reports : new.parts.value.agreement.reports ≡ mid.parts.value.agreement.reports) where
   -- a mark is met
   marked_keeps : (now : Chronicle) → Keeps policy rules net u mid now → Keeps policy rules net u new (Took v u s x ∷ now)
   marked_keeps now then' =
@@ -188,7 +188,7 @@ module _ {P : Type 0} (policy : P) (rules : Rules) (net : Net) (u : ℕ) (carrie
 
   -- a higher one is met after the cut that it asks for
   pub met_above : (raised : Node P) → mid ≡ raised → epoch u past < e → KeepsAllBut old raised
-      → ((acts : Acts) → SnapshotsStandFor net u old.parts.value.snapshots acts → epoch_of acts < e → SnapshotsStandFor net u raised.parts.value.snapshots (Takes e (log_of u past) ∷ acts))
+      → ((acts : SnapshotActs) → SnapshotsStandFor net u old.parts.value.snapshots acts → epoch_of acts < e → SnapshotsStandFor net u raised.parts.value.snapshots (Takes e (log_of u past) ∷ acts))
       → raised.parts.value.agreement.reports ≡ old.parts.value.agreement.reports ++ trimmed_report rules net u e (trimmed (dropped_of old.log.value) (log_of u past)) ∷ []
       → Keeps policy rules net u new (meet_mark rules net carried u e (Took v u s x ∷ past))
   met_above raised same high others taken kept =

@@ -10,7 +10,7 @@ use Rattle.path_vector.specs.Rules.{Rules}
 use Rattle.path_vector.specs.History.{ready}
 use Rattle.trigger_log.specs.Entries.{Update, entry, local, reads}
 use Rattle.trigger_log.specs.Going.{News, Marker, Hello, item_of}
-use Rattle.marker_snapshot.specs.Acts.{Acts, Hears}
+use Rattle.marker_snapshot.specs.Acts.{SnapshotActs, Hears}
 use Rattle.marker_snapshot.specs.Cuts.{Continues}
 use Rattle.marker_snapshot.specs.Standing.{StandsFor as SnapshotsStandFor}
 use Rattle.chronicle.specs.Facts.{Chronicle, Took}
@@ -60,7 +60,7 @@ module _ {P : Type 0} (policy : P) (rules : Rules) (net : Net) (u : ℕ) (past :
 
   -- the snapshots were told of it
   pub heard_keeps : (old new : Node P) → Own rules net past u → Keeps policy rules net u old past → KeepsAllBut old new → new.parts.value.agreement.reports ≡ old.parts.value.agreement.reports
-      → ((acts : Acts) → SnapshotsStandFor net u old.parts.value.snapshots acts → Continues acts v s n → SnapshotsStandFor net u new.parts.value.snapshots (Hears v s n ∷ acts))
+      → ((acts : SnapshotActs) → SnapshotsStandFor net u old.parts.value.snapshots acts → Continues acts v s n → SnapshotsStandFor net u new.parts.value.snapshots (Hears v s n ∷ acts))
       → Keeps policy rules net u new (Took v u s (News n (record { prefix = p; triggers = ts; path = path })) ∷ past)
   heard_keeps old new own was rest same hears =
       let x : Update = record { prefix = p; triggers = ts; path = path } in

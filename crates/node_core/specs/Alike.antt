@@ -6,12 +6,12 @@ use Rattle.chronicle.specs.Facts.{Chronicle}
 use Rattle.chronicle.specs.Epochs.{epoch, cut}
 use Rattle.chronicle.specs.Messages.{took, updates, marked, until}
 use Rattle.chronicle.specs.Recordings.{numbers}
-use Rattle.marker_snapshot.specs.Acts.{Acts}
+use Rattle.marker_snapshot.specs.Acts.{SnapshotActs}
 use Rattle.marker_snapshot.specs.Cuts.{epoch_of, cut_of, done, recorded}
 
 -- they have the epoch and the cuts of u; and of each session that a cut holds, whether its recording is done,
 -- and the numbers recorded
-pub record Alike (acts : Acts) (u : ℕ) (past : Chronicle) : Type 0 where
+pub record Alike (acts : SnapshotActs) (u : ℕ) (past : Chronicle) : Type 0 where
   pub same_epoch : epoch_of acts ≡ epoch u past
   pub same_cut : (e : ℕ) → cut_of e acts ≡ cut u e past
   pub same_done : (e v s : ℕ) (c : List Entry) → cut u e past ≡ Some c → held (reads c) v ≡ Some s

@@ -7,7 +7,7 @@ use Rattle.trigger_log.specs.Entries.{Entry}
 use Rattle.trigger_log.specs.Fits.{CauseFits, ListsFor}
 use Rattle.trigger_log.specs.Offered.{IsPlaced}
 use Rattle.trigger_log.specs.Standing.{StandsFor as LogStandsFor, dropped_of}
-use Rattle.marker_snapshot.specs.Acts.{Acts}
+use Rattle.marker_snapshot.specs.Acts.{SnapshotActs}
 use Rattle.marker_snapshot.specs.Standing.{StandsFor as SnapshotsStandFor}
 use Rattle.chronicle.specs.Facts.{Chronicle}
 use Rattle.chronicle.specs.Logs.{log_of}
@@ -34,7 +34,7 @@ pub record Keeps {P : Type 0} (policy : P) (rules : Rules) (net : Net) (u : ℕ)
   pub log : LogStandsFor policy rules net u node.log.value (log_of u past)
   pub drops : dropped_of node.log.value ≡ dropped net u past
   pub counted : AreCounts rules net u (log_of u past) node.parts.value.counts
-  pub acts : Acts
+  pub acts : SnapshotActs
   pub snapshots : SnapshotsStandFor net u node.parts.value.snapshots acts
   pub alike : Alike acts u past
   pub reports : AreReports rules net u past node.parts.value.agreement.reports

@@ -4,7 +4,7 @@ use Rattle.topology.specs.Net.{Net}
 use Rattle.path_vector.specs.Rules.{Rules}
 use Rattle.chronicle.specs.Facts.{Chronicle}
 use Rattle.marker_snapshot.specs.Keeping.{Kept}
-use Rattle.marker_snapshot.specs.Acts.{Acts}
+use Rattle.marker_snapshot.specs.Acts.{SnapshotActs}
 use Rattle.marker_snapshot.specs.Standing.{StandsFor as SnapshotsStandFor}
 use Rattle.cut_laws.specs.Own.{Own}
 use Rattle.node_core.specs.declared.node.Node.{Node}
@@ -29,6 +29,6 @@ pub record StandsFor {P : Type 0} (policy : P) (rules : Rules) (net : Net) (u : 
 
 -- the snapshots were told what u did
 pub record HasSnapshots (net : Net) (u : ℕ) (past : Chronicle) (snapshots : Kept) : Type 0 where
-  pub acts : Acts
+  pub acts : SnapshotActs
   pub stands : SnapshotsStandFor net u snapshots acts
   pub alike : Alike acts u past

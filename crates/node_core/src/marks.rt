@@ -6,7 +6,7 @@ ghost use Rattle.trigger_log.specs.Dropping.{trimmed};
 ghost use Rattle.trigger_log.specs.Entries.{Entry};
 ghost use Rattle.trigger_log.specs.Going.{Item as Gone, mark_of};
 ghost use Rattle.trigger_log.specs.Standing.{StandsFor as LogStandsFor, dropped_of};
-ghost use Rattle.marker_snapshot.specs.Acts.{Acts, Takes};
+ghost use Rattle.marker_snapshot.specs.Acts.{SnapshotActs, Takes};
 ghost use Rattle.marker_snapshot.specs.Cuts.{epoch_of};
 ghost use Rattle.marker_snapshot.specs.Standing.{StandsFor as SnapshotsStandFor};
 ghost use Rattle.incomplete_closure.specs.Seen.{report_seen};
@@ -76,7 +76,7 @@ impl<P: Policy + Copy> Node<P> {
     #[inline(always)]
     pub(crate) fn raise(self, epoch: Epoch, outputs: &mut OutputList) -> Result<Node<P>, NoMemory>
         ensures others { IfOk result (λ node. KeepsAllBut self node) }
-        ensures snapshots { IfOk result (λ node. (policy : P) (net : Net) (u : ℕ) (h : List Entry) (acts : Acts) →
+        ensures snapshots { IfOk result (λ node. (policy : P) (net : Net) (u : ℕ) (h : List Entry) (acts : SnapshotActs) →
             self.parts.value.topology.value ≡ net → LogStandsFor policy (P.rules policy) net u self.log.value h →
             SnapshotsStandFor net u self.parts.value.snapshots acts → epoch_of acts < epoch →
             SnapshotsStandFor net u node.parts.value.snapshots (Takes epoch h ∷ acts)) }

@@ -4,7 +4,7 @@ use Rattle.std.specs.Prelude.{option_map, option_and_then}
 use Rattle.path_vector.specs.History.{held}
 use Rattle.trigger_log.specs.Entries.{Entry, reads, inbox}
 use Rattle.marker_snapshot.specs.declared.recording.Recording.{Recording as Kept}
-use Rattle.marker_snapshot.specs.Acts.{Acts}
+use Rattle.marker_snapshot.specs.Acts.{SnapshotActs}
 use Rattle.marker_snapshot.specs.Cuts.{recorded_session}
 use Rattle.marker_snapshot.specs.Standing.{Shows}
 use Rattle.chronicle.specs.Facts.{Chronicle}
@@ -13,7 +13,7 @@ use Rattle.chronicle.specs.Recordings.{Recording, recording, recording_in, recor
 use Rattle.node_core.specs.Alike.{Alike}
 use Rattle.route_replay.specs.CutText.{recording_of}
 
-module _ (acts : Acts) (u : ℕ) (past : Chronicle) (alike : Alike acts u past) (e v : ℕ) where
+module _ (acts : SnapshotActs) (u : ℕ) (past : Chronicle) (alike : Alike acts u past) (e v : ℕ) where
   -- the session that the cut of the run holds
   abbrev session_in : Option (List Entry) → Option ℕ
   session_in c = option_and_then (λ entries. held (reads entries) v) c
