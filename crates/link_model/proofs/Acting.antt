@@ -7,14 +7,14 @@ use Rattle.topology.specs.declared.links.LinkState.{LinkState}
 use Rattle.topology.specs.declared.links.LinkState.TheVariants.{Up, Down}
 use Rattle.topology.specs.Lists.{Begins}
 use Rattle.topology.specs.LinkStates.{are_ends, failed, restored, carries, is_up, number_of}
-use Rattle.link_model.specs.Acts.{Acts, Push, Take, Fail, Restore}
+use Rattle.link_model.specs.Acts.{LinkActs, Push, Take, Fail, Restore}
 use Rattle.link_model.specs.Readings.{state, channel_after, behind_front}
 
 ends_turned : (a b c d : ℕ) → are_ends a b c d ≡ are_ends b a c d
 ends_turned a b c d = grind (arith, nat_tests)
 
 -- both ends see one link
-pub same_link : (a b : ℕ) (acts : Acts) → state a b acts ≡ state b a acts
+pub same_link : (a b : ℕ) (acts : LinkActs) → state a b acts ≡ state b a acts
 same_link a b [] = refl
 same_link a b (Push from to session item ∷ acts) = same_link a b acts
 same_link a b (Take from to ∷ acts) = same_link a b acts
@@ -38,7 +38,7 @@ restores_number true link = restored_number link
 restores_number false link = omega arith
 
 -- the sessions of a link rise
-pub rising : (a b : ℕ) (newer acts : Acts) → number_of (state a b acts) ≤ number_of (state a b (newer ++ acts))
+pub rising : (a b : ℕ) (newer acts : LinkActs) → number_of (state a b acts) ≤ number_of (state a b (newer ++ acts))
 rising a b [] acts = omega arith
 rising a b (Push from to session item ∷ newer) acts = rising a b newer acts
 rising a b (Take from to ∷ newer) acts = rising a b newer acts
@@ -71,7 +71,7 @@ still_down true link e = absurd (true≢false (sym (restored_up link) ∙ e))
 still_down false link e = e
 
 -- nothing is on its way over a link that is down
-pub empty_down : (a b : ℕ) (acts : Acts) → is_up (state a b acts) ≡ false → channel_after a b acts ≡ []
+pub empty_down : (a b : ℕ) (acts : LinkActs) → is_up (state a b acts) ≡ false → channel_after a b acts ≡ []
 empty_down a b [] e = refl
 empty_down a b (Push from to session item ∷ acts) e =
     not_pushed (from == a && to == b) (carries (state a b acts) session) (channel_after a b acts) (item ∷ []) (carries_none (state a b acts) session e) (empty_down a b acts e)
@@ -84,5 +84,5 @@ begins_more true before more = (more, refl)
 begins_more false before more = ([], append-nil before)
 
 -- a push takes nothing out
-pub push_begins : (a b from to session : ℕ) (item : Item) (acts : Acts) → Begins (channel_after a b acts) (channel_after a b (Push from to session item ∷ acts))
+pub push_begins : (a b from to session : ℕ) (item : Item) (acts : LinkActs) → Begins (channel_after a b acts) (channel_after a b (Push from to session item ∷ acts))
 push_begins a b from to session item acts = begins_more ((from == a && to == b) && carries (state a b acts) session) (channel_after a b acts) (item ∷ [])

@@ -6,7 +6,7 @@ use Rattle.std.proofs.lemmas.List.{get_or-set_same}
 use Rattle.std.proofs.lemmas.Option.{slice_get-get_or}
 use Rattle.topology.specs.Net.{Net}
 use Rattle.link_model.specs.declared.links.Links.{Links}
-use Rattle.link_model.specs.Acts.{Acts}
+use Rattle.link_model.specs.Acts.{LinkActs}
 use Rattle.link_model.specs.Readings.{channel_after}
 use Rattle.link_model.specs.Tables.{ends}
 use Rattle.link_model.specs.Ways.{OneWay, unused, has_items, holds_some}
@@ -53,7 +53,7 @@ left_on ways way left read empty inside is answer =
     ap not answer ∙ (not_not (has_items read.items) ∙ ap (λ (k : OneWay). has_items k.items) (is ∙ get_or-set_same ways way left read inside))
 
 -- what is marked of a way
-pub marked_at : (net : Net) (links : Links) (acts : Acts) (from to way : ℕ) → length links.channels.items ≡ length links.table → StandsFor net links acts → IsPlaced links from to way
+pub marked_at : (net : Net) (links : Links) (acts : LinkActs) (from to way : ℕ) → length links.channels.items ≡ length links.table → StandsFor net links acts → IsPlaced links from to way
     → holds_some (slice_get links.channels.items way) ≡ has_items (channel_after from to acts)
 marked_at net links acts from to way sized stands at =
     let inside = way_inside links from to way at in

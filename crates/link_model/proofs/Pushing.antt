@@ -4,7 +4,7 @@ use Rattle.topology.specs.declared.items.Item.{Item}
 use Rattle.topology.specs.LinkStates.{carries}
 use Rattle.topology.specs.Net.{Net}
 use Rattle.link_model.specs.declared.links.Links.{Links}
-use Rattle.link_model.specs.Acts.{Acts, Push}
+use Rattle.link_model.specs.Acts.{LinkActs, Push}
 use Rattle.link_model.specs.Keeping.{IsPlaced}
 use Rattle.link_model.specs.Readings.{state}
 use Rattle.link_model.specs.Standing.{StandsFor}
@@ -12,7 +12,7 @@ use Rattle.link_model.specs.Ways.{OneWay, after_push, has_items}
 use Rattle.link_model.proofs.Keeping.{keeps_with, way_at}
 use Rattle.link_model.proofs.Standing.{ways_after, keeps_of, pushed}
 
-pub after_pushed : (net : Net) (old new : Links) (acts : Acts) (from to way session : ℕ) (item : Item) (kept left : OneWay) (queued : Bool)
+pub after_pushed : (net : Net) (old new : Links) (acts : LinkActs) (from to way session : ℕ) (item : Item) (kept left : OneWay) (queued : Bool)
     → length old.channels.items ≡ length old.table → IsPlaced old from to way → kept ≡ get_or old.channels.items way kept → queued ≡ carries kept.state session → left ≡ after_push session item kept
     → new.table ≡ old.table → new.channels.items ≡ set old.channels.items way left → StandsFor net old acts
     → (queued ≡ carries (state from to acts) session) × StandsFor net new (Push from to session item ∷ acts)

@@ -7,7 +7,7 @@ use Rattle.topology.specs.declared.links.LinkState.TheVariants.{Up, Down}
 use Rattle.topology.specs.LinkStates.{are_ends, failed, restored, carries, is_up}
 use Rattle.topology.specs.Net.{Net, linked}
 use Rattle.link_model.specs.declared.links.Links.{Links}
-use Rattle.link_model.specs.Acts.{Acts, Push, Take, Fail, Restore}
+use Rattle.link_model.specs.Acts.{LinkActs, Push, Take, Fail, Restore}
 use Rattle.link_model.specs.Readings.{state, channel_after, behind_front}
 use Rattle.link_model.specs.Ways.{OneWay, emptied, after_push}
 use Rattle.link_model.specs.Keeping.{Ways, Keeps, replaced}
@@ -21,10 +21,10 @@ pub same_way : (kept : OneWay) (link : LinkState) (items : List Item) → kept.s
 same_way kept link items e f = ap (λ l. one_way l kept.items) e ∙ ap (one_way link) f
 
 -- each way after the acts
-abbrev pub ways_after : Acts → Ways
+abbrev pub ways_after : LinkActs → Ways
 ways_after acts u w = record { state = state u w acts; items = channel_after u w acts }
 
-pub keeps_of : (net : Net) (links : Links) (acts : Acts) → StandsFor net links acts → Keeps net links (ways_after acts)
+pub keeps_of : (net : Net) (links : Links) (acts : LinkActs) → StandsFor net links acts → Keeps net links (ways_after acts)
 keeps_of net links acts stands = record {
   valid = stands.valid;
   numbered = stands.numbered;
@@ -33,7 +33,7 @@ keeps_of net links acts stands = record {
       same_way kept (state e.from e.to acts) (channel_after e.from e.to acts) is.state is.items;
 }
 
-pub stands_of : (net : Net) (links : Links) (ways : Ways) (acts : Acts) → Keeps net links ways → ((u w : ℕ) → ways u w ≡ ways_after acts u w) → StandsFor net links acts
+pub stands_of : (net : Net) (links : Links) (ways : Ways) (acts : LinkActs) → Keeps net links ways → ((u w : ℕ) → ways u w ≡ ways_after acts u w) → StandsFor net links acts
 stands_of net links ways acts keeps same = record {
   valid = keeps.valid;
   numbered = keeps.numbered;
@@ -45,7 +45,7 @@ stands_of net links ways acts keeps same = record {
 -- ---- what each call leaves
 
 -- nothing is said of nodes that have no link
-pub not_linked : (net : Net) (links : Links) (acts : Acts) (a b : ℕ) (C : Type 0) → StandsFor net links acts → linked net a b ≡ true → ((net : Net) (ways : Ways) → Keeps net links ways → linked net a b ≡ false) → C
+pub not_linked : (net : Net) (links : Links) (acts : LinkActs) (a b : ℕ) (C : Type 0) → StandsFor net links acts → linked net a b ≡ true → ((net : Net) (ways : Ways) → Keeps net links ways → linked net a b ≡ false) → C
 not_linked net links acts a b C stands link none = absurd (true≢false (sym link ∙ none net (ways_after acts) (keeps_of net links acts stands)))
 
 same_is : (a b : ℕ) → (a == b) ≡ true → a ≡ b
@@ -60,7 +60,7 @@ more_at : (carried : Bool) (link : LinkState) (items : List Item) (item : Item)
 more_at true link items item = refl
 more_at false link items item = refl
 
-pub pushed : (net : Net) (links : Links) (acts : Acts) (from to session : ℕ) (item : Item)
+pub pushed : (net : Net) (links : Links) (acts : LinkActs) (from to session : ℕ) (item : Item)
     → Keeps net links (replaced from to (after_push session item (ways_after acts from to)) (ways_after acts)) → StandsFor net links (Push from to session item ∷ acts)
 pushed net links acts from to session item keeps = stands_of net links _ (Push from to session item ∷ acts) keeps (λ u w.
     (elim (from == u && to == w) as (λ t. (from == u && to == w) ≡ t
@@ -71,7 +71,7 @@ pushed net links acts from to session item keeps = stands_of net links _ (Push f
     ]) refl)
 
 -- a take
-pub taken : (net : Net) (links : Links) (acts : Acts) (from to : ℕ)
+pub taken : (net : Net) (links : Links) (acts : LinkActs) (from to : ℕ)
     → Keeps net links (replaced from to (one_way (state from to acts) (behind_front (channel_after from to acts))) (ways_after acts)) → StandsFor net links (Take from to ∷ acts)
 taken net links acts from to keeps = stands_of net links _ (Take from to ∷ acts) keeps (λ u w.
     (elim (from == u && to == w) as (λ t. (from == u && to == w) ≡ t
@@ -97,7 +97,7 @@ ends_at : (u w a b : ℕ) → are_ends u w a b ≡ ((a == u && b == w) || (b == 
 ends_at u w a b = grind (arith, nat_tests)
 
 -- the link of the two ends is that of a and b
-at_ends : (u w a b : ℕ) (acts : Acts) → are_ends u w a b ≡ true → state u w acts ≡ state a b acts
+at_ends : (u w a b : ℕ) (acts : LinkActs) → are_ends u w a b ≡ true → state u w acts ≡ state a b acts
 at_ends u w a b acts e =
     (elim (a == u && b == w) as (λ t. (a == u && b == w) ≡ t → state u w acts ≡ state a b acts) [
       | true ↦ λ h. let is = both_same a b u w h in rw (is.0, is.1) refl
@@ -107,7 +107,7 @@ at_ends u w a b acts e =
           rw (is.0, is.1) (same_link u w acts)
     ]) refl
 
-module _ (net : Net) (links : Links) (acts : Acts) (a b : ℕ) (d : LinkState) (keeps : Keeps net links (replaced b a (emptied d) (replaced a b (emptied d) (ways_after acts)))) where
+module _ (net : Net) (links : Links) (acts : LinkActs) (a b : ℕ) (d : LinkState) (keeps : Keeps net links (replaced b a (emptied d) (replaced a b (emptied d) (ways_after acts)))) where
   -- the link was up
   pub failed_both : failed (state a b acts) ≡ d → StandsFor net links (Fail a b ∷ acts)
   failed_both same = stands_of net links _ (Fail a b ∷ acts) keeps (λ u w.
@@ -139,13 +139,13 @@ still_restored (Up s) e = refl
 still_restored (Down s) e = absurd (true≢false (sym e))
 
 -- the link was down already
-pub not_failed : (net : Net) (links : Links) (acts : Acts) (a b : ℕ) → StandsFor net links acts → is_up (state a b acts) ≡ false → StandsFor net links (Fail a b ∷ acts)
+pub not_failed : (net : Net) (links : Links) (acts : LinkActs) (a b : ℕ) → StandsFor net links acts → is_up (state a b acts) ≡ false → StandsFor net links (Fail a b ∷ acts)
 not_failed net links acts a b stands down = stands_of net links (ways_after acts) (Fail a b ∷ acts) (keeps_of net links acts stands) (λ u w.
     once_at (are_ends u w a b) (state u w acts) (failed (state u w acts)) (channel_after u w acts) []
     (λ e. still_failed (state u w acts) (ap is_up (at_ends u w a b acts e) ∙ down)) (λ e. empty_down u w acts (ap is_up (at_ends u w a b acts e) ∙ down)))
 
 -- the link was up already
-pub not_restored : (net : Net) (links : Links) (acts : Acts) (a b : ℕ) → StandsFor net links acts → is_up (state a b acts) ≡ true → StandsFor net links (Restore a b ∷ acts)
+pub not_restored : (net : Net) (links : Links) (acts : LinkActs) (a b : ℕ) → StandsFor net links acts → is_up (state a b acts) ≡ true → StandsFor net links (Restore a b ∷ acts)
 not_restored net links acts a b stands up = stands_of net links (ways_after acts) (Restore a b ∷ acts) (keeps_of net links acts stands) (λ u w.
     once_at (are_ends u w a b) (state u w acts) (restored (state u w acts)) (channel_after u w acts) (channel_after u w acts)
     (λ e. still_restored (state u w acts) (ap is_up (at_ends u w a b acts e) ∙ up)) (λ e. refl)

@@ -4,11 +4,11 @@ use Rattle.topology.specs.declared.items.Item.{Item}
 
 -- an item was pushed at the way from one node to another, in a session; the front item was taken; a
 -- link failed, or was restored
-pub data Act : Type 0 where
-  Push : (from to session : ℕ) → (item : Item) → Act
-  Take : (from to : ℕ) → Act
-  Fail : (a b : ℕ) → Act
-  Restore : (a b : ℕ) → Act
+pub data LinkAct : Type 0 where
+  Push : (from to session : ℕ) → (item : Item) → LinkAct
+  Take : (from to : ℕ) → LinkAct
+  Fail : (a b : ℕ) → LinkAct
+  Restore : (a b : ℕ) → LinkAct
 
-abbrev pub Acts : Type 0
-Acts = List Act
+abbrev pub LinkActs : Type 0
+LinkActs = List LinkAct

@@ -3,28 +3,28 @@ ghost use Rattle.std.specs.Prelude.{ℕ, ◌≡◌, ◌≤◌, ◌++◌, ◌∷�
 ghost use Rattle.topology.specs.declared.items.Item.{Item};
 ghost use Rattle.topology.specs.Lists.{Begins};
 ghost use Rattle.topology.specs.LinkStates.{is_up, number_of};
-ghost use Rattle.link_model.specs.Acts.{Acts, Push, Restore};
+ghost use Rattle.link_model.specs.Acts.{LinkActs, Push, Restore};
 ghost use Rattle.link_model.specs.Readings.{state, channel_after};
 
 /// Both ends see one link.
 pub fn both_ends_see_one_link()
-    ensures { (a b : ℕ) (acts : Acts) → state a b acts ≡ state b a acts }
+    ensures { (a b : ℕ) (acts : LinkActs) → state a b acts ≡ state b a acts }
 {}
 
 /// The sessions of a link rise.
 pub fn sessions_rise()
-    ensures { (a b : ℕ) (newer acts : Acts) → number_of (state a b acts) ≤ number_of (state a b (newer ++ acts)) }
+    ensures { (a b : ℕ) (newer acts : LinkActs) → number_of (state a b acts) ≤ number_of (state a b (newer ++ acts)) }
 {}
 
 /// Nothing is on its way over a link that is down.
 pub fn a_link_that_is_down_is_empty()
-    ensures { (a b : ℕ) (acts : Acts) → is_up (state a b acts) ≡ false → channel_after a b acts ≡ [] }
+    ensures { (a b : ℕ) (acts : LinkActs) → is_up (state a b acts) ≡ false → channel_after a b acts ≡ [] }
 {}
 
 /// What is pushed and what is restored take nothing out of a channel.
 pub fn only_a_take_and_a_failure_empty()
-    ensures push { (a b from to session : ℕ) (item : Item) (acts : Acts) →
+    ensures push { (a b from to session : ℕ) (item : Item) (acts : LinkActs) →
         Begins (channel_after a b acts) (channel_after a b (Push from to session item ∷ acts)) }
-    ensures restore { (a b c d : ℕ) (acts : Acts) →
+    ensures restore { (a b c d : ℕ) (acts : LinkActs) →
         channel_after a b (Restore c d ∷ acts) ≡ channel_after a b acts }
 {}

@@ -4,7 +4,7 @@ ghost use Rattle.topology.specs.declared.items.Item.{Item as Carried};
 ghost use Rattle.topology.specs.Net.{Net, linked};
 ghost use Rattle.topology.specs.LinkStates.{carries, is_up, number_of};
 ghost use Rattle.link_model.specs.declared.ends.TheConstants.{MOST_WAYS};
-ghost use Rattle.link_model.specs.Acts.{Acts, Push, Take, Fail, Restore};
+ghost use Rattle.link_model.specs.Acts.{LinkActs, Push, Take, Fail, Restore};
 ghost use Rattle.link_model.specs.Readings.{state, channel_after};
 ghost use Rattle.link_model.specs.Tables.{ways_of};
 ghost use Rattle.link_model.specs.Ways.{OneWay, emptied, unused, has_items, holds_some};
@@ -75,7 +75,7 @@ impl Links {
 
     /// The two ends of a way. None exactly where no way has the number.
     pub fn ends(&self, way: usize) -> Option<Ends>
-        ensures { (net : Net) (acts : Acts) → StandsFor net self.now acts → result ≡ slice_get (ways_of net) way }
+        ensures { (net : Net) (acts : LinkActs) → StandsFor net self.now acts → result ≡ slice_get (ways_of net) way }
     {
         self.table.ends(way)
     }
@@ -83,9 +83,9 @@ impl Links {
     /// The way from one node to another: the state of the link, and what is on its way. None where the
     /// two have no link. Takes no memory.
     pub fn channel(&self, from: NodeId, to: NodeId) -> Option<&Channel>
-        ensures some { IfSome result (λ channel. (net : Net) (acts : Acts) → StandsFor net self.now acts →
+        ensures some { IfSome result (λ channel. (net : Net) (acts : LinkActs) → StandsFor net self.now acts →
             IsChannel acts from to channel.now) }
-        ensures none { IfNone result ((net : Net) (acts : Acts) → StandsFor net self.now acts →
+        ensures none { IfNone result ((net : Net) (acts : LinkActs) → StandsFor net self.now acts →
             linked net from to ≡ false) }
     {
         let way = self.way_of(from, to)?;
@@ -95,7 +95,7 @@ impl Links {
     /// The way with this number: the state of the link, and what is on its way. Takes no memory.
     pub fn channel_at(&self, way: usize) -> &Channel
         requires { way < length self.now.table }
-        ensures { (net : Net) (acts : Acts) (from to : ℕ) → StandsFor net self.now acts →
+        ensures { (net : Net) (acts : LinkActs) (from to : ℕ) → StandsFor net self.now acts →
             IsPlaced self.now from to way → IsChannel acts from to result.now }
     {
         &self.channels[way]
@@ -114,7 +114,7 @@ impl Links {
 
     /// The ways on which there is something. Takes no memory.
     pub fn busy(&self) -> &WaySet
-        ensures placed { (net : Net) (acts : Acts) (from to way : ℕ) → StandsFor net self.now acts →
+        ensures placed { (net : Net) (acts : LinkActs) (from to way : ℕ) → StandsFor net self.now acts →
             IsPlaced self.now from to way → has_number result.now way ≡ has_items (channel_after from to acts) }
         ensures within { (way : ℕ) → length self.now.table ≤ way → has_number result.now way ≡ false }
     {
@@ -131,7 +131,7 @@ impl Links {
         session: Session,
         item: Item,
     ) -> Result<bool, NoMemory>
-        ensures ok { IfOk result (λ queued. (net : Net) (acts : Acts) → StandsFor net self.old acts →
+        ensures ok { IfOk result (λ queued. (net : Net) (acts : LinkActs) → StandsFor net self.old acts →
             linked net from to ≡ true → (queued ≡ carries (state from to acts) session) ×
             StandsFor net self.new (Push from to session item ∷ acts)) }
         ensures err { OnErr result (self.new ≡ self.old) }
@@ -160,7 +160,7 @@ impl Links {
     /// The link fails: what is on its way over it, both ways, is lost. False exactly where it is down
     /// already. Takes no memory.
     pub fn fail(&mut self, a: NodeId, b: NodeId) -> bool
-        ensures failed { (net : Net) (acts : Acts) → StandsFor net self.old acts → linked net a b ≡ true →
+        ensures failed { (net : Net) (acts : LinkActs) → StandsFor net self.old acts → linked net a b ≡ true →
             (result ≡ is_up (state a b acts)) × StandsFor net self.new (Fail a b ∷ acts) }
         ensures unchanged { result ≡ false → self.new ≡ self.old }
     {
@@ -181,10 +181,10 @@ impl Links {
     /// The link comes up with the next session. False exactly where it is up already, or where no
     /// session has a higher number. Takes no memory.
     pub fn restore(&mut self, a: NodeId, b: NodeId) -> bool
-        ensures restored { (net : Net) (acts : Acts) → StandsFor net self.old acts → linked net a b ≡ true →
+        ensures restored { (net : Net) (acts : LinkActs) → StandsFor net self.old acts → linked net a b ≡ true →
             number_of (state a b acts) < 2 ^ 32 - 1 →
             (is_up (state a b acts) ≡ not result) × StandsFor net self.new (Restore a b ∷ acts) }
-        ensures last { (net : Net) (acts : Acts) → StandsFor net self.old acts → linked net a b ≡ true →
+        ensures last { (net : Net) (acts : LinkActs) → StandsFor net self.old acts → linked net a b ≡ true →
             number_of (state a b acts) ≡ 2 ^ 32 - 1 → result ≡ false }
         ensures unchanged { result ≡ false → self.new ≡ self.old }
     {
@@ -208,7 +208,7 @@ impl Links {
 
     /// The state of the link of two nodes. Takes no memory.
     pub fn state(&self, a: NodeId, b: NodeId) -> LinkState
-        ensures { (net : Net) (acts : Acts) → StandsFor net self.now acts → linked net a b ≡ true →
+        ensures { (net : Net) (acts : LinkActs) → StandsFor net self.now acts → linked net a b ≡ true →
             result ≡ state a b acts }
     {
         match self.channel(a, b) {
@@ -219,9 +219,9 @@ impl Links {
 
     /// The oldest item on its way from the one node to the other. Takes no memory.
     pub fn front(&self, from: NodeId, to: NodeId) -> Option<&Item>
-        ensures some { IfSome result (λ item. (net : Net) (acts : Acts) → StandsFor net self.now acts →
+        ensures some { IfSome result (λ item. (net : Net) (acts : LinkActs) → StandsFor net self.now acts →
             linked net from to ≡ true → (rest : List Carried) × (channel_after from to acts ≡ item.now ∷ rest)) }
-        ensures none { IfNone result ((net : Net) (acts : Acts) → StandsFor net self.now acts →
+        ensures none { IfNone result ((net : Net) (acts : LinkActs) → StandsFor net self.now acts →
             linked net from to ≡ true → channel_after from to acts ≡ []) }
     {
         let Some(channel) = self.channel(from, to) else {
@@ -232,10 +232,10 @@ impl Links {
 
     /// Takes the oldest item on its way from the one node to the other. Takes no memory.
     pub fn pop_front(&mut self, from: NodeId, to: NodeId) -> Option<Item>
-        ensures some { IfSome result (λ item. (net : Net) (acts : Acts) → StandsFor net self.old acts →
+        ensures some { IfSome result (λ item. (net : Net) (acts : LinkActs) → StandsFor net self.old acts →
             linked net from to ≡ true → (rest : List Carried) × (channel_after from to acts ≡ item ∷ rest) ×
             StandsFor net self.new (Take from to ∷ acts)) }
-        ensures none { IfNone result ((net : Net) (acts : Acts) → StandsFor net self.old acts →
+        ensures none { IfNone result ((net : Net) (acts : LinkActs) → StandsFor net self.old acts →
             linked net from to ≡ true → channel_after from to acts ≡ []) }
         ensures unchanged { IfNone result (self.new ≡ self.old) }
     {
@@ -248,10 +248,10 @@ impl Links {
     /// Takes the oldest item on the way with this number. Takes no memory.
     pub fn pop_front_at(&mut self, way: usize) -> Option<Item>
         requires { way < length self.old.table }
-        ensures some { IfSome result (λ item. (net : Net) (acts : Acts) (from to : ℕ) → StandsFor net self.old acts →
+        ensures some { IfSome result (λ item. (net : Net) (acts : LinkActs) (from to : ℕ) → StandsFor net self.old acts →
             IsPlaced self.old from to way → (rest : List Carried) × (channel_after from to acts ≡ item ∷ rest) ×
             StandsFor net self.new (Take from to ∷ acts)) }
-        ensures none { IfNone result ((net : Net) (acts : Acts) (from to : ℕ) → StandsFor net self.old acts →
+        ensures none { IfNone result ((net : Net) (acts : LinkActs) (from to : ℕ) → StandsFor net self.old acts →
             IsPlaced self.old from to way → channel_after from to acts ≡ []) }
         ensures unchanged { IfNone result (self.new ≡ self.old) }
     {

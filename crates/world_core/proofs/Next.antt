@@ -9,7 +9,7 @@ use Rattle.trigger_log.specs.Going.{item_of}
 use Rattle.link_model.specs.declared.ends.Ends.{Ends}
 use Rattle.link_model.specs.declared.links.Links.{Links}
 use Rattle.link_model.specs.declared.way_set.WaySet.{WaySet}
-use Rattle.link_model.specs.Acts.{Acts}
+use Rattle.link_model.specs.Acts.{LinkActs}
 use Rattle.link_model.specs.Keeping.{IsPlaced}
 use Rattle.link_model.specs.Readings.{channel_after}
 use Rattle.link_model.specs.Standing.{StandsFor as LinksStandFor}
@@ -59,11 +59,11 @@ same_items [] = refl
 same_items (x ∷ items) = refl
 
 -- what the links say of a set of ways: it has the number of each on which something is
-abbrev pub AreBusy : Links → Acts → WaySet → Type 0
+abbrev pub AreBusy : Links → LinkActs → WaySet → Type 0
 AreBusy links acts busy = (from to number : ℕ) → IsPlaced links from to number → has_number busy number ≡ has_items (channel_after from to acts)
 
 -- what has a number is placed there
-pub placed_at : (net : Net) (links : Links) (acts : Acts) → LinksStandFor net links acts → (number : ℕ) (e : Ends) → slice_get (ways_of net) number ≡ Some e → IsPlaced links e.from e.to number
+pub placed_at : (net : Net) (links : Links) (acts : LinkActs) → LinksStandFor net links acts → (number : ℕ) (e : Ends) → slice_get (ways_of net) number ≡ Some e → IsPlaced links e.from e.to number
 placed_at net links acts stands number e at = record {
   here = ap (λ l. slice_get l number) stands.numbered ∙ at;
   only = λ other there. one_number net e.from e.to other number stands.valid (sym (ap (λ l. slice_get l other) stands.numbered) ∙ there) at;

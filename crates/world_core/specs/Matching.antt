@@ -6,7 +6,7 @@ use Rattle.topology.specs.Net.{Net, IsValid}
 use Rattle.path_vector.specs.Rules.{Rules}
 use Rattle.trigger_log.specs.Going.{item_of}
 use Rattle.link_model.specs.declared.links.Links.{Links}
-use Rattle.link_model.specs.Acts.{Acts}
+use Rattle.link_model.specs.Acts.{LinkActs}
 use Rattle.link_model.specs.Readings.{state as state_after, channel_after}
 use Rattle.link_model.specs.Standing.{StandsFor as LinksStandFor}
 use Rattle.control_mail.specs.Acts.{Acts as MailActs}
@@ -44,7 +44,7 @@ pub record AreCrashed (net : Net) (past : Chronicle) (flags : List Bool) : Type 
 -- the links are those of the run: they stand for acts after which each link is like that, and carries
 -- that
 pub record AreLinks (net : Net) (past : Chronicle) (links : Links) : Type 0 where
-  pub acts : Acts
+  pub acts : LinkActs
   pub stands : LinksStandFor net links acts
   pub states : (a b : ℕ) → state_after a b acts ≡ link a b past
   pub items : (a b : ℕ) → map item_of (channel_after a b acts) ≡ channel a b past
