@@ -12,7 +12,7 @@ use Rattle.topology.specs.Lists.{has}
 use Rattle.topology.specs.Net.{Net}
 use Rattle.control_mail.specs.declared.inbox.Inbox.{Inbox}
 use Rattle.control_mail.specs.declared.kept.Kept.{Kept}
-use Rattle.control_mail.specs.Acts.{Acts, Posts, Delivers, Crashes, Restarts}
+use Rattle.control_mail.specs.Acts.{MailActs, Posts, Delivers, Crashes, Restarts}
 use Rattle.control_mail.specs.Readings.{letters, is_number, deliveries, is_next, next_letter, stopped, waits}
 use Rattle.control_mail.specs.Keeping.{HasInbox, IsAbsent, Keeps, IsLowest, offers, is_ready, with_stopped, with_waiting, none_stopped, none_waiting}
 use Rattle.control_mail.specs.Seen.{Office, letter_seen}
@@ -25,7 +25,7 @@ use Rattle.control_mail.proofs.Acting.{never, uncounted, elsewhere, counted_once
 abbrev pub office : List Kept → List Inbox → Office
 office kept boxes = record { kept = kept; boxes = boxes }
 
-pub many : (net : Net) (mails : Office) (acts : Acts) → StandsFor net mails acts → length mails.kept ≡ length (letters acts)
+pub many : (net : Net) (mails : Office) (acts : MailActs) → StandsFor net mails acts → length mails.kept ≡ length (letters acts)
 many net mails acts stands = sym (length-map mails.kept letter_seen) ∙ ap length stands.kept
 
 -- ---- at the start
@@ -70,7 +70,7 @@ fresh net boxes keeps boxed = record {
 
 -- ---- a message is sent
 
-pub posted : (net : Net) (kept : List Kept) (before after : List Inbox) (acts : Acts) (x : Kept) → x.deliveries ≡ 0
+pub posted : (net : Net) (kept : List Kept) (before after : List Inbox) (acts : MailActs) (x : Kept) → x.deliveries ≡ 0
     → Keeps after (stopped acts) (with_waiting x.mail.to (suc (length kept)) true (waits acts)) → ((u : ℕ) → HasInbox before u → HasInbox after u)
     → StandsFor net (office kept before) acts → StandsFor net (office (kept ++ x ∷ []) after) (Posts x.from x.mail.to (message_seen x.mail.message) ∷ acts)
 posted net kept before after acts x new keeps others stands = record {
@@ -88,7 +88,7 @@ posted net kept before after acts x new keeps others stands = record {
 
 -- ---- a delivery
 
-pub delivered : (net : Net) (kept : List Kept) (before after : List Inbox) (acts : Acts) (place : ℕ) (x y : Kept) → slice_get kept place ≡ Some x
+pub delivered : (net : Net) (kept : List Kept) (before after : List Inbox) (acts : MailActs) (place : ℕ) (x y : Kept) → slice_get kept place ≡ Some x
     → letter_seen y ≡ letter_seen x → y.deliveries ≡ suc x.deliveries
     → Keeps after (stopped acts) (with_waiting x.mail.to (suc place) false (waits acts)) → ((u : ℕ) → HasInbox before u → HasInbox after u)
     → StandsFor net (office kept before) acts → StandsFor net (office (set kept place y) after) (Delivers (suc place) ∷ acts)
@@ -117,7 +117,7 @@ delivered net kept before after acts place x y here same once keeps others stand
     unlike k ne = grind (arith, nat_tests)
 
 -- a delivery of a number that no message has
-pub idle : (net : Net) (mails : Office) (acts : Acts) (number : ℕ) → is_number number acts ≡ false → StandsFor net mails acts → StandsFor net mails (Delivers number ∷ acts)
+pub idle : (net : Net) (mails : Office) (acts : MailActs) (number : ℕ) → is_number number acts ≡ false → StandsFor net mails acts → StandsFor net mails (Delivers number ∷ acts)
 idle net mails acts number none stands = record {
   kept = stands.kept;
   counted = λ k x here. stands.counted k x here ∙ sym (uncounted number (suc k) acts none);
@@ -127,7 +127,7 @@ idle net mails acts number none stands = record {
 
 -- ---- a node crashes, or comes back
 
-module _ (net : Net) (kept : List Kept) (before after : List Inbox) (acts : Acts) (node : ℕ) (others : (u : ℕ) → HasInbox before u → HasInbox after u) (stands : StandsFor net (office kept before) acts) where
+module _ (net : Net) (kept : List Kept) (before after : List Inbox) (acts : MailActs) (node : ℕ) (others : (u : ℕ) → HasInbox before u → HasInbox after u) (stands : StandsFor net (office kept before) acts) where
   pub gone : Keeps after (with_stopped node true (stopped acts)) (waits acts) → StandsFor net (office kept after) (Crashes node ∷ acts)
   gone keeps = record { kept = stands.kept; counted = stands.counted; sorted = keeps_same after (with_stopped node true (stopped acts)) (stopped (Crashes node ∷ acts)) (waits acts) (waits (Crashes node ∷ acts)) (λ u. refl) (λ u k. refl) keeps; boxed = λ u h. others u (stands.boxed u h) }
 
@@ -136,7 +136,7 @@ module _ (net : Net) (kept : List Kept) (before after : List Inbox) (acts : Acts
 
 -- ---- the next message
 
-module _ (net : Net) (mails : Office) (acts : Acts) (stands : StandsFor net mails acts) where
+module _ (net : Net) (mails : Office) (acts : MailActs) (stands : StandsFor net mails acts) where
   -- what an inbox offers may be next
   offered : (k : ℕ) → offers mails.boxes k ≡ true → is_next acts k ≡ true
   offered k e =
@@ -170,7 +170,7 @@ module _ (net : Net) (mails : Office) (acts : Acts) (stands : StandsFor net mail
       (λ k low h. is.least k (offers_it k (next_is acts k h)))
 
 -- the next message is the lowest that may be
-pub next_lowest : (acts : Acts) → IsLowest (is_next acts) (next_letter acts)
+pub next_lowest : (acts : MailActs) → IsLowest (is_next acts) (next_letter acts)
 unfolding next_letter
 next_lowest acts = lowest_found (is_next acts) 1 (length (letters acts)) (λ k e.
     let it = next_is acts k e in

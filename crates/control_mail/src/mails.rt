@@ -3,7 +3,7 @@ ghost use Rattle.std.specs.Prelude.{ℕ, suc, ◌≡◌, ◌<◌, ◌≤◌, ◌
 ghost use Rattle.consolidator.specs.Seen.{message_seen};
 ghost use Rattle.topology.specs.Lists.{has};
 ghost use Rattle.topology.specs.Net.{Net};
-ghost use Rattle.control_mail.specs.Acts.{Acts, Posts, Delivers, Crashes, Restarts};
+ghost use Rattle.control_mail.specs.Acts.{MailActs, Posts, Delivers, Crashes, Restarts};
 ghost use Rattle.control_mail.specs.Readings.{letters, letter, deliveries, crashed, next_letter};
 ghost use Rattle.control_mail.specs.Seen.{letter_seen};
 ghost use Rattle.control_mail.specs.Standing.{StandsFor};
@@ -76,7 +76,7 @@ impl Mails {
     /// A node sends a message: it gets the next number, and waits for its addressee. Refused, as for want
     /// of memory, where no number is left: the last one is 2^32 - 1.
     pub fn post(&mut self, from: NodeId, mail: Mail) -> Result<(), NoMemory>
-        ensures ok { OnOk result ((net : Net) (acts : Acts) → StandsFor net self.old acts →
+        ensures ok { OnOk result ((net : Net) (acts : MailActs) → StandsFor net self.old acts →
             StandsFor net self.new (Posts from mail.to (message_seen mail.message) ∷ acts)) }
         ensures err { OnErr result (self.new ≡ self.old) }
     {
@@ -98,7 +98,7 @@ impl Mails {
     /// A message is delivered once more. It stays, and no longer waits. Of a number that no message has
     /// nothing is counted. Takes no memory.
     pub fn deliver(&mut self, number: u32)
-        ensures { (net : Net) (acts : Acts) → StandsFor net self.old acts → deliveries number acts < 2 ^ 32 - 1 →
+        ensures { (net : Net) (acts : MailActs) → StandsFor net self.old acts → deliveries number acts < 2 ^ 32 - 1 →
             StandsFor net self.new (Delivers number ∷ acts) }
     {
         let Some(place) = place_of(number, self.kept.len()) else {
@@ -112,7 +112,7 @@ impl Mails {
 
     /// A node of the network crashes. What waits for it waits on. Takes no memory.
     pub fn crash(&mut self, node: NodeId)
-        ensures { (net : Net) (acts : Acts) → StandsFor net self.old acts → has net.nodes node ≡ true →
+        ensures { (net : Net) (acts : MailActs) → StandsFor net self.old acts → has net.nodes node ≡ true →
             StandsFor net self.new (Crashes node ∷ acts) }
     {
         self.inboxes.set_crashed(node, true);
@@ -120,7 +120,7 @@ impl Mails {
 
     /// A node of the network comes back. Takes no memory.
     pub fn restart(&mut self, node: NodeId)
-        ensures { (net : Net) (acts : Acts) → StandsFor net self.old acts → has net.nodes node ≡ true →
+        ensures { (net : Net) (acts : MailActs) → StandsFor net self.old acts → has net.nodes node ≡ true →
             StandsFor net self.new (Restarts node ∷ acts) }
     {
         self.inboxes.set_crashed(node, false);
@@ -129,9 +129,9 @@ impl Mails {
     /// The message with a number, and how often it was delivered. None exactly where no message has the
     /// number. Takes no memory.
     pub fn kept(&self, number: u32) -> Option<&Kept>
-        ensures some { IfSome result (λ kept. (net : Net) (acts : Acts) → StandsFor net self.now acts →
+        ensures some { IfSome result (λ kept. (net : Net) (acts : MailActs) → StandsFor net self.now acts →
             (letter number acts ≡ Some (letter_seen kept.now)) × (kept.now.deliveries ≡ deliveries number acts)) }
-        ensures none { IfNone result ((net : Net) (acts : Acts) → StandsFor net self.now acts →
+        ensures none { IfNone result ((net : Net) (acts : MailActs) → StandsFor net self.now acts →
             letter number acts ≡ None) }
     {
         let Some(place) = place_of(number, self.kept.len()) else {
@@ -142,7 +142,7 @@ impl Mails {
 
     /// How many messages there are: the number of the last one. Takes no memory.
     pub fn count(&self) -> u32
-        ensures { (net : Net) (acts : Acts) → StandsFor net self.now acts → result ≡ length (letters acts) }
+        ensures { (net : Net) (acts : MailActs) → StandsFor net self.now acts → result ≡ length (letters acts) }
     {
         self.kept.len() as u32
     }
@@ -150,14 +150,14 @@ impl Mails {
     /// The number of the next message: the lowest that was never delivered and whose addressee is not
     /// crashed. Goes once over the inboxes of the nodes, and takes no memory.
     pub fn next(&self) -> Option<u32>
-        ensures { (net : Net) (acts : Acts) → StandsFor net self.now acts → result ≡ next_letter acts }
+        ensures { (net : Net) (acts : MailActs) → StandsFor net self.now acts → result ≡ next_letter acts }
     {
         self.inboxes.next()
     }
 
     /// Whether a node is crashed. Takes no memory.
     pub fn is_crashed(&self, node: NodeId) -> bool
-        ensures { (net : Net) (acts : Acts) → StandsFor net self.now acts → result ≡ crashed node acts }
+        ensures { (net : Net) (acts : MailActs) → StandsFor net self.now acts → result ≡ crashed node acts }
     {
         self.inboxes.is_crashed(node)
     }

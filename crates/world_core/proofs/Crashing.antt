@@ -17,7 +17,7 @@ use Rattle.chronicle.specs.Walks.{Standing, standing, ending}
 use Rattle.chronicle.proofs.Visiting.{same_more, same_now}
 use Rattle.chronicle.specs.Steps.{Idle}
 use Rattle.epoch_packet.specs.declared.walks.End.{End as Ending}
-use Rattle.control_mail.specs.Acts.{Acts, Crashes, Restarts}
+use Rattle.control_mail.specs.Acts.{MailActs, Crashes, Restarts}
 use Rattle.control_mail.specs.Readings.{Letter}
 use Rattle.control_mail.specs.Seen.{Office}
 use Rattle.control_mail.specs.Standing.{StandsFor as MailsStandFor}
@@ -101,7 +101,7 @@ pub crash_stands : {P : Type 0} (rules : P → Rules) (past : Chronicle) (counts
     → IsAsWas old set → KeepsAllButFlags old set → IsAsWas set forgot → KeepsAllButNodes set forgot → has old.topology.value.nodes u ≡ true
     → Stands (rules old.policy) past counts old → AreCrashed old.topology.value (fact.Crash u ∷ past) set.crashed.items
     → (AreNodes set.policy (rules set.policy) set.topology.value past set.nodes.items → AreNodes set.policy (rules set.policy) set.topology.value (fact.Crash u ∷ past) forgot.nodes.items)
-    → ((net : Net) (acts : Acts) → MailsStandFor net forgot.mails acts → has net.nodes u ≡ true → MailsStandFor net mails (Crashes u ∷ acts))
+    → ((net : Net) (acts : MailActs) → MailsStandFor net forgot.mails acts → has net.nodes u ≡ true → MailsStandFor net mails (Crashes u ∷ acts))
     → Stands (rules old.policy) (fact.Crash u ∷ past) counts (record forgot { mails = mails })
 crash_stands rules past counts u old set forgot mails same kept as_set rest node was flags nodes told =
     let now : Chronicle = fact.Crash u ∷ past in
@@ -126,7 +126,7 @@ crash_stands rules past counts u old set forgot mails same kept as_set rest node
 pub restart_stands : {P : Type 0} (rules : P → Rules) (past : Chronicle) (counts : Counts) (u : ℕ) (old set : Network P) (mails : Office)
     → Stays P rules → IsAsWas old set → KeepsAllButFlags old set → has old.topology.value.nodes u ≡ true
     → Stands (rules old.policy) past counts old → AreCrashed old.topology.value (fact.Restart u ∷ past) set.crashed.items
-    → ((net : Net) (acts : Acts) → MailsStandFor net set.mails acts → has net.nodes u ≡ true → MailsStandFor net mails (Restarts u ∷ acts))
+    → ((net : Net) (acts : MailActs) → MailsStandFor net set.mails acts → has net.nodes u ≡ true → MailsStandFor net mails (Restarts u ∷ acts))
     → Stands (rules old.policy) (fact.Restart u ∷ past) counts (record set { mails = mails })
 restart_stands rules past counts u old set mails stays same kept node was flags told =
     let now : Chronicle = fact.Restart u ∷ past in

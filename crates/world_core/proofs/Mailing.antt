@@ -7,7 +7,7 @@ use Rattle.topology.specs.Lists.{has}
 use Rattle.topology.specs.Net.{Net}
 use Rattle.path_vector.specs.Rules.{Rules}
 use Rattle.consolidator.specs.Messages.{Message}
-use Rattle.control_mail.specs.Acts.{Acts, Posts, Delivers, Crashes, Restarts}
+use Rattle.control_mail.specs.Acts.{MailActs, Posts, Delivers, Crashes, Restarts}
 use Rattle.control_mail.specs.Readings.{Letter, at_place, letters, letter, next_letter}
 use Rattle.control_mail.specs.Readings as mail
 use Rattle.control_mail.specs.Seen.{Office}
@@ -132,7 +132,7 @@ module _ (net : Net) (past : Chronicle) (counts : Counts) (mails : Office) (was 
   count_is = ap length was.letters
 
 -- its addressee is not crashed
-come_same : (acts : Acts) (past : Chronicle) (m : Option Letter) → ((u : ℕ) → mail.crashed u acts ≡ crashed u past) → mail.may_come acts m ≡ may_come past m
+come_same : (acts : MailActs) (past : Chronicle) (m : Option Letter) → ((u : ℕ) → mail.crashed u acts ≡ crashed u past) → mail.may_come acts m ≡ may_come past m
 come_same acts past None same = refl
 come_same acts past (Some m) same = ap not (same m.to)
 

@@ -9,7 +9,7 @@ use Rattle.link_model.specs.declared.links.Links.{Links}
 use Rattle.link_model.specs.Acts.{LinkActs}
 use Rattle.link_model.specs.Readings.{state as state_after, channel_after}
 use Rattle.link_model.specs.Standing.{StandsFor as LinksStandFor}
-use Rattle.control_mail.specs.Acts.{Acts as MailActs}
+use Rattle.control_mail.specs.Acts.{MailActs}
 use Rattle.control_mail.specs.Readings.{Letter, crashed as stopped_after, deliveries, letters}
 use Rattle.control_mail.specs.Seen.{Office}
 use Rattle.control_mail.specs.Standing.{StandsFor as MailsStandFor}
