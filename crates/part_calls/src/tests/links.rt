@@ -8,7 +8,7 @@ use topology::{Epoch, Item, NodeId, Relation, Session};
 
 // What is done to the links, and what comes of it.
 #[derive(Clone, Copy)]
-enum Act {
+enum LinkAct {
     // from one node to another, in a session, an item with this number: whether it is queued
     Push(u16, u16, u32, u32, bool),
     // the number of the oldest item from one node to another
@@ -25,55 +25,55 @@ enum Act {
 }
 
 // The links 1 2 and 2 3, by hand.
-const ACTS: [Act; 41] = [
+const ACTS: [LinkAct; 41] = [
     // the start: session 1, and nothing on its way
-    Act::State(1, 2, true, 1),
-    Act::State(3, 2, true, 1),
-    Act::Front(1, 2, None),
-    Act::Take(1, 2, None),
-    Act::Busy(1, 2, false),
+    LinkAct::State(1, 2, true, 1),
+    LinkAct::State(3, 2, true, 1),
+    LinkAct::Front(1, 2, None),
+    LinkAct::Take(1, 2, None),
+    LinkAct::Busy(1, 2, false),
     // in the session carried, and in another one
-    Act::Push(1, 2, 1, 10, true),
-    Act::Push(1, 2, 1, 11, true),
-    Act::Push(2, 1, 1, 20, true),
-    Act::Push(2, 3, 1, 30, true),
-    Act::Push(1, 2, 2, 12, false),
+    LinkAct::Push(1, 2, 1, 10, true),
+    LinkAct::Push(1, 2, 1, 11, true),
+    LinkAct::Push(2, 1, 1, 20, true),
+    LinkAct::Push(2, 3, 1, 30, true),
+    LinkAct::Push(1, 2, 2, 12, false),
     // in their order
-    Act::Front(1, 2, Some(10)),
-    Act::Take(1, 2, Some(10)),
-    Act::Front(1, 2, Some(11)),
-    Act::Busy(1, 2, true),
-    Act::Busy(2, 1, true),
+    LinkAct::Front(1, 2, Some(10)),
+    LinkAct::Take(1, 2, Some(10)),
+    LinkAct::Front(1, 2, Some(11)),
+    LinkAct::Busy(1, 2, true),
+    LinkAct::Busy(2, 1, true),
     // a failure loses both ways of its link, once, and both ends see it
-    Act::Fail(2, 1, true),
-    Act::Fail(1, 2, false),
-    Act::State(1, 2, false, 1),
-    Act::State(2, 1, false, 1),
-    Act::Front(1, 2, None),
-    Act::Take(2, 1, None),
-    Act::Busy(1, 2, false),
-    Act::Busy(2, 1, false),
-    Act::Push(1, 2, 1, 13, false),
-    Act::Front(2, 3, Some(30)),
+    LinkAct::Fail(2, 1, true),
+    LinkAct::Fail(1, 2, false),
+    LinkAct::State(1, 2, false, 1),
+    LinkAct::State(2, 1, false, 1),
+    LinkAct::Front(1, 2, None),
+    LinkAct::Take(2, 1, None),
+    LinkAct::Busy(1, 2, false),
+    LinkAct::Busy(2, 1, false),
+    LinkAct::Push(1, 2, 1, 13, false),
+    LinkAct::Front(2, 3, Some(30)),
     // the next session, once, without what was lost
-    Act::Restore(1, 2, true),
-    Act::Restore(2, 1, false),
-    Act::State(1, 2, true, 2),
-    Act::State(2, 1, true, 2),
-    Act::Front(1, 2, None),
-    Act::Front(2, 1, None),
+    LinkAct::Restore(1, 2, true),
+    LinkAct::Restore(2, 1, false),
+    LinkAct::State(1, 2, true, 2),
+    LinkAct::State(2, 1, true, 2),
+    LinkAct::Front(1, 2, None),
+    LinkAct::Front(2, 1, None),
     // an item of the old session is lost, one of the new session is queued
-    Act::Push(1, 2, 1, 14, false),
-    Act::Push(2, 1, 2, 21, true),
-    Act::Busy(2, 1, true),
-    Act::Take(2, 1, Some(21)),
-    Act::Busy(2, 1, false),
-    Act::Take(2, 1, None),
+    LinkAct::Push(1, 2, 1, 14, false),
+    LinkAct::Push(2, 1, 2, 21, true),
+    LinkAct::Busy(2, 1, true),
+    LinkAct::Take(2, 1, Some(21)),
+    LinkAct::Busy(2, 1, false),
+    LinkAct::Take(2, 1, None),
     // the other link knew nothing of it
-    Act::State(2, 3, true, 1),
-    Act::Busy(2, 3, true),
-    Act::Take(2, 3, Some(30)),
-    Act::Front(3, 2, None),
+    LinkAct::State(2, 3, true, 1),
+    LinkAct::Busy(2, 3, true),
+    LinkAct::Take(2, 3, Some(30)),
+    LinkAct::Front(3, 2, None),
 ];
 
 fn number(item: &Item) -> Option<u32> {
@@ -115,26 +115,34 @@ fn busy(rt: &impl Abort, links: &Links, from: NodeId, to: NodeId, busy: bool) {
     }
 }
 
-fn play(rt: &impl Abort, links: &mut Links, act: Act) -> Result<(), Fail> {
+fn play(rt: &impl Abort, links: &mut Links, act: LinkAct) -> Result<(), Fail> {
     match act {
-        Act::Push(from, to, session, tag, queued) => {
+        LinkAct::Push(from, to, session, tag, queued) => {
             let item = Item::Hello(Epoch::new(tag));
             let session = Session::new(session);
             let answer = links.push(NodeId::new(from), NodeId::new(to), session, item)?;
             assert!(rt; answer == queued);
         }
-        Act::Front(from, to, oldest) => {
+        LinkAct::Front(from, to, oldest) => {
             front(rt, links, NodeId::new(from), NodeId::new(to), oldest)
         }
-        Act::Take(from, to, oldest) => take(rt, links, NodeId::new(from), NodeId::new(to), oldest),
-        Act::Fail(a, b, done) => { assert!(rt; links.fail(NodeId::new(a), NodeId::new(b)) == done) }
-        Act::Restore(a, b, done) => {
+        LinkAct::Take(from, to, oldest) => take(
+            rt,
+            links,
+            NodeId::new(from),
+            NodeId::new(to),
+            oldest,
+        ),
+        LinkAct::Fail(a, b, done) => {
+            assert!(rt; links.fail(NodeId::new(a), NodeId::new(b)) == done)
+        }
+        LinkAct::Restore(a, b, done) => {
             assert!(rt; links.restore(NodeId::new(a), NodeId::new(b)) == done)
         }
-        Act::State(a, b, up, session) => {
+        LinkAct::State(a, b, up, session) => {
             is(rt, links, NodeId::new(a), NodeId::new(b), up, session)
         }
-        Act::Busy(from, to, is) => busy(rt, links, NodeId::new(from), NodeId::new(to), is),
+        LinkAct::Busy(from, to, is) => busy(rt, links, NodeId::new(from), NodeId::new(to), is),
     }
     Ok(())
 }

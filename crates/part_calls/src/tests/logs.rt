@@ -12,7 +12,7 @@ use trigger_log::NodeLog;
 // with this counter of the neighbour, begins to originate the second one, or a session ends, is
 // opened, is opened at the other end too.
 #[derive(Clone, Copy)]
-enum Act {
+enum LogAct {
     Hear(u16, u32, u32),
     Begin,
     Close(u16, u32),
@@ -22,41 +22,41 @@ enum Act {
 
 // Node 2 has the peers 1 and 3 and the customer 4. Each act with what it sends, where peers are
 // told nothing of peers, and where all are told everything. Number by number, by hand.
-const ACTS: [(Act, Items, Items); 9] = [
+const ACTS: [(LogAct, Items, Items); 9] = [
     // the path of a peer: to the customer alone, or to all
     (
-        Act::Hear(1, 1, 1),
+        LogAct::Hear(1, 1, 1),
         &[(4, 1, 1)],
         &[(1, 1, 1), (3, 1, 1), (4, 1, 1)],
     ),
     // the own second prefix: to all
     (
-        Act::Begin,
+        LogAct::Begin,
         &[(1, 1, 1), (3, 1, 1), (4, 1, 2)],
         &[(1, 1, 2), (3, 1, 2), (4, 1, 2)],
     ),
     // the session ends with a close, and the path of the peer is withdrawn from whoever knew it
     (
-        Act::Close(1, 1),
+        LogAct::Close(1, 1),
         &[(1, 1, 2), (4, 1, 3)],
         &[(1, 1, 3), (3, 1, 3), (4, 1, 3)],
     ),
-    (Act::Open(1, 2), &[], &[]),
+    (LogAct::Open(1, 2), &[], &[]),
     // the own prefix, numbered anew
-    (Act::Greet(1, 2), &[(1, 2, 1)], &[(1, 2, 1)]),
+    (LogAct::Greet(1, 2), &[(1, 2, 1)], &[(1, 2, 1)]),
     (
-        Act::Hear(1, 2, 2),
+        LogAct::Hear(1, 2, 2),
         &[(4, 1, 4)],
         &[(1, 2, 2), (3, 1, 4), (4, 1, 4)],
     ),
     (
-        Act::Close(1, 2),
+        LogAct::Close(1, 2),
         &[(1, 2, 2), (4, 1, 5)],
         &[(1, 2, 3), (3, 1, 5), (4, 1, 5)],
     ),
-    (Act::Open(1, 3), &[], &[]),
+    (LogAct::Open(1, 3), &[], &[]),
     // nobody else had opened it: no close
-    (Act::Close(1, 3), &[], &[]),
+    (LogAct::Close(1, 3), &[], &[]),
 ];
 
 fn star(alloc: Global) -> Result<Box<Topology>, Fail> {
@@ -69,20 +69,20 @@ fn star(alloc: Global) -> Result<Box<Topology>, Fail> {
 }
 
 // A path that is heard has its neighbour alone, which is the origin.
-fn cause_of(alloc: Global, act: Act) -> Result<(Scope, Cause), Fail> {
+fn cause_of(alloc: Global, act: LogAct) -> Result<(Scope, Cause), Fail> {
     let (from, session) = match act {
-        Act::Begin => return Ok((Scope::One(PrefixId::new(1)), Cause::Originate)),
-        Act::Hear(from, session, _) => (from, session),
-        Act::Close(from, session) => (from, session),
-        Act::Open(from, session) => (from, session),
-        Act::Greet(from, session) => (from, session),
+        LogAct::Begin => return Ok((Scope::One(PrefixId::new(1)), Cause::Originate)),
+        LogAct::Hear(from, session, _) => (from, session),
+        LogAct::Close(from, session) => (from, session),
+        LogAct::Open(from, session) => (from, session),
+        LogAct::Greet(from, session) => (from, session),
     };
     let nbr = NodeId::new(from);
     let session = Session::new(session);
     let cause = match act {
-        Act::Close(_, _) => Cause::Down { nbr, session },
-        Act::Open(_, _) => Cause::Up { nbr, session },
-        Act::Greet(_, _) => Cause::Ready { nbr, session },
+        LogAct::Close(_, _) => Cause::Down { nbr, session },
+        LogAct::Open(_, _) => Cause::Up { nbr, session },
+        LogAct::Greet(_, _) => Cause::Ready { nbr, session },
         _ => {
             let path = path_of(alloc, &[from])?;
             let cause = Cause::Recv {
@@ -98,9 +98,9 @@ fn cause_of(alloc: Global, act: Act) -> Result<(Scope, Cause), Fail> {
 }
 
 // An update brings its trigger, any other entry gets the next one.
-fn trigger_of<P: Policy + Copy>(log: &NodeLog<P>, act: Act) -> Trigger {
+fn trigger_of<P: Policy + Copy>(log: &NodeLog<P>, act: LogAct) -> Trigger {
     match act {
-        Act::Hear(from, _, count) => trigger(from, count),
+        LogAct::Hear(from, _, count) => trigger(from, count),
         _ => log.next_trigger(),
     }
 }
@@ -122,7 +122,7 @@ fn enter<P: Policy + Copy>(
     alloc: Global,
     net: &Topology,
     log: Box<NodeLog<P>>,
-    act: Act,
+    act: LogAct,
     items: Items,
 ) -> Result<Box<NodeLog<P>>, Fail> {
     let (scope, cause) = cause_of(alloc, act)?;

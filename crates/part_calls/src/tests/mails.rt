@@ -9,7 +9,7 @@ use topology::{Epoch, NodeId};
 
 // What is done to the messages, and what is seen of them.
 #[derive(Clone, Copy)]
-enum Act {
+enum MailAct {
     // from one node to another, about an epoch
     Post(u16, u16, u32),
     Deliver(u32),
@@ -26,86 +26,86 @@ enum Act {
 }
 
 // Nodes 1 to 3, by hand.
-const DELIVERIES: [Act; 40] = [
+const DELIVERIES: [MailAct; 40] = [
     // the start
-    Act::Count(0),
-    Act::Next(None),
-    Act::Missing(0),
-    Act::Missing(1),
+    MailAct::Count(0),
+    MailAct::Next(None),
+    MailAct::Missing(0),
+    MailAct::Missing(1),
     // numbered from 1 in their order
-    Act::Post(1, 2, 10),
-    Act::Post(1, 3, 11),
-    Act::Post(3, 2, 12),
-    Act::Post(2, 2, 13),
-    Act::Count(4),
-    Act::Next(Some(1)),
-    Act::Kept(1, 1, 2, 10, 0),
-    Act::Kept(3, 3, 2, 12, 0),
-    Act::Missing(5),
+    MailAct::Post(1, 2, 10),
+    MailAct::Post(1, 3, 11),
+    MailAct::Post(3, 2, 12),
+    MailAct::Post(2, 2, 13),
+    MailAct::Count(4),
+    MailAct::Next(Some(1)),
+    MailAct::Kept(1, 1, 2, 10, 0),
+    MailAct::Kept(3, 3, 2, 12, 0),
+    MailAct::Missing(5),
     // out of their order
-    Act::Deliver(2),
-    Act::Next(Some(1)),
-    Act::Deliver(1),
-    Act::Next(Some(3)),
+    MailAct::Deliver(2),
+    MailAct::Next(Some(1)),
+    MailAct::Deliver(1),
+    MailAct::Next(Some(3)),
     // again, and of no message
-    Act::Deliver(1),
-    Act::Deliver(9),
-    Act::Deliver(0),
-    Act::Kept(1, 1, 2, 10, 2),
-    Act::Kept(2, 1, 3, 11, 1),
-    Act::Missing(9),
-    Act::Count(4),
-    Act::Next(Some(3)),
+    MailAct::Deliver(1),
+    MailAct::Deliver(9),
+    MailAct::Deliver(0),
+    MailAct::Kept(1, 1, 2, 10, 2),
+    MailAct::Kept(2, 1, 3, 11, 1),
+    MailAct::Missing(9),
+    MailAct::Count(4),
+    MailAct::Next(Some(3)),
     // a crashed node gets no next message, and a delivery to it counts
-    Act::Crash(2),
-    Act::Next(None),
-    Act::Post(2, 3, 14),
-    Act::Post(1, 2, 15),
-    Act::Next(Some(5)),
-    Act::Deliver(3),
-    Act::Kept(3, 3, 2, 12, 1),
-    Act::Deliver(5),
-    Act::Next(None),
+    MailAct::Crash(2),
+    MailAct::Next(None),
+    MailAct::Post(2, 3, 14),
+    MailAct::Post(1, 2, 15),
+    MailAct::Next(Some(5)),
+    MailAct::Deliver(3),
+    MailAct::Kept(3, 3, 2, 12, 1),
+    MailAct::Deliver(5),
+    MailAct::Next(None),
     // what waits waits on
-    Act::Restart(2),
-    Act::Next(Some(4)),
-    Act::Deliver(4),
-    Act::Next(Some(6)),
-    Act::Deliver(6),
-    Act::Next(None),
+    MailAct::Restart(2),
+    MailAct::Next(Some(4)),
+    MailAct::Deliver(4),
+    MailAct::Next(Some(6)),
+    MailAct::Deliver(6),
+    MailAct::Next(None),
 ];
 
 // The same nodes; node 9 is none of the network.
-const CRASHES: [Act; 26] = [
-    Act::Crashed(1, false),
-    Act::Crashed(9, false),
-    Act::Crash(1),
-    Act::Crash(1),
-    Act::Crash(2),
-    Act::Crashed(1, true),
-    Act::Crashed(2, true),
-    Act::Crashed(3, false),
+const CRASHES: [MailAct; 26] = [
+    MailAct::Crashed(1, false),
+    MailAct::Crashed(9, false),
+    MailAct::Crash(1),
+    MailAct::Crash(1),
+    MailAct::Crash(2),
+    MailAct::Crashed(1, true),
+    MailAct::Crashed(2, true),
+    MailAct::Crashed(3, false),
     // to crashed nodes, to a node outside, to one that runs
-    Act::Post(3, 2, 20),
-    Act::Post(3, 1, 21),
-    Act::Next(None),
-    Act::Post(3, 9, 22),
-    Act::Post(1, 3, 23),
-    Act::Next(Some(3)),
-    Act::Deliver(3),
-    Act::Next(Some(4)),
+    MailAct::Post(3, 2, 20),
+    MailAct::Post(3, 1, 21),
+    MailAct::Next(None),
+    MailAct::Post(3, 9, 22),
+    MailAct::Post(1, 3, 23),
+    MailAct::Next(Some(3)),
+    MailAct::Deliver(3),
+    MailAct::Next(Some(4)),
     // the lower number first, once its addressee is back
-    Act::Restart(1),
-    Act::Next(Some(2)),
-    Act::Restart(2),
-    Act::Restart(2),
-    Act::Next(Some(1)),
-    Act::Crashed(1, false),
-    Act::Crashed(2, false),
+    MailAct::Restart(1),
+    MailAct::Next(Some(2)),
+    MailAct::Restart(2),
+    MailAct::Restart(2),
+    MailAct::Next(Some(1)),
+    MailAct::Crashed(1, false),
+    MailAct::Crashed(2, false),
     // a message that was delivered before the crash does not wait again
-    Act::Deliver(1),
-    Act::Crash(2),
-    Act::Restart(2),
+    MailAct::Deliver(1),
+    MailAct::Crash(2),
+    MailAct::Restart(2),
 ];
 
 fn post(mails: &mut Mails, from: u16, to: u16, epoch: u32) -> Result<(), Fail> {
@@ -128,26 +128,26 @@ fn is_kept(rt: &impl Abort, mails: &Mails, number: u32, ends: (u16, u16), seen: 
     }
 }
 
-fn play(rt: &impl Abort, mails: &mut Mails, act: Act) -> Result<(), Fail> {
+fn play(rt: &impl Abort, mails: &mut Mails, act: MailAct) -> Result<(), Fail> {
     match act {
-        Act::Post(from, to, epoch) => post(mails, from, to, epoch)?,
-        Act::Deliver(number) => mails.deliver(number),
-        Act::Crash(node) => mails.crash(NodeId::new(node)),
-        Act::Restart(node) => mails.restart(NodeId::new(node)),
-        Act::Next(number) => { assert!(rt; mails.next() == number) }
-        Act::Kept(number, from, to, epoch, deliveries) => {
+        MailAct::Post(from, to, epoch) => post(mails, from, to, epoch)?,
+        MailAct::Deliver(number) => mails.deliver(number),
+        MailAct::Crash(node) => mails.crash(NodeId::new(node)),
+        MailAct::Restart(node) => mails.restart(NodeId::new(node)),
+        MailAct::Next(number) => { assert!(rt; mails.next() == number) }
+        MailAct::Kept(number, from, to, epoch, deliveries) => {
             is_kept(rt, mails, number, (from, to), (epoch, deliveries))
         }
-        Act::Missing(number) => { assert!(rt; mails.kept(number).is_none()) }
-        Act::Count(count) => { assert!(rt; mails.count() == count) }
-        Act::Crashed(node, crashed) => {
+        MailAct::Missing(number) => { assert!(rt; mails.kept(number).is_none()) }
+        MailAct::Count(count) => { assert!(rt; mails.count() == count) }
+        MailAct::Crashed(node, crashed) => {
             assert!(rt; mails.is_crashed(NodeId::new(node)) == crashed)
         }
     }
     Ok(())
 }
 
-fn plays(rt: &impl Abort, mails: &mut Mails, acts: &[Act]) -> Result<(), Fail> {
+fn plays(rt: &impl Abort, mails: &mut Mails, acts: &[MailAct]) -> Result<(), Fail> {
     for act in acts {
         play(rt, mails, *act)?;
     }

@@ -11,7 +11,7 @@ use trigger_log::NodeLog;
 
 // What happens at node 2, and what is read of its snapshots.
 #[derive(Clone, Copy)]
-enum Act {
+enum SnapshotAct {
     // the session with a neighbour ends, or is opened
     Close(u16, u32),
     Open(u16, u32),
@@ -30,66 +30,66 @@ enum Act {
 }
 
 // Node 2 has the neighbours 1, 3 and 4. By hand.
-const ACTS: [Act; 49] = [
+const ACTS: [SnapshotAct; 49] = [
     // nothing is recorded before the first cut
-    Act::Mark(1, 1, 0),
-    Act::Update(1, 1, 1),
-    Act::Epoch(0),
-    Act::Cut(0, None),
-    Act::Cut(1, None),
-    Act::Nothing(1, 1),
+    SnapshotAct::Mark(1, 1, 0),
+    SnapshotAct::Update(1, 1, 1),
+    SnapshotAct::Epoch(0),
+    SnapshotAct::Cut(0, None),
+    SnapshotAct::Cut(1, None),
+    SnapshotAct::Nothing(1, 1),
     // a session that the other end has not opened is held, and recorded too
-    Act::Close(4, 1),
-    Act::Open(4, 2),
-    Act::Take(1),
-    Act::Epoch(1),
-    Act::Cut(1, Some(2)),
-    Act::Recorded(1, 1, 1, 0, 0, false),
-    Act::Recorded(1, 4, 2, 0, 0, false),
+    SnapshotAct::Close(4, 1),
+    SnapshotAct::Open(4, 2),
+    SnapshotAct::Take(1),
+    SnapshotAct::Epoch(1),
+    SnapshotAct::Cut(1, Some(2)),
+    SnapshotAct::Recorded(1, 1, 1, 0, 0, false),
+    SnapshotAct::Recorded(1, 4, 2, 0, 0, false),
     // the mark that raised the epoch ends the recording of its own session at once
-    Act::Mark(3, 1, 1),
-    Act::Recorded(1, 3, 1, 0, 0, true),
-    Act::Recorded(1, 1, 1, 0, 0, false),
-    Act::Update(3, 1, 1),
-    Act::Recorded(1, 3, 1, 0, 0, true),
+    SnapshotAct::Mark(3, 1, 1),
+    SnapshotAct::Recorded(1, 3, 1, 0, 0, true),
+    SnapshotAct::Recorded(1, 1, 1, 0, 0, false),
+    SnapshotAct::Update(3, 1, 1),
+    SnapshotAct::Recorded(1, 3, 1, 0, 0, true),
     // the first number stays, the count goes on
-    Act::Update(1, 1, 2),
-    Act::Recorded(1, 1, 1, 2, 1, false),
-    Act::Update(1, 1, 3),
-    Act::Recorded(1, 1, 1, 2, 2, false),
+    SnapshotAct::Update(1, 1, 2),
+    SnapshotAct::Recorded(1, 1, 1, 2, 1, false),
+    SnapshotAct::Update(1, 1, 3),
+    SnapshotAct::Recorded(1, 1, 1, 2, 2, false),
     // a mark of a lower epoch ends nothing, nor does anything of another session
-    Act::Mark(1, 1, 0),
-    Act::Recorded(1, 1, 1, 2, 2, false),
-    Act::Mark(4, 1, 1),
-    Act::Update(4, 1, 1),
-    Act::Recorded(1, 4, 2, 0, 0, false),
+    SnapshotAct::Mark(1, 1, 0),
+    SnapshotAct::Recorded(1, 1, 1, 2, 2, false),
+    SnapshotAct::Mark(4, 1, 1),
+    SnapshotAct::Update(4, 1, 1),
+    SnapshotAct::Recorded(1, 4, 2, 0, 0, false),
     // an epoch that is skipped has no cut
-    Act::Close(3, 1),
-    Act::Take(3),
-    Act::Epoch(3),
-    Act::Cut(1, Some(2)),
-    Act::Cut(2, None),
-    Act::Cut(3, Some(3)),
-    Act::Nothing(2, 1),
+    SnapshotAct::Close(3, 1),
+    SnapshotAct::Take(3),
+    SnapshotAct::Epoch(3),
+    SnapshotAct::Cut(1, Some(2)),
+    SnapshotAct::Cut(2, None),
+    SnapshotAct::Cut(3, Some(3)),
+    SnapshotAct::Nothing(2, 1),
     // a session that the cut does not hold is not recorded
-    Act::Nothing(3, 3),
+    SnapshotAct::Nothing(3, 3),
     // an update counts in each recording that is not done
-    Act::Update(1, 1, 4),
-    Act::Recorded(1, 1, 1, 2, 3, false),
-    Act::Recorded(3, 1, 1, 4, 1, false),
+    SnapshotAct::Update(1, 1, 4),
+    SnapshotAct::Recorded(1, 1, 1, 2, 3, false),
+    SnapshotAct::Recorded(3, 1, 1, 4, 1, false),
     // a mark of a higher epoch ends the recordings of lower ones, and no others
-    Act::Mark(1, 1, 2),
-    Act::Update(1, 1, 5),
-    Act::Recorded(1, 1, 1, 2, 3, true),
-    Act::Recorded(3, 1, 1, 4, 2, false),
+    SnapshotAct::Mark(1, 1, 2),
+    SnapshotAct::Update(1, 1, 5),
+    SnapshotAct::Recorded(1, 1, 1, 2, 3, true),
+    SnapshotAct::Recorded(3, 1, 1, 4, 2, false),
     // one mark ends the recordings of all epochs up to its own
-    Act::Mark(4, 2, 7),
-    Act::Recorded(1, 4, 2, 0, 0, true),
-    Act::Recorded(3, 4, 2, 0, 0, true),
-    Act::Mark(1, 1, 3),
-    Act::Update(1, 1, 6),
-    Act::Recorded(1, 1, 1, 2, 3, true),
-    Act::Recorded(3, 1, 1, 4, 2, true),
+    SnapshotAct::Mark(4, 2, 7),
+    SnapshotAct::Recorded(1, 4, 2, 0, 0, true),
+    SnapshotAct::Recorded(3, 4, 2, 0, 0, true),
+    SnapshotAct::Mark(1, 1, 3),
+    SnapshotAct::Update(1, 1, 6),
+    SnapshotAct::Recorded(1, 1, 1, 2, 3, true),
+    SnapshotAct::Recorded(3, 1, 1, 4, 2, true),
 ];
 
 type Log = Box<NodeLog<GaoRexford>>;
@@ -101,14 +101,14 @@ fn enter(alloc: Global, net: &Topology, log: Log, cause: Cause) -> Result<Log, F
 }
 
 // The log after a session ended or was opened.
-fn changed(alloc: Global, net: &Topology, log: Log, act: Act) -> Result<Log, Fail> {
+fn changed(alloc: Global, net: &Topology, log: Log, act: SnapshotAct) -> Result<Log, Fail> {
     match act {
-        Act::Close(nbr, session) => {
+        SnapshotAct::Close(nbr, session) => {
             let nbr = NodeId::new(nbr);
             let session = Session::new(session);
             enter(alloc, net, log, Cause::Down { nbr, session })
         }
-        Act::Open(nbr, session) => {
+        SnapshotAct::Open(nbr, session) => {
             let nbr = NodeId::new(nbr);
             let session = Session::new(session);
             enter(alloc, net, log, Cause::Up { nbr, session })
@@ -122,31 +122,33 @@ fn taken(
     net: &Topology,
     log: &NodeLog<GaoRexford>,
     snapshots: Snapshots,
-    act: Act,
+    act: SnapshotAct,
 ) -> Result<Snapshots, Fail> {
     match act {
-        Act::Take(epoch) => Ok(snapshots.take(Epoch::new(epoch), log, net)?),
+        SnapshotAct::Take(epoch) => Ok(snapshots.take(Epoch::new(epoch), log, net)?),
         _ => Ok(snapshots),
     }
 }
 
-fn hears(snapshots: &mut Snapshots, act: Act) {
+fn hears(snapshots: &mut Snapshots, act: SnapshotAct) {
     match act {
-        Act::Mark(nbr, session, epoch) => {
+        SnapshotAct::Mark(nbr, session, epoch) => {
             snapshots.on_marker(NodeId::new(nbr), Session::new(session), Epoch::new(epoch))
         }
-        Act::Update(nbr, session, seq) => {
+        SnapshotAct::Update(nbr, session, seq) => {
             snapshots.on_update(NodeId::new(nbr), Session::new(session), seq)
         }
         _ => {}
     }
 }
 
-fn reads(rt: &impl Abort, snapshots: &Snapshots, act: Act) {
+fn reads(rt: &impl Abort, snapshots: &Snapshots, act: SnapshotAct) {
     match act {
-        Act::Epoch(epoch) => assert!(rt; snapshots.epoch() == Epoch::new(epoch)),
-        Act::Cut(epoch, entries) => assert!(rt; snapshots.cut_of(Epoch::new(epoch)) == entries),
-        Act::Recorded(epoch, nbr, session, first, count, done) => {
+        SnapshotAct::Epoch(epoch) => assert!(rt; snapshots.epoch() == Epoch::new(epoch)),
+        SnapshotAct::Cut(epoch, entries) => assert!(rt;
+            snapshots.cut_of(Epoch::new(epoch)) == entries
+        ),
+        SnapshotAct::Recorded(epoch, nbr, session, first, count, done) => {
             let session = Session::new(session);
             let recording = Recording {
                 session,
@@ -157,7 +159,7 @@ fn reads(rt: &impl Abort, snapshots: &Snapshots, act: Act) {
             let read = snapshots.recorded(Epoch::new(epoch), NodeId::new(nbr));
             assert!(rt; read == Some(recording));
         }
-        Act::Nothing(epoch, nbr) => {
+        SnapshotAct::Nothing(epoch, nbr) => {
             let read = snapshots.recorded(Epoch::new(epoch), NodeId::new(nbr));
             assert!(rt; read.is_none());
         }
