@@ -22,7 +22,7 @@ use Rattle.chronicle.specs.Publications.{Publication, publications}
 use Rattle.chronicle.specs.Steps.{Carried}
 use Rattle.chronicle.proofs.Blocks.{same_number}
 use Rattle.node_core.specs.declared.agreement.Agreement.{Agreement}
-use Rattle.node_core.specs.declared.deciding.Act.{Act}
+use Rattle.node_core.specs.declared.deciding.Duty.{Duty}
 use Rattle.node_core.specs.Agreeing.{Agrees, AgreesAs, IsOver, IsByCut}
 use Rattle.node_core.specs.Deciding.{MayDo, acted}
 use Rattle.node_core.specs.Views.{backups_over, view_of, views}
@@ -102,7 +102,7 @@ module _ (rules : Rules) (net : Net) (u : ℕ) (kept : Agreement) where
       refl (omega arith) (λ d low. refl) was
 
   -- what the node does of its own accord, or over its links
-  pub acted_agrees : (carried : Carried) (past : Chronicle) (act : Act) → MayDo net u past act → Agrees rules net u kept past → Agrees rules net u kept (acted rules net carried u past act)
+  pub acted_agrees : (carried : Carried) (past : Chronicle) (act : Duty) → MayDo net u past act → Agrees rules net u kept past → Agrees rules net u kept (acted rules net carried u past act)
   acted_agrees carried past act may was =
       acts_keep rules net u (λ now. Agrees rules net u kept now) (λ now. Agrees rules net u kept now)
       (record { before = quiet_agrees; nothing = λ now is. is; rises = raised_agrees; further = quiet_agrees; reports = reported_agrees })

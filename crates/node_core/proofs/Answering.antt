@@ -27,8 +27,8 @@ use Rattle.chronicle.specs.Steps.{Carried, Goes, Idle, write}
 use Rattle.cut_laws.proofs.Marked.{session_is}
 use Rattle.node_core.specs.declared.inputs.Input.{Input as Given}
 use Rattle.node_core.specs.Inputs.{input_of}
-use Rattle.node_core.specs.declared.deciding.Act.{Act}
-use Rattle.node_core.specs.declared.deciding.Act.TheVariants.{Enter, Open, Take, Flush as Flushes, Rise}
+use Rattle.node_core.specs.declared.deciding.Duty.{Duty}
+use Rattle.node_core.specs.declared.deciding.Duty.TheVariants.{Enter, Open, Take, Flush as Flushes, Rise}
 use Rattle.node_core.specs.Coming.{MayCome}
 use Rattle.node_core.specs.Deciding.{IsInTurn, IsDecided}
 
@@ -101,7 +101,7 @@ some_received false n count e = absurd (cc e)
 
 module _ (rules : Rules) (net : Net) (u : ℕ) (past : Chronicle) where
   -- what is decided of an input that is this one
-  pub decided_as : (input i : Given) (act : Act) → input ≡ i → (MayCome net u (input_of i) → IsDecided rules net u past (input_of i) (Ok act)) → MayCome net u (input_of input)
+  pub decided_as : (input i : Given) (act : Duty) → input ≡ i → (MayCome net u (input_of i) → IsDecided rules net u past (input_of i) (Ok act)) → MayCome net u (input_of input)
       → IsDecided rules net u past (input_of input) (Ok act)
   decided_as input i act is decided = subst (λ x. MayCome net u (input_of x) → IsDecided rules net u past (input_of x) (Ok act)) (sym is) decided
 

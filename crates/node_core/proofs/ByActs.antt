@@ -22,8 +22,8 @@ use Rattle.chronicle.specs.Drops.{dropped_below, kept_log}
 use Rattle.chronicle.specs.Publications.{Publication, publications_by}
 use Rattle.chronicle.specs.Inputs.{arrival}
 use Rattle.chronicle.specs.Steps.{Carried, sends, mails, write, open_session, markers, take_cut, raise, meet_mark, heard, unless_ready, take_item}
-use Rattle.node_core.specs.declared.deciding.Act.{Act}
-use Rattle.node_core.specs.declared.deciding.Act.TheVariants.{Enter, Open, Take, Flush, Rise}
+use Rattle.node_core.specs.declared.deciding.Duty.{Duty}
+use Rattle.node_core.specs.declared.deciding.Duty.TheVariants.{Enter, Open, Take, Flush, Rise}
 use Rattle.node_core.specs.Deciding.{MayDo, acted}
 
 -- a fact that is none of a cut, of agreement or of a table
@@ -118,7 +118,7 @@ module _ (rules : Rules) (net : Net) (u : ℕ) (P Q : Chronicle → Type 0) (a :
       a.nothing (happen (Log u k ∷ past) (sends carried u gs)) (sends_keep P a.before carried u gs (Log u k ∷ past) (a.before (Log u k) past (quiet_log u k) p))
 
   -- what the node may do
-  pub acts_keep : (past : Chronicle) (act : Act) → MayDo net u past act → P past → Q (acted rules net carried u past act)
+  pub acts_keep : (past : Chronicle) (act : Duty) → MayDo net u past act → P past → Q (acted rules net carried u past act)
   acts_keep past (Enter scope cause) may p =
       let k = local u (log_of u past) scope cause in
       a.nothing (write rules net carried u k past) (write_keeps P a.before carried u rules net k past p)

@@ -19,7 +19,7 @@ use Rattle.chronicle.proofs.Blocks.{same_number}
 use Rattle.consolidator.specs.Facts as consolidator
 use Rattle.consolidator.proofs.Beside.{known_beside, known_reported}
 use Rattle.chronicle.specs.Control.{control}
-use Rattle.node_core.specs.declared.deciding.Act.{Act}
+use Rattle.node_core.specs.declared.deciding.Duty.{Duty}
 use Rattle.node_core.specs.declared.node.Node.{Node}
 use Rattle.node_core.specs.Keeping.{Keeps}
 use Rattle.node_core.specs.Answering.{MayComplete}
@@ -86,7 +86,7 @@ module _ (rules : Rules) (net : Net) (u : ℕ) (first : Chronicle) where
       inr (record { knows = λ d. known_reported (control past) u d w (trimmed_report rules net u e c) ∙ was.knows d; epochs = was.epochs; above = was.above })
 
   -- what the node does of its own accord, or over its links
-  pub acted_once : (carried : Carried) (act : Act) → MayDo net u first act → Once u first (acted rules net carried u first act)
+  pub acted_once : (carried : Carried) (act : Duty) → MayDo net u first act → Once u first (acted rules net carried u first act)
   acted_once carried act may =
       acts_keep rules net u (Same u first) (Once u first)
       (record { before = quiet_same; nothing = λ now is. inl is; rises = rises; further = quiet_once; reports = reported_once })

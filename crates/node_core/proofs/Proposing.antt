@@ -19,7 +19,7 @@ use Rattle.chronicle.specs.Run.{chronicle_of}
 use Rattle.chronicle.proofs.Blocks.{same_number}
 use Rattle.chronicle.proofs.OwnFacts.{IsOf, given_by_facts}
 use Rattle.chronicle.proofs.Publishing.{published_same}
-use Rattle.node_core.specs.declared.deciding.Act.{Act}
+use Rattle.node_core.specs.declared.deciding.Duty.{Duty}
 use Rattle.node_core.specs.Beside.{IsBeside}
 use Rattle.node_core.specs.Deciding.{MayDo, acted}
 use Rattle.node_core.specs.NodeLimits.{is_large, is_too_large, has_large_value, proposes_large}
@@ -82,7 +82,7 @@ module _ (u : ℕ) where
 
 module _ (rules : Rules) (net : Net) (u : ℕ) where
   -- what the node does of its own accord, or over its links
-  pub acted_small : (carried : Carried) (past : Chronicle) (act : Act) → MayDo net u past act → has_large_value u past ≡ false → has_large_value u (acted rules net carried u past act) ≡ false
+  pub acted_small : (carried : Carried) (past : Chronicle) (act : Duty) → MayDo net u past act → has_large_value u past ≡ false → has_large_value u (acted rules net carried u past act) ≡ false
   acted_small carried past act may was =
       acts_keep rules net u (λ now. has_large_value u now ≡ false) (λ now. has_large_value u now ≡ false)
       (record {

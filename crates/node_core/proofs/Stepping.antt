@@ -16,8 +16,8 @@ use Rattle.chronicle.proofs.Publishing.{epoch_publish, log_publish}
 use Rattle.chronicle.specs.Steps.{Step, Carried, Goes, Idle, raise}
 use Rattle.cut_laws.specs.Own.{Own, DropsWithin, MayReach}
 use Rattle.cut_laws.proofs.Owning.{own_answered, own_given}
-use Rattle.node_core.specs.declared.deciding.Act.{Act}
-use Rattle.node_core.specs.declared.deciding.Act.TheVariants.{Rise}
+use Rattle.node_core.specs.declared.deciding.Duty.{Duty}
+use Rattle.node_core.specs.declared.deciding.Duty.TheVariants.{Rise}
 use Rattle.node_core.specs.declared.answers.Answer.{Answer}
 use Rattle.node_core.specs.declared.answers.Answer.TheVariants as told
 use Rattle.node_core.specs.declared.node.Node.{Node}
@@ -50,7 +50,7 @@ ok_all (Ok x) A B C D f a b c = f x a b c
 ok_all (Err y) A B C D f a b c = tt
 
 -- the epoch rises
-pub rises : (rules : Rules) (net : Net) (carried : Carried) (u : ℕ) (past : Chronicle) (act : Act) (e : ℕ) → act ≡ Rise e → MayDo net u past act
+pub rises : (rules : Rules) (net : Net) (carried : Carried) (u : ℕ) (past : Chronicle) (act : Duty) (e : ℕ) → act ≡ Rise e → MayDo net u past act
     → (epoch u past < e) × (acted rules net carried u past act ≡ raise rules net carried u e past)
 rises rules net carried u past act e is may = (subst (MayDo net u past) is may, ap (acted rules net carried u past) is)
 

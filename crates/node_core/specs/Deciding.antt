@@ -17,8 +17,8 @@ use Rattle.chronicle.specs.Logs.{log_of}
 use Rattle.chronicle.specs.Run.{held_with}
 use Rattle.chronicle.specs.Giving.{answer}
 use Rattle.chronicle.specs.Steps.{Carried, Goes, Idle, open_session, raise, take_item, write}
-use Rattle.node_core.specs.declared.deciding.Act.{Act}
-use Rattle.node_core.specs.declared.deciding.Act.TheVariants.{Enter, Open, Take, Flush, Rise}
+use Rattle.node_core.specs.declared.deciding.Duty.{Duty}
+use Rattle.node_core.specs.declared.deciding.Duty.TheVariants.{Enter, Open, Take, Flush, Rise}
 use Rattle.node_core.specs.declared.deciding.Asked.{Asked}
 use Rattle.node_core.specs.declared.deciding.Asked.TheVariants as asked
 use Rattle.node_core.specs.declared.deciding.Passing.{Passing}
@@ -42,7 +42,7 @@ pub record MayTake (net : Net) (u : ℕ) (past : Chronicle) (v s : ℕ) (item : 
   pub may_hear : MayHear net v item
 
 -- u may do it
-abbrev pub MayDo : Net → ℕ → Chronicle → Act → Type 0
+abbrev pub MayDo : Net → ℕ → Chronicle → Duty → Type 0
 MayDo net u past (Enter scope cause) = MayEnter net u (log_of u past) (local u (log_of u past) scope cause)
 MayDo net u past (Open v s) = MayEnter net u (log_of u past) (local u (log_of u past) All (Up v s))
 MayDo net u past (Take v s item) = MayTake net u past v s (item_of item)
@@ -50,7 +50,7 @@ MayDo net u past (Flush v) = MayEnter net u (log_of u past) (flush v)
 MayDo net u past (Rise e) = epoch u past < e
 
 -- the chronicle goes on so where u does it
-abbrev pub acted : Rules → Net → Carried → ℕ → Chronicle → Act → Chronicle
+abbrev pub acted : Rules → Net → Carried → ℕ → Chronicle → Duty → Chronicle
 acted rules net carried u past (Enter scope cause) = write rules net carried u (local u (log_of u past) scope cause) past
 acted rules net carried u past (Open v s) = open_session carried u v s past
 acted rules net carried u past (Take v s item) = take_item rules net carried u (arrival v s (item_of item)) past
@@ -69,7 +69,7 @@ passing_of (GoOn packet up) = Hop packet.value up.items
 
 -- this is what the input comes to: an act that u may do, by which the chronicle goes on, whatever the links carry; or
 -- nothing is done, for a reason
-abbrev pub IsDecided : Rules → Net → ℕ → Chronicle → Input → Result Act Reason → Type 0
+abbrev pub IsDecided : Rules → Net → ℕ → Chronicle → Input → Result Duty Reason → Type 0
 IsDecided rules net u past input (Ok act) =
     MayDo net u past act × ((carried : Carried) → answer rules net carried u past input ≡ Goes (acted rules net carried u past act))
 IsDecided rules net u past input (Err reason) = (carried : Carried) → answer rules net carried u past input ≡ Idle reason

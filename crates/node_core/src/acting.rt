@@ -21,7 +21,7 @@ ghost use Rattle.node_core.specs.Outputs.{Hands, Send};
 ghost use Rattle.node_core.specs.Standing.{StandsFor};
 
 use crate::counts::Counts;
-use crate::deciding::Act;
+use crate::deciding::Duty;
 use crate::node::Node;
 use crate::outputs::{Output, OutputList};
 use path_vector::{Cause, Policy};
@@ -214,7 +214,7 @@ impl<P: Policy + Copy> Node<P> {
 
     /// Does what the node is to do, and hands out what comes of it.
     #[inline(always)]
-    pub(crate) fn act(self, act: Act, outputs: &mut OutputList) -> Result<Node<P>, NoMemory>
+    pub(crate) fn act(self, act: Duty, outputs: &mut OutputList) -> Result<Node<P>, NoMemory>
         ensures agreement { IfOk result (λ node. AgreesAs self.parts.value.agreement node.parts.value.agreement) }
         ensures node { IfOk result (λ node. (policy : P) (net : Net) (u : ℕ) (carried : Carried) (past : Chronicle) →
             StandsFor policy (P.rules policy) net u self past → MayDo net u past act →
@@ -224,15 +224,15 @@ impl<P: Policy + Copy> Node<P> {
             Hands past outputs.new (acted (P.rules policy) net carried u past act)) }
     {
         match act {
-            Act::Enter { scope, cause } => self.enter_own(scope, cause, outputs),
-            Act::Open { nbr, session } => self.open(nbr, session, outputs),
-            Act::Take {
+            Duty::Enter { scope, cause } => self.enter_own(scope, cause, outputs),
+            Duty::Open { nbr, session } => self.open(nbr, session, outputs),
+            Duty::Take {
                 from,
                 session,
                 item,
             } => self.take(from, session, item, outputs),
-            Act::Flush { nbr } => self.flush(nbr, outputs),
-            Act::Rise { epoch } => self.raise(epoch, outputs),
+            Duty::Flush { nbr } => self.flush(nbr, outputs),
+            Duty::Rise { epoch } => self.raise(epoch, outputs),
         }
     }
 }

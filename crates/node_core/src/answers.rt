@@ -19,7 +19,7 @@ ghost use Rattle.node_core.specs.Outputs.{output_of};
 ghost use Rattle.node_core.specs.Standing.{Follows, StandsFor};
 
 use crate::agreement::Agreement;
-use crate::deciding::{Act, Asked, Passing};
+use crate::deciding::{Asked, Duty, Passing};
 use crate::inputs::Input;
 use crate::limits::{MOST_TRIGGERS, proposes_large};
 use crate::node::Node;
@@ -133,7 +133,7 @@ fn consult_parts(parts: NodeParts, asked: Asked) -> Result<(NodeParts, Reply), N
 impl<P: Policy + Copy> Node<P> {
     /// Does what the node is to do.
     #[inline(always)]
-    fn perform(self, act: Act, outputs: &mut OutputList) -> Result<(Node<P>, Answer), NoMemory>
+    fn perform(self, act: Duty, outputs: &mut OutputList) -> Result<(Node<P>, Answer), NoMemory>
         ensures node { IfOk result (λ r. (policy : P) (net : Net) (u : ℕ) (carried : Carried) (past : Chronicle) →
             StandsFor policy (P.rules policy) net u self past → MayDo net u past act →
             Follows policy (P.rules policy) net u r.0 (acted (P.rules policy) net carried u past act)) }
@@ -150,7 +150,7 @@ impl<P: Policy + Copy> Node<P> {
     /// Does what was decided, if it is to be done.
     fn follow(
         self,
-        decided: Result<Act, Reason>,
+        decided: Result<Duty, Reason>,
         outputs: &mut OutputList,
     ) -> Result<(Node<P>, Answer), NoMemory>
         ensures node { IfOk result (λ r. (policy : P) (net : Net) (u : ℕ) (carried : Carried) (past : Chronicle) (input : Comes) →
@@ -188,7 +188,7 @@ impl<P: Policy + Copy> Node<P> {
             return Ok((self, Answer::Idle(reason)));
         }
         self.perform(
-            Act::Take {
+            Duty::Take {
                 from,
                 session,
                 item,
@@ -267,7 +267,7 @@ impl<P: Policy + Copy> Node<P> {
             Input::Prefer { nbr, value } => {
                 let scope = Scope::All;
                 let cause = Cause::Prefer { nbr, value };
-                Ok(self.perform(Act::Enter { scope, cause }, outputs)?)
+                Ok(self.perform(Duty::Enter { scope, cause }, outputs)?)
             }
             Input::Notice(nbr) => {
                 let decided = self.decide_closing(nbr);
@@ -283,7 +283,7 @@ impl<P: Policy + Copy> Node<P> {
             }
             Input::Snap => {
                 let epoch = self.next_epoch();
-                Ok(self.perform(Act::Rise { epoch }, outputs)?)
+                Ok(self.perform(Duty::Rise { epoch }, outputs)?)
             }
         }
     }

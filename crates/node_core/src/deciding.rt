@@ -7,7 +7,7 @@ ghost use Rattle.chronicle.specs.Facts.{Chronicle};
 ghost use Rattle.chronicle.specs.Giving.{answer};
 ghost use Rattle.chronicle.specs.Inputs.{Arrive, Flush, Notice, OpenSession, Originate, Withdraw};
 ghost use Rattle.chronicle.specs.Steps.{Carried, Idle};
-ghost use Rattle.node_core.specs.declared.deciding.Act.TheVariants.{Take};
+ghost use Rattle.node_core.specs.declared.deciding.Duty.TheVariants.{Take};
 ghost use Rattle.node_core.specs.Coming.{MayCome};
 ghost use Rattle.node_core.specs.Deciding.{IsDecided};
 ghost use Rattle.node_core.specs.Standing.{StandsFor};
@@ -20,7 +20,7 @@ use topology::{Epoch, Item, NodeId, PrefixId, Reason, Scope, Session};
 
 /// What a node is to do.
 #[derive(Drop)]
-pub enum Act {
+pub enum Duty {
     /// To make an entry of its own accord.
     Enter {
         scope: Scope,
@@ -73,7 +73,7 @@ pub enum Passing {
 
 impl<P: Policy + Copy> Node<P> {
     /// The node becomes an origin of the prefix, where it is none.
-    pub(crate) fn decide_originating(&self, prefix: PrefixId) -> Result<Act, Reason>
+    pub(crate) fn decide_originating(&self, prefix: PrefixId) -> Result<Duty, Reason>
         ensures { (policy : P) (net : Net) (u : ℕ) (past : Chronicle) →
             StandsFor policy (P.rules policy) net u self.now past → MayCome net u (Originate prefix) →
             IsDecided (P.rules policy) net u past (Originate prefix) result }
@@ -83,11 +83,11 @@ impl<P: Policy + Copy> Node<P> {
         }
         let scope = Scope::One(prefix);
         let cause = Cause::Originate;
-        Ok(Act::Enter { scope, cause })
+        Ok(Duty::Enter { scope, cause })
     }
 
     /// The node is no origin of the prefix any more, where it is one.
-    pub(crate) fn decide_withdrawing(&self, prefix: PrefixId) -> Result<Act, Reason>
+    pub(crate) fn decide_withdrawing(&self, prefix: PrefixId) -> Result<Duty, Reason>
         ensures { (policy : P) (net : Net) (u : ℕ) (past : Chronicle) →
             StandsFor policy (P.rules policy) net u self.now past → MayCome net u (Withdraw prefix) →
             IsDecided (P.rules policy) net u past (Withdraw prefix) result }
@@ -97,7 +97,7 @@ impl<P: Policy + Copy> Node<P> {
         }
         let scope = Scope::One(prefix);
         let cause = Cause::Withdraw;
-        Ok(Act::Enter { scope, cause })
+        Ok(Duty::Enter { scope, cause })
     }
 
     /// Why an item of the neighbour in the session is not taken: the session is not held, or it is an update and not the
@@ -126,7 +126,7 @@ impl<P: Policy + Copy> Node<P> {
     }
 
     /// The session that is held with the neighbour is closed.
-    pub(crate) fn decide_closing(&self, nbr: NodeId) -> Result<Act, Reason>
+    pub(crate) fn decide_closing(&self, nbr: NodeId) -> Result<Duty, Reason>
         ensures { (policy : P) (net : Net) (u : ℕ) (past : Chronicle) →
             StandsFor policy (P.rules policy) net u self.now past → MayCome net u (Notice nbr) →
             IsDecided (P.rules policy) net u past (Notice nbr) result }
@@ -136,11 +136,11 @@ impl<P: Policy + Copy> Node<P> {
         };
         let scope = Scope::All;
         let cause = Cause::Down { nbr, session };
-        Ok(Act::Enter { scope, cause })
+        Ok(Duty::Enter { scope, cause })
     }
 
     /// A session is opened where none is held, above those that were.
-    pub(crate) fn decide_opening(&self, nbr: NodeId, session: Session) -> Result<Act, Reason>
+    pub(crate) fn decide_opening(&self, nbr: NodeId, session: Session) -> Result<Duty, Reason>
         ensures { (policy : P) (net : Net) (u : ℕ) (past : Chronicle) →
             StandsFor policy (P.rules policy) net u self.now past → MayCome net u (OpenSession nbr session) →
             IsDecided (P.rules policy) net u past (OpenSession nbr session) result }
@@ -152,11 +152,11 @@ impl<P: Policy + Copy> Node<P> {
         if !self.log.fits(Scope::All, &opening) {
             return Err(Reason::OldSession);
         }
-        Ok(Act::Open { nbr, session })
+        Ok(Duty::Open { nbr, session })
     }
 
     /// What is held back from the neighbour is sent, where a session is held with it and something is held back.
-    pub(crate) fn decide_flushing(&self, nbr: NodeId) -> Result<Act, Reason>
+    pub(crate) fn decide_flushing(&self, nbr: NodeId) -> Result<Duty, Reason>
         ensures { (policy : P) (net : Net) (u : ℕ) (past : Chronicle) →
             StandsFor policy (P.rules policy) net u self.now past → MayCome net u (Flush nbr) →
             IsDecided (P.rules policy) net u past (Flush nbr) result }
@@ -168,7 +168,7 @@ impl<P: Policy + Copy> Node<P> {
         if !self.log.fits(Scope::Nothing, &flush) {
             return Err(Reason::NothingPending);
         }
-        Ok(Act::Flush { nbr })
+        Ok(Duty::Flush { nbr })
     }
 
     /// The epoch after this one. No epoch is so high that there is none.
