@@ -38,7 +38,7 @@ use Rattle.route_replay.specs.Probed.{AreProbed}
 use Rattle.route_replay.specs.Running.{Runs}
 use Rattle.route_replay.specs.Turns.{WritesInTurn}
 use Rattle.world_core.specs.Throughout.{HoldsThroughout}
-use Rattle.route_replay.specs.Replayed.{Replayed, Comes, IsLimit, StopsRun, behind, is_of_run, ends_replay}
+use Rattle.route_replay.specs.Replayed.{Replayed, FileRun, IsLimit, StopsRun, behind, is_of_run, ends_replay}
 
 -- what a told source gave is what it told
 pub known : (told : Option (List ℕ)) (items : List ℕ) → IfSome told (λ bytes. items ≡ bytes) → (bytes : List ℕ) → told ≡ Some bytes → items ≡ bytes
@@ -281,7 +281,7 @@ module _ (source source' : SourceView) (sink sink' : SinkView) (bytes : List ℕ
   abbrev stopped : Option Reached
   stopped = stop gao_rexford (net_of lines) [] (directives_of lines)
 
-  abbrev comes : (told : List ℕ) → source.left ≡ Some told → Comes told
+  abbrev comes : (told : List ℕ) → source.left ≡ Some told → FileRun told
   comes told t = record {
     lines = lines;
     written = written;
@@ -290,19 +290,19 @@ module _ (source source' : SourceView) (sink sink' : SinkView) (bytes : List ℕ
   }
 
   -- whatever the file comes to, its run holds throughout
-  run_throughout : (told : List ℕ) → source.left ≡ Some told → (run : Comes told) → HoldsThroughout gao_rexford (net_of run.lines) (behind run.lines)
+  run_throughout : (told : List ℕ) → source.left ≡ Some told → (run : FileRun told) → HoldsThroughout gao_rexford (net_of run.lines) (behind run.lines)
   run_throughout told t run =
       let same = one.lines run.lines lines (subst (λ b. Reads [] (words_by_line b) run.lines) (sym (read told t)) run.is_run.read) reads in
       subst (λ ls. HoldsThroughout gao_rexford (net_of ls) (behind ls)) (sym same) throughout
 
   -- and its probes are
-  run_probed : (told : List ℕ) → source.left ≡ Some told → (run : Comes told) → AreProbed gao_rexford (net_of run.lines) [] (directives_of run.lines)
+  run_probed : (told : List ℕ) → source.left ≡ Some told → (run : FileRun told) → AreProbed gao_rexford (net_of run.lines) [] (directives_of run.lines)
   run_probed told t run =
       let same = one.lines run.lines lines (subst (λ b. Reads [] (words_by_line b) run.lines) (sym (read told t)) run.is_run.read) reads in
       subst (λ ls. AreProbed gao_rexford (net_of ls) [] (directives_of ls)) (sym same) are_probed
 
   -- whatever the file comes to, it is stopped so
-  same_stop : (told : List ℕ) → source.left ≡ Some told → (run : Comes told) → run.stopped ≡ stopped
+  same_stop : (told : List ℕ) → source.left ≡ Some told → (run : FileRun told) → run.stopped ≡ stopped
   same_stop told t run =
       let same = one.lines run.lines lines (subst (λ b. Reads [] (words_by_line b) run.lines) (sym (read told t)) run.is_run.read) reads in
       sym run.is_run.stop ∙ ap (λ ls. stop gao_rexford (net_of ls) [] (directives_of ls)) same

@@ -30,7 +30,7 @@ pub record IsRun (bytes : List ℕ) (lines : List Line) (written : List ℕ) (st
   pub stop : stop gao_rexford (net_of lines) [] (directives_of lines) ≡ stopped
 
 -- the lines are read from the bytes, and this is what they come to
-pub record Comes (bytes : List ℕ) : Type 0 where
+pub record FileRun (bytes : List ℕ) : Type 0 where
   pub lines : List Line
   pub written : List ℕ
   pub stopped : Option Reached
@@ -43,14 +43,14 @@ behind lines = events_of gao_rexford (net_of lines) [] (directives_of lines)
 -- nothing was written, or a front of the text of the file
 abbrev pub WroteFront : List ℕ → Option (List ℕ) → Option (List ℕ) → Type 0
 WroteFront bytes held held' =
-    (held' ≡ held) ⊎ ((run : Comes bytes) × (some : List ℕ) × Begins some run.written × Appends held held' some)
+    (held' ≡ held) ⊎ ((run : FileRun bytes) × (some : List ℕ) × Begins some run.written × Appends held held' some)
 
 -- no write was made, or those that were are each of the text of one directive alone, behind all the text of the directives
 -- before
 abbrev pub WroteInTurn : List ℕ → SinkView → SinkView → Type 0
 WroteInTurn bytes sink sink' =
     (sink'.writes ≡ sink.writes)
-    ⊎ ((run : Comes bytes) × WritesInTurn sink sink' (texts gao_rexford (net_of run.lines) [] (directives_of run.lines)))
+    ⊎ ((run : FileRun bytes) × WritesInTurn sink sink' (texts gao_rexford (net_of run.lines) [] (directives_of run.lines)))
 
 -- a limit of the run, and not of the file
 abbrev pub is_of_run : LimitKind → Bool
@@ -121,7 +121,7 @@ ends_read (Inconsistent line kind) = false
 
 -- the run would take that count above its number, and the text of the directives before was written
 abbrev pub StopsRun : List ℕ → Reached → Option (List ℕ) → Option (List ℕ) → Type 0
-StopsRun bytes reached held held' = (run : Comes bytes) × (run.stopped ≡ Some reached) × Appends held held' run.written
+StopsRun bytes reached held held' = (run : FileRun bytes) × (run.stopped ≡ Some reached) × Appends held held' run.written
 
 -- why a limit is named: the file is too long, or it stops the run
 abbrev pub IsLimit : List ℕ → LimitKind → ℕ → Option (List ℕ) → Option (List ℕ) → Type 0
@@ -135,21 +135,21 @@ pub record Replayed (source source' : SourceView) (sink sink' : SinkView) (statu
   pub formed : ends_replay status ≡ true
   -- Done: no limit stopped the run of the file, and its whole text was written
   pub done : status ≡ Done → (bytes : List ℕ) → source.left ≡ Some bytes
-      → (run : Comes bytes) × (run.stopped ≡ None) × Appends sink.held sink'.held run.written
+      → (run : FileRun bytes) × (run.stopped ≡ None) × Appends sink.held sink'.held run.written
   -- at each moment of the run behind the text the network is sound: the cuts of an epoch fit together, and without their
   -- incomplete entries they are at rest; all tables of one epoch come from one chosen value, and every published path continues
   -- as the next node's published path of that epoch, if it has one; no packet visits a node twice on one epoch's stable tables,
   -- and none makes more transient moves than the hop limit; and each table is published in the step that completes what it is
   -- made of
   pub throughout : ends_read status ≡ true → (bytes : List ℕ) → source.left ≡ Some bytes
-      → (run : Comes bytes) → HoldsThroughout gao_rexford (net_of run.lines) (behind run.lines)
+      → (run : FileRun bytes) → HoldsThroughout gao_rexford (net_of run.lines) (behind run.lines)
   -- so it is, whatever the end, where anything was written
   pub so_far : sink'.held ≢ sink.held → (bytes : List ℕ) → source.left ≡ Some bytes
-      → (run : Comes bytes) → HoldsThroughout gao_rexford (net_of run.lines) (behind run.lines)
+      → (run : FileRun bytes) → HoldsThroughout gao_rexford (net_of run.lines) (behind run.lines)
   -- where anything was written, each probe in the text shows a walk that comes to its end: as delivered exactly where links
   -- that are up at its turn connect its node with an owner, else as stuck
   pub probed : sink'.held ≢ sink.held → (bytes : List ℕ) → source.left ≡ Some bytes
-      → (run : Comes bytes) → AreProbed gao_rexford (net_of run.lines) [] (directives_of run.lines)
+      → (run : FileRun bytes) → AreProbed gao_rexford (net_of run.lines) [] (directives_of run.lines)
   -- BadSchedule: the line is the first outside the grammar, and this is what is wrong with it
   pub bad_schedule : (line : ℕ) (kind : BadKind) → status ≡ BadSchedule line kind
       → (bytes : List ℕ) → source.left ≡ Some bytes → FirstBad bytes line kind
@@ -161,7 +161,7 @@ pub record Replayed (source source' : SourceView) (sink sink' : SinkView) (statu
   pub write_fault : RoseIf (status ≡ WriteFault) sink.faults sink'.faults
   -- a write fault cuts the text off
   pub cut_off : status ≡ WriteFault → (bytes : List ℕ) → source.left ≡ Some bytes
-      → (run : Comes bytes) × AppendsFront sink.held sink'.held run.written
+      → (run : FileRun bytes) × AppendsFront sink.held sink'.held run.written
   -- whatever the end, what was written is a front of the text of the file
   pub front : (bytes : List ℕ) → source.left ≡ Some bytes → WroteFront bytes sink.held sink'.held
   -- and where the sink tells its writes, it was written directive by directive: the text of each before that of the next
@@ -171,7 +171,7 @@ pub record Replayed (source source' : SourceView) (sink sink' : SinkView) (statu
   -- nothing is left of the file once it was parsed
   pub read : ends_read status ≡ true → IsAtEnd source'.left
   -- a file of the grammar is run to its end, or up to the limit that stops it, unless a side fails or memory runs out
-  pub complete : (bytes : List ℕ) → source.left ≡ Some bytes → length bytes ≤ MAX_BYTES → (run : Comes bytes)
+  pub complete : (bytes : List ℕ) → source.left ≡ Some bytes → length bytes ≤ MAX_BYTES → (run : FileRun bytes)
       → (run.stopped ≡ None → (status ≡ Done) ⊎ ((status ≡ NoMemory) ⊎ ((status ≡ ReadFault) ⊎ (status ≡ WriteFault))))
       × ((reached : Reached) → run.stopped ≡ Some reached
       → (status ≡ Limit reached.kind reached.number) ⊎ ((status ≡ NoMemory) ⊎ ((status ≡ ReadFault) ⊎ (status ≡ WriteFault))))
