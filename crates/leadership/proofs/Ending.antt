@@ -20,7 +20,7 @@ use Rattle.leadership.specs.declared.scripts.Directive.TheVariants.{Event, Deliv
 use Rattle.leadership.specs.declared.scripts.Numbered.{Numbered}
 use Rattle.leadership.specs.Agreed.{IsAgreed}
 use Rattle.leadership.specs.Deliveries.{next_mail}
-use Rattle.leadership.specs.Led.{Led, Comes, IsLimit, StopsRun, is_counted, is_of_run, members}
+use Rattle.leadership.specs.Led.{Led, ScriptRun, IsLimit, StopsRun, is_counted, is_of_run, members}
 use Rattle.leadership.specs.Limits.{limit_of}
 use Rattle.leadership.specs.Run.{after, mailed, run}
 use Rattle.leadership.specs.Running.{Runs}
@@ -163,7 +163,7 @@ module _ (source source' : SourceView) (sink sink' : SinkView) (bytes : List ℕ
   abbrev stopped : Option (LimitKind × ℕ)
   stopped = stop (members bytes) [] (directives_of bytes)
 
-  abbrev comes : (told : List ℕ) → source.left ≡ Some told → Comes told
+  abbrev comes : (told : List ℕ) → source.left ≡ Some told → ScriptRun told
   comes told t = record {
     good = subst (λ b. first_bad b ≡ None) (read told t) good;
     written = written;
@@ -173,7 +173,7 @@ module _ (source source' : SourceView) (sink sink' : SinkView) (bytes : List ℕ
   }
 
   -- whatever the script comes to, it is stopped so
-  same_stop : (told : List ℕ) → source.left ≡ Some told → (run : Comes told) → run.stopped ≡ stopped
+  same_stop : (told : List ℕ) → source.left ≡ Some told → (run : ScriptRun told) → run.stopped ≡ stopped
   same_stop told t run = sym run.stop ∙ ap (λ b. stop (members b) [] (directives_of b)) (sym (read told t))
 
   never_bad : {P : Type 0} (told : List ℕ) → source.left ≡ Some told → (line : ℕ) (kind : BadKind) → first_bad told ≡ Some (line, kind) → P

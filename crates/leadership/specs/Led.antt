@@ -20,7 +20,7 @@ members bytes = ascending (members_of bytes)
 
 -- no line of the bytes is bad, and this is the text of their run, up to the directive that a limit stops, and that
 -- limit, where one does
-pub record Comes (bytes : List ℕ) : Type 0 where
+pub record ScriptRun (bytes : List ℕ) : Type 0 where
   pub good : first_bad bytes ≡ None
   pub written : List ℕ
   pub stopped : Option (LimitKind × ℕ)
@@ -30,7 +30,7 @@ pub record Comes (bytes : List ℕ) : Type 0 where
 -- nothing was written, or a front of the text of the script
 abbrev pub WroteFront : List ℕ → Option (List ℕ) → Option (List ℕ) → Type 0
 WroteFront bytes held held' =
-    (held' ≡ held) ⊎ ((run : Comes bytes) × (some : List ℕ) × Begins some run.written × Appends held held' some)
+    (held' ≡ held) ⊎ ((run : ScriptRun bytes) × (some : List ℕ) × Begins some run.written × Appends held held' some)
 
 -- a limit of the run, and not of the script
 abbrev pub is_of_run : LimitKind → Bool
@@ -113,7 +113,7 @@ ends_read (Inconsistent line kind) = false
 
 -- the run would take that count above its number, and the text of the directives before was written
 abbrev pub StopsRun : List ℕ → LimitKind × ℕ → Option (List ℕ) → Option (List ℕ) → Type 0
-StopsRun bytes limit held held' = (run : Comes bytes) × (run.stopped ≡ Some limit) × Appends held held' run.written
+StopsRun bytes limit held held' = (run : ScriptRun bytes) × (run.stopped ≡ Some limit) × Appends held held' run.written
 
 -- why a limit is named: the script is too long, or it stops the run
 abbrev pub IsLimit : List ℕ → LimitKind → ℕ → Option (List ℕ) → Option (List ℕ) → Type 0
@@ -127,10 +127,10 @@ pub record Led (source source' : SourceView) (sink sink' : SinkView) (status : S
   pub formed : ends_lead status ≡ true
   -- Done: no limit stopped the run, and its whole text was written
   pub done : status ≡ Done → (bytes : List ℕ) → source.left ≡ Some bytes
-      → (run : Comes bytes) × (run.stopped ≡ None) × Appends sink.held sink'.held run.written
+      → (run : ScriptRun bytes) × (run.stopped ≡ None) × Appends sink.held sink'.held run.written
   -- in the run behind the text two values that are chosen for an epoch are one
   pub agreed : ends_read status ≡ true → (bytes : List ℕ) → source.left ≡ Some bytes
-      → (run : Comes bytes) → IsAgreed (members bytes) (events_of (members bytes) [] (directives_of bytes))
+      → (run : ScriptRun bytes) → IsAgreed (members bytes) (events_of (members bytes) [] (directives_of bytes))
   -- BadSchedule: the line is the first bad one, and this is what is wrong with it
   pub bad_script : (line : ℕ) (kind : BadKind) → status ≡ BadSchedule line kind
       → (bytes : List ℕ) → source.left ≡ Some bytes → first_bad bytes ≡ Some (line, kind)
@@ -142,7 +142,7 @@ pub record Led (source source' : SourceView) (sink sink' : SinkView) (status : S
   pub write_fault : RoseIf (status ≡ WriteFault) sink.faults sink'.faults
   -- a write fault cuts the text off
   pub cut_off : status ≡ WriteFault → (bytes : List ℕ) → source.left ≡ Some bytes
-      → (run : Comes bytes) × AppendsFront sink.held sink'.held run.written
+      → (run : ScriptRun bytes) × AppendsFront sink.held sink'.held run.written
   -- whatever the end, what was written is a front of the text
   pub front : (bytes : List ℕ) → source.left ≡ Some bytes → WroteFront bytes sink.held sink'.held
   -- and nothing was written where nothing was run
@@ -150,7 +150,7 @@ pub record Led (source source' : SourceView) (sink sink' : SinkView) (status : S
   -- nothing is left of the script once it was parsed
   pub read : ends_read status ≡ true → IsAtEnd source'.left
   -- a script of the grammar is run to its end, or up to the limit that stops it, unless a side fails or memory runs out
-  pub complete : (bytes : List ℕ) → source.left ≡ Some bytes → length bytes ≤ MAX_BYTES → (run : Comes bytes)
+  pub complete : (bytes : List ℕ) → source.left ≡ Some bytes → length bytes ≤ MAX_BYTES → (run : ScriptRun bytes)
       → (run.stopped ≡ None → (status ≡ Done) ⊎ ((status ≡ NoMemory) ⊎ ((status ≡ ReadFault) ⊎ (status ≡ WriteFault))))
       × ((kind : LimitKind) (number : ℕ) → run.stopped ≡ Some (kind, number)
       → (status ≡ Limit kind number) ⊎ ((status ≡ NoMemory) ⊎ ((status ≡ ReadFault) ⊎ (status ≡ WriteFault))))
