@@ -30,7 +30,7 @@ use Rattle.cut_laws.specs.Joined.{FrontFits}
 use Rattle.cut_laws.proofs.Delivering.{in_turn}
 use Rattle.node_core.specs.Coming.{IsPlaced}
 use Rattle.chronicle.proofs.Blocks.{same_number}
-use Rattle.world_core.specs.Happening.{Comes}
+use Rattle.world_core.specs.Happening.{IsAfterStep}
 use Rattle.world_core.specs.declared.network.Network.{Network}
 use Rattle.world_core.specs.declared.outcomes.Outcome.{Outcome}
 use Rattle.world_core.specs.declared.outcomes.Outcome.TheVariants as outcome
@@ -41,20 +41,20 @@ use Rattle.link_model.specs.declared.links.Links.{Links}
 use Rattle.world_core.specs.Matching.{AreLinks, Counts, IsCounted, Stands}
 
 -- the same step
-pub comes_so : {P : Type 0} (rules : Rules) (past : Chronicle) (counts : Counts) (s t : Step) (network : Network P) (outcome : Outcome) → s ≡ t → Comes rules past counts t network outcome → Comes rules past counts s network outcome
-comes_so rules past counts s t network outcome same comes = subst (λ s. Comes rules past counts s network outcome) (sym same) comes
+pub comes_so : {P : Type 0} (rules : Rules) (past : Chronicle) (counts : Counts) (s t : Step) (network : Network P) (outcome : Outcome) → s ≡ t → IsAfterStep rules past counts t network outcome → IsAfterStep rules past counts s network outcome
+comes_so rules past counts s t network outcome same comes = subst (λ s. IsAfterStep rules past counts s network outcome) (sym same) comes
 
 -- so of what a network stands for alone
 pub stands_so : {P : Type 0} (rules : Rules) (past : Chronicle) (counts : Counts) (s t : Step) (network : Network P) → s ≡ t → Stands rules (chronicle_of past t) counts network → Stands rules (chronicle_of past s) counts network
 stands_so rules past counts s t network same stands = subst (λ s. Stands rules (chronicle_of past s) counts network) (sym same) stands
 
 -- an idle one leaves all as it was
-pub idle : {P : Type 0} (rules : Rules) (past : Chronicle) (counts : Counts) (s : Step) (network : Network P) (why : Reason) → s ≡ Idle why → Stands rules past counts network → Comes rules past counts s network (outcome.Idle why)
+pub idle : {P : Type 0} (rules : Rules) (past : Chronicle) (counts : Counts) (s : Step) (network : Network P) (why : Reason) → s ≡ Idle why → Stands rules past counts network → IsAfterStep rules past counts s network (outcome.Idle why)
 idle rules past counts s network why is was = comes_so rules past counts s (Idle why) network (outcome.Idle why) is (record { stands = was; tells = refl })
 
 -- one that goes on
 pub did : {P : Type 0} (rules : Rules) (past : Chronicle) (counts : Counts) (s : Step) (now : Chronicle) (network : Network P) (list : List Effect) → s ≡ Goes now → Stands rules now counts network
-    → effects past ++ list ≡ effects now → Comes rules past counts s network (outcome.Did list)
+    → effects past ++ list ≡ effects now → IsAfterStep rules past counts s network (outcome.Did list)
 did rules past counts s now network list is stands tells = comes_so rules past counts s (Goes now) network (outcome.Did list) is (record { stands = stands; tells = tells })
 
 -- a link that changes gives no trigger

@@ -7,9 +7,9 @@ use Rattle.chronicle.specs.Run.{actor, does, is_stopped, step}
 use Rattle.world_core.specs.declared.network.Network.{Network}
 use Rattle.world_core.specs.declared.outcomes.Outcome.{Outcome}
 use Rattle.world_core.specs.declared.outcomes.Stop.{Stop}
-use Rattle.world_core.specs.Happening.{Comes, IsAsWas, IsRegular, KeepsAllButMails, Stops}
+use Rattle.world_core.specs.Happening.{IsAfterStep, IsAsWas, IsRegular, KeepsAllButMails, Stops}
 use Rattle.world_core.specs.Matching.{AreMails, Counts, Stands}
-use Rattle.world_core.proofs.Comes.{comes_so}
+use Rattle.world_core.proofs.AfterSteps.{comes_so}
 use Rattle.world_core.proofs.Crashing.{step_runs}
 
 module _ {P : Type 0} (rules : P → Rules) (past : Chronicle) (old new : Network P) (same : IsAsWas old new) where
@@ -35,13 +35,13 @@ module _ {P : Type 0} (rules : P → Rules) (past : Chronicle) (old new : Networ
 
   -- what comes of an event whose node runs
   pub runs_on : (counts : Counts) (event : Event) (last : Network P) (what : Outcome) → is_stopped past (actor old.topology.value past event) ≡ false
-      → Comes (rules new.policy) past counts (does (rules new.policy) new.topology.value past event) last what
-      → Comes (rules old.policy) past counts (step (rules old.policy) old.topology.value past event) last what
+      → IsAfterStep (rules new.policy) past counts (does (rules new.policy) new.topology.value past event) last what
+      → IsAfterStep (rules old.policy) past counts (step (rules old.policy) old.topology.value past event) last what
   runs_on counts event last what runs comes =
       comes_so (rules old.policy) past counts (step (rules old.policy) old.topology.value past event) (does (rules old.policy) old.topology.value past event) last what
       (step_runs (rules old.policy) old.topology.value past event runs)
-      (subst (λ policy. Comes (rules policy) past counts (does (rules policy) old.topology.value past event) last what) same.policy
-      (subst (λ t. Comes (rules new.policy) past counts (does (rules new.policy) t.value past event) last what) same.topology comes))
+      (subst (λ policy. IsAfterStep (rules policy) past counts (does (rules policy) old.topology.value past event) last what) same.policy
+      (subst (λ t. IsAfterStep (rules new.policy) past counts (does (rules new.policy) t.value past event) last what) same.topology comes))
 
   -- and where it stops
   pub stops_on : (event : Event) (why : Stop) → is_stopped past (actor old.topology.value past event) ≡ false

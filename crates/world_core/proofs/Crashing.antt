@@ -28,7 +28,7 @@ use Rattle.world_core.specs.declared.network.Network.{Network}
 use Rattle.world_core.specs.Fits.{fits}
 use Rattle.world_core.specs.Happening.{KeepsAllButFlags, KeepsAllButNodes, IsAsWas}
 use Rattle.world_core.specs.Matching.{AreCrashed, AreMails, AreNodes, Counts, Stands}
-use Rattle.world_core.proofs.Comes.{crash_counted, crash_links, restart_counted, restart_links}
+use Rattle.world_core.proofs.AfterSteps.{crash_counted, crash_links, restart_counted, restart_links}
 use Rattle.world_core.proofs.Handed.{both_of}
 use Rattle.world_core.proofs.Mailing.{stopped_mails, started_mails}
 use Rattle.world_core.proofs.Nodes.{same_nodes}

@@ -28,13 +28,13 @@ use Rattle.world_core.specs.declared.network.Network.{Network}
 use Rattle.world_core.specs.declared.outcomes.Outcome.{Outcome}
 use Rattle.world_core.specs.declared.outcomes.Stop.{Stop}
 use Rattle.world_core.specs.Fits.{fits}
-use Rattle.world_core.specs.Happening.{Comes, IsRegular, MayArrive, MayHand, Stops}
+use Rattle.world_core.specs.Happening.{IsAfterStep, IsRegular, MayArrive, MayHand, Stops}
 use Rattle.world_core.specs.Matching.{AreCrashed, AreLinks, AreMails, AreNodes, Counts, IsCounted, Stands}
 use Rattle.world_core.specs.Publications.{all_published}
 use Rattle.world_core.specs.Walks.{AreWalks, AreWalksBut, JourneyView, Takes, is_of}
 use Rattle.world_core.proofs.Mailing.{letter_inside}
 use Rattle.world_core.proofs.Walking.{stands_by, stands_nowhere}
-use Rattle.world_core.proofs.Comes.{arrival_goes, comes_so, stands_so, deliver_front, front_placed, notice_over, open_step}
+use Rattle.world_core.proofs.AfterSteps.{arrival_goes, comes_so, stands_so, deliver_front, front_placed, notice_over, open_step}
 
 -- u may be handed the input, and what it then does is what the event does
 pub record Hands {P : Type 0} (rules : Rules) (past : Chronicle) (counts : Counts) (event : Event) (u : ℕ) (i : Input) (network : Network P) : Type 0 where
@@ -43,7 +43,7 @@ pub record Hands {P : Type 0} (rules : Rules) (past : Chronicle) (counts : Count
 
 -- so what comes of the one comes of the other
 pub comes_by : {P : Type 0} (rules : Rules) (past : Chronicle) (counts : Counts) (event : Event) (u : ℕ) (i : Input) (network new : Network P) (outcome : Outcome) → Hands rules past counts event u i network
-    → (MayHand rules past counts u i network → Comes rules past counts (given rules network.topology.value past u i) new outcome) → Comes rules past counts (does rules network.topology.value past event) new outcome
+    → (MayHand rules past counts u i network → IsAfterStep rules past counts (given rules network.topology.value past u i) new outcome) → IsAfterStep rules past counts (does rules network.topology.value past event) new outcome
 comes_by rules past counts event u i network new outcome hands comes =
     comes_so rules past counts (does rules network.topology.value past event) (given rules network.topology.value past u i) new outcome hands.same (comes hands.may)
 

@@ -21,7 +21,7 @@ pub mod ShortLists
 pub mod Stopping
 pub mod Returning
 pub mod Answered
-pub mod Comes
+pub mod AfterSteps
 pub mod Handed
 pub mod Changing
 pub mod Opened

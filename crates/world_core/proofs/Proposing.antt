@@ -25,7 +25,7 @@ use Rattle.agreement_laws.specs.Given.{HasFewTriggers}
 use Rattle.world_core.specs.declared.bounds.TheConstants.{MOST_TRIGGERS}
 use Rattle.world_core.specs.Happening.{ListsAreShort, ValuesAreSmall}
 use Rattle.world_core.specs.Limits.{triggers_of}
-use Rattle.world_core.proofs.Comes.{run-push}
+use Rattle.world_core.proofs.AfterSteps.{run-push}
 use Rattle.world_core.proofs.Handed.{both_of}
 
 -- what holds of the longer run holds after the event

@@ -18,7 +18,7 @@ use Rattle.chronicle.specs.Recordings.{recording}
 use Rattle.chronicle.specs.Run.{after, chronicle_of, does, run, step}
 use Rattle.chronicle.specs.Steps.{Goes, Idle}
 use Rattle.world_core.specs.Restarts.{HasNoTallies, IsCrash, IsRestart, KeepsItsOwn, KeepsItsTallies, LosesTalliesAlone, StaysBut}
-use Rattle.world_core.proofs.Comes.{run-push}
+use Rattle.world_core.proofs.AfterSteps.{run-push}
 use Rattle.world_core.proofs.Delivered.{one_more}
 
 -- nothing happened

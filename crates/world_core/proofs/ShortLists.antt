@@ -27,7 +27,7 @@ use Rattle.agreement_laws.proofs.InOrder.{IsOneOf, few_in_order}
 use Rattle.world_core.specs.Happening.{ListsAreShort, ValuesAreSmall}
 use Rattle.world_core.specs.Limits.{triggers_of}
 use Rattle.world_core.proofs.Ascending.{AllAscend, news_ascend, run_ascends}
-use Rattle.world_core.proofs.Comes.{run-push}
+use Rattle.world_core.proofs.AfterSteps.{run-push}
 
 -- ---- one log
 

@@ -18,7 +18,7 @@ use Rattle.world_core.specs.Limits.{above_by, limit_of}
 use Rattle.world_core.specs.Matching.{Counts, Stands}
 use Rattle.world_core.specs.OpenWays.{AreOpen}
 use Rattle.world_core.specs.WaySets.{has_way}
-use Rattle.world_core.proofs.Comes.{run-push}
+use Rattle.world_core.proofs.AfterSteps.{run-push}
 use Rattle.world_core.proofs.Mailing.{same_counts}
 use Rattle.world_core.proofs.Stopping.{limit_later, stands_within}
 

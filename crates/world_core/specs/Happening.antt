@@ -136,7 +136,7 @@ pub record MayHand {P : Type 0} (rules : Rules) (past : Chronicle) (counts : Cou
   pub goes : GoesWhere input (given rules network.topology.value past u input)
 
 -- the network is as the run has it after the step, and the outcome tells what that did
-pub record Comes {P : Type 0} (rules : Rules) (past : Chronicle) (counts : Counts) (step : Step) (network : Network P) (outcome : Outcome) : Type 0 where
+pub record IsAfterStep {P : Type 0} (rules : Rules) (past : Chronicle) (counts : Counts) (step : Step) (network : Network P) (outcome : Outcome) : Type 0 where
   pub stands : Stands rules (chronicle_of past step) counts network
   pub tells : Tells past step outcome
 
@@ -148,7 +148,7 @@ InEachRun rules network is = (past : Chronicle) (counts : Counts) → Stands rul
 abbrev pub Does : {P : Type 0} → Rules → (old : Network P) → Event → (new : Network P) → Outcome → Type 0
 Does rules old event new outcome =
     (past : Chronicle) (counts : Counts) → Stands rules past counts old → IsRegular old.topology.value past
-    → Comes rules past counts (does rules old.topology.value past event) new outcome
+    → IsAfterStep rules past counts (does rules old.topology.value past event) new outcome
 
 -- the event was stopped: whatever run the network stood for, the stop is at the limit that the event reaches there
 abbrev pub StopsDoing : {P : Type 0} → Rules → Network P → Event → Stop → Type 0

@@ -8,7 +8,7 @@ ghost use Rattle.chronicle.specs.Run.{chronicle_of, given};
 ghost use Rattle.node_core.specs.declared.limits.TheConstants.{MOST_MARKS};
 ghost use Rattle.node_core.specs.Inputs.{input_of};
 ghost use Rattle.node_core.specs.NodeLimits.{has_more_marks};
-ghost use Rattle.world_core.specs.Happening.{Comes, IsAsWas, MayHand, Stops};
+ghost use Rattle.world_core.specs.Happening.{IsAfterStep, IsAsWas, MayHand, Stops};
 ghost use Rattle.world_core.specs.Matching.{AreMails, AreNodes, Counts, Stands};
 ghost use Rattle.world_core.specs.Places.{HasPlaces};
 ghost use Rattle.chronicle.specs.Walks.{packets};
@@ -81,7 +81,7 @@ impl<P: Policy + Copy> Network<P> {
             (chronicle_of past (given (P.rules self.old.policy) self.old.topology.value past node (input_of input))) counts self.new) }
         ensures comes { IfOk result (λ outcome. asked ≡ true → (past : Chronicle) (counts : Counts) →
             MayHand (P.rules self.old.policy) past counts node (input_of input) self.old →
-            Comes (P.rules self.old.policy) past counts (given (P.rules self.old.policy) self.old.topology.value past node (input_of input)) self.new outcome) }
+            IsAfterStep (P.rules self.old.policy) past counts (given (P.rules self.old.policy) self.old.topology.value past node (input_of input)) self.new outcome) }
         ensures stopped { IfErr result (λ stop. (past : Chronicle) (counts : Counts) →
             MayHand (P.rules self.old.policy) past counts node (input_of input) self.old →
             Stops (P.rules self.old.policy) self.old.topology.value past

@@ -5,7 +5,7 @@ ghost use Rattle.topology.specs.Lists.{has};
 ghost use Rattle.chronicle.specs.Facts.{Chronicle};
 ghost use Rattle.chronicle.specs.Run.{does, stands_at, up_links};
 ghost use Rattle.chronicle.specs.Walks.{ending, standing};
-ghost use Rattle.world_core.specs.Happening.{Comes, IsAsWas, Stops};
+ghost use Rattle.world_core.specs.Happening.{IsAfterStep, IsAsWas, Stops};
 ghost use Rattle.world_core.specs.Matching.{AreLinks, Counts, Stands};
 ghost use Rattle.world_core.specs.Places.{HasPlaces};
 ghost use Rattle.world_core.specs.Walks.{AreWalks, HasWalks};
@@ -71,7 +71,7 @@ impl<P: Policy + Copy> Network<P> {
         ensures others { OnOk result (IsAsWas self.old self.new) }
         ensures comes { IfOk result (λ outcome. (past : Chronicle) (counts : Counts) →
             Stands (P.rules self.old.policy) past counts self.old →
-            Comes (P.rules self.old.policy) past counts (does (P.rules self.old.policy) self.old.topology.value past (Event.Inject packet node prefix)) self.new outcome) }
+            IsAfterStep (P.rules self.old.policy) past counts (does (P.rules self.old.policy) self.old.topology.value past (Event.Inject packet node prefix)) self.new outcome) }
         ensures stopped { IfErr result (λ stop. (past : Chronicle) (counts : Counts) →
             Stands (P.rules self.old.policy) past counts self.old →
             Stops (P.rules self.old.policy) self.old.topology.value past
@@ -91,7 +91,7 @@ impl<P: Policy + Copy> Network<P> {
         ensures others { OnOk result (IsAsWas self.old self.new) }
         ensures comes { IfOk result (λ outcome. (past : Chronicle) (counts : Counts) →
             Stands (P.rules self.old.policy) past counts self.old →
-            Comes (P.rules self.old.policy) past counts (does (P.rules self.old.policy) self.old.topology.value past (Event.Hop packet)) self.new outcome) }
+            IsAfterStep (P.rules self.old.policy) past counts (does (P.rules self.old.policy) self.old.topology.value past (Event.Hop packet)) self.new outcome) }
         ensures stopped { IfErr result (λ stop. (past : Chronicle) (counts : Counts) →
             Stands (P.rules self.old.policy) past counts self.old →
             Stops (P.rules self.old.policy) self.old.topology.value past

@@ -12,7 +12,7 @@ ghost use Rattle.world_core.specs.Fits.{fits};
 ghost use Rattle.chronicle.specs.Channels.{channel};
 ghost use Rattle.chronicle.specs.Deliveries.{may_arrive};
 ghost use Rattle.chronicle.specs.Links.{link};
-ghost use Rattle.world_core.specs.Happening.{Comes, Does, IsAsWas, InEachRun, IsRegular, KeepsAllButFlags, KeepsAllButMails, KeepsAllButNodes, MayArrive, Stops, StopsDoing, Turns};
+ghost use Rattle.world_core.specs.Happening.{IsAfterStep, Does, IsAsWas, InEachRun, IsRegular, KeepsAllButFlags, KeepsAllButMails, KeepsAllButNodes, MayArrive, Stops, StopsDoing, Turns};
 ghost use Rattle.world_core.specs.Matching.{AreCrashed, AreMails, AreNodes, Counts, Stands};
 ghost use Rattle.world_core.specs.Places.{HasPlaces};
 ghost use Rattle.world_core.specs.Walks.{HasWalks};
@@ -56,7 +56,7 @@ impl<P: Policy + Copy> Network<P> {
         ensures others { OnOk result (IsAsWas self.old self.new) }
         ensures comes { IfOk result (λ outcome. (past : Chronicle) (counts : Counts) →
             Stands (P.rules self.old.policy) past counts self.old → IsRegular self.old.topology.value past → AreFew counts →
-            Comes (P.rules self.old.policy) past (counts_after past event.now counts)
+            IsAfterStep (P.rules self.old.policy) past (counts_after past event.now counts)
             (step (P.rules self.old.policy) self.old.topology.value past event.now) self.new outcome) }
         ensures stopped { IfErr result (λ stop. (past : Chronicle) (counts : Counts) →
             Stands (P.rules self.old.policy) past counts self.old → IsRegular self.old.topology.value past → AreFew counts →
@@ -317,7 +317,7 @@ impl<P: Policy + Copy> Network<P> {
         requires { linked self.old.topology.value a b ≡ true }
         ensures others { IsAsWas self.old self.new }
         ensures comes { (past : Chronicle) (counts : Counts) → Stands (P.rules self.old.policy) past counts self.old →
-            Comes (P.rules self.old.policy) past counts (does (P.rules self.old.policy) self.old.topology.value past (Event.Fail a b)) self.new result }
+            IsAfterStep (P.rules self.old.policy) past counts (does (P.rules self.old.policy) self.old.topology.value past (Event.Fail a b)) self.new result }
     {
         node_core::laws::others_change_nothing_of_what_a_node_stands_for::<P>();
         if !self.links.fail(a, b) {
@@ -376,7 +376,7 @@ impl<P: Policy + Copy> Network<P> {
         requires flags { HasPlaces self.old.topology.value (length self.old.crashed.items) }
         ensures others { IsAsWas self.old self.new }
         ensures comes { (past : Chronicle) (counts : Counts) → Stands (P.rules self.old.policy) past counts self.old →
-            Comes (P.rules self.old.policy) past counts (does (P.rules self.old.policy) self.old.topology.value past (Event.Crash node)) self.new result }
+            IsAfterStep (P.rules self.old.policy) past counts (does (P.rules self.old.policy) self.old.topology.value past (Event.Crash node)) self.new result }
     {
         self.set_crashed(node, true);
         self.forget(node);
@@ -391,7 +391,7 @@ impl<P: Policy + Copy> Network<P> {
         requires flags { HasPlaces self.old.topology.value (length self.old.crashed.items) }
         ensures others { IsAsWas self.old self.new }
         ensures comes { (past : Chronicle) (counts : Counts) → Stands (P.rules self.old.policy) past counts self.old →
-            Comes (P.rules self.old.policy) past counts (does (P.rules self.old.policy) self.old.topology.value past (Event.Restart node)) self.new result }
+            IsAfterStep (P.rules self.old.policy) past counts (does (P.rules self.old.policy) self.old.topology.value past (Event.Restart node)) self.new result }
     {
         node_core::laws::others_change_nothing_of_what_a_node_stands_for::<P>();
         if !self.is_crashed(node) {

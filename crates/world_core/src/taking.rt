@@ -7,7 +7,7 @@ ghost use Rattle.chronicle.specs.Facts.{Chronicle};
 ghost use Rattle.chronicle.specs.Run.{chronicle_of, does, step};
 ghost use Rattle.world_core.specs.Counting.{AreFew, MayDeliver, counts_after};
 ghost use Rattle.world_core.specs.Fits.{fits};
-ghost use Rattle.world_core.specs.Happening.{Comes, IsAsWas, IsRegular, Stops};
+ghost use Rattle.world_core.specs.Happening.{IsAfterStep, IsAsWas, IsRegular, Stops};
 ghost use Rattle.world_core.specs.Matching.{Counts, Stands};
 ghost use Rattle.world_core.specs.Places.{HasPlaces};
 ghost use Rattle.world_core.specs.OpenWays.{AreOpen};
@@ -43,7 +43,7 @@ impl<P: Policy + Copy> Network<P> {
             (chronicle_of past (does (P.rules self.old.policy) self.old.topology.value past (Event.Deliver from to))) counts self.new) }
         ensures comes { IfOk result (λ outcome. asked ≡ true → (past : Chronicle) (counts : Counts) →
             Stands (P.rules self.old.policy) past counts self.old → IsRegular self.old.topology.value past → arrives past from to ≡ true →
-            Comes (P.rules self.old.policy) past counts (does (P.rules self.old.policy) self.old.topology.value past (Event.Deliver from to)) self.new outcome) }
+            IsAfterStep (P.rules self.old.policy) past counts (does (P.rules self.old.policy) self.old.topology.value past (Event.Deliver from to)) self.new outcome) }
         ensures stopped { IfErr result (λ stop. (past : Chronicle) (counts : Counts) →
             Stands (P.rules self.old.policy) past counts self.old → IsRegular self.old.topology.value past → arrives past from to ≡ true →
             Stops (P.rules self.old.policy) self.old.topology.value past
@@ -94,7 +94,7 @@ impl<P: Policy + Copy> Network<P> {
         ensures comes { IfOk result (λ outcome. (past : Chronicle) (counts : Counts) →
             Stands (P.rules self.old.policy) past counts self.old → IsRegular self.old.topology.value past → AreFew counts →
             AreOpen self.old.topology.value past (has_way self.old.topology.value open_ways.now) →
-            Comes (P.rules self.old.policy) past counts (step (P.rules self.old.policy) self.old.topology.value past (Event.Deliver from to)) self.new outcome) }
+            IsAfterStep (P.rules self.old.policy) past counts (step (P.rules self.old.policy) self.old.topology.value past (Event.Deliver from to)) self.new outcome) }
         ensures stopped { IfErr result (λ stop. (past : Chronicle) (counts : Counts) →
             Stands (P.rules self.old.policy) past counts self.old → IsRegular self.old.topology.value past → AreFew counts →
             AreOpen self.old.topology.value past (has_way self.old.topology.value open_ways.now) →
@@ -119,7 +119,7 @@ impl<P: Policy + Copy> Network<P> {
         ensures comes { IfOk result (λ outcome. (past : Chronicle) (counts : Counts) →
             Stands (P.rules self.old.policy) past counts self.old → IsRegular self.old.topology.value past → AreFew counts →
             AreOpen self.old.topology.value past (has_way self.old.topology.value open_ways.now) →
-            Comes (P.rules self.old.policy) past (counts_after past event.now counts)
+            IsAfterStep (P.rules self.old.policy) past (counts_after past event.now counts)
             (step (P.rules self.old.policy) self.old.topology.value past event.now) self.new outcome) }
         ensures stopped { IfErr result (λ stop. (past : Chronicle) (counts : Counts) →
             Stands (P.rules self.old.policy) past counts self.old → IsRegular self.old.topology.value past → AreFew counts →

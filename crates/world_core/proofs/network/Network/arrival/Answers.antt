@@ -6,7 +6,7 @@ use Rattle.link_model.specs.Readings.{behind_front}
 use Rattle.cut_laws.proofs.Marked.{session_is}
 use Rattle.chronicle.specs.Run.{held_with}
 use Rattle.world_core.proofs.Carried.{link_read, front_read, empty_read}
-use Rattle.world_core.proofs.Comes.{rests_down, rests_empty, rests_wrong}
+use Rattle.world_core.proofs.AfterSteps.{rests_down, rests_empty, rests_wrong}
 use Rattle.world_core.proofs.network.Network.arrival.Goals as goal
 
 pub returns-in_default-clause-reason : goal.returns-in_default-clause-reason

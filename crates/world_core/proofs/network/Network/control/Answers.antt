@@ -5,7 +5,7 @@ use Rattle.consolidator.specs.Seen.{message_seen}
 use Rattle.control_mail.specs.Seen.{letter_seen}
 use Rattle.chronicle.specs.Inputs as input
 use Rattle.chronicle.specs.declared.events.Event.TheVariants.{Control}
-use Rattle.world_core.proofs.Comes.{idle}
+use Rattle.world_core.proofs.AfterSteps.{idle}
 use Rattle.world_core.proofs.Handed.{comes_by, stops_by, hears_copy, no_letter}
 use Rattle.world_core.proofs.Mailing.{letter_inside, letter_is}
 use Rattle.world_core.proofs.network.Network.control.Goals as goal

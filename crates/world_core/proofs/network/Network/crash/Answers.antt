@@ -1,6 +1,6 @@
 use Rattle.std.proofs.Common.{◌∷◌, refl}
 use Rattle.chronicle.specs.Facts as fact
-use Rattle.world_core.proofs.Comes.{crash_step, did}
+use Rattle.world_core.proofs.AfterSteps.{crash_step, did}
 use Rattle.world_core.proofs.Crashing.{crash_stands}
 use Rattle.world_core.proofs.network.Network.crash.Goals as goal
 

@@ -5,7 +5,7 @@ use Rattle.trigger_log.specs.Going.{item_of}
 use Rattle.chronicle.specs.Inputs as input
 use Rattle.chronicle.specs.declared.events.Event.TheVariants.{Deliver}
 use Rattle.world_core.proofs.Carried.{empty_read, front_read, taken}
-use Rattle.world_core.proofs.Comes.{idle}
+use Rattle.world_core.proofs.AfterSteps.{idle}
 use Rattle.world_core.proofs.Handed.{comes_by, stops_by, delivers}
 use Rattle.world_core.proofs.network.Network.deliver.Goals as goal
 

@@ -2,7 +2,7 @@ use Rattle.std.proofs.Common.{◌∙◌, sym}
 use Rattle.std.proofs.lemmas.Result.{IfOk-weaker, IfErr-weaker}
 use Rattle.topology.specs.declared.status.Reason.TheVariants.{Crashed}
 use Rattle.world_core.specs.Counting.{counts_after}
-use Rattle.world_core.proofs.Comes.{idle}
+use Rattle.world_core.proofs.AfterSteps.{idle}
 use Rattle.world_core.proofs.Counted.{counted_stands, regular_by_new, runs_on, stands_by_new, stops_on}
 use Rattle.world_core.proofs.Crashing.{step_stopped}
 use Rattle.world_core.proofs.network.Network.happen.Goals as goal

@@ -2,7 +2,7 @@ use Rattle.std.proofs.Common.{refl}
 use Rattle.std.proofs.lemmas.Result.{IfOk-weaker, IfErr-weaker}
 use Rattle.chronicle.specs.Inputs as input
 use Rattle.chronicle.specs.declared.events.Event.TheVariants.{Hop}
-use Rattle.world_core.proofs.Comes.{idle}
+use Rattle.world_core.proofs.AfterSteps.{idle}
 use Rattle.world_core.proofs.Handed.{comes_by, stops_by, goes_on}
 use Rattle.world_core.proofs.Walking.{may_go}
 use Rattle.world_core.proofs.network.Network.hop.Goals as goal

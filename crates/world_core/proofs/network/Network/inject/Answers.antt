@@ -3,7 +3,7 @@ use Rattle.std.proofs.lemmas.Result.{IfOk-weaker, IfErr-weaker}
 use Rattle.topology.specs.declared.status.Reason.TheVariants.{PacketKnown}
 use Rattle.chronicle.specs.Inputs as input
 use Rattle.chronicle.specs.declared.events.Event.TheVariants.{Inject}
-use Rattle.world_core.proofs.Comes.{idle}
+use Rattle.world_core.proofs.AfterSteps.{idle}
 use Rattle.world_core.proofs.Handed.{comes_by, stops_by, enters, known_stays}
 use Rattle.world_core.proofs.Walking.{not_some, same_known, some_copied}
 use Rattle.world_core.proofs.network.Network.inject.Goals as goal

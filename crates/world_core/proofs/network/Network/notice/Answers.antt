@@ -6,7 +6,7 @@ use Rattle.chronicle.specs.Inputs as input
 use Rattle.chronicle.specs.Run.{is_carried}
 use Rattle.chronicle.specs.declared.events.Event.TheVariants.{Notice}
 use Rattle.world_core.proofs.Carried.{link_read}
-use Rattle.world_core.proofs.Comes.{idle, notice_up}
+use Rattle.world_core.proofs.AfterSteps.{idle, notice_up}
 use Rattle.world_core.proofs.Handed.{comes_by, stops_by, notices}
 use Rattle.world_core.proofs.network.Network.notice.Goals as goal
 

@@ -7,7 +7,7 @@ use Rattle.chronicle.specs.Inputs as input
 use Rattle.chronicle.specs.Run.{held_with}
 use Rattle.chronicle.specs.declared.events.Event.TheVariants.{OpenSession}
 use Rattle.world_core.proofs.Carried.{link_read}
-use Rattle.world_core.proofs.Comes.{idle, none_of, open_held, open_step}
+use Rattle.world_core.proofs.AfterSteps.{idle, none_of, open_held, open_step}
 use Rattle.world_core.proofs.Handed.{comes_by, stops_by, opens}
 use Rattle.world_core.proofs.network.Network.open_session.Goals as goal
 

@@ -2,7 +2,7 @@ use Rattle.std.proofs.Common.{refl, sym, subst}
 use Rattle.std.proofs.lemmas.Result.{IfOk-weaker, IfErr-weaker}
 use Rattle.chronicle.specs.declared.events.Event.TheVariants.{Deliver}
 use Rattle.world_core.specs.Happening.{Stops}
-use Rattle.world_core.proofs.Comes.{comes_so}
+use Rattle.world_core.proofs.AfterSteps.{comes_so}
 use Rattle.world_core.proofs.Crashing.{step_runs}
 use Rattle.world_core.proofs.Opened.{runs_still}
 use Rattle.world_core.proofs.network.Network.pass_over.Goals as goal

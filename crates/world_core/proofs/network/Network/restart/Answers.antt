@@ -1,7 +1,7 @@
 use Rattle.std.proofs.Common.{◌∷◌, ◌∙◌, refl, sym}
 use Rattle.topology.specs.declared.status.Reason.TheVariants.{NotCrashed}
 use Rattle.chronicle.specs.Facts as fact
-use Rattle.world_core.proofs.Comes.{did, idle, restart_crashed, restart_running}
+use Rattle.world_core.proofs.AfterSteps.{did, idle, restart_crashed, restart_running}
 use Rattle.world_core.proofs.Crashing.{restart_stands}
 use Rattle.world_core.proofs.network.Network.restart.Goals as goal
 

@@ -6,7 +6,7 @@ use Rattle.chronicle.specs.Links.{link}
 use Rattle.chronicle.proofs.Visiting.{same_more, same_now}
 use Rattle.world_core.specs.Matching.{AreLinks}
 use Rattle.world_core.proofs.Carried.{restored_link}
-use Rattle.world_core.proofs.Comes.{did, idle, restore_counted, restores_up, restores_down}
+use Rattle.world_core.proofs.AfterSteps.{did, idle, restore_counted, restores_up, restores_down}
 use Rattle.world_core.proofs.Mailing.{same_mails}
 use Rattle.world_core.proofs.Nodes.{same_nodes}
 use Rattle.world_core.proofs.Steady.{steady_flags}

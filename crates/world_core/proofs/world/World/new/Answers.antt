@@ -2,7 +2,7 @@ use Rattle.std.proofs.Common.{[], ◌∙◌, ap, length, nat_lt}
 use Rattle.chronicle.specs.Deliveries.{deliveries}
 use Rattle.link_model.specs.WaySets.{has_number}
 use Rattle.world_core.specs.WaySets.{has_way}
-use Rattle.world_core.proofs.Comes.{run-none}
+use Rattle.world_core.proofs.AfterSteps.{run-none}
 use Rattle.world_core.specs.Counting.{no_deliveries}
 use Rattle.world_core.proofs.Delivered.{none_delivered}
 use Rattle.world_core.proofs.Fresh.{fresh_open}

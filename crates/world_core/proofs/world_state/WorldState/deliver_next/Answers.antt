@@ -9,7 +9,7 @@ use Rattle.world_core.specs.Happening.{Stops}
 use Rattle.world_core.specs.Refreshing.{way}
 use Rattle.world_core.specs.WaySets.{has_way}
 use Rattle.world_core.proofs.Changing.{delivery_opens}
-use Rattle.world_core.proofs.Comes.{stands_so}
+use Rattle.world_core.proofs.AfterSteps.{stands_so}
 use Rattle.world_core.proofs.Crashing.{step_runs}
 use Rattle.world_core.proofs.Delivered.{one_more}
 use Rattle.world_core.proofs.Next.{has_ends, over_ends, placed_at}
