@@ -13,26 +13,26 @@ use Rattle.schedule_file.specs.Grammar.{with_declaration, net_of, begun, declare
 use Rattle.schedule_file.proofs.Steps.{allowed_from}
 
 -- after the earlier lines these may come, one by one
-abbrev pub Comes : List Line → List Line → Type 0
-Comes earlier [] = Unit {0}
-Comes earlier (line ∷ lines) = InRange line × IsTrue (allowed Run earlier line) × Comes (line ∷ earlier) lines
+abbrev pub MayStandNext : List Line → List Line → Type 0
+MayStandNext earlier [] = Unit {0}
+MayStandNext earlier (line ∷ lines) = InRange line × IsTrue (allowed Run earlier line) × MayStandNext (line ∷ earlier) lines
 
 -- the earlier lines and these, newest first
 abbrev pub after : List Line → List Line → List Line
 after earlier [] = earlier
 after earlier (line ∷ lines) = after (line ∷ earlier) lines
 
-pub comes_read : (earlier lines : List Line) → Comes earlier lines → Reads earlier (map line_words lines) (after earlier lines)
+pub comes_read : (earlier lines : List Line) → MayStandNext earlier lines → Reads earlier (map line_words lines) (after earlier lines)
 comes_read earlier [] h = refl
 comes_read earlier (line ∷ lines) h = (line, record { spelled = refl; in_range = h.0 }, h.1, comes_read (line ∷ earlier) lines h.2)
 
-pub comes_in_range : (earlier lines : List Line) → Comes earlier lines → AllByRecursion InRange lines
+pub comes_in_range : (earlier lines : List Line) → MayStandNext earlier lines → AllByRecursion InRange lines
 comes_in_range earlier [] h = tt
 comes_in_range earlier (line ∷ lines) h = (h.0, comes_in_range (line ∷ earlier) lines h.2)
 
 -- these come, and then this holds
 pub record Reaches (earlier lines : List Line) (P : List Line → Type 0) : Type 0 where
-  pub comes : Comes earlier lines
+  pub comes : MayStandNext earlier lines
   pub there : P (after earlier lines)
 
 pub reaches_both : (earlier lines others : List Line) (P Q : List Line → Type 0) → Reaches earlier lines P → ((e : List Line) → P e → Reaches e others Q) → Reaches earlier (lines ++ others) Q
