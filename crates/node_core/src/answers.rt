@@ -7,7 +7,7 @@ ghost use Rattle.consolidator.specs.Standing.{StandsFor as PartStandsFor};
 ghost use Rattle.chronicle.specs.Facts.{Chronicle};
 ghost use Rattle.trigger_log.specs.Going.{item_of};
 ghost use Rattle.chronicle.specs.Giving.{answer};
-ghost use Rattle.chronicle.specs.Inputs.{Arrive, Input as Comes};
+ghost use Rattle.chronicle.specs.Inputs.{Arrive, Input as RunInput};
 ghost use Rattle.chronicle.specs.Run.{chronicle_of};
 ghost use Rattle.chronicle.specs.Steps.{Carried, Goes};
 ghost use Rattle.node_core.specs.Answering.{Consults, Says, decided_by, posts};
@@ -153,11 +153,11 @@ impl<P: Policy + Copy> Node<P> {
         decided: Result<Duty, Reason>,
         outputs: &mut OutputList,
     ) -> Result<(Node<P>, Answer), NoMemory>
-        ensures node { IfOk result (λ r. (policy : P) (net : Net) (u : ℕ) (carried : Carried) (past : Chronicle) (input : Comes) →
+        ensures node { IfOk result (λ r. (policy : P) (net : Net) (u : ℕ) (carried : Carried) (past : Chronicle) (input : RunInput) →
             StandsFor policy (P.rules policy) net u self past → IsDecided (P.rules policy) net u past input decided →
             Follows policy (P.rules policy) net u r.0
             (chronicle_of past (answer (P.rules policy) net carried u past input))) }
-        ensures says { IfOk result (λ r. (policy : P) (net : Net) (u : ℕ) (carried : Carried) (past : Chronicle) (input : Comes) →
+        ensures says { IfOk result (λ r. (policy : P) (net : Net) (u : ℕ) (carried : Carried) (past : Chronicle) (input : RunInput) →
             StandsFor policy (P.rules policy) net u self past → IsDecided (P.rules policy) net u past input decided → outputs.old ≡ [] →
             Says u past (answer (P.rules policy) net carried u past input) r.1 outputs.new) }
     {
