@@ -17,7 +17,7 @@ use Rattle.table_audit.specs.Rows.{first_bad}
 use Rattle.table_audit.specs.Verdicts.{verdict_of}
 use Rattle.table_audit.specs.Audited.{Audited, IsConsistent, IsInconsistent, bad_row, consistent_line}
 use Rattle.table_audit.specs.Tables.{rows_of, first_misspelled}
-use Rattle.table_audit.specs.Walks.{Follows}
+use Rattle.table_audit.specs.Walks.{FollowsRows}
 
 -- what a told source gave is what it told
 pub known : (told : Option (List ℕ)) (items : List ℕ) → IfSome told (λ bytes. items ≡ bytes) → (bytes : List ℕ) → told ≡ Some bytes → items ≡ bytes
@@ -117,12 +117,12 @@ module _ (source source' : SourceView) (bytes : List ℕ) (read : (told : List �
     }
 
     -- the line was written whole
-    pub ends_done : ((epoch : ℕ) (prefix : Prefix) (nodes : List ℕ) → Follows (rows_of bytes) epoch prefix nodes → differ nodes ≡ true)
+    pub ends_done : ((epoch : ℕ) (prefix : Prefix) (nodes : List ℕ) → FollowsRows (rows_of bytes) epoch prefix nodes → differ nodes ≡ true)
         → Appends sink.held sink'.held consistent_line → sink'.faults ≡ sink.faults → Audited source source' sink sink' Done
     ends_done free whole still = record {
       formed = refl;
       done = λ e told t. (fine told t, whole);
-      loop_free = λ e told t epoch prefix nodes follows. free epoch prefix nodes (subst (λ b. Follows (rows_of b) epoch prefix nodes) (sym (read told t)) follows);
+      loop_free = λ e told t epoch prefix nodes follows. free epoch prefix nodes (subst (λ b. FollowsRows (rows_of b) epoch prefix nodes) (sym (read told t)) follows);
       bad_tables = λ n e. absurd (cc e);
       inconsistent = λ n k e. absurd (cc e);
       limit = λ k n e. absurd (cc e);

@@ -14,7 +14,7 @@ use Rattle.schedule_file.specs.declared.parser.TheConstants.{MAX_BYTES}
 use Rattle.topology.specs.declared.status.AuditKind.{AuditKind}
 use Rattle.table_audit.specs.Rows.{first_bad}
 use Rattle.table_audit.specs.Tables.{rows_of, first_misspelled}
-use Rattle.table_audit.specs.Walks.{Follows}
+use Rattle.table_audit.specs.Walks.{FollowsRows}
 
 -- the line for a text of which no row is bad
 abbrev pub consistent_line : List ℕ
@@ -79,7 +79,7 @@ pub record Audited (source source' : SourceView) (sink sink' : SinkView) (status
       → IsConsistent bytes × Appends sink.held sink'.held consistent_line
   -- then whoever follows the second nodes of the rows of one epoch and prefix visits no node twice
   pub loop_free : status ≡ Done → (bytes : List ℕ) → source.left ≡ Some bytes
-      → (epoch : ℕ) (prefix : Prefix) (nodes : List ℕ) → Follows (rows_of bytes) epoch prefix nodes → differ nodes ≡ true
+      → (epoch : ℕ) (prefix : Prefix) (nodes : List ℕ) → FollowsRows (rows_of bytes) epoch prefix nodes → differ nodes ≡ true
   -- BadTables: the line is the first that begins like one of a table and is none
   pub bad_tables : (line : ℕ) → status ≡ BadTables line
       → (bytes : List ℕ) → source.left ≡ Some bytes → first_misspelled bytes ≡ Some line
