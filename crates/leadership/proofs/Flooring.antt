@@ -8,7 +8,7 @@ use Rattle.leadership.specs.declared.floors.Floors.{Floors}
 use Rattle.leadership.specs.declared.floors.Span.{Span}
 use Rattle.leadership.specs.declared.floors.Span.TheVariants.{All, From, UpTo, Only}
 use Rattle.leadership.specs.Facts.{PrepareFrom}
-use Rattle.leadership.specs.Floors.{Floor, Follows, Raises, covers, floor_at, greatest_in, with_floor}
+use Rattle.leadership.specs.Floors.{Floor, AddsMessage, Raises, covers, floor_at, greatest_in, with_floor}
 
 -- ---- the greater one of ballots
 
@@ -123,7 +123,7 @@ pub where_ok : {V E P Q : Type 0} (result : Result V E) → (P → Q) → OnOk r
 where_ok (Ok value) f h = f h
 where_ok (Err error) f h = h
 
-pub follows_prepare : (old new : Floors) (d : ℕ) (b : Ballot) → Raises d b old.prepared.items new.prepared.items → new.offered.items ≡ old.offered.items → Follows (PrepareFrom d b) old new
+pub follows_prepare : (old new : Floors) (d : ℕ) (b : Ballot) → Raises d b old.prepared.items new.prepared.items → new.offered.items ≡ old.offered.items → AddsMessage (PrepareFrom d b) old new
 follows_prepare old new d b raised same = record {
   from_on = λ c.
       ap₂ (greatest_in (From c)) same (raised All None)

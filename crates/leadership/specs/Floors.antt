@@ -56,7 +56,7 @@ Raises e b old new =
     ≡ (if covers span e then greater b (greatest_in span old before) else greatest_in span old before)
 
 -- m is one message more
-pub record Follows (m : Message) (old new : Floors) : Type 0 where
+pub record AddsMessage (m : Message) (old new : Floors) : Type 0 where
   pub from_on : (d : ℕ) → floor_from d new ≡ promised_by d m (floor_from d old)
   pub at : (e : ℕ) → floor_at e new ≡ promised_at e m (floor_at e old)
 

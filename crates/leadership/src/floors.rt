@@ -2,7 +2,7 @@
 ghost use Rattle.std.specs.Prelude.{ℕ, ◌≡◌, ◌<◌, Option, length, slice_index_or, IfSome, IfNone, OnOk, OnErr};
 ghost use Rattle.topology.specs.Ballots.{below};
 ghost use Rattle.paxos_core.specs.Readings.{greater};
-ghost use Rattle.leadership.specs.Floors.{covers, greatest_in, floor_from, floor_at, AreEmptyFloors, AreSameFloors, HasFloor, Follows, Raises};
+ghost use Rattle.leadership.specs.Floors.{covers, greatest_in, floor_from, floor_at, AreEmptyFloors, AreSameFloors, HasFloor, AddsMessage, Raises};
 
 use crate::messages::Message;
 use std::alloc::Global;
@@ -111,7 +111,7 @@ impl Floors {
 
     /// One more message.
     pub(crate) fn hear(&mut self, message: &Message) -> Result<(), NoMemory>
-        ensures ok { OnOk result (Follows message.now self.old self.new) }
+        ensures ok { OnOk result (AddsMessage message.now self.old self.new) }
         ensures err { OnErr result (AreSameFloors self.old self.new) }
     {
         match message {
