@@ -4,11 +4,11 @@ use Rattle.topology.specs.Net.{Net}
 use Rattle.chronicle.specs.declared.events.Event.{Event}
 use Rattle.chronicle.specs.declared.events.Event.TheVariants.{Deliver}
 use Rattle.world_core.specs.declared.world_state.WorldState.{WorldState}
-use Rattle.world_core.specs.Holding.{Follows, FollowsOver}
+use Rattle.world_core.specs.Holding.{AddsEvent, AddsDelivery}
 use Rattle.world_core.specs.View.{WorldView, delivered}
 
 -- a world that follows has the same policy and network, and one event more
-pub view_after : {P : Type 0} (event : Event) (old new : WorldState P) → Follows event old new
+pub view_after : {P : Type 0} (event : Event) (old new : WorldState P) → AddsEvent event old new
     → ◌≡◌ {A = WorldView P} (record { policy = new.network.policy; net = new.network.topology.value; events = new.events.items })
     (record { policy = old.network.policy; net = old.network.topology.value; events = old.events.items ++ event ∷ [] })
 view_after {P} event old new follows =
@@ -18,7 +18,7 @@ view_after {P} event old new follows =
     ∙ ap (λ policy. view policy old.network.topology.value (old.events.items ++ event ∷ [])) follows.policy)
 
 -- a world that follows over the way of a delivery is the world after it
-pub delivered_view : {P : Type 0} (way : Option (ℕ × ℕ)) (old new : WorldState P) → FollowsOver way old new
+pub delivered_view : {P : Type 0} (way : Option (ℕ × ℕ)) (old new : WorldState P) → AddsDelivery way old new
     → ◌≡◌ {A = WorldView P} (record { policy = new.network.policy; net = new.network.topology.value; events = new.events.items })
     (delivered (record { policy = old.network.policy; net = old.network.topology.value; events = old.events.items }) way)
 delivered_view {P} None old new same = ap (λ (state : WorldState P). record { policy = state.network.policy; net = state.network.topology.value; events = state.events.items }) same

@@ -22,15 +22,15 @@ pub record Holds {P : Type 0} (rules : P → Rules) (state : WorldState P) : Typ
       (has_way state.network.topology.value state.open_ways)
 
 -- the same network, and one event more
-pub record Follows {P : Type 0} (event : Event) (old new : WorldState P) : Type 0 where
+pub record AddsEvent {P : Type 0} (event : Event) (old new : WorldState P) : Type 0 where
   pub policy : new.network.policy ≡ old.network.policy
   pub net : new.network.topology.value ≡ old.network.topology.value
   pub events : new.events.items ≡ old.events.items ++ event ∷ []
 
 -- the same state, or one delivery more, over the way from the one to the other
-abbrev pub FollowsOver : {P : Type 0} → Option (ℕ × ℕ) → WorldState P → WorldState P → Type 0
-FollowsOver None old new = new ≡ old
-FollowsOver (Some ends) old new = Follows (Deliver ends.0 ends.1) old new
+abbrev pub AddsDelivery : {P : Type 0} → Option (ℕ × ℕ) → WorldState P → WorldState P → Type 0
+AddsDelivery None old new = new ≡ old
+AddsDelivery (Some ends) old new = AddsEvent (Deliver ends.0 ends.1) old new
 
 -- the next delivery is over the way with these ends
 pub record IsOver (net : Net) (past : Chronicle) (ends : Ends) : Type 0 where

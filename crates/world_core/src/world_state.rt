@@ -6,7 +6,7 @@ ghost use Rattle.chronicle.specs.Run.{run, step};
 ghost use Rattle.world_core.specs.declared.bounds.TheConstants.{MOST_EVENTS};
 ghost use Rattle.world_core.specs.Effects.{Tells};
 ghost use Rattle.world_core.specs.Fits.{fits};
-ghost use Rattle.world_core.specs.Holding.{Follows, FollowsOver, Holds, IsNext};
+ghost use Rattle.world_core.specs.Holding.{AddsEvent, AddsDelivery, Holds, IsNext};
 ghost use Rattle.world_core.specs.Limits.{limit_of, StopsAt};
 ghost use Rattle.world_core.specs.Sound.{IsNoStray};
 ghost use Rattle.world_core.specs.Stepping.{IsStep};
@@ -60,7 +60,7 @@ impl<P: Policy + Copy> WorldState<P> {
         requires holds { Holds P.rules self.old }
         requires fits { IsTrue (fits self.old.network.topology.value event) }
         ensures holds { OnOk result (Holds P.rules self.new) }
-        ensures follows { OnOk result (Follows event self.old self.new) }
+        ensures follows { OnOk result (AddsEvent event self.old self.new) }
         ensures outcome { IfOk result (λ outcome.
             let past = run (P.rules self.old.network.policy) self.old.network.topology.value self.old.events.items in
             Tells past (step (P.rules self.old.network.policy) self.old.network.topology.value past event) outcome) }
@@ -98,7 +98,7 @@ impl<P: Policy + Copy> WorldState<P> {
         ensures holds { OnOk result (Holds P.rules self.new) }
         ensures way { IfOk result (λ way. way ≡ option_map (λ (way : Way). (way.from, way.to)) (next_delivery self.old.network.topology.value
             (run (P.rules self.old.network.policy) self.old.network.topology.value self.old.events.items))) }
-        ensures follows { IfOk result (λ way. FollowsOver way self.old self.new) }
+        ensures follows { IfOk result (λ way. AddsDelivery way self.old self.new) }
         ensures step { IfOk result (λ way. IfSome way (λ ends.
             IsStep (P.rules self.old.network.policy) self.old.network.topology.value self.old.events.items (Event.Deliver ends.0 ends.1))) }
         ensures stopped { IfErr result (λ stop. (way : Way)
