@@ -20,7 +20,7 @@ use Rattle.schedule_file.specs.declared.table.PlainView.TheVariants.{Control as 
 use Rattle.schedule_file.specs.declared.table.EpochView.TheVariants.{Cut, Closure, Tables}
 use Rattle.schedule_file.specs.declared.lines.Numbered.{Numbered}
 use Rattle.schedule_file.specs.Lines.{DirectsInRange}
-use Rattle.schedule_file.specs.Grammar.{place_in, fault_from, origin_fault, directed_fault, directive_of, Follows, AllFollow}
+use Rattle.schedule_file.specs.Grammar.{place_in, fault_from, origin_fault, directed_fault, directive_of, IsInstructed, AreInstructed}
 use Rattle.route_replay.specs.Text.{task_of}
 use Rattle.route_replay.specs.Running.{Fitting, AllFitting}
 
@@ -106,10 +106,10 @@ module _ (net : Net) where
   instruction_fits (ShowEpoch Tables epoch) r fine = tt
   instruction_fits (ShowWalk packet) r fine = tt
 
-  directive_fits : (d : Directive) → Follows net d → Fitting net (task_of d)
+  directive_fits : (d : Directive) → IsInstructed net d → Fitting net (task_of d)
   directive_fits d f =
       subst (λ (one : Directive). Fitting net (task_of one)) (sym f.same) (instruction_fits f.instruction f.in_range f.named)
 
   -- each directive that follows from an instruction fits
-  pub all_fit : (ds : List Numbered) → AllFollow net ds → AllFitting net ds
+  pub all_fit : (ds : List Numbered) → AreInstructed net ds → AllFitting net ds
   all_fit ds all = λ k d at. directive_fits _ (all k d at)

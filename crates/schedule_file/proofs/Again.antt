@@ -27,7 +27,7 @@ use Rattle.schedule_file.specs.declared.table.Part.TheVariants.{Network, Run}
 use Rattle.schedule_file.specs.Spelling.{words_by_line}
 use Rattle.schedule_file.specs.Table.{may_declare, may_direct}
 use Rattle.schedule_file.specs.Lines.{InRange, DirectsInRange}
-use Rattle.schedule_file.specs.Grammar.{net_of, begun, directives_of, directive_of, directed_fault, origin_fault, place_in, allowed, Reads, IsFile, Follows, AllFollow}
+use Rattle.schedule_file.specs.Grammar.{net_of, begun, directives_of, directive_of, directed_fault, origin_fault, place_in, allowed, Reads, IsFile, IsInstructed, AreInstructed}
 use Rattle.schedule_file.specs.Printing.{node_line, link_line, prefix_line, pref_line, hold_line, packet_lines, sorted_preferences, sorted_holds, prefix_at, instruction_of, directive_line, network_lines, printed_lines, printed, SameNet, unnumbered, IsSame, IsFileAgain}
 use Rattle.schedule_file.specs.Refusals.{FirstBad}
 use Rattle.schedule_file.proofs.Steps.{allowed_from}
@@ -143,12 +143,12 @@ module _ (net : Net) (valid : IsValid net) where
     late : begun e ≡ true
     directed : unnumbered (directives_of e) ≡ unnumbered front
 
-  each_follows : (all : List Numbered) → AllFollow net all → (front : List Numbered) (d : Numbered) (back : List Numbered) → front ++ d ∷ back ≡ all → Follows net d.directive
-  each_follows all follow front d back same = in_front front d back (subst (AllFollow net) (sym same) follow)
+  each_follows : (all : List Numbered) → AreInstructed net all → (front : List Numbered) (d : Numbered) (back : List Numbered) → front ++ d ∷ back ≡ all → IsInstructed net d.directive
+  each_follows all follow front d back same = in_front front d back (subst (AreInstructed net) (sym same) follow)
     where
-      in_front : (front : List Numbered) (d : Numbered) (back : List Numbered) → AllFollow net (front ++ d ∷ back) → Follows net d.directive
-      in_front [] d back h = All-head (λ (d : Numbered). Follows net d.directive) d back h
-      in_front (x ∷ front) d back h = in_front front d back (All-tail (λ (d : Numbered). Follows net d.directive) x (front ++ d ∷ back) h)
+      in_front : (front : List Numbered) (d : Numbered) (back : List Numbered) → AreInstructed net (front ++ d ∷ back) → IsInstructed net d.directive
+      in_front [] d back h = All-head (λ (d : Numbered). IsInstructed net d.directive) d back h
+      in_front (x ∷ front) d back h = in_front front d back (All-tail (λ (d : Numbered). IsInstructed net d.directive) x (front ++ d ∷ back) h)
 
   instruction_next : (i : Instruction) (d : Numbered) (front : List Numbered) (e : List Line) → d.directive ≡ directive_of net i → DirectsInRange i → directed_fault net i ≡ None → Behind front e → InRange (Directs i) × IsTrue (allowed Run e (Directs i)) × Behind (front ++ d ∷ []) (Directs i ∷ e)
   instruction_next i d front e same range fine b =
@@ -165,13 +165,13 @@ module _ (net : Net) (valid : IsValid net) where
         },
       )
 
-  directive_next : (all : List Numbered) → AllFollow net all → (front : List Numbered) (d : Numbered) (back : List Numbered) (e : List Line) → front ++ d ∷ back ≡ all → Behind front e → InRange (directive_line net d) × IsTrue (allowed Run e (directive_line net d)) × Behind (front ++ d ∷ []) (directive_line net d ∷ e)
+  directive_next : (all : List Numbered) → AreInstructed net all → (front : List Numbered) (d : Numbered) (back : List Numbered) (e : List Line) → front ++ d ∷ back ≡ all → Behind front e → InRange (directive_line net d) × IsTrue (allowed Run e (directive_line net d)) × Behind (front ++ d ∷ []) (directive_line net d ∷ e)
   directive_next all follow front d back e same b =
       let f = each_follows all follow front d back same in
       let is : instruction_of net d.directive ≡ f.instruction = ap (instruction_of net) f.same ∙ same_instruction net f.instruction f.named in
       subst (λ i. InRange (Directs i) × IsTrue (allowed Run e (Directs i)) × Behind (front ++ d ∷ []) (Directs i ∷ e)) (sym is) (instruction_next f.instruction d front e f.same f.in_range f.named b)
 
-  directives_come : (all : List Numbered) → AllFollow net all → (e : List Line) → Behind [] e → Reaches e (map (directive_line net) all) (Behind all)
+  directives_come : (all : List Numbered) → AreInstructed net all → (e : List Line) → Behind [] e → Reaches e (map (directive_line net) all) (Behind all)
   directives_come all follow e b = section (directive_line net) Behind all (directive_next all follow) e b
 
   begin_comes : (e : List Line) → At final e → Reaches e (Begin ∷ []) (Behind [])
@@ -183,7 +183,7 @@ module _ (net : Net) (valid : IsValid net) where
       }
 
   -- one section behind the other
-  all_come : Described net → (all : List Numbered) → AllFollow net all → Reaches [] (printed_lines net all) (Behind all)
+  all_come : Described net → (all : List Numbered) → AreInstructed net all → Reaches [] (printed_lines net all) (Behind all)
   all_come d all follow =
       let start : At (with_nodes net []) [] = record { stands_for = refl; early = refl; none = refl } in
       let nodes = nodes_come net valid d.in_order [] start in

@@ -203,11 +203,11 @@ abbrev pub IsTopologyFile : List ℕ → Net → Type 0
 IsTopologyFile bytes net = (lines : List Line) × ReadsIn Over [] (words_by_line bytes) lines × (net ≡ net_of lines)
 
 -- the directive is that of an instruction whose numbers are within their ranges and whose names are those of the network
-pub record Follows (net : Net) (d : Directive) : Type 0 where
+pub record IsInstructed (net : Net) (d : Directive) : Type 0 where
   pub instruction : Instruction
   pub same : d ≡ directive_of net instruction
   pub in_range : DirectsInRange instruction
   pub named : directed_fault net instruction ≡ None
 
-abbrev pub AllFollow : Net → List Numbered → Type 0
-AllFollow net lines = All (λ (d : Numbered). Follows net d.directive) lines
+abbrev pub AreInstructed : Net → List Numbered → Type 0
+AreInstructed net lines = All (λ (d : Numbered). IsInstructed net d.directive) lines

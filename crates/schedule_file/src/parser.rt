@@ -3,7 +3,7 @@ ghost use Rattle.std.specs.Prelude.{ℕ, suc, ◌≡◌, ◌≤◌, ◌<◌, ◌
 ghost use Rattle.text_lines.specs.Words.{words_of};
 ghost use Rattle.topology.specs.declared.status.BadKind.{BadKind};
 ghost use Rattle.topology.specs.Net.{Net};
-ghost use Rattle.schedule_file.specs.Grammar.{IsRead, IsFile, IsTopologyFile, AllFollow, stands};
+ghost use Rattle.schedule_file.specs.Grammar.{IsRead, IsFile, IsTopologyFile, AreInstructed, stands};
 ghost use Rattle.schedule_file.specs.Refusals.{FirstBad, FirstBadOfTopology};
 ghost use Rattle.schedule_file.specs.Standing.{Takes, Refuses, TakesLine, RefusesLine};
 ghost use Rattle.schedule_file.specs.Ends.{SaysWhy, IsWantOfMemory, IsBadOrMemory};
@@ -123,7 +123,7 @@ pub fn parse(alloc: Global, text: &[u8]) -> Result<Schedule, ParseEnd>
     ensures ok { IfOk result (IsFile text.now) }
     ensures err { IfErr result (SaysWhy Run text.now) }
     // What is directed names what the network has.
-    ensures follow { IfOk result (λ schedule. AllFollow schedule.topology schedule.lines.items) }
+    ensures follow { IfOk result (λ schedule. AreInstructed schedule.topology schedule.lines.items) }
     // A file is refused for want of memory alone.
     ensures complete { (schedule : Schedule) → IsFile text.now schedule → IfErr result IsWantOfMemory }
     // The first bad line is named, unless memory runs out before.
