@@ -22,7 +22,7 @@ use Rattle.chronicle.specs.Publications.{Publication, publications}
 use Rattle.chronicle.specs.Steps.{Carried}
 use Rattle.chronicle.proofs.Blocks.{same_number}
 use Rattle.node_core.specs.declared.agreement.Agreement.{Agreement}
-use Rattle.node_core.specs.declared.deciding.Duty.{Duty}
+use Rattle.node_core.specs.declared.duties.Duty.{Duty}
 use Rattle.node_core.specs.Agreeing.{Agrees, AgreesAs, IsOver, IsByCut}
 use Rattle.node_core.specs.Deciding.{MayDo, acted}
 use Rattle.node_core.specs.Views.{backups_over, view_of, views}

@@ -27,8 +27,8 @@ use Rattle.chronicle.specs.Steps.{Carried, Goes, Idle, write}
 use Rattle.cut_laws.proofs.Marked.{session_is}
 use Rattle.node_core.specs.declared.inputs.Input.{Input as Given}
 use Rattle.node_core.specs.Inputs.{input_of}
-use Rattle.node_core.specs.declared.deciding.Duty.{Duty}
-use Rattle.node_core.specs.declared.deciding.Duty.TheVariants.{Enter, Open, Take, Flush as Flushes, Rise}
+use Rattle.node_core.specs.declared.duties.Duty.{Duty}
+use Rattle.node_core.specs.declared.duties.Duty.TheVariants.{Enter, Open, Take, Flush as Flushes, Rise}
 use Rattle.node_core.specs.Coming.{MayCome}
 use Rattle.node_core.specs.Deciding.{IsInTurn, IsDecided}
 

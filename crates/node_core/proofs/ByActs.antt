@@ -22,8 +22,8 @@ use Rattle.chronicle.specs.Drops.{dropped_below, kept_log}
 use Rattle.chronicle.specs.Publications.{Publication, publications_by}
 use Rattle.chronicle.specs.Inputs.{arrival}
 use Rattle.chronicle.specs.Steps.{Carried, sends, mails, write, open_session, markers, take_cut, raise, meet_mark, heard, unless_ready, take_item}
-use Rattle.node_core.specs.declared.deciding.Duty.{Duty}
-use Rattle.node_core.specs.declared.deciding.Duty.TheVariants.{Enter, Open, Take, Flush, Rise}
+use Rattle.node_core.specs.declared.duties.Duty.{Duty}
+use Rattle.node_core.specs.declared.duties.Duty.TheVariants.{Enter, Open, Take, Flush, Rise}
 use Rattle.node_core.specs.Deciding.{MayDo, acted}
 
 -- a fact that is none of a cut, of agreement or of a table

@@ -19,7 +19,7 @@ use Rattle.chronicle.proofs.Blocks.{same_number}
 use Rattle.consolidator.specs.Facts as consolidator
 use Rattle.consolidator.proofs.Beside.{known_beside, known_reported}
 use Rattle.chronicle.specs.Control.{control}
-use Rattle.node_core.specs.declared.deciding.Duty.{Duty}
+use Rattle.node_core.specs.declared.duties.Duty.{Duty}
 use Rattle.node_core.specs.declared.node.Node.{Node}
 use Rattle.node_core.specs.Keeping.{Keeps}
 use Rattle.node_core.specs.Answering.{MayComplete}

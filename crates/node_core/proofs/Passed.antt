@@ -25,8 +25,8 @@ use Rattle.chronicle.specs.Run.{chronicle_of}
 use Rattle.chronicle.proofs.Quieting.{IsOfPacket}
 use Rattle.chronicle.proofs.Forwarding.{injects_keep, forwards_keep}
 use Rattle.node_core.specs.declared.answers.Answer.TheVariants.{Did}
-use Rattle.node_core.specs.declared.deciding.Passing.{Passing}
-use Rattle.node_core.specs.declared.deciding.Passing.TheVariants.{Enter, GoOn}
+use Rattle.node_core.specs.declared.duties.Passing.{Passing}
+use Rattle.node_core.specs.declared.duties.Passing.TheVariants.{Enter, GoOn}
 use Rattle.node_core.specs.declared.node.Node.{Node}
 use Rattle.node_core.specs.declared.outputs.Output.{Output as Given}
 use Rattle.node_core.specs.Answering.{Says}

@@ -19,7 +19,7 @@ use Rattle.chronicle.specs.Run.{chronicle_of}
 use Rattle.chronicle.proofs.Blocks.{same_number}
 use Rattle.chronicle.proofs.OwnFacts.{IsOf, given_by_facts}
 use Rattle.chronicle.proofs.Publishing.{published_same}
-use Rattle.node_core.specs.declared.deciding.Duty.{Duty}
+use Rattle.node_core.specs.declared.duties.Duty.{Duty}
 use Rattle.node_core.specs.Beside.{IsBeside}
 use Rattle.node_core.specs.Deciding.{MayDo, acted}
 use Rattle.node_core.specs.NodeLimits.{is_large, is_too_large, has_large_value, proposes_large}

@@ -16,8 +16,8 @@ use Rattle.chronicle.proofs.Publishing.{epoch_publish, log_publish}
 use Rattle.chronicle.specs.Steps.{Step, Carried, Goes, Idle, raise}
 use Rattle.cut_laws.specs.Own.{Own, DropsWithin, MayReach}
 use Rattle.cut_laws.proofs.Owning.{own_answered, own_given}
-use Rattle.node_core.specs.declared.deciding.Duty.{Duty}
-use Rattle.node_core.specs.declared.deciding.Duty.TheVariants.{Rise}
+use Rattle.node_core.specs.declared.duties.Duty.{Duty}
+use Rattle.node_core.specs.declared.duties.Duty.TheVariants.{Rise}
 use Rattle.node_core.specs.declared.answers.Answer.{Answer}
 use Rattle.node_core.specs.declared.answers.Answer.TheVariants as told
 use Rattle.node_core.specs.declared.node.Node.{Node}

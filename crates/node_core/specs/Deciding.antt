@@ -17,12 +17,12 @@ use Rattle.chronicle.specs.Logs.{log_of}
 use Rattle.chronicle.specs.Run.{held_with}
 use Rattle.chronicle.specs.Giving.{answer}
 use Rattle.chronicle.specs.Steps.{Carried, Goes, Idle, open_session, raise, take_item, write}
-use Rattle.node_core.specs.declared.deciding.Duty.{Duty}
-use Rattle.node_core.specs.declared.deciding.Duty.TheVariants.{Enter, Open, Take, Flush, Rise}
-use Rattle.node_core.specs.declared.deciding.Asked.{Asked}
-use Rattle.node_core.specs.declared.deciding.Asked.TheVariants as asked
-use Rattle.node_core.specs.declared.deciding.Passing.{Passing}
-use Rattle.node_core.specs.declared.deciding.Passing.TheVariants.{Enter as Enters, GoOn}
+use Rattle.node_core.specs.declared.duties.Duty.{Duty}
+use Rattle.node_core.specs.declared.duties.Duty.TheVariants.{Enter, Open, Take, Flush, Rise}
+use Rattle.node_core.specs.declared.duties.Asked.{Asked}
+use Rattle.node_core.specs.declared.duties.Asked.TheVariants as asked
+use Rattle.node_core.specs.declared.duties.Passing.{Passing}
+use Rattle.node_core.specs.declared.duties.Passing.TheVariants.{Enter as Enters, GoOn}
 use Rattle.node_core.specs.Coming.{IsPlaced}
 use Rattle.node_core.specs.Keeping.{MayEnter}
 

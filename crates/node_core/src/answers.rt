@@ -19,7 +19,7 @@ ghost use Rattle.node_core.specs.Outputs.{output_of};
 ghost use Rattle.node_core.specs.Standing.{Follows, StandsFor};
 
 use crate::agreement::Agreement;
-use crate::deciding::{Asked, Duty, Passing};
+use crate::duties::{Asked, Duty, Passing};
 use crate::inputs::Input;
 use crate::limits::{MOST_TRIGGERS, proposes_large};
 use crate::node::Node;

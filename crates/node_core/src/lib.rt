@@ -1,14 +1,12 @@
 //! One node: what it keeps, and what it does with each input.
 #![tactic(auto)]
 
-mod acting;
 pub mod agreement;
 pub mod answers;
 mod control_fitting;
 pub mod counts;
-mod deciding;
+mod duties;
 mod fitting;
-mod forwarding;
 pub mod inputs;
 pub mod laws;
 pub mod limits;
@@ -16,9 +14,11 @@ mod marks;
 pub mod node;
 pub mod outputs;
 mod packet_fitting;
+mod packet_hops;
 pub mod parts;
 mod publishing;
 mod reports;
+mod steps;
 
 #[doc(hidden)]
 pub use agreement::Agreement;

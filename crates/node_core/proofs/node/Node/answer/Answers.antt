@@ -3,7 +3,7 @@ use Rattle.std.proofs.Common.{sym, subst}
 use Rattle.topology.specs.declared.names.Scope.TheVariants.{All}
 use Rattle.path_vector.specs.declared.causes.Cause.TheVariants as cause
 use Rattle.chronicle.specs.Giving.{answer}
-use Rattle.node_core.specs.declared.deciding.Duty.TheVariants.{Enter, Rise}
+use Rattle.node_core.specs.declared.duties.Duty.TheVariants.{Enter, Rise}
 use Rattle.node_core.specs.declared.inputs.Input.TheVariants as given
 use Rattle.node_core.specs.Answering.{Says}
 use Rattle.node_core.specs.Deciding.{acted}

@@ -1,6 +1,6 @@
 use Rattle.std.proofs.Common.{◌∷◌, refl, length}
 use Rattle.node_core.proofs.Listed.{has_newest, shows_newest}
-use Rattle.node_core.proofs.acting.count_newest.Goals as goal
+use Rattle.node_core.proofs.steps.count_newest.Goals as goal
 
 pub returns-in-None : goal.returns-in-None
 returns-in-None g c policy net u k h stands few was =

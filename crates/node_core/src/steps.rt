@@ -21,7 +21,7 @@ ghost use Rattle.node_core.specs.Outputs.{Hands, Send};
 ghost use Rattle.node_core.specs.Standing.{StandsFor};
 
 use crate::counts::Counts;
-use crate::deciding::Duty;
+use crate::duties::Duty;
 use crate::node::Node;
 use crate::outputs::{Output, OutputList};
 use path_vector::{Cause, Policy};

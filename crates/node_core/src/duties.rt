@@ -7,7 +7,7 @@ ghost use Rattle.chronicle.specs.Facts.{Chronicle};
 ghost use Rattle.chronicle.specs.Giving.{answer};
 ghost use Rattle.chronicle.specs.Inputs.{Arrive, Flush, Notice, OpenSession, Originate, Withdraw};
 ghost use Rattle.chronicle.specs.Steps.{Carried, Idle};
-ghost use Rattle.node_core.specs.declared.deciding.Duty.TheVariants.{Take};
+ghost use Rattle.node_core.specs.declared.duties.Duty.TheVariants.{Take};
 ghost use Rattle.node_core.specs.Coming.{MayCome};
 ghost use Rattle.node_core.specs.Deciding.{IsDecided};
 ghost use Rattle.node_core.specs.Standing.{StandsFor};

@@ -18,7 +18,7 @@ ghost use Rattle.node_core.specs.Standing.{Follows, StandsFor};
 ghost use Rattle.transient_mode.specs.TransientHops.{transient_hop};
 
 use crate::answers::Answer;
-use crate::deciding::Passing;
+use crate::duties::Passing;
 use crate::node::Node;
 use crate::outputs::{Output, OutputList};
 use epoch_packet::{End, Mode, Packet, StableStep, stable_hop, stamp};
