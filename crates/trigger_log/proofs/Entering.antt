@@ -17,7 +17,7 @@ use Rattle.path_vector.specs.Selection.{best}
 use Rattle.path_vector.specs.Answers.{Copies}
 use Rattle.path_vector.specs.Standing.{StandsFor as RoutesStandFor}
 use Rattle.trigger_log.specs.declared.offers.Offer.{Offer}
-use Rattle.trigger_log.specs.declared.telling.Turn.{Turn}
+use Rattle.trigger_log.specs.declared.listeners.Turn.{Turn}
 use Rattle.trigger_log.specs.declared.sessions.SessionMark.{SessionMark}
 use Rattle.trigger_log.specs.declared.log.NodeLog.{NodeLog}
 use Rattle.trigger_log.specs.Entries.{Entry, entry, reads, is_local, locals}

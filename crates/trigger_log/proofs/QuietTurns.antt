@@ -20,7 +20,7 @@ use Rattle.path_vector.specs.Answers.{Copies}
 use Rattle.path_vector.proofs.Changes.{same_path_is, same_path_self}
 use Rattle.trigger_log.specs.declared.offers.Offer.{Offer}
 use Rattle.trigger_log.specs.declared.sessions.SessionMark.{SessionMark}
-use Rattle.trigger_log.specs.declared.telling.Turn.{Turn}
+use Rattle.trigger_log.specs.declared.listeners.Turn.{Turn}
 use Rattle.trigger_log.specs.Entries.{Entry, Update, flushes, reads}
 use Rattle.trigger_log.specs.Making.{making}
 use Rattle.trigger_log.specs.Sending.{close_sent, news, sent_count, sent_to, update_of}

@@ -17,7 +17,7 @@ use Rattle.path_vector.specs.Offers.{changed, offered}
 use Rattle.path_vector.proofs.Changes.{other_prefix}
 use Rattle.path_vector.proofs.Opening.{opening_changes_nothing}
 use Rattle.trigger_log.specs.declared.sessions.SessionMark.{SessionMark}
-use Rattle.trigger_log.specs.declared.telling.Listener.{Listener}
+use Rattle.trigger_log.specs.declared.listeners.Listener.{Listener}
 use Rattle.trigger_log.specs.Entries.{Entry, Update, reads, entry, closes, closing, flushes, is_session}
 use Rattle.trigger_log.specs.Making.{Making, making}
 use Rattle.trigger_log.specs.Sending.{news, update_of, sent_count, sent_from, updates_sent, close_list, close_sent, next_number}

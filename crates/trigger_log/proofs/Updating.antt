@@ -13,7 +13,7 @@ use Rattle.path_vector.specs.Selection.{best}
 use Rattle.path_vector.specs.Offers.{offer}
 use Rattle.path_vector.specs.Answers.{Copies}
 use Rattle.trigger_log.specs.declared.offers.Offer.{Offer}
-use Rattle.trigger_log.specs.declared.telling.Listener.{Listener}
+use Rattle.trigger_log.specs.declared.listeners.Listener.{Listener}
 use Rattle.trigger_log.specs.Entries.{Entry, Update, reads}
 use Rattle.trigger_log.specs.Making.{making}
 use Rattle.trigger_log.specs.Sending.{sent_from, update_of}

@@ -10,7 +10,7 @@ use Rattle.path_vector.specs.History.{held}
 use Rattle.path_vector.specs.Standing.{StandsFor as RoutesStandFor}
 use Rattle.path_vector.specs.declared.state.RouteState.{RouteState}
 use Rattle.trigger_log.specs.declared.sessions.SessionMark.{SessionMark}
-use Rattle.trigger_log.specs.declared.telling.Turn.{Turn}
+use Rattle.trigger_log.specs.declared.listeners.Turn.{Turn}
 use Rattle.trigger_log.specs.Entries.{reads}
 use Rattle.trigger_log.specs.Making.{Making}
 use Rattle.trigger_log.specs.Sending.{sent_count, sent_to}

@@ -2,8 +2,8 @@
 use Rattle.std.specs.Prelude.{ℕ, suc, ◌+◌, ◌≡◌, List, [], ◌++◌, length, map}
 use Rattle.topology.specs.declared.items.Sent.{Sent}
 use Rattle.trigger_log.specs.declared.outgoing.Outgoing.{Outgoing}
-use Rattle.trigger_log.specs.declared.telling.Listener.{Listener}
-use Rattle.trigger_log.specs.declared.telling.Said.{Said}
+use Rattle.trigger_log.specs.declared.listeners.Listener.{Listener}
+use Rattle.trigger_log.specs.declared.listeners.Said.{Said}
 use Rattle.trigger_log.specs.Entries.{Update}
 use Rattle.trigger_log.specs.Sending.{sent_from}
 use Rattle.trigger_log.specs.Going.{Going, News, going_of, going_to, numbered}

@@ -9,7 +9,7 @@ ghost use Rattle.trigger_log.specs.Fits.{Fits};
 ghost use Rattle.trigger_log.specs.KeptEntries.{KeepsEntries, taken};
 ghost use Rattle.trigger_log.specs.Entered.{Shows};
 
-use crate::counting::next_number;
+use crate::counters::next_number;
 use crate::entries::Entry;
 use path_vector::{Policy, RouteState};
 use std::alloc::Global;

@@ -1,23 +1,23 @@
 //! The log of a node: what it entered, for which triggers, and what each entry sent.
 #![tactic(auto)]
 
-mod collecting;
-mod counting;
+mod announcements;
+mod counters;
 pub mod entries;
 pub mod held_back;
+mod held_changes;
 pub mod kept_entries;
 pub mod laws;
+mod listeners;
 pub mod log;
-mod marking;
 mod offers;
 pub mod outgoing;
 pub mod pending_list;
-mod quiet;
+mod quiet_entries;
+mod session_changes;
 pub mod sessions;
-mod telling;
-mod turns;
 
-pub use counting::next_number;
+pub use counters::next_number;
 pub use entries::Entry;
 pub use log::NodeLog;
 pub use outgoing::Outgoing;

@@ -6,7 +6,7 @@ ghost use Rattle.topology.specs.Lists.{Among, has};
 ghost use Rattle.topology.specs.Net.{Net, IsValid, neighbours};
 ghost use Rattle.trigger_log.specs.Rows.{EndsWith, joined, shifted};
 
-use crate::counting::next_number;
+use crate::counters::next_number;
 use path_vector::LikelyPlaces;
 use std::alloc::Global;
 use std::marker::Model;

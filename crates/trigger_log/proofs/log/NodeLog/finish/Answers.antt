@@ -4,7 +4,7 @@ use Rattle.path_vector.specs.Standing.{StandsFor as RoutesStandFor}
 use Rattle.trigger_log.specs.Entries.{entry, reads}
 use Rattle.trigger_log.specs.Fits.{Fits}
 use Rattle.trigger_log.specs.Making.{making}
-use Rattle.trigger_log.specs.declared.telling.Said.{Said}
+use Rattle.trigger_log.specs.declared.listeners.Said.{Said}
 use Rattle.trigger_log.specs.Going.{going_of}
 use Rattle.trigger_log.specs.Telling.{silence, speech_of}
 use Rattle.trigger_log.specs.Marked.{ToldTo}

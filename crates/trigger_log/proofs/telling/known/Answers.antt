@@ -1,9 +1,0 @@
-use Rattle.path_vector.specs.Selection.{best}
-use Rattle.path_vector.specs.Offers.{offered_route}
-use Rattle.trigger_log.proofs.telling.known.Goals as goal
-
-pub returns : goal.returns
-unfolding offered_route
-returns g c = λ policy net u h now stands copies near.
-    rw c.if-not-listener.false
-    (c.offered_path.ensures policy net u now (best (g.P.Policy.rules policy) net u h c.args.before.now.prefix) stands copies near)
