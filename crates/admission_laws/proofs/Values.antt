@@ -13,7 +13,7 @@ use Rattle.topology.proofs.Tests.{and_left, and_right, and_both, same_is}
 use Rattle.incomplete_closure.specs.Reports.{Carrier, Row, Report, items_of, missing, of_item, of_pending, open_to, waits_for}
 use Rattle.incomplete_closure.specs.Blocked.{Open, Precedes, StepsTo, Leads, Blocked}
 use Rattle.incomplete_closure.specs.Values.{IsValue}
-use Rattle.incomplete_closure.specs.Marking.{value_of}
+use Rattle.incomplete_closure.specs.Collecting.{value_of}
 use Rattle.incomplete_closure.proofs.Told.{is_value}
 use Rattle.consolidator.specs.Readings.{nodes_of}
 use Rattle.node_core.specs.ControlFits.{all_fit, in_order, incomplete_fits, listed_fits, nodes_fit, row_fits, row_lists_fit, scope_fits, value_fits, waiting_fits}

@@ -25,7 +25,7 @@ use Rattle.paxos_core.specs.ProposerCalls.{IsPreparing, prepares, gathers, tally
 use Rattle.paxos_core.specs.Answers.{opened, next_ballot, Refusal, Promised, Decided, refusal, decided, ballot_setup, answers, received, received_as, posted, proposed, or_fresh, announce, to_each}
 use Rattle.paxos_core.proofs.Ballots.{same_ballot_true, same_parts}
 use Rattle.incomplete_closure.specs.Reports.{Report}
-use Rattle.incomplete_closure.specs.Marking.{value_of}
+use Rattle.incomplete_closure.specs.Collecting.{value_of}
 use Rattle.incomplete_closure.specs.declared.values.Value.{Value}
 use Rattle.consolidator.specs.declared.messages.Reply.TheVariants as told
 use Rattle.consolidator.specs.declared.messages.Mail.{Mail as TheMail}

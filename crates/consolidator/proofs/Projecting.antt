@@ -11,7 +11,7 @@ use Rattle.paxos_core.specs.Facts as paxos
 use Rattle.paxos_core.specs.Answers.{Refusal, refusal, ballot_setup, answers, to_each, next_ballot, received, opened}
 use Rattle.paxos_core.specs.Answers as paxos_answers
 use Rattle.incomplete_closure.specs.Reports.{Report}
-use Rattle.incomplete_closure.specs.Marking.{value_of}
+use Rattle.incomplete_closure.specs.Collecting.{value_of}
 use Rattle.incomplete_closure.specs.declared.values.Value.{Value}
 use Rattle.consolidator.specs.declared.messages.Reply.{Reply}
 use Rattle.consolidator.specs.declared.parts.Part.{Part}

@@ -14,7 +14,7 @@ use Rattle.paxos_core.specs.Tallying as tallying
 use Rattle.paxos_core.specs.ProposerCalls.{forgotten}
 use Rattle.paxos_core.specs.Answers.{refusal, ballot_setup, answers, received, proposed, opened, next_ballot, to_each}
 use Rattle.incomplete_closure.specs.Reports.{Report}
-use Rattle.incomplete_closure.specs.Marking.{value_of}
+use Rattle.incomplete_closure.specs.Collecting.{value_of}
 use Rattle.incomplete_closure.specs.declared.values.Value.{Value}
 use Rattle.consolidator.specs.declared.messages.Reply.{Reply}
 use Rattle.consolidator.specs.declared.parts.Part.{Part}

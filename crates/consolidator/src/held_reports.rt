@@ -3,7 +3,7 @@ ghost use Rattle.std.specs.Prelude.{ℕ, ◌≡◌, ◌+◌, ◌≤◌, [], fals
 ghost use Rattle.std.specs.Rc.{rc_value};
 ghost use Rattle.topology.specs.Lists.{has};
 ghost use Rattle.incomplete_closure.specs.Seen.{report_seen, reports_seen};
-ghost use Rattle.incomplete_closure.specs.Marking.{value_of};
+ghost use Rattle.incomplete_closure.specs.Collecting.{value_of};
 ghost use Rattle.consolidator.specs.Readings.{put_report, nodes_of, is_empty};
 ghost use Rattle.consolidator.specs.Holding.{place_of};
 

@@ -10,7 +10,7 @@ ghost use Rattle.paxos_core.specs.Rules.{round_of};
 ghost use Rattle.incomplete_closure.specs.Seen.{report_seen};
 ghost use Rattle.incomplete_closure.specs.Reports.{Report as AnyReport};
 ghost use Rattle.incomplete_closure.specs.declared.values.Value.{Value as AnyValue};
-ghost use Rattle.incomplete_closure.specs.Marking.{value_of};
+ghost use Rattle.incomplete_closure.specs.Collecting.{value_of};
 ghost use Rattle.consolidator.specs.Answers.{of_epoch, is_for_all, no_round, not_proposing};
 ghost use Rattle.consolidator.specs.Facts.{Chronicle};
 ghost use Rattle.consolidator.specs.Messages.{epoch_of};

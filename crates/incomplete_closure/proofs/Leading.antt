@@ -15,13 +15,13 @@ use Rattle.incomplete_closure.specs.declared.reports.Report.{Report}
 use Rattle.incomplete_closure.specs.declared.opening.OpenTrigger.{OpenTrigger}
 use Rattle.incomplete_closure.specs.Blocked.{shares}
 use Rattle.incomplete_closure.specs.Graphs.{led_from, IsKept, Trail, has_seen, IsReached}
-use Rattle.incomplete_closure.specs.Marks.{mark_names}
+use Rattle.incomplete_closure.specs.Collection.{collect_names}
 use Rattle.incomplete_closure.specs.Closed.{is_due, ClosedAt, AllInside, ClosedFrom, RowClosed, ClosedRows, ClosedFor, IsLeast}
 use Rattle.incomplete_closure.specs.Names.{names_of, number_of}
 use Rattle.incomplete_closure.specs.Wiring.{nearest_by, nearest, stretch_by, stretch_at, nearest_at, stretch, next_rows, root_of, roots_of, wire_open, graph_of_rows}
 use Rattle.incomplete_closure.proofs.Listing.{or_left, or_right, or_either, lists_among, among_lists, some_passes, passes, in_flat, of_flat, each_at, all_from_each}
 use Rattle.incomplete_closure.proofs.Wired.{AllIn, Leads, TiedIn, RowWired, RowsWired, ReportsWired, DownWired, OpenWired, kept_says, says_kept, length_graph}
-use Rattle.incomplete_closure.proofs.Naming.{in_marks, passes_marked, marks_ascend, Distinct, names_distinct, row_named, open_named, number_within, number_stands, number_at, at_number}
+use Rattle.incomplete_closure.proofs.Naming.{in_collection, passes_collected, collection_ascend, Distinct, names_distinct, row_named, open_named, number_within, number_stands, number_at, at_number}
 
 -- ---- one row leads to all later ones that share a prefix
 
@@ -158,8 +158,8 @@ module _ (reports : List Report) (opened : List OpenTrigger) (reached : Trail) (
   abbrev graph : List (List ℕ)
   graph = wire_open names (graph_of_rows names reports) opened
 
-  abbrev marks : List Trigger
-  marks = mark_names (has_seen reached) 0 names []
+  abbrev collection : List Trigger
+  collection = collect_names (has_seen reached) 0 names []
 
   -- reached, or no vertex
   abbrev inside : ℕ → Bool
@@ -202,32 +202,32 @@ module _ (reports : List Report) (opened : List OpenTrigger) (reached : Trail) (
   number_in : (t : Trigger) → number_of names t < length graph
   number_in t = within_more (number_of names t) (length names) (length graph) (number_within names t) (length_graph names reports opened)
 
-  -- a marked trigger has a place that was reached
-  marked_seen : (t : Trigger) → lists marks t ≡ true → (i : ℕ) × (slice_get names i ≡ Some t) × (has_seen reached i ≡ true)
-  marked_seen t e = either (in_marks (has_seen reached) 0 names [] t (lists_among marks t e))
+  -- a collected trigger has a place that was reached
+  collected_seen : (t : Trigger) → lists collection t ≡ true → (i : ℕ) × (slice_get names i ≡ Some t) × (has_seen reached i ≡ true)
+  collected_seen t e = either (in_collection (has_seen reached) 0 names [] t (lists_among collection t e))
     where
       either : ⊥ ⊎ ((i : ℕ) × (slice_get names i ≡ Some t) × (has_seen reached (0 + i) ≡ true)) → (i : ℕ) × (slice_get names i ≡ Some t) × (has_seen reached i ≡ true)
       either (inl a) = absurd a
       either (inr p) = (p.0, p.1, subst (λ k. has_seen reached k ≡ true) (zero_more p.0) p.2)
 
-  into : (t : Trigger) → lists marks t ≡ true → inside (number_of names t) ≡ true
+  into : (t : Trigger) → lists collection t ≡ true → inside (number_of names t) ≡ true
   into t e =
-      let at = marked_seen t e in
+      let at = collected_seen t e in
       subst (λ n. inside n ≡ true) (sym (number_at names one_place at.0 t at.1)) (seen_inside at.0 at.2)
 
-  -- and one with a number that was reached is marked
-  out_of : (t : Trigger) → Among t names → inside (number_of names t) ≡ true → lists marks t ≡ true
+  -- and one with a number that was reached is collected
+  out_of : (t : Trigger) → Among t names → inside (number_of names t) ≡ true → lists collection t ≡ true
   out_of t a e =
-      among_lists marks t
-      (passes_marked (has_seen reached) 0 names [] t (number_of names t) (number_stands names t a)
+      among_lists collection t
+      (passes_collected (has_seen reached) 0 names [] t (number_of names t) (number_stands names t a)
       (subst (λ k. has_seen reached k ≡ true) (sym (zero_more (number_of names t))) (inside_seen (number_of names t) (number_in t) e)))
 
   -- ---- what is open
 
-  open_closed : (o : OpenTrigger) → Among o opened → DownWired inside names o.down o.trigger → ClosedAt (lists marks) o
+  open_closed : (o : OpenTrigger) → Among o opened → DownWired inside names o.down o.trigger → ClosedAt (lists collection) o
   open_closed o a w due = out_of o.trigger (open_named reports opened o a) (from o.down refl w due)
     where
-      from : (d : Option Trigger) → o.down ≡ d → DownWired inside names d o.trigger → is_due (lists marks) d ≡ true → inside (number_of names o.trigger) ≡ true
+      from : (d : Option Trigger) → o.down ≡ d → DownWired inside names d o.trigger → is_due (lists collection) d ≡ true → inside (number_of names o.trigger) ≡ true
       from (Some s) e lead due = lead (into s due)
       from None e lead due =
           seen_inside (number_of names o.trigger)
@@ -236,9 +236,9 @@ module _ (reports : List Report) (opened : List OpenTrigger) (reached : Trail) (
           (subst (λ z. Among (number_of names o.trigger) (root_of names z o.trigger)) (sym e) (inl refl)))
           (number_in o.trigger))
 
-  items_closed : AllByRecursion (ClosedAt (lists marks)) opened
+  items_closed : AllByRecursion (ClosedAt (lists collection)) opened
   items_closed =
-      all_from_each (ClosedAt (lists marks)) opened
+      all_from_each (ClosedAt (lists collection)) opened
       (λ o a. open_closed o a (each_at (λ (o : OpenTrigger). DownWired inside names o.down o.trigger) opened o wired.1 a))
 
   -- ---- rows
@@ -247,35 +247,35 @@ module _ (reports : List Report) (opened : List OpenTrigger) (reached : Trail) (
   abbrev Named : List Row → Type 0
   Named rows = (row : Row) (t : Trigger) → Among row rows → Among t row.triggers → Among t names
 
-  all_out : (ts : List Trigger) → ((t : Trigger) → Among t ts → Among t names) → AllByRecursion (λ t. inside (number_of names t) ≡ true) ts → AllInside (lists marks) ts
+  all_out : (ts : List Trigger) → ((t : Trigger) → Among t ts → Among t names) → AllByRecursion (λ t. inside (number_of names t) ≡ true) ts → AllInside (lists collection) ts
   all_out [] named all = tt
   all_out (t ∷ ts) named all = (out_of t (named t (inl refl)) all.0, all_out ts (λ s a. named s (inr a)) all.1)
 
-  later_marked : (row : Row) (rows : List Row) → RowsWired inside names rows → Named rows → Sharing inside names row.scope rows → AllByRecursion (ClosedFrom (lists marks) row) rows
-  later_marked row [] w named shared = tt
-  later_marked row (next ∷ later) w named shared = (
+  later_collected : (row : Row) (rows : List Row) → RowsWired inside names rows → Named rows → Sharing inside names row.scope rows → AllByRecursion (ClosedFrom (lists collection) row) rows
+  later_collected row [] w named shared = tt
+  later_collected row (next ∷ later) w named shared = (
     λ s. all_out next.triggers (λ t a. named next t (inl refl) a) (head_row inside names next.triggers (next_rows names next.scope later) w.1 (shared.0 s)),
-    later_marked row later w.0 (λ k t a b. named k t (inr a) b) shared.1,
+    later_collected row later w.0 (λ k t a b. named k t (inr a) b) shared.1,
   )
 
-  rows_closed : (rows : List Row) → RowsWired inside names rows → Named rows → ClosedRows (lists marks) rows
+  rows_closed : (rows : List Row) → RowsWired inside names rows → Named rows → ClosedRows (lists collection) rows
   rows_closed [] w named = tt
   rows_closed (row ∷ later) w named = (
     λ some.
-        let t = some_passes (lists marks) row.triggers some in
+        let t = some_passes (lists collection) row.triggers some in
         let next = next_rows names row.scope later in
         let head = row_head inside names row.triggers next t.0 w.1 t.1 (into t.0 t.2) in
         record {
           together = all_out row.triggers (λ t a. named row t (inl refl) a) (head_row inside names row.triggers next w.1 head);
-          order = later_marked row later w.0 (λ k t a b. named k t (inr a) b) (follow inside names row.scope later w.0 (head_next inside names row.triggers next t.0 w.1 t.1 head));
+          order = later_collected row later w.0 (λ k t a b. named k t (inr a) b) (follow inside names row.scope later w.0 (head_next inside names row.triggers next t.0 w.1 t.1 head));
         },
     rows_closed later w.0 (λ k t a b. named k t (inr a) b),
   )
 
-  marks_closed : ClosedFor opened reports (lists marks)
-  marks_closed = record {
+  collection_closed : ClosedFor opened reports (lists collection)
+  collection_closed = record {
     items = items_closed;
-    rows = all_from_each (λ (r : Report). ClosedRows (lists marks) r.rows) reports
+    rows = all_from_each (λ (r : Report). ClosedRows (lists collection) r.rows) reports
         (λ r a. rows_closed r.rows (each_at (λ (r : Report). RowsWired inside names r.rows) reports r wired.0 a) (λ row t b c. row_named reports opened r row t a b c));
   }
 
@@ -426,22 +426,22 @@ module _ (reports : List Report) (opened : List OpenTrigger) (reached : Trail) (
         from o a None b c = here o a b (c refl)
         from o a (Some s) b c = absurd b
 
-    marks_good : (t : Trigger) → Among t marks → good t ≡ true
+    collection_good : (t : Trigger) → Among t collection → good t ≡ true
     unfolding is_good good_at
-    marks_good t a =
-        let at = marked_seen t (among_lists marks t a) in
+    collection_good t a =
+        let at = collected_seen t (among_lists collection t a) in
         sym (ap good_at at.1) ∙ is.least is_good good_kept root_good at.0 at.2
 
-  pub marks_least : IsLeast opened reports marks
-  marks_least = record { ascending = marks_ascend (has_seen reached) 0 names [] tt; closed = marks_closed; least = λ good closed t a. marks_good good closed t a }
+  pub collection_least : IsLeast opened reports collection
+  collection_least = record { ascending = collection_ascend (has_seen reached) 0 names [] tt; closed = collection_closed; least = λ good closed t a. collection_good good closed t a }
 
 -- so where each part is as the code has it
-pub found_least : (reports : List Report) (opened : List OpenTrigger) (ns : List Trigger) (graph : List (List ℕ)) (roots : List ℕ) (reached : Trail) (marked : List Trigger)
-    → ns ≡ names_of reports opened → graph ≡ wire_open ns (graph_of_rows ns reports) opened → roots ≡ roots_of ns opened → IsReached graph roots reached → marked ≡ mark_names (has_seen reached) 0 ns []
-    → IsLeast opened reports marked
-found_least reports opened ns graph roots reached marked names_are graph_is roots_are is marked_is =
+pub found_least : (reports : List Report) (opened : List OpenTrigger) (ns : List Trigger) (graph : List (List ℕ)) (roots : List ℕ) (reached : Trail) (collected : List Trigger)
+    → ns ≡ names_of reports opened → graph ≡ wire_open ns (graph_of_rows ns reports) opened → roots ≡ roots_of ns opened → IsReached graph roots reached → collected ≡ collect_names (has_seen reached) 0 ns []
+    → IsLeast opened reports collected
+found_least reports opened ns graph roots reached collected names_are graph_is roots_are is collected_is =
     let all = names_of reports opened in
-    subst (λ z. IsLeast opened reports z) (sym (marked_is ∙ ap (λ z. mark_names (has_seen reached) 0 z []) names_are))
-    (marks_least reports opened reached
+    subst (λ z. IsLeast opened reports z) (sym (collected_is ∙ ap (λ z. collect_names (has_seen reached) 0 z []) names_are))
+    (collection_least reports opened reached
     (subst (λ z. IsReached z (roots_of all opened) reached) (graph_is ∙ ap (λ z. wire_open z (graph_of_rows z reports) opened) names_are)
     (subst (λ z. IsReached graph z reached) (roots_are ∙ ap (λ z. roots_of z opened) names_are) is)))

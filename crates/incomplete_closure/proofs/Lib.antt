@@ -5,7 +5,7 @@ pub mod Gathering
 pub mod Leading
 pub mod Least
 pub mod Listing
-pub mod Marked
+pub mod Collected
 pub mod Naming
 pub mod Nearest
 pub mod Opened

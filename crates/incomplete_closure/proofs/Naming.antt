@@ -1,4 +1,4 @@
--- Triggers and their places, and the marks of those whose places pass.
+-- Triggers and their places, and the collection of those whose places pass.
 use Rattle.std.proofs.Common.{ℕ, zero, suc, ◌+◌, ◌<◌, ◌≤◌, Bool, true, false, ◌||◌, Some, None, List, [], ◌∷◌, ◌++◌, length, get_or, drop, slice_get, nat_lt, ◌≡◌, ◌⊎◌, inl, inr, refl, sym, ◌∙◌, ap, subst, arith, if◌then◌else◌}
 use Rattle.std.specs.List.{list_any, position_or_len}
 use Rattle.std.proofs.lemmas.Bool.Decides.{nat_tests}
@@ -13,48 +13,48 @@ use Rattle.topology.proofs.Unions.{in_put, in_put_either, union_ascends}
 use Rattle.incomplete_closure.specs.declared.cut_rows.Row.{Row}
 use Rattle.incomplete_closure.specs.declared.reports.Report.{Report}
 use Rattle.incomplete_closure.specs.declared.opening.OpenTrigger.{OpenTrigger}
-use Rattle.incomplete_closure.specs.Marks.{mark_if, mark_names}
+use Rattle.incomplete_closure.specs.Collection.{collect_if, collect_names}
 use Rattle.incomplete_closure.specs.Names.{with_name, with_names, with_rows, with_reports, with_open, names_of, place_of, place_or, number_of}
 use Rattle.incomplete_closure.proofs.Listing.{same_is, lists_among, among_lists, in_front, at_end}
 
--- ---- marks, one place after another
+-- ---- collection, one place after another
 
 next_place : (n : ℕ) → suc n ≡ n + 1
 next_place n = omega arith
 
-pub mark_on : (due : ℕ → Bool) (names : List Trigger) (place : ℕ) (t : Trigger) (marked : List Trigger) → slice_get names place ≡ Some t
-    → mark_names due (place + 1) (drop (place + 1) names) (mark_if (due place) t marked) ≡ mark_names due place (drop place names) marked
-mark_on due names place t marked e =
+pub collect_on : (due : ℕ → Bool) (names : List Trigger) (place : ℕ) (t : Trigger) (collected : List Trigger) → slice_get names place ≡ Some t
+    → collect_names due (place + 1) (drop (place + 1) names) (collect_if (due place) t collected) ≡ collect_names due place (drop place names) collected
+collect_on due names place t collected e =
     let more = drop_more names place t (slice_get_within names place t e) in
     let is : get_or names place t ≡ t = get_or_from_slice_get names place t t e in
-    sym (ap (λ ts. mark_names due place ts marked) (more ∙ ap (λ x. x ∷ drop (place + 1) names) is) ∙ ap (λ n. mark_names due n (drop (place + 1) names) (mark_if (due place) t marked)) (next_place place))
+    sym (ap (λ ts. collect_names due place ts collected) (more ∙ ap (λ x. x ∷ drop (place + 1) names) is) ∙ ap (λ n. collect_names due n (drop (place + 1) names) (collect_if (due place) t collected)) (next_place place))
 
 none_past : (names : List Trigger) (place : ℕ) → slice_get names place ≡ None → length names ≤ place
 none_past [] place e = omega arith
 none_past (t ∷ names) zero e = absurd (cc e)
 none_past (t ∷ names) (suc place) e = let more = none_past names place e in omega arith
 
-pub mark_past : (due : ℕ → Bool) (names : List Trigger) (place : ℕ) (marked : List Trigger) → slice_get names place ≡ None
-    → mark_names due (place + 1) (drop (place + 1) names) marked ≡ mark_names due place (drop place names) marked
-mark_past due names place marked e =
+pub collect_past : (due : ℕ → Bool) (names : List Trigger) (place : ℕ) (collected : List Trigger) → slice_get names place ≡ None
+    → collect_names due (place + 1) (drop (place + 1) names) collected ≡ collect_names due place (drop place names) collected
+collect_past due names place collected e =
     let past = none_past names place e in
-    ap (λ ts. mark_names due (place + 1) ts marked) (drop_all (place + 1) names (omega arith)) ∙ sym (ap (λ ts. mark_names due place ts marked) (drop_all place names past))
+    ap (λ ts. collect_names due (place + 1) ts collected) (drop_all (place + 1) names (omega arith)) ∙ sym (ap (λ ts. collect_names due place ts collected) (drop_all place names past))
 
--- ---- which triggers are marked
+-- ---- which triggers are collected
 
 -- a trigger of the list whose place passes
 abbrev pub Passes : (ℕ → Bool) → ℕ → List Trigger → Trigger → Type 0
 Passes due n names t = (i : ℕ) × (slice_get names i ≡ Some t) × (due (n + i) ≡ true)
 
-in_mark : (due : Bool) (s t : Trigger) (marked : List Trigger) → Among t (mark_if due s marked) → Among t marked ⊎ ((s ≡ t) × (due ≡ true))
-in_mark false s t marked a = inl a
-in_mark true s t marked a =
-    elim (lists marked s) as (λ b. Among t (if b then marked else put s marked) → Among t marked ⊎ ((s ≡ t) × (true ≡ true))) [
+in_collect : (due : Bool) (s t : Trigger) (collected : List Trigger) → Among t (collect_if due s collected) → Among t collected ⊎ ((s ≡ t) × (due ≡ true))
+in_collect false s t collected a = inl a
+in_collect true s t collected a =
+    elim (lists collected s) as (λ b. Among t (if b then collected else put s collected) → Among t collected ⊎ ((s ≡ t) × (true ≡ true))) [
       | true ↦ λ m. inl m
-      | false ↦ λ m. either (in_put_either s t marked m)
+      | false ↦ λ m. either (in_put_either s t collected m)
     ] a
   where
-    either : (s ≡ t) ⊎ Among t marked → Among t marked ⊎ ((s ≡ t) × (true ≡ true))
+    either : (s ≡ t) ⊎ Among t collected → Among t collected ⊎ ((s ≡ t) × (true ≡ true))
     either (inl e) = inr (e, refl)
     either (inr m) = inl m
 
@@ -64,60 +64,60 @@ no_more n = omega arith
 one_further : (n i : ℕ) → suc n + i ≡ n + suc i
 one_further n i = omega arith
 
-pub in_marks : (due : ℕ → Bool) (n : ℕ) (names marked : List Trigger) (t : Trigger) → Among t (mark_names due n names marked) → Among t marked ⊎ Passes due n names t
-in_marks due n [] marked t a = inl a
-in_marks due n (s ∷ names) marked t a = either (in_marks due (suc n) names (mark_if (due n) s marked) t a)
+pub in_collection : (due : ℕ → Bool) (n : ℕ) (names collected : List Trigger) (t : Trigger) → Among t (collect_names due n names collected) → Among t collected ⊎ Passes due n names t
+in_collection due n [] collected t a = inl a
+in_collection due n (s ∷ names) collected t a = either (in_collection due (suc n) names (collect_if (due n) s collected) t a)
   where
-    here : Among t marked ⊎ ((s ≡ t) × (due n ≡ true)) → Among t marked ⊎ Passes due n (s ∷ names) t
+    here : Among t collected ⊎ ((s ≡ t) × (due n ≡ true)) → Among t collected ⊎ Passes due n (s ∷ names) t
     here (inl m) = inl m
     here (inr e) = inr (0, ap Some e.0, subst (λ k. due k ≡ true) (no_more n) e.1)
 
-    either : Among t (mark_if (due n) s marked) ⊎ Passes due (suc n) names t → Among t marked ⊎ Passes due n (s ∷ names) t
-    either (inl m) = here (in_mark (due n) s t marked m)
+    either : Among t (collect_if (due n) s collected) ⊎ Passes due (suc n) names t → Among t collected ⊎ Passes due n (s ∷ names) t
+    either (inl m) = here (in_collect (due n) s t collected m)
     either (inr p) = inr (suc p.0, p.1, subst (λ k. due k ≡ true) (one_further n p.0) p.2)
 
-mark_keeps : (due : Bool) (s t : Trigger) (marked : List Trigger) → Among t marked → Among t (mark_if due s marked)
-mark_keeps false s t marked a = a
-mark_keeps true s t marked a =
-    elim (lists marked s) as (λ b. Among t (if b then marked else put s marked)) [
+collect_keeps : (due : Bool) (s t : Trigger) (collected : List Trigger) → Among t collected → Among t (collect_if due s collected)
+collect_keeps false s t collected a = a
+collect_keeps true s t collected a =
+    elim (lists collected s) as (λ b. Among t (if b then collected else put s collected)) [
       | true ↦ a
-      | false ↦ in_put t s marked (inr a)
+      | false ↦ in_put t s collected (inr a)
     ]
 
-marks_keep : (due : ℕ → Bool) (n : ℕ) (names marked : List Trigger) (t : Trigger) → Among t marked → Among t (mark_names due n names marked)
-marks_keep due n [] marked t a = a
-marks_keep due n (s ∷ names) marked t a = marks_keep due (suc n) names (mark_if (due n) s marked) t (mark_keeps (due n) s t marked a)
+collection_keep : (due : ℕ → Bool) (n : ℕ) (names collected : List Trigger) (t : Trigger) → Among t collected → Among t (collect_names due n names collected)
+collection_keep due n [] collected t a = a
+collection_keep due n (s ∷ names) collected t a = collection_keep due (suc n) names (collect_if (due n) s collected) t (collect_keeps (due n) s t collected a)
 
-mark_there : (t : Trigger) (marked : List Trigger) → Among t (mark_if true t marked)
-mark_there t marked =
-    (elim (lists marked t) as (λ b. lists marked t ≡ b → Among t (if b then marked else put t marked)) [
-      | true ↦ λ e. lists_among marked t e
-      | false ↦ λ e. in_put t t marked (inl refl)
+collect_there : (t : Trigger) (collected : List Trigger) → Among t (collect_if true t collected)
+collect_there t collected =
+    (elim (lists collected t) as (λ b. lists collected t ≡ b → Among t (if b then collected else put t collected)) [
+      | true ↦ λ e. lists_among collected t e
+      | false ↦ λ e. in_put t t collected (inl refl)
     ]) refl
 
-pub passes_marked : (due : ℕ → Bool) (n : ℕ) (names marked : List Trigger) (t : Trigger) (i : ℕ) → slice_get names i ≡ Some t → due (n + i) ≡ true → Among t (mark_names due n names marked)
-passes_marked due n [] marked t i e d = absurd (cc e)
-passes_marked due n (s ∷ names) marked t zero e d =
+pub passes_collected : (due : ℕ → Bool) (n : ℕ) (names collected : List Trigger) (t : Trigger) (i : ℕ) → slice_get names i ≡ Some t → due (n + i) ≡ true → Among t (collect_names due n names collected)
+passes_collected due n [] collected t i e d = absurd (cc e)
+passes_collected due n (s ∷ names) collected t zero e d =
     let is : s ≡ t = cc e in
-    marks_keep due (suc n) names (mark_if (due n) s marked) t
-    (subst (λ z. Among z (mark_if (due n) s marked)) is (subst (λ b. Among s (mark_if b s marked)) (sym (subst (λ k. due k ≡ true) (sym (no_more n)) d)) (mark_there s marked)))
-passes_marked due n (s ∷ names) marked t (suc i) e d = passes_marked due (suc n) names (mark_if (due n) s marked) t i e (subst (λ k. due k ≡ true) (sym (one_further n i)) d)
+    collection_keep due (suc n) names (collect_if (due n) s collected) t
+    (subst (λ z. Among z (collect_if (due n) s collected)) is (subst (λ b. Among s (collect_if b s collected)) (sym (subst (λ k. due k ≡ true) (sym (no_more n)) d)) (collect_there s collected)))
+passes_collected due n (s ∷ names) collected t (suc i) e d = passes_collected due (suc n) names (collect_if (due n) s collected) t i e (subst (λ k. due k ≡ true) (sym (one_further n i)) d)
 
-put_ascends : (t : Trigger) (marked : List Trigger) → Ascend marked → Ascend (put t marked)
+put_ascends : (t : Trigger) (collected : List Trigger) → Ascend collected → Ascend (put t collected)
 unfolding union
-put_ascends t marked a = union_ascends (t ∷ []) marked a
+put_ascends t collected a = union_ascends (t ∷ []) collected a
 
-mark_ascends : (due : Bool) (t : Trigger) (marked : List Trigger) → Ascend marked → Ascend (mark_if due t marked)
-mark_ascends false t marked a = a
-mark_ascends true t marked a =
-    elim (lists marked t) as (λ b. Ascend (if b then marked else put t marked)) [
+collect_ascends : (due : Bool) (t : Trigger) (collected : List Trigger) → Ascend collected → Ascend (collect_if due t collected)
+collect_ascends false t collected a = a
+collect_ascends true t collected a =
+    elim (lists collected t) as (λ b. Ascend (if b then collected else put t collected)) [
       | true ↦ a
-      | false ↦ put_ascends t marked a
+      | false ↦ put_ascends t collected a
     ]
 
-pub marks_ascend : (due : ℕ → Bool) (n : ℕ) (names marked : List Trigger) → Ascend marked → Ascend (mark_names due n names marked)
-marks_ascend due n [] marked a = a
-marks_ascend due n (s ∷ names) marked a = marks_ascend due (suc n) names (mark_if (due n) s marked) (mark_ascends (due n) s marked a)
+pub collection_ascend : (due : ℕ → Bool) (n : ℕ) (names collected : List Trigger) → Ascend collected → Ascend (collect_names due n names collected)
+collection_ascend due n [] collected a = a
+collection_ascend due n (s ∷ names) collected a = collection_ascend due (suc n) names (collect_if (due n) s collected) (collect_ascends (due n) s collected a)
 
 -- ---- places
 

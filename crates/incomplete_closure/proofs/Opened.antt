@@ -329,9 +329,9 @@ nodes_seen [] = refl
 nodes_seen (r ∷ rs) = ap (λ ns. r.node ∷ ns) (nodes_seen rs)
 
 -- the least set that is closed for what is open and the rows is that of the value
-pub least_told : (rs : List TheReport) → OfOneEpoch rs → (nodes : List ℕ) (marked : List Trigger) → nodes ≡ nodes_of rs → IsLeast (open_triggers rs) rs marked → IsValue (reports_seen rs) (a_value nodes marked)
-least_told rs one nodes marked same least =
+pub least_told : (rs : List TheReport) → OfOneEpoch rs → (nodes : List ℕ) (collected : List Trigger) → nodes ≡ nodes_of rs → IsLeast (open_triggers rs) rs collected → IsValue (reports_seen rs) (a_value nodes collected)
+least_told rs one nodes collected same least =
     let sorted = sorted_from_strictly_increasing (nodes_of rs) one.nodes in
-    least_is_value (reports_seen rs) nodes marked (same ∙ nodes_seen rs) least.ascending
-    (closed_seen rs sorted (lists marked) least.closed)
+    least_is_value (reports_seen rs) nodes collected (same ∙ nodes_seen rs) least.ascending
+    (closed_seen rs sorted (lists collected) least.closed)
     (λ inside closed t m. least.least inside (seen_closed rs inside closed) t m)

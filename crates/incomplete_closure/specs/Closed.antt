@@ -42,7 +42,7 @@ pub record ClosedFor (opened : List OpenTrigger) (reports : List Report) (inside
   pub rows : AllByRecursion (λ (r : Report). ClosedRows inside r.rows) reports
 
 -- the triggers, ascending, are the least such set
-pub record IsLeast (opened : List OpenTrigger) (reports : List Report) (marked : List Trigger) : Type 0 where
-  pub ascending : Ascend marked
-  pub closed : ClosedFor opened reports (lists marked)
-  pub least : (inside : Trigger → Bool) → ClosedFor opened reports inside → (t : Trigger) → Among t marked → inside t ≡ true
+pub record IsLeast (opened : List OpenTrigger) (reports : List Report) (collected : List Trigger) : Type 0 where
+  pub ascending : Ascend collected
+  pub closed : ClosedFor opened reports (lists collected)
+  pub least : (inside : Trigger → Bool) → ClosedFor opened reports inside → (t : Trigger) → Among t collected → inside t ≡ true

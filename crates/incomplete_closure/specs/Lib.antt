@@ -3,8 +3,8 @@ pub mod Chains
 pub mod Closed
 pub mod Following
 pub mod Graphs
-pub mod Marking
-pub mod Marks
+pub mod Collecting
+pub mod Collection
 pub mod Names
 pub mod Opening
 pub mod Reports

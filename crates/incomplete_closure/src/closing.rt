@@ -4,15 +4,15 @@ ghost use Rattle.std.specs.List.{list_any};
 ghost use Rattle.std.specs.Rc.{rc_value};
 ghost use Rattle.incomplete_closure.specs.Seen.{reports_seen};
 ghost use Rattle.incomplete_closure.specs.Values.{IsValue};
-ghost use Rattle.incomplete_closure.specs.Marking.{value_of};
-ghost use Rattle.incomplete_closure.specs.Marks.{mark_names};
+ghost use Rattle.incomplete_closure.specs.Collecting.{value_of};
+ghost use Rattle.incomplete_closure.specs.Collection.{collect_names};
 ghost use Rattle.incomplete_closure.specs.Graphs.{has_seen};
 ghost use Rattle.incomplete_closure.specs.Opening.{is_start, open_triggers};
 ghost use Rattle.incomplete_closure.specs.Closed.{IsLeast};
 ghost use Rattle.incomplete_closure.specs.Together.{OfOneEpoch, nodes_of};
 ghost use Rattle.incomplete_closure.specs.Sizes.{rows_of, triggers_of, entries_of, size_of};
 
-use crate::marks::Marks;
+use crate::collection::Collection;
 use crate::names::Names;
 use crate::opening::{OpenTrigger, open_triggers};
 use crate::reached::Reached;
@@ -27,16 +27,16 @@ use std::sync::ledger::{Blank, Ledger};
 use topology::{NoMemory, NodeId, Triggers};
 
 // The names of the vertices that were reached.
-fn mark(alloc: Global, names: &Names, reached: &Reached) -> Result<Marks, NoMemory>
-    ensures { IfOk result (λ marks. marks ≡ mark_names (has_seen reached.now) 0 names.now []) }
+fn collect(alloc: Global, names: &Names, reached: &Reached) -> Result<Collection, NoMemory>
+    ensures { IfOk result (λ collection. collection ≡ collect_names (has_seen reached.now) 0 names.now []) }
 {
-    let mut marks = Marks::new(alloc);
+    let mut collection = Collection::new(alloc);
     for place in 0..names.len() {
         if let Some(trigger) = names.at(place) {
-            marks.mark_if(reached.has(place), trigger)?;
+            collection.collect_if(reached.has(place), trigger)?;
         }
     }
-    Ok(marks)
+    Ok(collection)
 }
 
 // Whether one is open to a receiver that has not closed the session. Every chain of blocked triggers begins at such a one.
@@ -57,7 +57,7 @@ fn lead_on<L: Ledger>(
     reports: &[Rc<Report>],
     opened: &[OpenTrigger],
     steps: &mut Steps<L>,
-) -> Result<Marks, NoMemory>
+) -> Result<Collection, NoMemory>
     ensures least { IfOk result (IsLeast opened.now (map rc_value reports.now)) }
     ensures most { steps.new ≤ steps.old + (2 * rows_of (map rc_value reports.now)
         + 4 * triggers_of (map rc_value reports.now) + 3 * length opened.now) }
@@ -67,8 +67,8 @@ fn lead_on<L: Ledger>(
     let mut graph = graph_of_rows(alloc, &names, reports, steps)?;
     let roots = wire_open(alloc, &mut graph, &names, opened, steps)?;
     let reached = search(alloc, &mut graph, &roots, steps)?;
-    let marks = mark(alloc, &names, &reached)?;
-    Ok(marks)
+    let collection = collect(alloc, &names, &reached)?;
+    Ok(collection)
 }
 
 // The incomplete triggers. Where no chain of blocked triggers begins there is none, and no graph is made.
@@ -76,15 +76,15 @@ fn incomplete<L: Ledger>(
     alloc: Global,
     reports: &[Rc<Report>],
     steps: &mut Steps<L>,
-) -> Result<Marks, NoMemory>
-    ensures least { IfOk result (λ marks.
-        IsLeast (open_triggers (map rc_value reports.now)) (map rc_value reports.now) marks) }
+) -> Result<Collection, NoMemory>
+    ensures least { IfOk result (λ collection.
+        IsLeast (open_triggers (map rc_value reports.now)) (map rc_value reports.now) collection) }
     ensures most { steps.new ≤ steps.old + 6 * size_of (map rc_value reports.now) }
     ensures more { OnOk result (steps.old + entries_of (map rc_value reports.now) ≤ steps.new) }
 {
     let opened = open_triggers(alloc, reports, steps)?;
     if !has_start(&opened) {
-        return Ok(Marks::new(alloc));
+        return Ok(Collection::new(alloc));
     }
     lead_on(alloc, reports, &opened, steps)
 }
@@ -113,10 +113,10 @@ pub fn closure<L: Ledger>(
     ensures least { OnOk result (steps.old + entries_of (map rc_value reports.now) ≤ steps.new) }
 {
     let nodes = responding(alloc, reports)?;
-    let marks = incomplete(alloc, reports, steps)?;
+    let collection = incomplete(alloc, reports, steps)?;
     Ok(Value {
         responding: RespondingNodes::new(nodes),
-        incomplete: Triggers::from_ascending(marks.list(alloc)?)?,
+        incomplete: Triggers::from_ascending(collection.list(alloc)?)?,
     })
 }
 

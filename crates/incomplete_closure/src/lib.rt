@@ -3,10 +3,10 @@
 
 mod behind;
 pub mod closing;
+mod collection;
 pub mod cut_rows;
 mod graph;
 pub mod laws;
-mod marks;
 mod names;
 mod opening;
 pub mod pending_rows;

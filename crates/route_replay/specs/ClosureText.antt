@@ -5,7 +5,7 @@ use Rattle.topology.specs.Lists.{ascending}
 use Rattle.topology.specs.Net.{Net}
 use Rattle.path_vector.specs.Rules.{Rules}
 use Rattle.incomplete_closure.specs.declared.values.Value.{Value}
-use Rattle.incomplete_closure.specs.Marking.{value_of}
+use Rattle.incomplete_closure.specs.Collecting.{value_of}
 use Rattle.chronicle.specs.Facts.{Chronicle}
 use Rattle.agreement_laws.specs.Decided.{told_reports}
 use Rattle.route_replay.specs.Lines.{ended, listed}

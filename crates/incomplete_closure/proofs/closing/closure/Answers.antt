@@ -10,7 +10,7 @@ pub returns-clause-told : goal.returns-clause-told
 returns-clause-told g c =
     let reports = map rc_value c.args.reports.now in
     subst (λ z. IsValue (reports_seen reports) (a_value c.new.result z)) (sym (c.in_ok-from_ascending.ensures.triggers ∙ c.in_ok-list.ensures))
-    (least_told reports c.requires c.new.result c.in_ok-marks.marks (c.new.ensures ∙ c.in_ok-nodes.ensures) c.in_ok-marks.ensures.least)
+    (least_told reports c.requires c.new.result c.in_ok-collection.collection (c.new.ensures ∙ c.in_ok-nodes.ensures) c.in_ok-collection.ensures.least)
 
 pub returns-clause-named : goal.returns-clause-named
 returns-clause-named g c = one_value (reports_seen (map rc_value c.args.reports.now)) (a_value c.new.result c.in_ok-from_ascending.field-0) (returns-clause-told g c)

@@ -9,7 +9,7 @@ use Rattle.std.proofs.lemmas.Bool.Decides.{nat_tests}
 use Rattle.topology.specs.declared.names.Trigger.{Trigger}
 use Rattle.topology.specs.Triggers.{same_trigger, lists}
 use Rattle.topology.specs.Triggers.{put}
-use Rattle.incomplete_closure.specs.Marks.{mark}
+use Rattle.incomplete_closure.specs.Collection.{collect}
 
 -- by node, then by counter
 abbrev pub by_parts : Trigger → Trigger → Ordering
@@ -32,8 +32,8 @@ module _ (by : Trigger → Trigger → Ordering) (is : (s t : Trigger) → by s 
   insert_is_put t (k ∷ keys) =
       rw (is t k, insert_is_put t keys) (in_order t.node k.node t.count k.count (t ∷ k ∷ keys) (k ∷ keys) (k ∷ put t keys))
 
-  pub put_marked : (old new : List Trigger) (t : Trigger) (added : Bool) → added ≡ not (list_any (is_at (by t)) old) → OnFalse added (new ≡ old) → new ≡ insert_key by old t → new ≡ mark t old
-  put_marked old new t added is_new stays inserted =
+  pub put_collected : (old new : List Trigger) (t : Trigger) (added : Bool) → added ≡ not (list_any (is_at (by t)) old) → OnFalse added (new ≡ old) → new ≡ insert_key by old t → new ≡ collect t old
+  put_collected old new t added is_new stays inserted =
       (elim (lists old t) as (λ b. lists old t ≡ b → new ≡ (if b then old else put t old)) [
         | true ↦ λ e. let none : added ≡ false = is_new ∙ ap not (contains_lists t old ∙ e) in subst (λ b. OnFalse b (new ≡ old)) none stays
         | false ↦ λ e. inserted ∙ insert_is_put t old

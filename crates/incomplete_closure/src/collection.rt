@@ -1,6 +1,6 @@
-//! The triggers that are marked so far.
+//! The triggers that are collected so far.
 ghost use Rattle.std.specs.Prelude.{◌≡◌, [], OnOk, IfOk};
-ghost use Rattle.incomplete_closure.specs.Marks.{mark_if};
+ghost use Rattle.incomplete_closure.specs.Collection.{collect_if};
 
 use std::alloc::Global;
 use std::collections::BTreeSet;
@@ -9,11 +9,11 @@ use topology::{NoMemory, Trigger};
 
 /// A set of triggers, ascending.
 #[derive(Drop)]
-pub(crate) struct Marks {
+pub(crate) struct Collection {
     set: BTreeSet<Trigger>,
 }
 
-impl Model for Marks {
+impl Model for Collection {
     ghost use Rattle.std.specs.Prelude.{List};
     ghost use Rattle.topology.specs.declared.names.Trigger.{Trigger};
 
@@ -22,18 +22,18 @@ impl Model for Marks {
     ghost view = { λ m. m.set.keys };
 }
 
-impl Marks {
-    pub(crate) fn new(alloc: Global) -> Marks
+impl Collection {
+    pub(crate) fn new(alloc: Global) -> Collection
         ensures { result ≡ [] }
     {
-        Marks {
+        Collection {
             set: BTreeSet::new(alloc),
         }
     }
 
     /// Puts the trigger in, where there is cause for it.
-    pub(crate) fn mark_if(&mut self, due: bool, trigger: Trigger) -> Result<(), NoMemory>
-        ensures { OnOk result (self.new ≡ mark_if due trigger self.old) }
+    pub(crate) fn collect_if(&mut self, due: bool, trigger: Trigger) -> Result<(), NoMemory>
+        ensures { OnOk result (self.new ≡ collect_if due trigger self.old) }
     {
         if due {
             self.set.insert(trigger)?;
