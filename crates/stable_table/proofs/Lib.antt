@@ -9,4 +9,4 @@ pub mod Backed
 pub mod Tabled
 pub mod Leading
 mod Responding
-mod Marking
+mod Flagging

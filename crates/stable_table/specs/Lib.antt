@@ -5,4 +5,4 @@ pub mod TwoTables
 pub mod Keeping
 pub mod Backups
 pub mod Rows
-pub mod Marks
+pub mod Flags

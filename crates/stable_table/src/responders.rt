@@ -1,53 +1,53 @@
 //! Which nodes responded.
 ghost use Rattle.std.specs.Prelude.{ℕ, ◌≡◌, ◌<◌, ◌==◌, ◌||◌, length, IfOk, OnOk};
 ghost use Rattle.topology.specs.Lists.{has};
-ghost use Rattle.stable_table.specs.Marks.{is_marked};
+ghost use Rattle.stable_table.specs.Flags.{is_flagged};
 ghost use Rattle.stable_table.specs.Tables.{all_responded};
 
 use incomplete_closure::Value;
 use std::alloc::Global;
 use topology::{NoMemory, NodeId};
 
-/// The nodes that responded for a value, each marked at the place of its number: one is found without going over all of them.
+/// The nodes that responded for a value, each flagged at the place of its number: one is found without going over all of them.
 #[derive(Drop)]
 pub(crate) struct Responders<'a> {
     pub(crate) value: &'a Value,
-    marks: Vec<bool>,
-    ghost marked: { (n : ℕ) → is_marked marks.items n ≡ has value.now.responding n },
+    flags: Vec<bool>,
+    ghost flagged: { (n : ℕ) → is_flagged flags.items n ≡ has value.now.responding n },
 }
 
-// Makes the list so long that it has this place, and marks nothing.
-fn reach(marks: &mut Vec<bool>, place: usize) -> Result<(), NoMemory>
+// Makes the list so long that it has this place, and flags nothing.
+fn lengthen(flags: &mut Vec<bool>, place: usize) -> Result<(), NoMemory>
     requires { place < 65536 }
-    ensures long { OnOk result (place < length marks.new.items) }
-    ensures same { OnOk result ((n : ℕ) → is_marked marks.new.items n ≡ is_marked marks.old.items n) }
+    ensures long { OnOk result (place < length flags.new.items) }
+    ensures same { OnOk result ((n : ℕ) → is_flagged flags.new.items n ≡ is_flagged flags.old.items n) }
 {
-    if place < marks.len() {
+    if place < flags.len() {
         return Ok(());
     }
-    marks.resize(place + 1, false)?;
+    flags.resize(place + 1, false)?;
     Ok(())
 }
 
-// Marks the place of this number.
-fn mark(marks: &mut Vec<bool>, number: u16) -> Result<(), NoMemory>
-    ensures { OnOk result ((n : ℕ) → is_marked marks.new.items n ≡ (number == n || is_marked marks.old.items n)) }
+// Flags the place of this number.
+fn flag(flags: &mut Vec<bool>, number: u16) -> Result<(), NoMemory>
+    ensures { OnOk result ((n : ℕ) → is_flagged flags.new.items n ≡ (number == n || is_flagged flags.old.items n)) }
 {
     let place = usize::from(number);
-    reach(marks, place)?;
-    marks[place] = true;
+    lengthen(flags, place)?;
+    flags[place] = true;
     Ok(())
 }
 
-// A mark for each of the nodes.
-fn marks_of(alloc: Global, nodes: &[NodeId]) -> Result<Vec<bool>, NoMemory>
-    ensures { IfOk result (λ marks. (n : ℕ) → is_marked marks.items n ≡ has nodes.now n) }
+// A flag for each of the nodes.
+fn flags_of(alloc: Global, nodes: &[NodeId]) -> Result<Vec<bool>, NoMemory>
+    ensures { IfOk result (λ flags. (n : ℕ) → is_flagged flags.items n ≡ has nodes.now n) }
 {
-    let mut marks = Vec::new(alloc);
+    let mut flags = Vec::new(alloc);
     for node in nodes {
-        mark(&mut marks, node.number())?;
+        flag(&mut flags, node.number())?;
     }
-    Ok(marks)
+    Ok(flags)
 }
 
 impl<'a> Responders<'a> {
@@ -55,16 +55,16 @@ impl<'a> Responders<'a> {
     pub(crate) fn new(alloc: Global, value: &'a Value) -> Result<Responders<'a>, NoMemory>
         ensures { IfOk result (λ set. set.value.now ≡ value.now) }
     {
-        let marks = marks_of(alloc, value.responding.as_slice())?;
-        Ok(Responders { value, marks })
+        let flags = flags_of(alloc, value.responding.as_slice())?;
+        Ok(Responders { value, flags })
     }
 
     /// Whether the node responded.
     pub(crate) fn responded(&self, node: NodeId) -> bool
         ensures { result ≡ has self.now.value.now.responding node }
     {
-        match self.marks.get(usize::from(node.number())) {
-            Some(mark) => *mark,
+        match self.flags.get(usize::from(node.number())) {
+            Some(flag) => *flag,
             None => false,
         }
     }

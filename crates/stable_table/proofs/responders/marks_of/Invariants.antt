@@ -1,7 +1,0 @@
-use Rattle.std.proofs.Common.{ℕ, ◌≡◌, ◌||◌, drop}
-use Rattle.topology.specs.Lists.{has}
-use Rattle.stable_table.specs.Marks.{is_marked}
-use Rattle.stable_table.proofs.responders.marks_of.Given as goal
-
-abbrev pub invariant-loop-node : goal.invariant-loop-node
-invariant-loop-node l = (n : ℕ) → (is_marked l.marks.items n || has (drop l.node-index l.nodes) n) ≡ has l.nodes n

@@ -1,6 +1,0 @@
-use Rattle.std.proofs.Common.{◌+◌, arith}
-use Rattle.stable_table.proofs.Marking.{filled_from}
-use Rattle.stable_table.proofs.responders.reach.Goals as goal
-
-pub returns-clause-same : goal.returns-clause-same
-returns-clause-same c = λ n. filled_from c.args.marks.now.items c.resize.new.self.items (c.args.place + 1) _ n (omega arith) c.in_ok-resize.ensures.items
