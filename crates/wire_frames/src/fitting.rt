@@ -97,10 +97,10 @@ pub(crate) fn end_fits(how: End) -> bool
 }
 
 #[tactic(auto, unfolding(crate::specs::Fields::trigger))]
-pub(crate) fn trigger_fits(mark: Trigger) -> bool
-    ensures { result ≡ trigger.fits mark }
+pub(crate) fn trigger_fits(named_trigger: Trigger) -> bool
+    ensures { result ≡ trigger.fits named_trigger }
 {
-    node_fits(mark.node) && positive_fits(mark.count)
+    node_fits(named_trigger.node) && positive_fits(named_trigger.count)
 }
 
 /// The trigger that the list begins with.
@@ -255,12 +255,12 @@ pub(crate) fn row_fits(entry: &Row, before: u32) -> bool
         )
 }
 
-fn down_fits(mark: Option<Trigger>) -> bool
-    ensures { result ≡ fits_behind trigger.fits mark }
+fn down_fits(named_trigger: Option<Trigger>) -> bool
+    ensures { result ≡ fits_behind trigger.fits named_trigger }
 {
-    match mark {
+    match named_trigger {
         None => true,
-        Some(mark) => trigger_fits(mark),
+        Some(named_trigger) => trigger_fits(named_trigger),
     }
 }
 

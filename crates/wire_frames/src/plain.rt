@@ -20,30 +20,30 @@ pub(crate) fn only_of(triggers: &[Trigger]) -> Option<Trigger>
 }
 
 /// Whether a list whose only trigger is told has this trigger and no other.
-pub(crate) fn stands_alone(mark: Option<Trigger>, only: Option<Trigger>) -> bool
-    ensures { (ts : List AnyTrigger) → only ≡ only_of ts → result ≡ has_alone mark ts }
+pub(crate) fn stands_alone(named_trigger: Option<Trigger>, only: Option<Trigger>) -> bool
+    ensures { (ts : List AnyTrigger) → only ≡ only_of ts → result ≡ has_alone named_trigger ts }
 {
-    match mark {
+    match named_trigger {
         None => false,
-        Some(mark) => match only {
+        Some(named_trigger) => match only {
             None => false,
-            Some(only) => only == mark,
+            Some(only) => only == named_trigger,
         },
     }
 }
 
 // Whether each item lists this trigger and no other.
-fn are_alone(mark: Trigger, items: &[Sent]) -> bool
-    ensures { result ≡ list_all (λ (item : AnySent). has_alone (Some mark) item.triggers) items.now }
+fn are_alone(named_trigger: Trigger, items: &[Sent]) -> bool
+    ensures { result ≡ list_all (λ (item : AnySent). has_alone (Some named_trigger) item.triggers) items.now }
 {
-    items.iter().all(|item| stands_alone(Some(mark), only_of(item.triggers.as_slice())))
+    items.iter().all(|item| stands_alone(Some(named_trigger), only_of(item.triggers.as_slice())))
 }
 
 fn row_is_plain(row: &Row) -> bool
     ensures { result ≡ is_plain_row row.now }
 {
     match row.triggers.as_slice() {
-        [mark] => are_alone(*mark, row.sent.laid_out().as_slice()),
+        [named_trigger] => are_alone(*named_trigger, row.sent.laid_out().as_slice()),
         _ => false,
     }
 }

@@ -148,11 +148,11 @@ pub(crate) fn put_end(out: &mut Vec<u8>, how: End) -> Result<(), NoMemory>
 }
 
 #[tactic(auto, unfolding(crate::specs::Fields::trigger))]
-pub(crate) fn put_trigger(out: &mut Vec<u8>, mark: Trigger) -> Result<(), NoMemory>
-    ensures { OnOk result (out.new.items ≡ out.old.items ++ trigger.spells mark) }
+pub(crate) fn put_trigger(out: &mut Vec<u8>, named_trigger: Trigger) -> Result<(), NoMemory>
+    ensures { OnOk result (out.new.items ≡ out.old.items ++ trigger.spells named_trigger) }
 {
-    put_node(out, mark.node)?;
-    put_positive(out, mark.count)
+    put_node(out, named_trigger.node)?;
+    put_positive(out, named_trigger.count)
 }
 
 #[tactic(auto, unfolding(crate::specs::Fields::one_trigger))]
@@ -247,14 +247,14 @@ pub(crate) fn put_row(out: &mut Vec<u8>, entry: &Row) -> Result<(), NoMemory>
     write_many::<Items>(items.as_slice(), out)
 }
 
-fn put_down(out: &mut Vec<u8>, mark: Option<Trigger>) -> Result<(), NoMemory>
-    ensures { OnOk result (out.new.items ≡ out.old.items ++ spelled_behind trigger.spells mark) }
+fn put_down(out: &mut Vec<u8>, named_trigger: Option<Trigger>) -> Result<(), NoMemory>
+    ensures { OnOk result (out.new.items ≡ out.old.items ++ spelled_behind trigger.spells named_trigger) }
 {
-    match mark {
+    match named_trigger {
         None => put_u8(out, 0),
-        Some(mark) => {
+        Some(named_trigger) => {
             put_u8(out, 1)?;
-            put_trigger(out, mark)
+            put_trigger(out, named_trigger)
         }
     }
 }
