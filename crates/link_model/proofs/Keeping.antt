@@ -4,7 +4,7 @@ use Rattle.std.proofs.lemmas.Bool.{cases_eq}
 use Rattle.std.proofs.lemmas.Bool.Decides.{nat_tests}
 use Rattle.std.proofs.lemmas.Option.{slice_get_within, slice_get_read}
 use Rattle.topology.specs.Net.{Net, linked}
-use Rattle.link_model.specs.declared.ends.Ends.{Ends}
+use Rattle.topology.specs.declared.ways.Way.{Way}
 use Rattle.link_model.specs.declared.links.Links.{Links}
 use Rattle.link_model.specs.Tables.{ends}
 use Rattle.link_model.specs.Ways.{OneWay}
@@ -55,7 +55,7 @@ keeps_with net old new ways from to way kept sized at table channels keeps = rec
       (cases_eq other way);
 }
   where
-    differs : (e : Ends) (other : ℕ) → other ≢ way → slice_get old.table other ≡ Some e → (from == e.from && to == e.to) ≡ false
+    differs : (e : Way) (other : ℕ) → other ≢ way → slice_get old.table other ≡ Some e → (from == e.from && to == e.to) ≡ false
     differs e other ne there =
         (elim (from == e.from && to == e.to) as (λ t. (from == e.from && to == e.to) ≡ t → t ≡ false) [
           | true ↦ λ h.

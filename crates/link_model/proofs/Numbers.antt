@@ -6,8 +6,8 @@ use Rattle.topology.specs.Lists.{ascending, has}
 use Rattle.topology.specs.Net.{Net, IsValid, linked, neighbours}
 use Rattle.topology.proofs.Ascending.{has-ascending, increasing_ascending, length-ascending}
 use Rattle.topology.proofs.Neighbours.{linked_nodes, neighbours_linked}
-use Rattle.link_model.specs.declared.ends.Ends.{Ends}
-use Rattle.link_model.specs.declared.ends.TheConstants.{MOST_WAYS}
+use Rattle.topology.specs.declared.ways.Way.{Way}
+use Rattle.link_model.specs.declared.way_set.TheConstants.{MOST_WAYS}
 use Rattle.link_model.specs.Tables.{ends, ways_from, ways_of, answer, cell, cells, rows_from, IsTabled}
 use Rattle.link_model.proofs.Places.{same_some}
 use Rattle.link_model.proofs.Ranked.{one_place}
@@ -98,7 +98,7 @@ same_ends : (u v : ℕ) (vs : List ℕ) (m : ℕ) → slice_get vs m ≡ Some v 
 same_ends u v vs m e = slice_get-map (ends u) vs m ∙ ap (option_map (ends u)) e
 
 -- the ways from the nodes
-abbrev pub ways_from_all : Net → List ℕ → List Ends
+abbrev pub ways_from_all : Net → List ℕ → List Way
 ways_from_all net us = flat_map (ways_from net) us
 
 length_ends : (u : ℕ) (vs : List ℕ) → length (map (ends u) vs) ≡ length vs
@@ -142,18 +142,18 @@ pub record IsFound (net : Net) (us : List ℕ) (rows : List (List (Option ℕ)))
   pub to : slice_get (ascending net.nodes) receiver ≡ Some v
   pub here : cell rows sender receiver ≡ Some way
 
-of_mapped : (u : ℕ) (vs : List ℕ) (m : ℕ) (e : Ends) → slice_get (map (ends u) vs) m ≡ Some e → (e.from ≡ u) × (slice_get vs m ≡ Some e.to)
+of_mapped : (u : ℕ) (vs : List ℕ) (m : ℕ) (e : Way) → slice_get (map (ends u) vs) m ≡ Some e → (e.from ≡ u) × (slice_get vs m ≡ Some e.to)
 of_mapped u [] m e h = absurd (cc h)
-of_mapped u (x ∷ xs) zero e h = let same : ends u x ≡ e = same_some (ends u x) e h in (sym (ap (λ (k : Ends). k.from) same), ap Some (ap (λ (k : Ends). k.to) same))
+of_mapped u (x ∷ xs) zero e h = let same : ends u x ≡ e = same_some (ends u x) e h in (sym (ap (λ (k : Way). k.from) same), ap Some (ap (λ (k : Way). k.to) same))
 of_mapped u (x ∷ xs) (suc m) e h = of_mapped u xs m e h
 
-own_found : (net : Net) (first m x : ℕ) (e : Ends) → slice_get (ways_from net x) m ≡ Some e → (e.from ≡ x) × IsEntered (ascending net.nodes) (cells (linked net x) first (ascending net.nodes)) e.to (first + m)
+own_found : (net : Net) (first m x : ℕ) (e : Way) → slice_get (ways_from net x) m ≡ Some e → (e.from ≡ x) × IsEntered (ascending net.nodes) (cells (linked net x) first (ascending net.nodes)) e.to (first + m)
 unfolding neighbours
 own_found net first m x e h =
     let is = of_mapped x (filter (linked net x) (ascending net.nodes)) m e h in
     (is.0, cells_found (linked net x) first (ascending net.nodes) m e.to is.1)
 
-pub rows_found : (net : Net) (first : ℕ) (us : List ℕ) (m : ℕ) (e : Ends) → slice_get (ways_from_all net us) m ≡ Some e → IsFound net us (rows_from net first us) e.from e.to (first + m)
+pub rows_found : (net : Net) (first : ℕ) (us : List ℕ) (m : ℕ) (e : Way) → slice_get (ways_from_all net us) m ≡ Some e → IsFound net us (rows_from net first us) e.from e.to (first + m)
 rows_found net first [] m e h = absurd (cc h)
 rows_found net first (x ∷ us) m e h = get_either (ways_from net x) (ways_from_all net us) m e _ h
     (λ own.
@@ -199,7 +199,7 @@ few_ways net valid =
     let count = length-ascending net.nodes in
     omega (arith, all, count, valid.few_nodes)
 
-pub tabled : (net : Net) (nodes : List ℕ) (rows : List (List (Option ℕ))) (ways : List Ends) → IsValid net → nodes ≡ ascending net.nodes → rows ≡ rows_from net 0 (ascending net.nodes) → ways ≡ ways_of net → IsTabled nodes rows ways
+pub tabled : (net : Net) (nodes : List ℕ) (rows : List (List (Option ℕ))) (ways : List Way) → IsValid net → nodes ≡ ascending net.nodes → rows ≡ rows_from net 0 (ascending net.nodes) → ways ≡ ways_of net → IsTabled nodes rows ways
 tabled net nodes rows ways valid n r w = rw (n, r, w) (record {
   wide = length-rows net 0 (ascending net.nodes);
   right = λ i j u v way e f h.

@@ -3,7 +3,7 @@ use Rattle.std.proofs.Common.{ℕ, suc, zero, ◌<◌, ◌≤◌, Bool, true, fa
 use Rattle.std.proofs.lemmas.List.{append-nil, drop_all}
 use Rattle.topology.specs.Lists.{ascending}
 use Rattle.topology.specs.Net.{Net, linked, neighbours}
-use Rattle.link_model.specs.declared.ends.Ends.{Ends}
+use Rattle.topology.specs.declared.ways.Way.{Way}
 use Rattle.link_model.specs.Tables.{ends, answer, cell, cells}
 
 pub answer_past : (table : List (Option ℕ)) (i : ℕ) → length table ≤ i → answer table i ≡ None
@@ -26,7 +26,7 @@ cells_more near first next before c v vs whole is then' all =
     one true e f = rw (e, f) refl
     one false e f = rw (e, f) refl
 
-pub ways_more : (near : ℕ → Bool) (u v : ℕ) (vs : List ℕ) (old new whole : List Ends)
+pub ways_more : (near : ℕ → Bool) (u v : ℕ) (vs : List ℕ) (old new whole : List Way)
     → new ≡ (if near v then old ++ ends u v ∷ [] else old) → old ++ map (ends u) (filter near (v ∷ vs)) ≡ whole → new ++ map (ends u) (filter near vs) ≡ whole
 ways_more near u v vs old new whole is all = one (near v) is all
   where
@@ -35,7 +35,7 @@ ways_more near u v vs old new whole is all = one (near v) is all
     one false e f = ap (λ l. l ++ map (ends u) (filter near vs)) e ∙ f
 
 -- nothing is left of the nodes
-pub ways_done : (net : Net) (u : ℕ) (nodes : List ℕ) (i : ℕ) (now before : List Ends) → nodes ≡ ascending net.nodes → length nodes ≤ i
+pub ways_done : (net : Net) (u : ℕ) (nodes : List ℕ) (i : ℕ) (now before : List Way) → nodes ≡ ascending net.nodes → length nodes ≤ i
     → now ++ map (ends u) (filter (linked net u) (drop i nodes)) ≡ before ++ map (ends u) (filter (linked net u) nodes) → now ≡ before ++ map (ends u) (neighbours net u)
 unfolding neighbours
 ways_done net u nodes i now before are past all =

@@ -1,7 +1,7 @@
 -- When links keep a given state and given items for each way.
 use Rattle.std.specs.Prelude.{ℕ, ◌≡◌, ◌==◌, ◌&&◌, Some, slice_get, if◌then◌else◌}
 use Rattle.topology.specs.Net.{Net, IsValid}
-use Rattle.link_model.specs.declared.ends.Ends.{Ends}
+use Rattle.topology.specs.declared.ways.Way.{Way}
 use Rattle.link_model.specs.declared.links.Links.{Links}
 use Rattle.link_model.specs.Tables.{ends, ways_of}
 use Rattle.link_model.specs.Ways.{OneWay}
@@ -14,7 +14,7 @@ Ways = ℕ → ℕ → OneWay
 pub record Keeps (net : Net) (links : Links) (ways : Ways) : Type 0 where
   pub valid : IsValid net
   pub numbered : links.table ≡ ways_of net
-  pub each : (way : ℕ) (e : Ends) (kept : OneWay) → slice_get links.table way ≡ Some e
+  pub each : (way : ℕ) (e : Way) (kept : OneWay) → slice_get links.table way ≡ Some e
       → slice_get links.channels.items way ≡ Some kept → kept ≡ ways e.from e.to
 
 -- the way from one node to another has this number, and no other one

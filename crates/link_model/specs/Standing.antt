@@ -1,7 +1,7 @@
 -- When links stand for a list of acts: all that they keep is what is read of the list.
 use Rattle.std.specs.Prelude.{ℕ, ◌≡◌, Some, slice_get}
 use Rattle.topology.specs.Net.{Net, IsValid}
-use Rattle.link_model.specs.declared.ends.Ends.{Ends}
+use Rattle.topology.specs.declared.ways.Way.{Way}
 use Rattle.link_model.specs.declared.links.Links.{Links}
 use Rattle.link_model.specs.Acts.{LinkActs}
 use Rattle.link_model.specs.Tables.{ways_of}
@@ -17,5 +17,5 @@ pub record IsChannel (acts : LinkActs) (u w : ℕ) (kept : OneWay) : Type 0 wher
 pub record StandsFor (net : Net) (links : Links) (acts : LinkActs) : Type 0 where
   pub valid : IsValid net
   pub numbered : links.table ≡ ways_of net
-  pub each : (way : ℕ) (e : Ends) (kept : OneWay) → slice_get links.table way ≡ Some e
+  pub each : (way : ℕ) (e : Way) (kept : OneWay) → slice_get links.table way ≡ Some e
       → slice_get links.channels.items way ≡ Some kept → IsChannel acts e.from e.to kept

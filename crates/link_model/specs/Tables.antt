@@ -2,18 +2,18 @@
 use Rattle.std.specs.Prelude.{ℕ, suc, zero, ◌≡◌, ◌≤◌, ◌+◌, Bool, Option, Some, None, List, [], ◌∷◌, map, flat_map, length, slice_get, if◌then◌else◌}
 use Rattle.topology.specs.Lists.{ascending}
 use Rattle.topology.specs.Net.{Net, linked, neighbours}
-use Rattle.link_model.specs.declared.ends.Ends.{Ends}
-use Rattle.link_model.specs.declared.ends.TheConstants.{MOST_WAYS}
+use Rattle.topology.specs.declared.ways.Way.{Way}
+use Rattle.link_model.specs.declared.way_set.TheConstants.{MOST_WAYS}
 
-abbrev pub ends : ℕ → ℕ → Ends
+abbrev pub ends : ℕ → ℕ → Way
 ends from to = record { from = from; to = to }
 
 -- the ways from u, by receiver
-abbrev pub ways_from : Net → ℕ → List Ends
+abbrev pub ways_from : Net → ℕ → List Way
 ways_from net u = map (ends u) (neighbours net u)
 
 -- the ways over the links, by sender, then receiver: each has its place as its number
-abbrev pub ways_of : Net → List Ends
+abbrev pub ways_of : Net → List Way
 ways_of net = flat_map (ways_from net) (ascending net.nodes)
 
 -- what stands at a place of a table: nothing beyond its end
@@ -42,7 +42,7 @@ pub record IsCell (nodes : List ℕ) (rows : List (List (Option ℕ))) (u v way 
   pub here : cell rows sender receiver ≡ Some way
 
 -- the rows have the number of each way, at the places of its two ends
-pub record IsTabled (nodes : List ℕ) (rows : List (List (Option ℕ))) (ways : List Ends) : Type 0 where
+pub record IsTabled (nodes : List ℕ) (rows : List (List (Option ℕ))) (ways : List Way) : Type 0 where
   pub wide : length rows ≡ length nodes
   pub right : (i j u v way : ℕ) → slice_get nodes i ≡ Some u → slice_get nodes j ≡ Some v
       → cell rows i j ≡ Some way → slice_get ways way ≡ Some (ends u v)

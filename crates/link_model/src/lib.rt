@@ -6,7 +6,6 @@
 #![tactic(auto)]
 
 pub mod channels;
-pub mod ends;
 pub mod laws;
 pub mod links;
 mod ranks;
@@ -14,7 +13,6 @@ pub mod way_set;
 mod way_table;
 
 pub use channels::Channel;
-pub use ends::{Ends, MOST_WAYS};
 pub use links::Links;
 pub use topology::LinkState;
-pub use way_set::WaySet;
+pub use way_set::{MOST_WAYS, WaySet};

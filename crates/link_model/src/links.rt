@@ -3,7 +3,7 @@ ghost use Rattle.std.specs.Prelude.{ℕ, ◌≡◌, ◌<◌, ◌≤◌, ◌-◌,
 ghost use Rattle.topology.specs.declared.items.Item.{Item as Carried};
 ghost use Rattle.topology.specs.Net.{Net, linked};
 ghost use Rattle.topology.specs.LinkStates.{carries, is_up, number_of};
-ghost use Rattle.link_model.specs.declared.ends.TheConstants.{MOST_WAYS};
+ghost use Rattle.link_model.specs.declared.way_set.TheConstants.{MOST_WAYS};
 ghost use Rattle.link_model.specs.Acts.{LinkActs, Push, Take, Fail, Restore};
 ghost use Rattle.link_model.specs.Readings.{state, channel_after};
 ghost use Rattle.link_model.specs.Tables.{ways_of};
@@ -11,11 +11,10 @@ ghost use Rattle.link_model.specs.Ways.{OneWay, emptied, unused, has_items, hold
 ghost use Rattle.link_model.specs.WaySets.{has_number};
 
 use crate::channels::Channel;
-use crate::ends::Ends;
 use crate::way_set::WaySet;
 use crate::way_table::WayTable;
 use std::alloc::Global;
-use topology::{Item, LinkState, NoMemory, NodeId, Session, Topology};
+use topology::{Item, LinkState, NoMemory, NodeId, Session, Topology, Way};
 
 /// The links of a network: a channel for each way. Each call by two nodes speaks of two that have a
 /// link; of others nothing is promised.
@@ -73,11 +72,11 @@ impl Links {
         self.table.way_of(from, to)
     }
 
-    /// The two ends of a way. None exactly where no way has the number.
-    pub fn ends(&self, way: usize) -> Option<Ends>
-        ensures { (net : Net) (acts : LinkActs) → StandsFor net self.now acts → result ≡ slice_get (ways_of net) way }
+    /// The way with this number. None exactly where none has it.
+    pub fn way(&self, number: usize) -> Option<Way>
+        ensures { (net : Net) (acts : LinkActs) → StandsFor net self.now acts → result ≡ slice_get (ways_of net) number }
     {
-        self.table.ends(way)
+        self.table.way(number)
     }
 
     /// The way from one node to another: the state of the link, and what is on its way. None where the

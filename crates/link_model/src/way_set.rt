@@ -1,9 +1,12 @@
 //! Some of the ways of a network.
 ghost use Rattle.std.specs.Prelude.{ℕ, ◌≡◌, ◌<◌, ◌==◌, false, length, IfOk, IfSome, IfNone, if◌then◌else◌};
-ghost use Rattle.link_model.specs.declared.ends.TheConstants.{MOST_WAYS};
+ghost use Rattle.link_model.specs.declared.way_set.TheConstants.{MOST_WAYS};
 
 use std::alloc::Global;
 use topology::NoMemory;
+
+/// More ways no network has: 64 nodes, with fewer than 64 neighbours each.
+pub const MOST_WAYS: usize = 4_096;
 
 // As many words as have a bit for each way.
 const WORDS: usize = 64;

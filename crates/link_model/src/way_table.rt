@@ -3,14 +3,13 @@ ghost use Rattle.std.specs.Prelude.{ℕ, ◌≡◌, ◌<◌, ◌≤◌, ◌++◌
 ghost use Rattle.std.specs.List.Sorted.{IsStrictlyIncreasing};
 ghost use Rattle.topology.specs.Lists.{ascending, has};
 ghost use Rattle.topology.specs.Net.{linked, neighbours};
-ghost use Rattle.link_model.specs.declared.ends.TheConstants.{MOST_WAYS};
+ghost use Rattle.link_model.specs.declared.way_set.TheConstants.{MOST_WAYS};
 ghost use Rattle.link_model.specs.Tables.{cells, ends, ways_of};
 
-use crate::ends::Ends;
 use crate::ranks::{Ranks, entry, place_of};
 use std::alloc::Global;
 use std::marker::Model;
-use topology::{NoMemory, NodeId, Topology};
+use topology::{NoMemory, NodeId, Topology, Way};
 
 /// Different ways, each with a number, from 0.
 #[derive(Drop)]
@@ -18,15 +17,15 @@ pub struct WayTable {
     ranks: Ranks,
     // The number of each way: at the rank of its sender, then at that of its receiver.
     rows: Vec<Vec<Option<usize>>>,
-    ways: Vec<Ends>,
+    ways: Vec<Way>,
 }
 
 impl Model for WayTable {
     ghost use Rattle.std.specs.Prelude.{List, map};
-    ghost use Rattle.link_model.specs.declared.ends.Ends.{Ends};
+    ghost use Rattle.topology.specs.declared.ways.Way.{Way};
     ghost use Rattle.link_model.specs.Tables.{IsTabled};
 
-    ghost Value = { List Ends };
+    ghost Value = { List Way };
 
     ghost view = { λ t. t.ways.items };
 
@@ -45,7 +44,7 @@ fn fresh_cell(
     near: &[NodeId],
     from: NodeId,
     to: NodeId,
-    ways: &mut Vec<Ends>,
+    ways: &mut Vec<Way>,
 ) -> Result<Option<usize>, NoMemory>
     requires { IsStrictlyIncreasing near.now }
     ensures cell { IfOk result (λ cell. cell ≡ (if has near.now to then Some (length ways.old.items) else None)) }
@@ -55,7 +54,7 @@ fn fresh_cell(
         return Ok(None);
     }
     let number = ways.len();
-    ways.push(Ends { from, to })?;
+    ways.push(Way { from, to })?;
     Ok(Some(number))
 }
 
@@ -64,7 +63,7 @@ fn fresh_row(
     alloc: Global,
     topology: &Topology,
     from: NodeId,
-    ways: &mut Vec<Ends>,
+    ways: &mut Vec<Way>,
 ) -> Result<Vec<Option<usize>>, NoMemory>
     ensures row { IfOk result (λ row. row.items ≡ cells (linked topology.now from) (length ways.old.items) (ascending topology.now.nodes)) }
     ensures ways { OnOk result (ways.new.items ≡ ways.old.items ++ map (ends from) (neighbours topology.now from)) }
@@ -105,11 +104,11 @@ impl WayTable {
         self.ways.len()
     }
 
-    /// The two ends of a way. None exactly where no way has the number.
-    pub fn ends(&self, way: usize) -> Option<Ends>
-        ensures { result ≡ slice_get self.now way }
+    /// The way with this number. None exactly where none has it.
+    pub fn way(&self, number: usize) -> Option<Way>
+        ensures { result ≡ slice_get self.now number }
     {
-        self.ways.get(way).copied()
+        self.ways.get(number).copied()
     }
 
     /// The number of a way. None where it is none of them. Takes no memory.

@@ -6,7 +6,7 @@ use Rattle.topology.specs.Net.{Net}
 use Rattle.path_vector.specs.Rules.{Rules}
 use Rattle.chronicle.specs.declared.events.Event.{Event}
 use Rattle.chronicle.specs.declared.events.Event.TheVariants.{Deliver}
-use Rattle.chronicle.specs.declared.ways.Way.{Way}
+use Rattle.topology.specs.declared.ways.Way.{Way}
 use Rattle.chronicle.specs.Deliveries.{next_delivery}
 use Rattle.chronicle.specs.Run.{run}
 use Rattle.node_core.specs.NodeLimits.{Reached}

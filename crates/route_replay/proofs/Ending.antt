@@ -14,7 +14,7 @@ use Rattle.topology.specs.Net.{Net}
 use Rattle.path_vector.specs.Rules.{Rules}
 use Rattle.chronicle.specs.declared.events.Event.{Event}
 use Rattle.chronicle.specs.declared.events.Event.TheVariants as event
-use Rattle.chronicle.specs.declared.ways.Way.{Way}
+use Rattle.topology.specs.declared.ways.Way.{Way}
 use Rattle.chronicle.specs.Deliveries.{next_delivery, next_mail}
 use Rattle.chronicle.specs.Run.{step, run}
 use Rattle.chronicle.specs.Steps.{Step, Idle, Goes}

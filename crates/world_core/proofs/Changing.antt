@@ -23,7 +23,7 @@ use Rattle.consolidator.specs.Answers.{refusal_of, proposal_refusal, ballot_of, 
 use Rattle.consolidator.specs.Messages.{Message}
 use Rattle.chronicle.specs.declared.events.Event.{Event}
 use Rattle.chronicle.specs.declared.events.Event.TheVariants.{Originate, Withdraw, Prefer, Deliver, Fail, Restore, Notice, OpenSession, Flush, Snap, Propose, Control, Crash, Restart, Inject, Hop}
-use Rattle.chronicle.specs.declared.ways.Way.{Way}
+use Rattle.topology.specs.declared.ways.Way.{Way}
 use Rattle.chronicle.specs.Drops.{kept_log}
 use Rattle.chronicle.specs.Facts.{Fact, Chronicle, Log, Raise, Sent, Took, Start, Heard, Mail, Publish, Visit, End, happen}
 use Rattle.chronicle.specs.Facts as fact

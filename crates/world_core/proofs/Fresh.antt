@@ -15,7 +15,7 @@ use Rattle.world_core.specs.Limits.{triggers_of, has_more_marks}
 use Rattle.path_vector.specs.Rules.{Rules}
 use Rattle.link_model.specs.declared.links.Links.{Links}
 use Rattle.link_model.specs.Standing.{StandsFor as LinksStandFor}
-use Rattle.chronicle.specs.declared.ways.Way.{Way}
+use Rattle.topology.specs.declared.ways.Way.{Way}
 use Rattle.node_core.specs.declared.node.Node.{Node}
 use Rattle.node_core.specs.Standing.{StandsFor}
 use Rattle.world_core.specs.Matching.{AreLinks, IsCounted}

@@ -1,12 +1,11 @@
 -- The next delivery is over the first open way on which something is.
-use Rattle.std.proofs.Common.{ℕ, ◌<◌, ◌≤◌, true, false, ◌&&◌, Option, Some, None, IsSome, IfNone, List, [], ◌∷◌, ◌≡◌, refl, sym, ◌∙◌, ap, ap₂, subst, ⊎_elim, true≢false, length, filter, map, flat_map, option_map, slice_get}
+use Rattle.std.proofs.Common.{ℕ, ◌<◌, ◌≤◌, true, false, ◌&&◌, Option, Some, None, IsSome, IfNone, List, [], ◌∷◌, ◌≡◌, refl, sym, ◌∙◌, ap, ap₂, subst, ⊎_elim, true≢false, length, filter, map, flat_map, slice_get}
 use Rattle.std.specs.List.{AllByRecursion}
 use Rattle.std.proofs.lemmas.Bool.{cases_lt}
 use Rattle.topology.specs.declared.items.Item.{Item as Message}
 use Rattle.topology.specs.Lists.{ascending}
 use Rattle.topology.specs.Net.{Net, IsValid, linked, neighbours}
 use Rattle.trigger_log.specs.Going.{item_of}
-use Rattle.link_model.specs.declared.ends.Ends.{Ends}
 use Rattle.link_model.specs.declared.links.Links.{Links}
 use Rattle.link_model.specs.declared.way_set.WaySet.{WaySet}
 use Rattle.link_model.specs.Acts.{LinkActs}
@@ -17,7 +16,7 @@ use Rattle.link_model.specs.Tables.{ends, ways_of}
 use Rattle.link_model.specs.Ways.{has_items}
 use Rattle.link_model.specs.WaySets.{IsLowest, has_both, has_number}
 use Rattle.link_model.proofs.Numbers.{one_number}
-use Rattle.chronicle.specs.declared.ways.Way.{Way}
+use Rattle.topology.specs.declared.ways.Way.{Way}
 use Rattle.chronicle.specs.Channels.{channel}
 use Rattle.chronicle.specs.Facts.{Chronicle}
 use Rattle.chronicle.specs.Deliveries.{arrives, ways, next_delivery}
@@ -28,7 +27,7 @@ use Rattle.world_core.specs.Refreshing.{AreLinked, way}
 use Rattle.world_core.specs.WaySets.{has_way}
 use Rattle.world_core.proofs.Telling.{filter_passes}
 use Rattle.world_core.proofs.Changing.{linked_append}
-use Rattle.world_core.proofs.Numbered.{at_number, found_first, found_none, linked_at, way_by, ways_numbered}
+use Rattle.world_core.proofs.Numbered.{at_number, found_first, found_none, linked_at, ways_numbered}
 use Rattle.world_core.proofs.Opened.{arrives_where, both_true, has_item}
 use Rattle.world_core.proofs.Places.{same_some, some_at}
 
@@ -50,7 +49,7 @@ unfolding ways neighbours
 ways_near net = linked_all net (ascending net.nodes)
 
 -- so do those that have a number
-pub numbered_near : (net : Net) → AreLinked net (map way_by (ways_of net))
+pub numbered_near : (net : Net) → AreLinked net (ways_of net)
 numbered_near net = subst (AreLinked net) (ways_numbered net) (ways_near net)
 
 -- both read the same of a list
@@ -63,27 +62,27 @@ abbrev pub AreBusy : Links → LinkActs → WaySet → Type 0
 AreBusy links acts busy = (from to number : ℕ) → IsPlaced links from to number → has_number busy number ≡ has_items (channel_after from to acts)
 
 -- what has a number is placed there
-pub placed_at : (net : Net) (links : Links) (acts : LinkActs) → LinksStandFor net links acts → (number : ℕ) (e : Ends) → slice_get (ways_of net) number ≡ Some e → IsPlaced links e.from e.to number
+pub placed_at : (net : Net) (links : Links) (acts : LinkActs) → LinksStandFor net links acts → (number : ℕ) (e : Way) → slice_get (ways_of net) number ≡ Some e → IsPlaced links e.from e.to number
 placed_at net links acts stands number e at = record {
   here = ap (λ l. slice_get l number) stands.numbered ∙ at;
   only = λ other there. one_number net e.from e.to other number stands.valid (sym (ap (λ l. slice_get l other) stands.numbered) ∙ there) at;
 }
 
 -- the ends of the way of the next delivery
-pub over_ends : (net : Net) (past : Chronicle) (number : ℕ) (o : Option Ends) (e : Ends) → IsNext net past number → o ≡ slice_get (ways_of net) number → o ≡ Some e → IsOver net past e
-over_ends net past number o e next is some = subst (IsOver net past) (same_some next.ends e (sym next.here ∙ (sym is ∙ some))) next.over
+pub over_ends : (net : Net) (past : Chronicle) (number : ℕ) (o : Option Way) (e : Way) → IsNext net past number → o ≡ slice_get (ways_of net) number → o ≡ Some e → IsOver net past e
+over_ends net past number o e next is some = subst (IsOver net past) (same_some next.way e (sym next.here ∙ (sym is ∙ some))) next.over
 
 -- they are there
-pub has_ends : (net : Net) (past : Chronicle) (number : ℕ) (o : Option Ends) → IsNext net past number → o ≡ slice_get (ways_of net) number → IsSome o
+pub has_ends : (net : Net) (past : Chronicle) (number : ℕ) (o : Option Way) → IsNext net past number → o ≡ slice_get (ways_of net) number → IsSome o
 has_ends net past number o next is = subst IsSome (sym (is ∙ next.here)) refl
 
 module _ (net : Net) (past : Chronicle) (links : Links) (ways busy : WaySet) (valid : IsValid net) (was : AreLinks net past links) (opened : AreOpen net past (has_way net ways)) (full : AreBusy links was.acts busy) where
   -- a number is in both sets where a delivery over its way would not be idle
-  pub waits_at : (i : ℕ) (e : Ends) → slice_get (ways_of net) i ≡ Some e → arrives past e.from e.to ≡ has_both ways busy i
+  pub waits_at : (i : ℕ) (e : Way) → slice_get (ways_of net) i ≡ Some e → arrives past e.from e.to ≡ has_both ways busy i
   waits_at i e at =
       let near = linked_at net (ways_of net) i e (numbered_near net) at in
       let set : has_number ways i ≡ is_open past e.from e.to =
-      sym (at_number net valid (has_number ways) i e at) ∙ (opened (way_by e) ∙ ap (λ b. b && is_open past e.from e.to) near) in
+      sym (at_number net valid (has_number ways) i e at) ∙ (opened e ∙ ap (λ b. b && is_open past e.from e.to) near) in
       let some : has_number busy i ≡ has_item (channel e.from e.to past) =
       full e.from e.to i (placed_at net links was.acts was.stands i e at) ∙ (same_items (channel_after e.from e.to was.acts) ∙ ap has_item (was.items e.from e.to)) in
       arrives_where past e.from e.to ∙ sym (ap₂ (λ a b. a && b) set some)
@@ -94,7 +93,7 @@ module _ (net : Net) (past : Chronicle) (links : Links) (ways busy : WaySet) (va
   next_none none = found_none net (λ (w : Way). arrives past w.from w.to) (has_both ways busy) waits_at none
 
   -- the next one is that of the lowest number
-  pub next_first : (k : ℕ) (r : Option Ends) → r ≡ slice_get (ways_of net) k → IsLowest (has_both ways busy) k → next_delivery net past ≡ option_map way_by r
+  pub next_first : (k : ℕ) (r : Option Way) → r ≡ slice_get (ways_of net) k → IsLowest (has_both ways busy) k → next_delivery net past ≡ r
   unfolding next_delivery
   next_first k r is low = found_first net (λ (w : Way). arrives past w.from w.to) (has_both ways busy) waits_at k r is low.has low.least
 
@@ -107,9 +106,9 @@ module _ (net : Net) (past : Chronicle) (links : Links) (ways busy : WaySet) (va
   pub next_at : ((number : ℕ) → length links.table ≤ number → has_number busy number ≡ false) → (number : ℕ) → IsLowest (has_both ways busy) number → IsNext net past number
   next_at within number low = ⊎_elim
       (λ (below : number < length links.table).
-      let one = some_at (ways_of net) number (subst (λ (l : List Ends). number < length l) was.stands.numbered below) in
+      let one = some_at (ways_of net) number (subst (λ (l : List Way). number < length l) was.stands.numbered below) in
       record {
-        ends = one.0;
+        way = one.0;
         here = one.1;
         over = record {
           near = linked_at net (ways_of net) number one.0 (numbered_near net) one.1;

@@ -2,7 +2,7 @@
 use Rattle.std.specs.Prelude.{ℕ, ◌≡◌, true, Option, Some, None, ◌∷◌, ◌++◌, [], slice_get}
 use Rattle.topology.specs.Net.{Net, linked}
 use Rattle.path_vector.specs.Rules.{Rules}
-use Rattle.link_model.specs.declared.ends.Ends.{Ends}
+use Rattle.topology.specs.declared.ways.Way.{Way}
 use Rattle.link_model.specs.Tables.{ways_of}
 use Rattle.chronicle.specs.declared.events.Event.{Event}
 use Rattle.chronicle.specs.declared.events.Event.TheVariants.{Deliver}
@@ -32,14 +32,14 @@ abbrev pub AddsDelivery : {P : Type 0} → Option (ℕ × ℕ) → WorldState P 
 AddsDelivery None old new = new ≡ old
 AddsDelivery (Some ends) old new = AddsEvent (Deliver ends.0 ends.1) old new
 
--- the next delivery is over the way with these ends
-pub record IsOver (net : Net) (past : Chronicle) (ends : Ends) : Type 0 where
-  pub near : linked net ends.from ends.to ≡ true
-  pub waits : arrives past ends.from ends.to ≡ true
-  pub first : next_delivery net past ≡ Some (record { from = ends.from; to = ends.to })
+-- the next delivery is over this way
+pub record IsOver (net : Net) (past : Chronicle) (way : Way) : Type 0 where
+  pub near : linked net way.from way.to ≡ true
+  pub waits : arrives past way.from way.to ≡ true
+  pub first : next_delivery net past ≡ Some way
 
 -- it is over the one with this number
 pub record IsNext (net : Net) (past : Chronicle) (number : ℕ) : Type 0 where
-  pub ends : Ends
-  pub here : slice_get (ways_of net) number ≡ Some ends
-  pub over : IsOver net past ends
+  pub way : Way
+  pub here : slice_get (ways_of net) number ≡ Some way
+  pub over : IsOver net past way

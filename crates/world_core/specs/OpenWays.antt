@@ -4,7 +4,7 @@ use Rattle.topology.specs.declared.links.LinkState.{LinkState}
 use Rattle.topology.specs.declared.links.LinkState.TheVariants.{Up, Down}
 use Rattle.topology.specs.Net.{Net, linked}
 use Rattle.trigger_log.specs.Entries.{is_session}
-use Rattle.chronicle.specs.declared.ways.Way.{Way}
+use Rattle.topology.specs.declared.ways.Way.{Way}
 use Rattle.chronicle.specs.Facts.{Chronicle}
 use Rattle.chronicle.specs.Crashes.{crashed}
 use Rattle.chronicle.specs.Links.{link}

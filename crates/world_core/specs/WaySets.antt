@@ -1,24 +1,19 @@
 -- Sets of ways.
 use Rattle.std.specs.Prelude.{ℕ, suc, Bool, false, ◌==◌, ◌&&◌, List, [], ◌∷◌, if◌then◌else◌}
 use Rattle.topology.specs.Net.{Net}
-use Rattle.link_model.specs.declared.ends.Ends.{Ends}
 use Rattle.link_model.specs.declared.way_set.WaySet.{WaySet}
 use Rattle.link_model.specs.Tables.{ways_of}
 use Rattle.link_model.specs.WaySets.{has_number}
-use Rattle.chronicle.specs.declared.ways.Way.{Way}
+use Rattle.topology.specs.declared.ways.Way.{Way}
 
 -- the same two nodes, in this order
 abbrev pub same_way : Way → Way → Bool
 same_way v w = v.from == w.from && v.to == w.to
 
--- the way with these ends
-abbrev pub goes : Ends → Way → Bool
-goes e way = e.from == way.from && e.to == way.to
-
 -- the number of the way is one of these
-abbrev pub has_in : (ℕ → Bool) → List Ends → Way → Bool
+abbrev pub has_in : (ℕ → Bool) → List Way → Way → Bool
 has_in numbers [] way = false
-has_in numbers (e ∷ es) way = if goes e way then numbers 0 else has_in (λ number. numbers (suc number)) es way
+has_in numbers (e ∷ es) way = if same_way e way then numbers 0 else has_in (λ number. numbers (suc number)) es way
 
 -- the way is in the set: it is one of the network, and the set has its number
 abbrev pub has_way : Net → WaySet → Way → Bool

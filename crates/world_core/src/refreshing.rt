@@ -1,6 +1,6 @@
 //! After an event the ways that it may have opened or closed are looked at again.
 ghost use Rattle.std.specs.Prelude.{◌≡◌, true, ◌∷◌, ◌++◌, [], List, IfSome, IsTrue, IfNone, if◌then◌else◌};
-ghost use Rattle.chronicle.specs.declared.ways.Way.{Way as Direction};
+ghost use Rattle.topology.specs.declared.ways.Way.{Way as Direction};
 ghost use Rattle.topology.specs.Net.{Net, linked};
 ghost use Rattle.chronicle.specs.Facts.{Chronicle};
 ghost use Rattle.world_core.specs.Fits.{fits};
@@ -12,10 +12,10 @@ ghost use Rattle.world_core.specs.WaySets.{has_way};
 
 use crate::network::Network;
 use crate::steps::is_carried;
-use chronicle::{Event, Way};
+use chronicle::Event;
 use link_model::WaySet;
 use path_vector::Policy;
-use topology::NodeId;
+use topology::{NodeId, Way};
 
 // The way over the link of the event, where the event opens or closes the link or a session over it: to the node whose
 // session that is. One of the two where the link changes.

@@ -4,7 +4,7 @@ ghost use Rattle.topology.specs.Lists.{has};
 ghost use Rattle.topology.specs.Net.{linked};
 ghost use Rattle.consolidator.specs.Seen.{message_seen};
 ghost use Rattle.node_core.specs.declared.limits.TheConstants.{MOST_EPOCHS};
-ghost use Rattle.chronicle.specs.declared.ways.Way.{Way};
+ghost use Rattle.topology.specs.declared.ways.Way.{Way};
 ghost use Rattle.chronicle.specs.Crashes.{crashed};
 ghost use Rattle.chronicle.specs.Control.{mail_with, mailed};
 ghost use Rattle.chronicle.specs.Deliveries.{deliveries, next_delivery, next_mail};
@@ -180,8 +180,8 @@ impl<P: Policy + Copy> World<P> {
             (next_delivery self.now.net (run (P.rules self.now.policy) self.now.net self.now.events)) }
     {
         let number = self.state.next()?;
-        let ends = self.state.network.links.ends(number)?;
-        Some((ends.from, ends.to))
+        let way = self.state.network.links.way(number)?;
+        Some((way.from, way.to))
     }
 
     /// The control message with this number: who sent it, what it is with its addressee, and how often it was

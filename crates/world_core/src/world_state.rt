@@ -1,6 +1,6 @@
 //! What a world keeps, which changes in place.
 ghost use Rattle.std.specs.Prelude.{◌≡◌, ◌<◌, ◌≤◌, [], ◌∷◌, ◌++◌, Some, None, length, option_map, IsTrue, IfOk, IfErr, IfSome, IfNone, OnOk};
-ghost use Rattle.chronicle.specs.declared.ways.Way.{Way};
+ghost use Rattle.topology.specs.declared.ways.Way.{Way};
 ghost use Rattle.chronicle.specs.Deliveries.{next_delivery};
 ghost use Rattle.chronicle.specs.Run.{run, step};
 ghost use Rattle.world_core.specs.declared.bounds.TheConstants.{MOST_EVENTS};
@@ -110,10 +110,10 @@ impl<P: Policy + Copy> WorldState<P> {
         let Some(number) = self.next() else {
             return Ok(None);
         };
-        let ends = self.network.links.ends(number).unwrap();
+        let way = self.network.links.way(number).unwrap();
         self.check_events()?;
         laws::a_step_is_lawful();
-        let (from, to) = (ends.from, ends.to);
+        let (from, to) = (way.from, way.to);
         self.network.take(from, to, number, false)?;
         keep(&mut self.events, Event::Deliver { from, to })?;
         Ok(Some((from, to)))

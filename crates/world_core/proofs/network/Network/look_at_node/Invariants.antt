@@ -1,5 +1,5 @@
 use Rattle.std.proofs.Common.{List, ◌++◌, drop, map}
-use Rattle.chronicle.specs.declared.ways.Way.{Way}
+use Rattle.topology.specs.declared.ways.Way.{Way}
 use Rattle.chronicle.specs.Facts.{Chronicle}
 use Rattle.world_core.specs.Matching.{Counts, Stands}
 use Rattle.world_core.specs.Refreshing.{AreOpenBut, way, ways_to}
