@@ -39,7 +39,7 @@ use Rattle.node_core.specs.ControlFits.{in_order, row_lists_fit, scope_fits}
 use Rattle.node_core.specs.Fits.{item_fits, path_fits, fits}
 use Rattle.node_core.specs.Names.{is_number, list_fits}
 use Rattle.node_core.specs.PacketFits.{packet_fits, are_links}
-use Rattle.node_core.specs.declared.limits.TheConstants.{MOST_EPOCHS, MOST_PREFERENCE}
+use Rattle.topology.specs.declared.limits.TheConstants.{MOST_EPOCHS, HIGHEST_PREFERENCE}
 use Rattle.admission_laws.proofs.Facts.{cause_fits, AllFacts}
 use Rattle.admission_laws.proofs.Bounds.{below_from, most_is, most_from, Within, Reportable, within_before}
 use Rattle.admission_laws.proofs.Sessions.{held_number, neighbour_is}
@@ -298,7 +298,7 @@ module _ (rules : Rules) (net : Net) (u : ℕ) (valid : IsValid net) (own : has 
           | true ↦ λ e. here_fine (One p) cause.Withdraw e (some_next past) is refl
           | false ↦ λ e. tt
         ]) refl
-    answer_fine (input.Prefer v value) plain is = here_fine All (cause.Prefer v value) tt (some_next past) refl (and_left (has (neighbours net u) v) (nat_le value MOST_PREFERENCE) is)
+    answer_fine (input.Prefer v value) plain is = here_fine All (cause.Prefer v value) tt (some_next past) refl (and_left (has (neighbours net u) v) (nat_le value HIGHEST_PREFERENCE) is)
     answer_fine (input.Arrive v s x) plain is =
         let rest = and_right (has (neighbours net u) v) (is_number s && item_fits net v x) is in
         comes_fine v s (and_left (has (neighbours net u) v) (is_number s && item_fits net v x) is) (and_left (is_number s) (item_fits net v x) rest) x (held (reads (log_of u past)) v)

@@ -20,7 +20,7 @@ use Rattle.trigger_log.proofs.Numbering.{numbered_from_one}
 use Rattle.node_core.specs.Names.{is_number}
 use Rattle.node_core.specs.Counted.{is_long, is_long_item, is_long_row}
 use Rattle.node_core.specs.NodeLimits.{marks_of}
-use Rattle.node_core.specs.declared.limits.TheConstants.{MOST_ENTRIES, MOST_MARKS, MOST_TRIGGERS, MOST_UPDATES}
+use Rattle.topology.specs.declared.limits.TheConstants.{MOST_ENTRIES, MOST_MARKS, MOST_TRIGGERS, MOST_UPDATES}
 use Rattle.admission_laws.proofs.Each.{none_first, none_last}
 
 -- a number from 1 that has four bytes

@@ -24,7 +24,7 @@ use Rattle.stable_table.specs.Trimming.{complete_after, trimmed_complete, trimme
 use Rattle.node_core.specs.Fits.{begins_with, path_fits}
 use Rattle.node_core.specs.Names.{are_nodes, is_number}
 use Rattle.node_core.specs.PacketFits.{carried_fits}
-use Rattle.node_core.specs.declared.limits.TheConstants.{MOST_TRAIL}
+use Rattle.topology.specs.declared.limits.TheConstants.{MOST_TRAIL}
 use Rattle.admission_laws.proofs.Facts.{cause_fits, entry_fits}
 use Rattle.admission_laws.proofs.Each.{each_map, each_filter}
 use Rattle.admission_laws.proofs.Bounds.{most_is}

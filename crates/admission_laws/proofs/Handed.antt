@@ -29,7 +29,7 @@ use Rattle.node_core.specs.Names.{is_number}
 use Rattle.node_core.specs.NodeLimits.{Reached, has_large_value, has_long_list, has_more_marks, marks_of, node_above, node_limit, or_marks}
 use Rattle.node_core.specs.Outputs.{output_by, outputs}
 use Rattle.node_core.specs.PacketFits.{packet_fits}
-use Rattle.node_core.specs.declared.limits.TheConstants.{MOST_EPOCHS, MOST_MARKS}
+use Rattle.topology.specs.declared.limits.TheConstants.{MOST_EPOCHS, MOST_MARKS}
 use Rattle.node_core.proofs.Admitting.{may_come}
 use Rattle.admission_laws.specs.Handing.{table_fits, is_short, output_fits}
 use Rattle.admission_laws.specs.NodeRuns.{each_link, gives, going_on, alone, restarted, limit_at, AllAdmitted}

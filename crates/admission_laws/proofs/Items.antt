@@ -23,7 +23,7 @@ use Rattle.trigger_log.specs.Sending.{close_sent, held_update, news, next_number
 use Rattle.node_core.specs.Fits.{begins_with, path_fits, item_fits}
 use Rattle.node_core.specs.Names.{are_nodes, is_number, list_fits, triggers_fit}
 use Rattle.node_core.specs.Counted.{is_long, is_long_item}
-use Rattle.node_core.specs.declared.limits.TheConstants.{MOST_TRIGGERS}
+use Rattle.topology.specs.declared.limits.TheConstants.{MOST_TRIGGERS}
 use Rattle.admission_laws.proofs.Facts.{cause_fits}
 use Rattle.admission_laws.proofs.Each.{each_map, each_flat, among_filter, among_has, among_range, has_among, none_first, none_flat, passing_filter}
 use Rattle.admission_laws.proofs.Tables.{path_of_fits}

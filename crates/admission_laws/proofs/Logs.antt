@@ -18,7 +18,7 @@ use Rattle.chronicle.specs.Publications.{Publication, publications, publications
 use Rattle.node_core.specs.ControlFits.{epoch_fits, value_fits}
 use Rattle.node_core.specs.Fits.{path_fits}
 use Rattle.node_core.specs.PacketFits.{carried_fits}
-use Rattle.node_core.specs.declared.limits.TheConstants.{MOST_EPOCHS}
+use Rattle.topology.specs.declared.limits.TheConstants.{MOST_EPOCHS}
 use Rattle.admission_laws.specs.Handing.{table_fits}
 use Rattle.admission_laws.proofs.Facts.{entry_fits, fact_fits, AllFacts}
 use Rattle.admission_laws.proofs.Bounds.{most_from}

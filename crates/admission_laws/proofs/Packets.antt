@@ -22,7 +22,7 @@ use Rattle.transient_mode.specs.TransientHops.{Hop, Next, Ended, spent, is_new, 
 use Rattle.transient_mode.proofs.Hopping.{found}
 use Rattle.node_core.specs.Names.{are_nodes, is_number}
 use Rattle.node_core.specs.PacketFits.{carried_fits, packet_fits}
-use Rattle.node_core.specs.declared.limits.TheConstants.{MOST_EPOCHS, MOST_TRAIL}
+use Rattle.topology.specs.declared.limits.TheConstants.{MOST_EPOCHS, MOST_TRAIL}
 use Rattle.admission_laws.proofs.Values.{one_of}
 use Rattle.admission_laws.proofs.Bounds.{below_is, below_from, most_is, most_from}
 

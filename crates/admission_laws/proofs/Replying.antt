@@ -35,7 +35,7 @@ use Rattle.cut_laws.proofs.Owning.{own_answered}
 use Rattle.node_core.specs.ControlFits.{ballot_fits, epoch_fits, message_fits, value_fits}
 use Rattle.node_core.specs.Fits.{fits}
 use Rattle.node_core.specs.NodeLimits.{first_of_node, is_large, is_too_large, has_large_value, has_long_list, node_above}
-use Rattle.node_core.specs.declared.limits.TheConstants.{MOST_EPOCHS, MOST_ENTRIES, MOST_UPDATES}
+use Rattle.topology.specs.declared.limits.TheConstants.{MOST_EPOCHS, MOST_ENTRIES, MOST_UPDATES}
 use Rattle.admission_laws.specs.Handing.{table_fits, is_short}
 use Rattle.admission_laws.proofs.Facts.{fact_fits, AllFacts}
 use Rattle.admission_laws.proofs.Ballots.{mailed_fits, control_fits, said_of, ballots_of, agreement_fits, decision_fits}

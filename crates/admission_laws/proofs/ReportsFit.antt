@@ -27,7 +27,7 @@ use Rattle.node_core.specs.Counted.{entry_marks, is_long, is_long_item, item_mar
 use Rattle.node_core.specs.Fits.{path_fits}
 use Rattle.node_core.specs.Names.{is_number, list_fits, triggers_fit}
 use Rattle.node_core.specs.NodeLimits.{marks_of}
-use Rattle.node_core.specs.declared.limits.TheConstants.{MOST_ENTRIES, MOST_MARKS, MOST_TRIGGERS, MOST_UPDATES}
+use Rattle.topology.specs.declared.limits.TheConstants.{MOST_ENTRIES, MOST_MARKS, MOST_TRIGGERS, MOST_UPDATES}
 use Rattle.node_core.proofs.Totals.{total_append}
 use Rattle.admission_laws.specs.Handing.{is_short}
 use Rattle.admission_laws.proofs.Each.{each_append, each_flat, among_has, has_among, none_flat, none_last}

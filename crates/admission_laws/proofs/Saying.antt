@@ -20,7 +20,7 @@ use Rattle.consolidator.specs.Messages.{Message, Reports, Agrees}
 use Rattle.consolidator.specs.Readings.{reports_held, fresh}
 use Rattle.node_core.specs.ControlFits.{ballot_fits, ballots_fit, epoch_fits, message_fits, named_fits, sender_fits, value_fits}
 use Rattle.node_core.specs.NodeLimits.{proposes_more, is_large}
-use Rattle.node_core.specs.declared.limits.TheConstants.{MOST_TRIGGERS}
+use Rattle.topology.specs.declared.limits.TheConstants.{MOST_TRIGGERS}
 use Rattle.admission_laws.specs.Handing.{is_short}
 use Rattle.admission_laws.proofs.Values.{all_of, value_of_fits}
 use Rattle.admission_laws.proofs.Each.{among_has}

@@ -9,8 +9,7 @@ use Rattle.topology.specs.declared.status.Status.TheVariants.{Done, NoMemory, Ba
 use Rattle.topology.specs.declared.status.BadKind.{BadKind}
 use Rattle.topology.specs.declared.status.LimitKind.{LimitKind}
 use Rattle.topology.specs.declared.status.LimitKind.TheVariants as count
-use Rattle.schedule_file.specs.declared.parser.TheConstants.{MAX_BYTES}
-use Rattle.leadership.specs.declared.bounds.TheConstants.{MOST_EVENTS, MOST_CONTROL}
+use Rattle.topology.specs.declared.limits.TheConstants.{MOST_BYTES, MOST_CONTROL, MOST_EVENTS}
 use Rattle.leadership.specs.declared.ends.RunEnd.{RunEnd}
 use Rattle.leadership.specs.declared.ends.RunEnd.TheVariants as end
 use Rattle.leadership.specs.declared.events.LeadEvent.{LeadEvent}
@@ -56,8 +55,8 @@ all_agreed : (ns : List ℕ) (events : List LeadEvent) → IsAgreed ns events
 all_agreed ns events = λ e v w. one_chosen ns events e v w
 
 module _ (source source' : SourceView) (bytes : List ℕ) (read : (told : List ℕ) → source.left ≡ Some told → bytes ≡ told)
-    (short : length bytes ≤ MAX_BYTES) (at_end : IsAtEnd source'.left) (quiet : source'.faults ≡ source.faults) where
-  never_long : {P : Type 0} (told : List ℕ) → source.left ≡ Some told → MAX_BYTES < length told → P
+    (short : length bytes ≤ MOST_BYTES) (at_end : IsAtEnd source'.left) (quiet : source'.faults ≡ source.faults) where
+  never_long : {P : Type 0} (told : List ℕ) → source.left ≡ Some told → MOST_BYTES < length told → P
   never_long told t long = absurd (let same = ap length (read told t) in omega arith)
 
   -- the script is refused by a line
@@ -153,10 +152,10 @@ of_run o kind number h e = subst OfRun e h
 is_limit : (bytes : List ℕ) (kind : LimitKind) (number : ℕ) (held held' : Option (List ℕ)) → is_of_run kind ≡ true
     → StopsRun bytes (kind, number) held held' → IsLimit bytes kind number held held'
 is_limit bytes kind number held held' stops h =
-    subst (λ b. MatchBool b (StopsRun bytes (kind, number) held held') ((number ≡ MAX_BYTES) × (MAX_BYTES < length bytes))) (sym stops) h
+    subst (λ b. MatchBool b (StopsRun bytes (kind, number) held held') ((number ≡ MOST_BYTES) × (MOST_BYTES < length bytes))) (sym stops) h
 
 module _ (source source' : SourceView) (sink sink' : SinkView) (bytes : List ℕ) (read : (told : List ℕ) → source.left ≡ Some told → bytes ≡ told)
-    (short : length bytes ≤ MAX_BYTES) (at_end : IsAtEnd source'.left) (quiet : source'.faults ≡ source.faults) (good : first_bad bytes ≡ None) where
+    (short : length bytes ≤ MOST_BYTES) (at_end : IsAtEnd source'.left) (quiet : source'.faults ≡ source.faults) (good : first_bad bytes ≡ None) where
   abbrev written : List ℕ
   written = text (members bytes) [] (directives_of bytes)
 
@@ -179,7 +178,7 @@ module _ (source source' : SourceView) (sink sink' : SinkView) (bytes : List ℕ
   never_bad : {P : Type 0} (told : List ℕ) → source.left ≡ Some told → (line : ℕ) (kind : BadKind) → first_bad told ≡ Some (line, kind) → P
   never_bad told t line kind first = none_some (first_bad told) (line, kind) (subst (λ b. first_bad b ≡ None) (read told t) good) first
 
-  too_long : {P : Type 0} (told : List ℕ) → source.left ≡ Some told → MAX_BYTES < length told → P
+  too_long : {P : Type 0} (told : List ℕ) → source.left ≡ Some told → MOST_BYTES < length told → P
   too_long told t long = absurd (let same = ap length (read told t) in omega arith)
 
   agreed : (told : List ℕ) → IsAgreed (members told) (events_of (members told) [] (directives_of told))

@@ -7,7 +7,7 @@ use Rattle.std.proofs.lemmas.Grind.{fold-append}
 use Rattle.topology.specs.Lists.{Among, has}
 use Rattle.topology.specs.declared.status.LimitKind.{LimitKind}
 use Rattle.topology.specs.declared.status.LimitKind.TheVariants.{Events, Control}
-use Rattle.leadership.specs.declared.bounds.TheConstants.{MOST_EVENTS, MOST_CONTROL}
+use Rattle.topology.specs.declared.limits.TheConstants.{MOST_EVENTS, MOST_CONTROL}
 use Rattle.leadership.specs.declared.events.LeadEvent.{LeadEvent}
 use Rattle.leadership.specs.declared.network.Network.{Network}
 use Rattle.leadership.specs.declared.reasons.LeadReason.{LeadReason}

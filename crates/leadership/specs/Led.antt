@@ -9,7 +9,7 @@ use Rattle.topology.specs.declared.status.LimitKind.{LimitKind}
 use Rattle.topology.specs.declared.status.LimitKind.TheVariants.{Bytes, Events, Epochs, Triggers, Entries, Updates, Control, Packets, Frames, Marks, Journal}
 use Rattle.route_io.specs.Causes.{RoseIf, AppendsFront}
 use Rattle.route_io.specs.Views.{SourceView, SinkView}
-use Rattle.schedule_file.specs.declared.parser.TheConstants.{MAX_BYTES}
+use Rattle.topology.specs.declared.limits.TheConstants.{MOST_BYTES}
 use Rattle.leadership.specs.Agreed.{IsAgreed}
 use Rattle.leadership.specs.Scripts.{directives_of, first_bad, members_of}
 use Rattle.leadership.specs.Text.{events_of, stop, text}
@@ -119,7 +119,7 @@ StopsRun bytes limit held held' = (run : ScriptRun bytes) × (run.stopped ≡ So
 abbrev pub IsLimit : List ℕ → LimitKind → ℕ → Option (List ℕ) → Option (List ℕ) → Type 0
 IsLimit bytes kind number held held' =
     MatchBool (is_of_run kind) (StopsRun bytes (kind, number) held held')
-    ((number ≡ MAX_BYTES) × (MAX_BYTES < length bytes))
+    ((number ≡ MOST_BYTES) × (MOST_BYTES < length bytes))
 
 -- how it ends, on a source and a sink as they were and as they are then
 pub record Led (source source' : SourceView) (sink sink' : SinkView) (status : Status) : Type 0 where
@@ -150,15 +150,15 @@ pub record Led (source source' : SourceView) (sink sink' : SinkView) (status : S
   -- nothing is left of the script once it was parsed
   pub read : ends_read status ≡ true → IsAtEnd source'.left
   -- a script of the grammar is run to its end, or up to the limit that stops it, unless a side fails or memory runs out
-  pub complete : (bytes : List ℕ) → source.left ≡ Some bytes → length bytes ≤ MAX_BYTES → (run : ScriptRun bytes)
+  pub complete : (bytes : List ℕ) → source.left ≡ Some bytes → length bytes ≤ MOST_BYTES → (run : ScriptRun bytes)
       → (run.stopped ≡ None → (status ≡ Done) ⊎ ((status ≡ NoMemory) ⊎ ((status ≡ ReadFault) ⊎ (status ≡ WriteFault))))
       × ((kind : LimitKind) (number : ℕ) → run.stopped ≡ Some (kind, number)
       → (status ≡ Limit kind number) ⊎ ((status ≡ NoMemory) ⊎ ((status ≡ ReadFault) ⊎ (status ≡ WriteFault))))
   -- one outside the grammar is refused by its first bad line, unless a read fails or memory runs out
-  pub refused : (bytes : List ℕ) → source.left ≡ Some bytes → length bytes ≤ MAX_BYTES → (line : ℕ) (kind : BadKind)
+  pub refused : (bytes : List ℕ) → source.left ≡ Some bytes → length bytes ≤ MOST_BYTES → (line : ℕ) (kind : BadKind)
       → first_bad bytes ≡ Some (line, kind) → (status ≡ BadSchedule line kind) ⊎ ((status ≡ NoMemory) ⊎ (status ≡ ReadFault))
   -- so is one that is too long, by its length
-  pub too_long : (bytes : List ℕ) → source.left ≡ Some bytes → MAX_BYTES < length bytes
-      → (status ≡ Limit Bytes MAX_BYTES) ⊎ ((status ≡ NoMemory) ⊎ (status ≡ ReadFault))
+  pub too_long : (bytes : List ℕ) → source.left ≡ Some bytes → MOST_BYTES < length bytes
+      → (status ≡ Limit Bytes MOST_BYTES) ⊎ ((status ≡ NoMemory) ⊎ (status ≡ ReadFault))
   -- no call changes how much the sink can hold
   pub same_room : sink'.room ≡ sink.room

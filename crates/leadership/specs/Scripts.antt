@@ -4,10 +4,9 @@ use Rattle.std.specs.Option.{option_or}
 use Rattle.topology.specs.Lists.{has}
 use Rattle.topology.specs.declared.status.BadKind.{BadKind}
 use Rattle.topology.specs.declared.status.BadKind.TheVariants.{UnknownWord, NotHere, WrongCount, BadNumber, UnknownNode, DuplicateNode, TooMany}
-use Rattle.schedule_file.specs.declared.table.TheConstants.{MAX_NODE, MAX_TIMES, MAX_MESSAGE, MAX_EPOCH}
+use Rattle.topology.specs.declared.limits.TheConstants.{HIGHEST_EPOCH, HIGHEST_MESSAGE, HIGHEST_NODE, HIGHEST_VALUE, MOST_MEMBERS, MOST_TIMES}
 use Rattle.schedule_file.specs.Spelling.{words_by_line}
 use Rattle.schedule_file.specs.Words.{number_at, spells_number}
-use Rattle.leadership.specs.declared.bounds.TheConstants.{MOST_MEMBERS, MOST_VALUE}
 use Rattle.leadership.specs.declared.events.LeadEvent.TheVariants as event
 use Rattle.leadership.specs.declared.scripts.Keyword.{Keyword}
 use Rattle.leadership.specs.declared.scripts.Keyword.TheVariants.{Member, Begin, Lead, Offer, Control, Crash, Restart, Show}
@@ -65,19 +64,19 @@ pub data Field : Type 0 where
   Word : (word : List ℕ) → Field
 
 abbrev pub node_number : Field
-node_number = Number 1 MAX_NODE
+node_number = Number 1 HIGHEST_NODE
 
 abbrev pub epoch_number : Field
-epoch_number = Number 1 MAX_EPOCH
+epoch_number = Number 1 HIGHEST_EPOCH
 
 -- what is to stand behind the first word, where these words do
 abbrev pub fields : Keyword → List (List ℕ) → List Field
 fields Member words = node_number ∷ []
 fields Begin words = []
 fields Lead words = node_number ∷ epoch_number ∷ []
-fields Offer words = node_number ∷ epoch_number ∷ Number 0 MOST_VALUE ∷ []
-fields Control (number ∷ []) = Number 1 MAX_MESSAGE ∷ []
-fields Control words = Word (codes "all") ∷ Number 1 MAX_TIMES ∷ []
+fields Offer words = node_number ∷ epoch_number ∷ Number 0 HIGHEST_VALUE ∷ []
+fields Control (number ∷ []) = Number 1 HIGHEST_MESSAGE ∷ []
+fields Control words = Word (codes "all") ∷ Number 1 MOST_TIMES ∷ []
 fields Crash words = node_number ∷ []
 fields Restart words = node_number ∷ []
 fields Show words = Word (codes "chosen") ∷ []

@@ -4,7 +4,7 @@ use Rattle.std.specs.List.{range_with_len}
 use Rattle.std.specs.Fmt.{decimal}
 use Rattle.topology.specs.declared.ballots.Ballot.{Ballot}
 use Rattle.topology.specs.declared.status.LimitKind.{LimitKind}
-use Rattle.schedule_file.specs.declared.table.TheConstants.{MAX_EPOCH}
+use Rattle.topology.specs.declared.limits.TheConstants.{HIGHEST_EPOCH}
 use Rattle.leadership.specs.declared.events.LeadEvent.{LeadEvent}
 use Rattle.leadership.specs.declared.events.LeadEvent.TheVariants as event
 use Rattle.leadership.specs.declared.reasons.LeadReason.{LeadReason}
@@ -50,7 +50,7 @@ chosen_text e (Some x) = codes "chosen " ++ (decimal e ++ (codes ": " ++ (decima
 -- those of all epochs that a script may name, ascending
 abbrev pub all_chosen : (members : List ℕ) → List LeadEvent → List ℕ
 all_chosen members events =
-    flat_map (λ e. chosen_text e (chosen_for members (run members events) e)) (range_with_len 1 MAX_EPOCH)
+    flat_map (λ e. chosen_text e (chosen_for members (run members events) e)) (range_with_len 1 HIGHEST_EPOCH)
 
 -- where a directive leads: to these events, or to a limit that stops it
 pub data Course : Type 0 where

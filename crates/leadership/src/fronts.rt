@@ -1,7 +1,7 @@
 //! Up to which number all messages to a member were delivered.
 ghost use Rattle.std.specs.Prelude.{ℕ, ◌≡◌, ◌≤◌, List, length, IfOk};
 ghost use Rattle.std.specs.BTreeSet.{BTreeSet as AnySet};
-ghost use Rattle.leadership.specs.declared.bounds.TheConstants.{MOST_CONTROL};
+ghost use Rattle.topology.specs.declared.limits.TheConstants.{MOST_CONTROL};
 ghost use Rattle.leadership.specs.Fronts.{AreFronts, IsFront, IsLow, front_of, passes};
 ghost use Rattle.leadership.specs.declared.mails.Letter.{Letter as AnyLetter};
 

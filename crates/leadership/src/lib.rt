@@ -21,7 +21,6 @@
 //! An event that does nothing writes a line with its reason, but for those of `ctl all`.
 #![tactic(auto)]
 
-pub mod bounds;
 mod choices;
 mod directives;
 pub mod ends;

@@ -6,7 +6,7 @@ ghost use Rattle.leadership.specs.declared.sites.Site.{Site};
 ghost use Rattle.leadership.specs.declared.events.LeadEvent.TheVariants as event;
 ghost use Rattle.leadership.specs.Facts.{Chronicle};
 ghost use Rattle.leadership.specs.Sites.{IsAt, nodes_of};
-ghost use Rattle.leadership.specs.declared.bounds.TheConstants.{MOST_CONTROL};
+ghost use Rattle.topology.specs.declared.limits.TheConstants.{MOST_CONTROL};
 ghost use Rattle.leadership.specs.Fits.{fits};
 ghost use Rattle.leadership.specs.Network.{AreToMembers, HaveRounds, Stands, HappensIn, StopsBy, Hears, HearStops};
 

@@ -8,7 +8,6 @@ ghost use Rattle.leadership.specs.declared.scripts.Line.TheVariants as said;
 ghost use Rattle.leadership.specs.Fits.{fits};
 ghost use Rattle.leadership.specs.Scripts.{directives_of, fault, first_bad, is_known, line_of, member_fault, members_of, name_fault};
 
-use crate::bounds::MOST_MEMBERS;
 use crate::events::LeadEvent;
 use crate::reading::read_line;
 use crate::scripts::{Directive, Line, Numbered, Script};
@@ -16,6 +15,7 @@ use schedule_file::names::Refusal;
 use schedule_file::words::words_of;
 use std::alloc::Global;
 use text_lines::{Line as Span, Lines};
+use topology::limits::MOST_MEMBERS;
 use topology::{BadKind, NodeId, NodeSet};
 
 /// Why the bytes are no script.

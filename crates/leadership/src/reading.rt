@@ -3,17 +3,17 @@ ghost use Rattle.std.specs.Prelude.{ℕ, ◌≡◌, ◌≢◌, true, false, suc,
 ghost use Rattle.topology.specs.declared.status.BadKind.TheVariants.{BadNumber, UnknownWord};
 ghost use Rattle.schedule_file.specs.Standing.{Holds};
 ghost use Rattle.schedule_file.specs.Words.{number_of, spells_number};
-ghost use Rattle.leadership.specs.declared.bounds.TheConstants.{MOST_VALUE};
+ghost use Rattle.topology.specs.declared.limits.TheConstants.{HIGHEST_VALUE};
 ghost use Rattle.leadership.specs.declared.scripts.Keyword.{Keyword as Word};
 ghost use Rattle.leadership.specs.declared.scripts.Keyword.TheVariants as keyword;
 ghost use Rattle.leadership.specs.Scripts.{directs, keyword_in, keyword_text, line_of, may_have, word_fault};
 ghost use Rattle.leadership.specs.Parsing.{HasForm, ReadsAs};
 
-use crate::bounds::MOST_VALUE;
 use crate::events::LeadEvent;
 use crate::scripts::{Directive, Keyword, Line};
 use schedule_file::words::{Words, epoch_of, message_of, node_of, times_of};
 use text_lines::read_number;
+use topology::limits::HIGHEST_VALUE;
 use topology::BadKind;
 
 // The kind of line that the word begins.
@@ -93,11 +93,11 @@ fn check_form(keyword: Keyword, words: &Words<'_>, begun: bool) -> Result<(), Ba
 // A value.
 fn value_of(word: &[u8]) -> Result<u32, BadKind>
     ensures ok { IfOk result (λ value. value ≡ number_of word.now) }
-    ensures fine { OnOk result (spells_number 0 MOST_VALUE word.now ≡ true) }
-    ensures err { OnErr result (spells_number 0 MOST_VALUE word.now ≡ false) }
+    ensures fine { OnOk result (spells_number 0 HIGHEST_VALUE word.now ≡ true) }
+    ensures err { OnErr result (spells_number 0 HIGHEST_VALUE word.now ≡ false) }
     ensures kind { IfErr result (λ kind. kind ≡ BadNumber) }
 {
-    match read_number(word, MOST_VALUE) {
+    match read_number(word, HIGHEST_VALUE) {
         Some(value) => Ok(value),
         None => Err(BadKind::BadNumber),
     }

@@ -14,8 +14,8 @@ use crate::parser::{ScriptEnd, parse};
 use crate::scripts::{Numbered, Script};
 use crate::world::LeadWorld;
 use route_io::{ReadEnd, Sink, Source, read_all};
-use schedule_file::MAX_BYTES;
 use std::alloc::Global;
+use topology::limits::MOST_BYTES;
 use topology::{LimitKind, Status};
 
 // Runs the directives, and writes the lines of each before the next is taken.
@@ -56,11 +56,11 @@ pub fn lead<I: Source, O: Sink>(alloc: Global, source: &mut I, sink: &mut O) -> 
     ensures { Led (I.seen source.old) (I.seen source.new) (O.seen sink.old) (O.seen sink.new) result }
 {
     one_value_is_chosen();
-    let bytes = match read_all(alloc, source, MAX_BYTES as usize) {
+    let bytes = match read_all(alloc, source, MOST_BYTES as usize) {
         Ok(bytes) => bytes,
         Err(ReadEnd::NoMemory) => return Status::NoMemory,
         Err(ReadEnd::Fault) => return Status::ReadFault,
-        Err(ReadEnd::TooLong) => return Status::Limit(LimitKind::Bytes, MAX_BYTES),
+        Err(ReadEnd::TooLong) => return Status::Limit(LimitKind::Bytes, MOST_BYTES),
     };
     let script = match parse(alloc, &bytes) {
         Ok(script) => script,

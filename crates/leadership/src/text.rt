@@ -8,8 +8,8 @@ ghost use Rattle.leadership.specs.Text.{all_chosen, ballot_text, chosen_text, id
 use crate::reasons::LeadReason;
 use crate::world::LeadWorld;
 use itoa::Buffer;
-use schedule_file::table::MAX_EPOCH;
 use std::alloc::AllocError;
+use topology::limits::HIGHEST_EPOCH;
 use topology::{Ballot, Epoch};
 
 // Adds the decimal digits of a number.
@@ -92,7 +92,7 @@ fn chosen_line(out: &mut String, epoch: u32, chosen: Option<u32>) -> Result<(), 
 pub(crate) fn chosen_lines(out: &mut String, world: &LeadWorld) -> Result<(), AllocError>
     ensures { OnOk result (string_bytes out.new ≡ string_bytes out.old ++ all_chosen world.now.members world.now.events) }
 {
-    for i in 0..MAX_EPOCH {
+    for i in 0..HIGHEST_EPOCH {
         let epoch = i + 1;
         chosen_line(out, epoch, world.chosen(Epoch::new(epoch)))?;
     }

@@ -20,7 +20,7 @@ use Rattle.epoch_packet.specs.declared.packets.Packet.{Packet}
 use Rattle.trigger_log.specs.Going.{item_of}
 use Rattle.node_core.specs.declared.inputs.Input.{Input as Given}
 use Rattle.node_core.specs.declared.inputs.Input.TheVariants as given
-use Rattle.node_core.specs.declared.limits.TheConstants.{MOST_TRIGGERS}
+use Rattle.topology.specs.declared.limits.TheConstants.{MOST_TRIGGERS}
 use Rattle.node_core.specs.Inputs.{input_of}
 use Rattle.node_core.specs.Coming.{MayCome}
 use Rattle.node_core.specs.ControlFits.{epoch_fits, message_fits}

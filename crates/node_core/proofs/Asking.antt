@@ -40,7 +40,7 @@ use Rattle.chronicle.proofs.Quieting.{log_mails, epoch_mails, cut_mails, took_ma
 use Rattle.chronicle.proofs.Due.{decision_heard, decision_heard_of_another, raised_proposes, decision_proposes, raised_hears, decision_hears}
 use Rattle.cut_laws.proofs.Agreeing.{control_mails}
 use Rattle.node_core.specs.declared.answers.Answer.TheVariants as told
-use Rattle.node_core.specs.declared.limits.TheConstants.{MOST_TRIGGERS}
+use Rattle.topology.specs.declared.limits.TheConstants.{MOST_TRIGGERS}
 use Rattle.node_core.specs.declared.node.Node.{Node}
 use Rattle.node_core.specs.declared.parts.NodeParts.{NodeParts}
 use Rattle.node_core.specs.declared.outputs.Output.{Output as Given}

@@ -19,7 +19,7 @@ use Rattle.node_core.specs.Counted.{entry_marks, is_long_item, is_long_row, item
 use Rattle.chronicle.specs.Facts.{Chronicle}
 use Rattle.chronicle.specs.Logs.{log_of}
 use Rattle.chronicle.specs.Epochs.{epoch}
-use Rattle.node_core.specs.declared.limits.TheConstants.{MOST_MARKS, MOST_TRIGGERS}
+use Rattle.topology.specs.declared.limits.TheConstants.{MOST_MARKS, MOST_TRIGGERS}
 use Rattle.node_core.specs.NodeLimits.{has_large_value, has_long_list, has_more_marks, first_of_node, marks_of, node_above}
 
 above : (n m : ℕ) → n < m → nat_lt n m ≡ true

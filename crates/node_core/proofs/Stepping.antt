@@ -23,7 +23,7 @@ use Rattle.node_core.specs.declared.answers.Answer.TheVariants as told
 use Rattle.node_core.specs.declared.node.Node.{Node}
 use Rattle.node_core.specs.declared.outputs.Output.{Output as Given}
 use Rattle.node_core.specs.declared.outputs.Outputs.TheVariants.{Did, Idle as Declines}
-use Rattle.node_core.specs.declared.limits.TheConstants.{MOST_MARKS}
+use Rattle.topology.specs.declared.limits.TheConstants.{MOST_MARKS}
 use Rattle.node_core.specs.declared.outputs.Stop.{Stop}
 use Rattle.node_core.specs.declared.outputs.Stop.TheVariants.{NoMemory, Limit}
 use Rattle.node_core.specs.Coming.{MayCome}

@@ -14,7 +14,7 @@ use Rattle.incomplete_closure.specs.Reports.{Row, SessionRow, Report}
 use Rattle.incomplete_closure.specs.declared.values.Value.{Value}
 use Rattle.paxos_core.specs.Facts.{Message as Ballots, Prepare, Promise, Accept, Accepted, Decision}
 use Rattle.consolidator.specs.Messages.{Message, Reports, Agrees, epoch_of}
-use Rattle.node_core.specs.declared.limits.TheConstants.{MOST_EPOCHS, MOST_TRIGGERS, MOST_ENTRIES, MOST_UPDATES, MOST_SESSIONS, MOST_PENDING, MOST_MARKS}
+use Rattle.topology.specs.declared.limits.TheConstants.{MOST_EPOCHS, MOST_TRIGGERS, MOST_ENTRIES, MOST_UPDATES, MOST_SESSIONS, MOST_PENDING, MOST_MARKS}
 use Rattle.node_core.specs.Counted.{item_marks, row_marks, total}
 use Rattle.node_core.specs.Names.{are_nodes, is_number, list_fits, trigger_fits, triggers_fit}
 

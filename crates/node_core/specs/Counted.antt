@@ -4,7 +4,7 @@ use Rattle.topology.specs.declared.items.Pending.{Pending}
 use Rattle.topology.specs.declared.items.Sent.{Sent}
 use Rattle.topology.specs.declared.names.Trigger.{Trigger}
 use Rattle.trigger_log.specs.Entries.{Entry}
-use Rattle.node_core.specs.declared.limits.TheConstants.{MOST_TRIGGERS}
+use Rattle.topology.specs.declared.limits.TheConstants.{MOST_TRIGGERS}
 
 -- there are more triggers than a list may have
 abbrev pub is_long : List Trigger → Bool

@@ -8,7 +8,7 @@ use Rattle.chronicle.specs.Inputs.{Input, Originate, Withdraw, Prefer, Arrive, N
 use Rattle.node_core.specs.ControlFits.{epoch_fits, message_fits}
 use Rattle.node_core.specs.Names.{are_nodes, is_number, list_fits}
 use Rattle.node_core.specs.PacketFits.{packet_fits, are_links}
-use Rattle.node_core.specs.declared.limits.TheConstants.{MOST_EPOCHS, MOST_PREFERENCE}
+use Rattle.topology.specs.declared.limits.TheConstants.{MOST_EPOCHS, HIGHEST_PREFERENCE}
 
 -- the first of them is v
 abbrev pub begins_with : ℕ → List ℕ → Bool
@@ -34,7 +34,7 @@ item_fits net v (Hello e) = nat_le e MOST_EPOCHS
 unfoldable pub fits : Net → ℕ → Input → Bool
 fits net u (Originate p) = nat_lt p (length net.prefixes)
 fits net u (Withdraw p) = nat_lt p (length net.prefixes)
-fits net u (Prefer v value) = has (neighbours net u) v && nat_le value MOST_PREFERENCE
+fits net u (Prefer v value) = has (neighbours net u) v && nat_le value HIGHEST_PREFERENCE
 fits net u (Arrive v s item) = has (neighbours net u) v && (is_number s && item_fits net v item)
 fits net u (Notice v) = has (neighbours net u) v
 fits net u (OpenSession v s) = has (neighbours net u) v && is_number s

@@ -19,7 +19,7 @@ use Rattle.chronicle.specs.Facts.{Fact, Chronicle, Mail}
 use Rattle.chronicle.specs.Logs.{log_of}
 use Rattle.chronicle.specs.Epochs.{epoch}
 use Rattle.chronicle.specs.Steps.{Step, Idle, Goes}
-use Rattle.node_core.specs.declared.limits.TheConstants.{MOST_EPOCHS, MOST_TRIGGERS, MOST_ENTRIES, MOST_UPDATES, MOST_MARKS}
+use Rattle.topology.specs.declared.limits.TheConstants.{MOST_EPOCHS, MOST_TRIGGERS, MOST_ENTRIES, MOST_UPDATES, MOST_MARKS}
 use Rattle.node_core.specs.Counted.{entry_marks, is_long_item, is_long_row, item_marks, row_marks}
 use Rattle.node_core.specs.declared.outputs.Stop.{Stop}
 use Rattle.node_core.specs.declared.outputs.Stop.TheVariants as stop

@@ -6,7 +6,7 @@ use Rattle.topology.specs.Net.{Net, neighbours}
 use Rattle.epoch_packet.specs.declared.packets.Packet.{Packet}
 use Rattle.node_core.specs.ControlFits.{in_order}
 use Rattle.node_core.specs.Names.{are_nodes, is_number}
-use Rattle.node_core.specs.declared.limits.TheConstants.{MOST_EPOCHS, MOST_TRAIL}
+use Rattle.topology.specs.declared.limits.TheConstants.{MOST_EPOCHS, MOST_TRAIL}
 
 -- a list that a packet carries: nodes of the network, and no more than there may be
 abbrev pub carried_fits : Net → List ℕ → Bool

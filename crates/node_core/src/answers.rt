@@ -21,12 +21,13 @@ ghost use Rattle.node_core.specs.Standing.{Follows, StandsFor};
 use crate::agreement::Agreement;
 use crate::duties::{Asked, Duty, Passing};
 use crate::inputs::Input;
-use crate::limits::{MOST_TRIGGERS, proposes_large};
+use crate::limits::proposes_large;
 use crate::node::Node;
 use crate::outputs::{Output, OutputList, Stop};
 use crate::parts::NodeParts;
 use consolidator::{Consolidator, Outbox, Reply};
 use path_vector::{Cause, Policy};
+use topology::limits::MOST_TRIGGERS;
 use topology::{Epoch, Item, LimitKind, NoMemory, NodeId, Reason, Scope, Session, Topology};
 
 /// What a node answers.

@@ -14,11 +14,9 @@ use crate::counts::{less, less_items, less_pending};
 use crate::fitting::{
     are_nodes, are_triggers, is_among, is_node, is_number, list_fits, trigger_fits,
 };
-use crate::limits::{
-    MOST_ENTRIES, MOST_EPOCHS, MOST_MARKS, MOST_PENDING, MOST_SESSIONS, MOST_TRIGGERS, MOST_UPDATES,
-};
 use consolidator::Message;
 use incomplete_closure::{Report, Row, SessionRow, Value};
+use topology::limits::{MOST_ENTRIES, MOST_EPOCHS, MOST_MARKS, MOST_PENDING, MOST_SESSIONS, MOST_TRIGGERS, MOST_UPDATES};
 use topology::{
     Ballot, Epoch, NodeId, Pending, Scope, Sent, SentItems, Topology, Trigger, Triggers,
 };

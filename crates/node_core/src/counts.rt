@@ -8,7 +8,7 @@ ghost use Rattle.trigger_log.specs.Entered.{Shows};
 ghost use Rattle.node_core.specs.Counted.{is_long, is_long_row, item_marks, row_marks};
 ghost use Rattle.node_core.specs.Counting.{Adds, AreCounts};
 
-use crate::limits::{MOST_MARKS, MOST_TRIGGERS};
+use topology::limits::{MOST_MARKS, MOST_TRIGGERS};
 use topology::{NoMemory, Pending, Sent, SentItems, Triggers};
 use trigger_log::Entry;
 

@@ -12,10 +12,10 @@ ghost use Rattle.node_core.specs.Standing.{StandsFor};
 
 use crate::control_fitting::{epoch_fits, message_fits};
 use crate::inputs::Input;
-use crate::limits::{MOST_EPOCHS, MOST_PREFERENCE, MOST_TRIGGERS};
 use crate::node::Node;
 use crate::packet_fitting::{are_links, packet_fits};
 use path_vector::Policy;
+use topology::limits::{HIGHEST_PREFERENCE, MOST_EPOCHS, MOST_TRIGGERS};
 use topology::{Item, NodeId, Path, Topology, Trigger, Triggers};
 
 pub(crate) fn is_among(nodes: &[NodeId], node: NodeId) -> bool
@@ -121,7 +121,7 @@ impl<P: Policy + Copy> Node<P> {
         match input {
             Input::Originate(prefix) => prefix.place() < self.parts.topology.prefix_count(),
             Input::Withdraw(prefix) => prefix.place() < self.parts.topology.prefix_count(),
-            Input::Prefer { nbr, value } => self.is_near(*nbr) && *value <= MOST_PREFERENCE,
+            Input::Prefer { nbr, value } => self.is_near(*nbr) && *value <= HIGHEST_PREFERENCE,
             Input::Arrive {
                 from,
                 session,

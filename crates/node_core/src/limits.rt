@@ -14,35 +14,8 @@ use crate::node::Node;
 use crate::outputs::Stop;
 use consolidator::{Mail, Message, Reply};
 use path_vector::Policy;
+use topology::limits::{MOST_ENTRIES, MOST_EPOCHS, MOST_MARKS, MOST_TRIGGERS, MOST_UPDATES};
 use topology::LimitKind;
-
-/// The highest preference of a neighbour.
-pub const MOST_PREFERENCE: u32 = 1_000_000;
-
-/// The highest epoch of a node.
-pub const MOST_EPOCHS: u32 = 32;
-
-/// The most incomplete triggers of a value, and the most triggers of a list.
-pub const MOST_TRIGGERS: u32 = 8_192;
-
-/// The most rows of what is held back in a report: one for each prefix and each other node.
-pub const MOST_PENDING: u32 = 16_128;
-
-/// The most triggers that the entries of a node, its items and the rows of what it holds back list, counted once for each
-/// list. A report lists no more.
-pub const MOST_MARKS: u32 = 65_536;
-
-/// The most rows of sessions in a report.
-pub const MOST_SESSIONS: u32 = 65_535;
-
-/// The most nodes of a packet's trail, and of its route.
-pub const MOST_TRAIL: u32 = 64;
-
-/// The most entries of a node.
-pub const MOST_ENTRIES: u32 = 2_048;
-
-/// The most items that the entries of a node list, each close among them.
-pub const MOST_UPDATES: u32 = 16_384;
 
 // Whether the message proposes a value with more triggers than one may have.
 fn is_large(message: &Message) -> bool

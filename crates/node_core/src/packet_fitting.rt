@@ -7,15 +7,15 @@ ghost use Rattle.node_core.specs.PacketFits.{are_links, carried_fits, packet_fit
 
 use crate::control_fitting::nodes_ascend;
 use crate::fitting::{are_nodes, is_among, is_number};
-use crate::limits::{MOST_EPOCHS, MOST_TRAIL};
 use epoch_packet::{NodeList, Packet};
+use topology::limits::{MOST_EPOCHS, MOST_TRAIL};
 use topology::{NodeId, Topology};
 
 // Whether a list that a packet carries has nodes of the network, and no more than there may be.
 fn carried_fits(topology: &Topology, nodes: &NodeList) -> bool
     ensures { result ≡ carried_fits topology.now nodes.now }
 {
-    nodes.as_slice().len() <= MOST_TRAIL as usize && are_nodes(topology, nodes.as_slice())
+    nodes.as_slice().len() <= MOST_TRAIL && are_nodes(topology, nodes.as_slice())
 }
 
 /// Whether the packet is numbered from 1, its prefix and its nodes are of the network, and its stamp is an epoch that

@@ -25,7 +25,7 @@ use Rattle.wire_frames.specs.declared.frames.Frame.{Frame}
 use Rattle.wire_frames.specs.Frames.{spell}
 use Rattle.wire_frames.specs.Reading.{Whole, found}
 use Rattle.wire_frames.proofs.Found.{spelled_found}
-use Rattle.route_node.specs.declared.limits.TheConstants.{MAX_FRAMES}
+use Rattle.topology.specs.declared.limits.TheConstants.{MOST_FRAMES}
 use Rattle.route_node.specs.declared.serving.Process.{Process}
 use Rattle.route_node.specs.Frames.{telling}
 use Rattle.route_node.specs.Fronts.{Holds, Admits, EndsFrame}
@@ -133,7 +133,7 @@ module _ {P : Type 0} (rules : Rules) (at : Serving P) (frames : List Frame) (pr
 
   module _ (node : Node P) (told : Outputs) (stands : StandsFor at.policy rules at.net at.node node (chronicle_of (run_over (who_at rules at) frames) (gives rules at.net at.node (run_over (who_at rules at) frames) i)))
       (answers' : Answers (run_over (who_at rules at) frames) (gives rules at.net at.node (run_over (who_at rules at) frames) i) told)
-      (turn : out_of_turn (gives rules at.net at.node (run_over (who_at rules at) frames) i) ≡ None) (few : process.frames < MAX_FRAMES)
+      (turn : out_of_turn (gives rules at.net at.node (run_over (who_at rules at) frames) i) ≡ None) (few : process.frames < MOST_FRAMES)
       (low : node_limit rules at.net at.node (gives rules at.net at.node (run_over (who_at rules at) frames) i) ≡ None) where
     limit_now : frame_limit (who_at rules at) frames frame ≡ journal_limit at.records frames frame
     limit_now = limit_last (who_at rules at) frame frames i admits.brings (let count = runs.count in omega (arith, few, count)) low

@@ -15,7 +15,7 @@ use Rattle.admission_laws.specs.NodeRuns.{going_on}
 use Rattle.wire_frames.specs.declared.frames.Frame.{Frame}
 use Rattle.wire_frames.specs.Frames.{fits as has_spelling}
 use Rattle.route_node.specs.declared.serving.Process.{Process}
-use Rattle.route_node.specs.declared.limits.TheConstants.{MAX_FRAMES}
+use Rattle.topology.specs.declared.limits.TheConstants.{MOST_FRAMES}
 use Rattle.route_node.specs.Running.{Serving, Runs, AreBegun, who_at}
 use Rattle.route_node.specs.Served.{Served}
 use Rattle.route_node.specs.Streams.{replies, answers}
@@ -64,7 +64,7 @@ begins rules at process valid is_node same_net same_id restored stands none zero
   quiet = refl;
 }
 
-pub within : (received : List ℕ) (count : ℕ) → count ≡ 0 → received ≡ [] → (length received ≤ 1999999) × (count ≤ MAX_FRAMES)
+pub within : (received : List ℕ) (count : ℕ) → count ≡ 0 → received ≡ [] → (length received ≤ 1999999) × (count ≤ MOST_FRAMES)
 within received count none empty = (let size = ap (λ (l : List ℕ). length l) empty in omega (arith, size), omega (arith, none))
 
 -- memory ran out before the first frame

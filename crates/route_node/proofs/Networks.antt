@@ -13,7 +13,7 @@ use Rattle.route_io.specs.Links.{Dials, IsSure, OnlyDials}
 use Rattle.route_io.specs.Views.{SourceView, LinkView}
 use Rattle.route_io.proofs.Bytes.{stays_quiet, has_risen}
 use Rattle.path_vector.specs.GaoRexford.{gao_rexford}
-use Rattle.schedule_file.specs.declared.parser.TheConstants.{MAX_BYTES}
+use Rattle.topology.specs.declared.limits.TheConstants.{MOST_BYTES}
 use Rattle.schedule_file.specs.declared.table.Part.TheVariants.{Over}
 use Rattle.schedule_file.specs.Spelling.{words_by_line}
 use Rattle.schedule_file.specs.Grammar.{IsTopologyFile, net_of}
@@ -102,12 +102,12 @@ ends_no_memory here source source' link quiet = record {
 -- the source was read to its end, and gave these bytes
 pub record Got (source source' : SourceView) (bytes : List ℕ) : Type 0 where
   pub known : (told : List ℕ) → source.left ≡ Some told → bytes ≡ told
-  pub short : length bytes ≤ MAX_BYTES
+  pub short : length bytes ≤ MOST_BYTES
   pub at_end : IsAtEnd source'.left
   pub quiet : source'.faults ≡ source.faults
 
 module _ (source source' : SourceView) (bytes : List ℕ) (read : (told : List ℕ) → source.left ≡ Some told → bytes ≡ told) where
-  pub not_long : length bytes ≤ MAX_BYTES → (told : List ℕ) → source.left ≡ Some told → MAX_BYTES < length told → ⊥
+  pub not_long : length bytes ≤ MOST_BYTES → (told : List ℕ) → source.left ≡ Some told → MOST_BYTES < length told → ⊥
   not_long short told is long = let same = ap length (read told is) in omega (arith, short, same, long)
 
   -- the same of the bytes that were told

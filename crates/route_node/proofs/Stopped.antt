@@ -10,7 +10,7 @@ use Rattle.chronicle.specs.Steps.{Step, Idle, Goes}
 use Rattle.node_core.specs.NodeLimits.{Reached, node_limit, StopsAt}
 use Rattle.node_core.specs.declared.outputs.Stop.{Stop}
 use Rattle.node_core.specs.declared.outputs.Stop.TheVariants as stop
-use Rattle.route_node.specs.declared.limits.TheConstants.{MAX_FRAMES}
+use Rattle.topology.specs.declared.limits.TheConstants.{MOST_FRAMES}
 use Rattle.route_node.specs.Fronts.{EndsFrame, StopsFrame}
 use Rattle.route_node.specs.Records.{EndsHeard, StopsRecord}
 use Rattle.route_node.specs.Streams.{out_of_turn}
@@ -25,9 +25,9 @@ pub ends_stopped : (rules : Rules) (net : Net) (u offset frames : ℕ) (step : S
 ends_stopped rules net u offset frames step stop.NoMemory status is stops = subst (EndsFrame offset frames (out_of_turn step) (node_limit rules net u step)) (sym is) tt
 ends_stopped rules net u offset frames step (stop.Limit kind number) status is stops =
     subst (EndsFrame offset frames (out_of_turn step) (node_limit rules net u step)) (sym is)
-    ((elim (nat_lt frames MAX_FRAMES) as (λ t. nat_lt frames MAX_FRAMES ≡ t → EndsFrame offset frames (out_of_turn step) (node_limit rules net u step) (if t then Limit kind number else Limit Frames MAX_FRAMES)) [
-      | true ↦ λ e. (turn, ap (λ b. if b then node_limit rules net u step else Some (record { kind = Frames; number = MAX_FRAMES })) e ∙ stops)
-      | false ↦ λ e. (turn, ap (λ b. if b then node_limit rules net u step else Some (record { kind = Frames; number = MAX_FRAMES })) e)
+    ((elim (nat_lt frames MOST_FRAMES) as (λ t. nat_lt frames MOST_FRAMES ≡ t → EndsFrame offset frames (out_of_turn step) (node_limit rules net u step) (if t then Limit kind number else Limit Frames MOST_FRAMES)) [
+      | true ↦ λ e. (turn, ap (λ b. if b then node_limit rules net u step else Some (record { kind = Frames; number = MOST_FRAMES })) e ∙ stops)
+      | false ↦ λ e. (turn, ap (λ b. if b then node_limit rules net u step else Some (record { kind = Frames; number = MOST_FRAMES })) e)
     ]) refl)
   where
     turn : out_of_turn step ≡ None

@@ -13,7 +13,7 @@ use Rattle.admission_laws.specs.NodeRuns.{gives}
 use Rattle.wire_frames.specs.declared.frames.Frame.{Frame}
 use Rattle.wire_frames.specs.Frames.{spell}
 use Rattle.route_node.specs.declared.keeping.TheConstants.{MAX_JOURNAL}
-use Rattle.route_node.specs.declared.limits.TheConstants.{MAX_FRAMES}
+use Rattle.topology.specs.declared.limits.TheConstants.{MOST_FRAMES}
 use Rattle.route_node.specs.Frames.{brought}
 use Rattle.route_node.specs.Served.{ends_serving}
 use Rattle.route_node.specs.Restored.{ends_restoring}
@@ -62,7 +62,7 @@ either keeps (Some reached) later first second = first
 
 at_frame : (who : Who) (before : List Frame) (f : Frame) → may_stop (is_some who.records) (frame_limit who before f) ≡ true
 at_frame who before f =
-    elim (nat_lt (length before) MAX_FRAMES) as (λ t. may_stop (is_some who.records) (if t then first_of_two (input_limit who before (brought f)) (journal_limit who.records before f) else Some (record { kind = Frames; number = MAX_FRAMES })) ≡ true) [
+    elim (nat_lt (length before) MOST_FRAMES) as (λ t. may_stop (is_some who.records) (if t then first_of_two (input_limit who before (brought f)) (journal_limit who.records before f) else Some (record { kind = Frames; number = MOST_FRAMES })) ≡ true) [
       | true ↦ either (is_some who.records) (input_limit who before (brought f)) (journal_limit who.records before f) (at_input who before (brought f)) (at_journal who.records before f)
       | false ↦ refl
     ]

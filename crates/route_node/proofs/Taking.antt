@@ -29,7 +29,7 @@ use Rattle.wire_frames.specs.Frames.{spell, body, limit_of, tag_of, fields_fit}
 use Rattle.wire_frames.specs.Frames.{fits as has_spelling}
 use Rattle.wire_frames.proofs.Formats.{wide32}
 use Rattle.wire_frames.proofs.Found.{limit_small}
-use Rattle.route_node.specs.declared.limits.TheConstants.{MAX_FRAMES}
+use Rattle.topology.specs.declared.limits.TheConstants.{MOST_FRAMES}
 use Rattle.route_node.specs.Frames.{brought, telling}
 use Rattle.route_node.specs.Records.{AreRestored}
 use Rattle.route_node.specs.Running.{AreBegun, HandsSince}
@@ -99,38 +99,38 @@ module _ (who : Who) where
   -- what one more frame may come to, by a test of how many there are
   pub limit_as : (f : Frame) (frames : List Frame) (i : Input) (count : ℕ) → brought f ≡ Some i → count ≡ length frames
       → frame_limit who frames f
-      ≡ (if nat_lt count MAX_FRAMES then first_of_two (node_limit who.rules who.net who.node (gives who.rules who.net who.node (run_over who frames) i)) (journal_limit who.records frames f)
-      else Some (record { kind = Frames; number = MAX_FRAMES }))
+      ≡ (if nat_lt count MOST_FRAMES then first_of_two (node_limit who.rules who.net who.node (gives who.rules who.net who.node (run_over who frames) i)) (journal_limit who.records frames f)
+      else Some (record { kind = Frames; number = MOST_FRAMES }))
   limit_as f frames i count e is =
-      ap (λ b. if nat_lt (length frames) MAX_FRAMES then first_of_two (input_limit who frames b) (journal_limit who.records frames f) else Some (record { kind = Frames; number = MAX_FRAMES })) e
-      ∙ ap (λ n. if nat_lt n MAX_FRAMES then first_of_two (node_limit who.rules who.net who.node (gives who.rules who.net who.node (run_over who frames) i)) (journal_limit who.records frames f) else Some (record { kind = Frames; number = MAX_FRAMES })) (sym is)
+      ap (λ b. if nat_lt (length frames) MOST_FRAMES then first_of_two (input_limit who frames b) (journal_limit who.records frames f) else Some (record { kind = Frames; number = MOST_FRAMES })) e
+      ∙ ap (λ n. if nat_lt n MOST_FRAMES then first_of_two (node_limit who.rules who.net who.node (gives who.rules who.net who.node (run_over who frames) i)) (journal_limit who.records frames f) else Some (record { kind = Frames; number = MOST_FRAMES })) (sym is)
 
   -- the frames are counted first, then what the node counts
   pub limit_first : (f : Frame) (frames : List Frame) (i : Input) (count : ℕ) (reached : Reached) → brought f ≡ Some i → count ≡ length frames
-      → (if nat_lt count MAX_FRAMES then node_limit who.rules who.net who.node (gives who.rules who.net who.node (run_over who frames) i) else Some (record { kind = Frames; number = MAX_FRAMES })) ≡ Some reached
+      → (if nat_lt count MOST_FRAMES then node_limit who.rules who.net who.node (gives who.rules who.net who.node (run_over who frames) i) else Some (record { kind = Frames; number = MOST_FRAMES })) ≡ Some reached
       → frame_limit who frames f ≡ Some reached
   limit_first f frames i count reached e is stops =
       limit_as f frames i count e is
-      ∙ (elim (nat_lt count MAX_FRAMES) as
-      (λ t. (if t then node_limit who.rules who.net who.node (gives who.rules who.net who.node (run_over who frames) i) else Some (record { kind = Frames; number = MAX_FRAMES })) ≡ Some reached
-      → (if t then first_of_two (node_limit who.rules who.net who.node (gives who.rules who.net who.node (run_over who frames) i)) (journal_limit who.records frames f) else Some (record { kind = Frames; number = MAX_FRAMES })) ≡ Some reached) [
+      ∙ (elim (nat_lt count MOST_FRAMES) as
+      (λ t. (if t then node_limit who.rules who.net who.node (gives who.rules who.net who.node (run_over who frames) i) else Some (record { kind = Frames; number = MOST_FRAMES })) ≡ Some reached
+      → (if t then first_of_two (node_limit who.rules who.net who.node (gives who.rules who.net who.node (run_over who frames) i)) (journal_limit who.records frames f) else Some (record { kind = Frames; number = MOST_FRAMES })) ≡ Some reached) [
         | true ↦ λ d. first_is (node_limit who.rules who.net who.node (gives who.rules who.net who.node (run_over who frames) i)) (journal_limit who.records frames f) reached d
         | false ↦ λ d. d
       ]) stops
 
   -- and last the bytes of the journal
-  pub limit_last : (f : Frame) (frames : List Frame) (i : Input) → brought f ≡ Some i → length frames < MAX_FRAMES
+  pub limit_last : (f : Frame) (frames : List Frame) (i : Input) → brought f ≡ Some i → length frames < MOST_FRAMES
       → node_limit who.rules who.net who.node (gives who.rules who.net who.node (run_over who frames) i) ≡ None → frame_limit who frames f ≡ journal_limit who.records frames f
   limit_last f frames i e few none =
-      let test : nat_lt (length frames) MAX_FRAMES ≡ true = grind (arith, nat_tests, few) in
+      let test : nat_lt (length frames) MOST_FRAMES ≡ true = grind (arith, nat_tests, few) in
       limit_as f frames i (length frames) e refl
-      ∙ (ap (λ b. if b then first_of_two (node_limit who.rules who.net who.node (gives who.rules who.net who.node (run_over who frames) i)) (journal_limit who.records frames f) else Some (record { kind = Frames; number = MAX_FRAMES })) test
+      ∙ (ap (λ b. if b then first_of_two (node_limit who.rules who.net who.node (gives who.rules who.net who.node (run_over who frames) i)) (journal_limit who.records frames f) else Some (record { kind = Frames; number = MOST_FRAMES })) test
       ∙ ap (λ o. first_of_two o (journal_limit who.records frames f)) none)
 
   -- no count of the node is above its number
   input_within : (f : Frame) (frames : List Frame) → frame_limit who frames f ≡ None → input_limit who frames (brought f) ≡ None
   input_within f frames none =
-      (elim (nat_lt (length frames) MAX_FRAMES) as (λ t. (if t then first_of_two (input_limit who frames (brought f)) (journal_limit who.records frames f) else Some (record { kind = Frames; number = MAX_FRAMES })) ≡ None → input_limit who frames (brought f) ≡ None) [
+      (elim (nat_lt (length frames) MOST_FRAMES) as (λ t. (if t then first_of_two (input_limit who frames (brought f)) (journal_limit who.records frames f) else Some (record { kind = Frames; number = MOST_FRAMES })) ≡ None → input_limit who frames (brought f) ≡ None) [
         | true ↦ λ d. (neither (input_limit who frames (brought f)) (journal_limit who.records frames f) d).0
         | false ↦ λ d. absurd (cc d)
       ]) none

@@ -11,7 +11,7 @@ use Rattle.route_io.specs.Causes.{RoseIf}
 use Rattle.route_io.specs.Links.{Dials, IsSure, OnlyDials}
 use Rattle.route_io.specs.Views.{SourceView, LinkView}
 use Rattle.path_vector.specs.GaoRexford.{gao_rexford}
-use Rattle.schedule_file.specs.declared.parser.TheConstants.{MAX_BYTES}
+use Rattle.topology.specs.declared.limits.TheConstants.{MOST_BYTES}
 use Rattle.schedule_file.specs.Grammar.{IsTopologyFile}
 use Rattle.schedule_file.specs.Refusals.{FirstBadOfTopology}
 use Rattle.route_node.specs.Served.{Served, TooLongAnswers}
@@ -28,7 +28,7 @@ endpoint id address = record { id = id; address = address }
 
 -- the bytes are a file of this network, and no more than a file may have
 pub record IsNetwork (bytes : List ℕ) (net : Net) : Type 0 where
-  pub short : length bytes ≤ MAX_BYTES
+  pub short : length bytes ≤ MOST_BYTES
   pub file : IsTopologyFile bytes net
 
 -- the source was read to its end, no read failed, and what it gave is a file of this network
@@ -150,11 +150,11 @@ pub record Attended (here : Endpoint) (source source' : SourceView) (link link' 
   pub missing : (bytes : List ℕ) → source.left ≡ Some bytes → (net : Net) → IsNetwork bytes net → has net.nodes here.id ≡ false
       → (status ≡ NoSuchNode here.id) ⊎ ((status ≡ NoMemory) ⊎ (status ≡ ReadFault))
   -- a file outside the grammar is refused by its first bad line
-  pub refused : (bytes : List ℕ) → source.left ≡ Some bytes → length bytes ≤ MAX_BYTES → (line : ℕ) (bad : BadKind)
+  pub refused : (bytes : List ℕ) → source.left ≡ Some bytes → length bytes ≤ MOST_BYTES → (line : ℕ) (bad : BadKind)
       → FirstBadOfTopology bytes line bad → (status ≡ BadSchedule line bad) ⊎ ((status ≡ NoMemory) ⊎ (status ≡ ReadFault))
   -- so is a file that is too long, by its length
-  pub too_long : (bytes : List ℕ) → source.left ≡ Some bytes → MAX_BYTES < length bytes
-      → (status ≡ Limit kind.Bytes MAX_BYTES) ⊎ ((status ≡ NoMemory) ⊎ (status ≡ ReadFault))
+  pub too_long : (bytes : List ℕ) → source.left ≡ Some bytes → MOST_BYTES < length bytes
+      → (status ≡ Limit kind.Bytes MOST_BYTES) ⊎ ((status ≡ NoMemory) ⊎ (status ≡ ReadFault))
   -- what ends over the link is the answer of a node of the network
   pub over : ends_over status ≡ true → (bytes : List ℕ) → source.left ≡ Some bytes
       → (net : Net) × IsNetwork bytes net × (has net.nodes here.id ≡ true)
@@ -166,7 +166,7 @@ pub record Attended (here : Endpoint) (source source' : SourceView) (link link' 
       → (node ≡ here.id) × ((bytes : List ℕ) → source.left ≡ Some bytes → (net : Net) × IsNetwork bytes net × (has net.nodes here.id ≡ false))
   -- Limit on bytes: the file is too long
   pub limit : (number : ℕ) → status ≡ Limit kind.Bytes number
-      → (bytes : List ℕ) → source.left ≡ Some bytes → (number ≡ MAX_BYTES) × (MAX_BYTES < length bytes)
+      → (bytes : List ℕ) → source.left ≡ Some bytes → (number ≡ MOST_BYTES) × (MOST_BYTES < length bytes)
   -- ReadFault, LinkFault: a call of that side failed; after every other answer none has
   pub read_fault : RoseIf (status ≡ ReadFault) source.faults source'.faults
   pub link_fault : RoseIf (status ≡ LinkFault) link.faults link'.faults

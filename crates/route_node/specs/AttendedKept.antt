@@ -15,7 +15,7 @@ use Rattle.acceptor_journal.specs.Views.{DiskView}
 use Rattle.acceptor_journal.specs.Journals.{KeepsTelling}
 use Rattle.acceptor_journal.specs.Records.{Back}
 use Rattle.path_vector.specs.GaoRexford.{gao_rexford}
-use Rattle.schedule_file.specs.declared.parser.TheConstants.{MAX_BYTES}
+use Rattle.topology.specs.declared.limits.TheConstants.{MOST_BYTES}
 use Rattle.schedule_file.specs.Refusals.{FirstBadOfTopology}
 use Rattle.wire_frames.specs.declared.frames.Frame.{Frame}
 use Rattle.route_node.specs.declared.restoring.Kept.{Kept}
@@ -141,11 +141,11 @@ pub record AttendedKept (here : KeptEndpoint) (old new : Outside) (status : Stat
   pub missing : (bytes : List ℕ) → old.source.left ≡ Some bytes → (net : Net) → IsNetwork bytes net → has net.nodes here.id ≡ false
       → (status ≡ NoSuchNode here.id) ⊎ ((status ≡ NoMemory) ⊎ (status ≡ ReadFault))
   -- a file outside the grammar is refused by its first bad line
-  pub refused : (bytes : List ℕ) → old.source.left ≡ Some bytes → length bytes ≤ MAX_BYTES → (line : ℕ) (bad : BadKind)
+  pub refused : (bytes : List ℕ) → old.source.left ≡ Some bytes → length bytes ≤ MOST_BYTES → (line : ℕ) (bad : BadKind)
       → FirstBadOfTopology bytes line bad → (status ≡ BadSchedule line bad) ⊎ ((status ≡ NoMemory) ⊎ (status ≡ ReadFault))
   -- so is a file that is too long, by its length
-  pub too_long : (bytes : List ℕ) → old.source.left ≡ Some bytes → MAX_BYTES < length bytes
-      → (status ≡ Limit kind.Bytes MAX_BYTES) ⊎ ((status ≡ NoMemory) ⊎ (status ≡ ReadFault))
+  pub too_long : (bytes : List ℕ) → old.source.left ≡ Some bytes → MOST_BYTES < length bytes
+      → (status ≡ Limit kind.Bytes MOST_BYTES) ⊎ ((status ≡ NoMemory) ⊎ (status ≡ ReadFault))
   -- what ends at the journal or over the link is the answer of a node of the network
   pub over : ends_behind status ≡ true → (bytes : List ℕ) → old.source.left ≡ Some bytes
       → (net : Net) × IsNetwork bytes net × (has net.nodes here.id ≡ true)
@@ -157,7 +157,7 @@ pub record AttendedKept (here : KeptEndpoint) (old new : Outside) (status : Stat
       → (node ≡ here.id) × ((bytes : List ℕ) → old.source.left ≡ Some bytes → (net : Net) × IsNetwork bytes net × (has net.nodes here.id ≡ false))
   -- Limit on bytes: the file is too long
   pub limit : (number : ℕ) → status ≡ Limit kind.Bytes number
-      → (bytes : List ℕ) → old.source.left ≡ Some bytes → (number ≡ MAX_BYTES) × (MAX_BYTES < length bytes)
+      → (bytes : List ℕ) → old.source.left ≡ Some bytes → (number ≡ MOST_BYTES) × (MOST_BYTES < length bytes)
   -- ReadFault, LinkFault, DiskFault: a call of that side failed; after every other answer none has
   pub read_fault : RoseIf (status ≡ ReadFault) old.source.faults new.source.faults
   pub link_fault : RoseIf (status ≡ LinkFault) old.link.faults new.link.faults

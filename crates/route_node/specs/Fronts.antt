@@ -14,7 +14,7 @@ use Rattle.wire_frames.specs.declared.frames.Frame.{Frame}
 use Rattle.wire_frames.specs.Frames.{spell}
 use Rattle.wire_frames.specs.Frames.{fits as has_spelling}
 use Rattle.wire_frames.specs.Reading.{Whole, Partial, Wrong, found}
-use Rattle.route_node.specs.declared.limits.TheConstants.{MAX_FRAMES}
+use Rattle.topology.specs.declared.limits.TheConstants.{MOST_FRAMES}
 use Rattle.route_node.specs.declared.fronts.Front.{Front}
 use Rattle.route_node.specs.declared.fronts.Front.TheVariants as front
 use Rattle.route_node.specs.Frames.{brought}
@@ -50,7 +50,7 @@ abbrev pub EndsFrame : ℕ → ℕ → Option FrameFault → Option Reached → 
 EndsFrame offset frames fault limit NoMemory = Unit {0}
 EndsFrame offset frames fault limit (BadFrame at named) = (at ≡ offset) × (fault ≡ Some named)
 EndsFrame offset frames fault limit (Limit kind number) =
-    (fault ≡ None) × ((if nat_lt frames MAX_FRAMES then limit else Some (record { kind = Frames; number = MAX_FRAMES }))
+    (fault ≡ None) × ((if nat_lt frames MOST_FRAMES then limit else Some (record { kind = Frames; number = MOST_FRAMES }))
     ≡ Some (record { kind = kind; number = number }))
 EndsFrame offset frames fault limit other = ⊥
 
@@ -58,4 +58,4 @@ EndsFrame offset frames fault limit other = ⊥
 abbrev pub StopsFrame : ℕ → Stop → Status → Type 0
 StopsFrame frames stop.NoMemory status = status ≡ NoMemory
 StopsFrame frames (stop.Limit kind number) status =
-    status ≡ (if nat_lt frames MAX_FRAMES then Limit kind number else Limit Frames MAX_FRAMES)
+    status ≡ (if nat_lt frames MOST_FRAMES then Limit kind number else Limit Frames MOST_FRAMES)

@@ -17,7 +17,7 @@ use Rattle.node_core.specs.Outputs.{Output, outputs}
 use Rattle.node_core.specs.Standing.{StandsFor}
 use Rattle.wire_frames.specs.declared.frames.Frame.{Frame}
 use Rattle.route_node.specs.declared.serving.Process.{Process}
-use Rattle.route_node.specs.declared.limits.TheConstants.{MAX_FRAMES}
+use Rattle.topology.specs.declared.limits.TheConstants.{MOST_FRAMES}
 use Rattle.chronicle.specs.Inputs.{Input}
 use Rattle.route_node.specs.Fronts.{Holds, Admits}
 use Rattle.route_node.specs.Writing.{OneWriteEach, spelled}
@@ -93,11 +93,11 @@ longest = 1048582
 
 -- how much is left to do: frames that may still be taken, and bytes that may still be waited for
 abbrev pub left_of : {P : Type 0} → Process P → ℕ
-left_of process = (MAX_FRAMES - process.frames) * 2000000 + (1999999 - length process.received)
+left_of process = (MOST_FRAMES - process.frames) * 2000000 + (1999999 - length process.received)
 
 -- no more was received than a read puts behind the front of a frame
 abbrev pub IsWithin : {P : Type 0} → Process P → Type 0
-IsWithin process = (length process.received ≤ 1999999) × (process.frames ≤ MAX_FRAMES)
+IsWithin process = (length process.received ≤ 1999999) × (process.frames ≤ MOST_FRAMES)
 
 -- these frames were taken by now, and less is left to do
 pub record ServesOn {P : Type 0} (rules : Rules) (at : Serving P) (process : Process P) (link : LinkView) (frames : List Frame) (before : ℕ) : Type 0 where

@@ -20,7 +20,7 @@ use Rattle.wire_frames.specs.Frames.{spell}
 use Rattle.wire_frames.specs.Frames.{fits as has_spelling}
 use Rattle.wire_frames.specs.Reading.{Found, Whole, Partial, Wrong, found}
 use Rattle.route_node.specs.declared.keeping.TheConstants.{MAX_JOURNAL}
-use Rattle.route_node.specs.declared.limits.TheConstants.{MAX_FRAMES}
+use Rattle.topology.specs.declared.limits.TheConstants.{MOST_FRAMES}
 use Rattle.route_node.specs.Frames.{brought, telling}
 use Rattle.route_node.specs.Who.{Who, begun_by, run_over, spellings}
 use Rattle.route_node.specs.Writing.{spelled}
@@ -75,8 +75,8 @@ first_of_two (Some reached) later = Some reached
 -- the first count that one more frame would take above its number: that of frames, then those of the node, then the journal's
 abbrev pub frame_limit : Who → List Frame → Frame → Option Reached
 frame_limit who before f =
-    if nat_lt (length before) MAX_FRAMES then first_of_two (input_limit who before (brought f)) (journal_limit who.records before f)
-    else Some (record { kind = Frames; number = MAX_FRAMES })
+    if nat_lt (length before) MOST_FRAMES then first_of_two (input_limit who before (brought f)) (journal_limit who.records before f)
+    else Some (record { kind = Frames; number = MOST_FRAMES })
 
 -- each frame has a spelling, was not refused, and took no count above its number
 abbrev pub AreTaken : Who → List Frame → Type 0

@@ -18,12 +18,12 @@ ghost use Rattle.route_node.specs.Streams.{out_of_turn};
 ghost use Rattle.route_node.specs.Told.{handed};
 ghost use Rattle.route_node.specs.Writing.{Breaks, Writes};
 
-use crate::limits::MAX_FRAMES;
 use crate::replies::write_replies;
 use node_core::{Input, Node, Outputs, Stop};
 use path_vector::Policy;
 use route_io::Link;
 use std::alloc::Global;
+use topology::limits::MOST_FRAMES;
 use topology::{FrameFault, LimitKind, NodeId, Reason, Status, Topology};
 
 /// Why a frame is refused whose input came to this: it is out of turn.
@@ -45,7 +45,7 @@ fn stopped(frames: u32, stop: Stop) -> Status
 {
     match stop {
         Stop::NoMemory => Status::NoMemory,
-        Stop::Limit(_, _) if frames >= MAX_FRAMES => Status::Limit(LimitKind::Frames, MAX_FRAMES),
+        Stop::Limit(_, _) if frames >= MOST_FRAMES => Status::Limit(LimitKind::Frames, MOST_FRAMES),
         Stop::Limit(kind, number) => Status::Limit(kind, number),
     }
 }
@@ -69,7 +69,7 @@ pub(crate) fn hear<P: Policy + Copy>(
     ensures within { OnOk result ((policy : P) (net : Net) (u : ℕ) (carried : Carried) (past : Chronicle) →
         StandsFor policy (P.rules policy) net u node past → MayCome net u (input_seen input) →
         node_limit (P.rules policy) net u (give (P.rules policy) net carried u past (input_seen input)) ≡ None) }
-    ensures counted { OnOk result (frames < MAX_FRAMES) }
+    ensures counted { OnOk result (frames < MOST_FRAMES) }
     ensures err { IfErr result (λ status. (policy : P) (net : Net) (u : ℕ) (carried : Carried) (past : Chronicle) →
         StandsFor policy (P.rules policy) net u node past → MayCome net u (input_seen input) →
         EndsFrame offset frames (out_of_turn (give (P.rules policy) net carried u past (input_seen input)))
@@ -83,8 +83,8 @@ pub(crate) fn hear<P: Policy + Copy>(
     if let Some(fault) = fault_of(&outputs) {
         return Err(Status::BadFrame(offset, fault));
     }
-    if frames >= MAX_FRAMES {
-        return Err(Status::Limit(LimitKind::Frames, MAX_FRAMES));
+    if frames >= MOST_FRAMES {
+        return Err(Status::Limit(LimitKind::Frames, MOST_FRAMES));
     }
     Ok((node, outputs))
 }

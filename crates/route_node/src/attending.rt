@@ -9,9 +9,10 @@ use crate::restoring::restore;
 use crate::serving::{serve, serve_kept};
 use acceptor_journal::Disk;
 use route_io::{Link, ReadEnd, Source, read_all};
-use schedule_file::{MAX_BYTES, ParseEnd, parse_topology};
+use schedule_file::{ParseEnd, parse_topology};
 use std::alloc::Global;
 use std::rc::Rc;
+use topology::limits::MOST_BYTES;
 use topology::{LimitKind, NodeId, Status, Topology};
 
 /// A node that keeps its frames: its number, the address of its peer, and the name of the file of its journal.
@@ -29,11 +30,11 @@ fn network_of<I: Source>(alloc: Global, source: &mut I) -> Result<Rc<Topology>, 
         Attended here (I.seen source.old) (I.seen source.new) link link status) }
     ensures early { IfErr result (λ status. ends_early status ≡ true) }
 {
-    let bytes = match read_all(alloc, source, MAX_BYTES as usize) {
+    let bytes = match read_all(alloc, source, MOST_BYTES as usize) {
         Ok(bytes) => bytes,
         Err(ReadEnd::NoMemory) => return Err(Status::NoMemory),
         Err(ReadEnd::Fault) => return Err(Status::ReadFault),
-        Err(ReadEnd::TooLong) => return Err(Status::Limit(LimitKind::Bytes, MAX_BYTES)),
+        Err(ReadEnd::TooLong) => return Err(Status::Limit(LimitKind::Bytes, MOST_BYTES)),
     };
     let topology = match parse_topology(alloc, &bytes) {
         Ok(topology) => topology,

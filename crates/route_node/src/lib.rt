@@ -12,7 +12,6 @@ pub mod fronts;
 pub mod inputs;
 pub mod keeping;
 pub mod laws;
-pub mod limits;
 mod outputs;
 mod plain;
 mod records;
@@ -23,7 +22,6 @@ pub mod serving;
 
 pub use attending::{KeptNode, attend, attend_kept};
 pub use keeping::MAX_JOURNAL;
-pub use limits::MAX_FRAMES;
 pub use plain::attend_plain;
 pub use restoring::{Kept, restore};
 pub use serving::{serve, serve_kept};

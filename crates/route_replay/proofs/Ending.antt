@@ -20,7 +20,7 @@ use Rattle.chronicle.specs.Run.{step, run}
 use Rattle.chronicle.specs.Steps.{Step, Idle, Goes}
 use Rattle.chronicle.specs.Walks.{ending}
 use Rattle.node_core.specs.NodeLimits.{Reached}
-use Rattle.world_core.specs.declared.bounds.TheConstants.{MOST_EVENTS, MOST_TRIGGERS}
+use Rattle.topology.specs.declared.limits.TheConstants.{MOST_BYTES, MOST_EVENTS, MOST_TRIGGERS}
 use Rattle.world_core.specs.Limits.{triggers_of, has_more_epochs, has_more_entries, has_more_updates, has_more_control, has_more_packets, has_more_marks, Exceeded, first_above, above, above_by, limit_of}
 use Rattle.schedule_file.specs.declared.lines.Numbered.{Numbered}
 use Rattle.schedule_file.specs.declared.lines.Line.{Line}
@@ -32,7 +32,6 @@ use Rattle.route_replay.specs.declared.ends.RunEnd.{RunEnd}
 use Rattle.route_replay.specs.declared.ends.RunEnd.TheVariants as end
 use Rattle.route_replay.specs.declared.tasks.Task.{Task}
 use Rattle.route_replay.specs.declared.tasks.Task.TheVariants as task
-use Rattle.schedule_file.specs.declared.parser.TheConstants.{MAX_BYTES}
 use Rattle.route_replay.specs.Text.{Course, Leads, Stops, unless, with_event, then_on, drained, controlled, hopped, is_idle, course, text, texts, stop, stop_by, task_of}
 use Rattle.route_replay.specs.Probed.{AreProbed}
 use Rattle.route_replay.specs.Running.{Runs}
@@ -66,7 +65,7 @@ one_reading_of text = record {
 
 -- the file is refused by a line
 pub ends_bad : (source source' : SourceView) (sink : SinkView) (bytes : List ℕ) (line : ℕ) (kind : BadKind) → ((told : List ℕ) → source.left ≡ Some told → bytes ≡ told) → OneReading bytes
-    → length bytes ≤ MAX_BYTES → FirstBad bytes line kind → IsAtEnd source'.left → source'.faults ≡ source.faults
+    → length bytes ≤ MOST_BYTES → FirstBad bytes line kind → IsAtEnd source'.left → source'.faults ≡ source.faults
     → Replayed source source' sink sink (BadSchedule line kind)
 ends_bad source source' sink bytes line kind read one short bad at_end quiet = record {
   formed = refl;
@@ -260,7 +259,7 @@ may_end count.Journal number e = e
 is_limit : (bytes : List ℕ) (kind : LimitKind) (number : ℕ) (held held' : Option (List ℕ)) → stops_runs kind ≡ true
     → StopsRun bytes (record { kind = kind; number = number }) held held' → IsLimit bytes kind number held held'
 is_limit bytes kind number held held' stops h =
-    subst (λ b. MatchBool b (StopsRun bytes (record { kind = kind; number = number }) held held') ((number ≡ MAX_BYTES) × (MAX_BYTES < length bytes))) (sym (of_run kind stops)) h
+    subst (λ b. MatchBool b (StopsRun bytes (record { kind = kind; number = number }) held held') ((number ≡ MOST_BYTES) × (MOST_BYTES < length bytes))) (sym (of_run kind stops)) h
 
 same_count : (k l : LimitKind) (m n : ℕ) → Limit k m ≡ Limit l n → (k ≡ l) × (m ≡ n)
 same_count k l m n e = (cc, cc)
@@ -272,7 +271,7 @@ none_some : {A P : Type 0} (o : Option A) (x : A) → o ≡ None → o ≡ Some 
 none_some o x a b = absurd (cc (sym a ∙ b))
 
 module _ (source source' : SourceView) (sink sink' : SinkView) (bytes : List ℕ) (lines : List Line)
-    (read : (told : List ℕ) → source.left ≡ Some told → bytes ≡ told) (one : OneReading bytes) (short : length bytes ≤ MAX_BYTES) (reads : Reads [] (words_by_line bytes) lines) (at_end : IsAtEnd source'.left) (quiet : source'.faults ≡ source.faults)
+    (read : (told : List ℕ) → source.left ≡ Some told → bytes ≡ told) (one : OneReading bytes) (short : length bytes ≤ MOST_BYTES) (reads : Reads [] (words_by_line bytes) lines) (at_end : IsAtEnd source'.left) (quiet : source'.faults ≡ source.faults)
     (throughout : HoldsThroughout gao_rexford (net_of lines) (behind lines)) (are_probed : AreProbed gao_rexford (net_of lines) [] (directives_of lines))
     (turns : WritesInTurn sink sink' (texts gao_rexford (net_of lines) [] (directives_of lines))) where
   abbrev written : List ℕ
@@ -310,7 +309,7 @@ module _ (source source' : SourceView) (sink sink' : SinkView) (bytes : List ℕ
   never_bad : {P : Type 0} (told : List ℕ) → source.left ≡ Some told → (line : ℕ) (kind : BadKind) → FirstBad told line kind → P
   never_bad told t line kind first = absurd (one.apart lines line kind reads (subst (λ b. FirstBad b line kind) (sym (read told t)) first))
 
-  never_long : {P : Type 0} (told : List ℕ) → source.left ≡ Some told → MAX_BYTES < length told → P
+  never_long : {P : Type 0} (told : List ℕ) → source.left ≡ Some told → MOST_BYTES < length told → P
   never_long told t long = absurd (let same = ap length (read told t) in omega arith)
 
   pub ends_run : (result : Result (Unit {0}) RunEnd) → Runs sink sink' written stopped result → Replayed source source' sink sink' (status_of result)

@@ -12,7 +12,7 @@ use Rattle.chronicle.specs.Control.{mailed}
 use Rattle.chronicle.specs.Deliveries.{is_next, next_mail}
 use Rattle.chronicle.specs.Run.{run}
 use Rattle.node_core.specs.NodeLimits.{Reached}
-use Rattle.world_core.specs.declared.bounds.TheConstants.{HIGHEST_MESSAGE, MOST_CONTROL}
+use Rattle.topology.specs.declared.limits.TheConstants.{HIGHEST_MESSAGE, MOST_CONTROL}
 use Rattle.world_core.specs.Limits.{limit_of, StopsAt}
 use Rattle.world_core.specs.declared.outcomes.Stop.{Stop}
 use Rattle.world_core.specs.declared.outcomes.Stop.TheVariants as stop

@@ -17,7 +17,7 @@ use Rattle.schedule_file.specs.declared.lines.Line.{Line}
 use Rattle.schedule_file.specs.Spelling.{words_by_line}
 use Rattle.schedule_file.specs.Grammar.{Reads, net_of, directives_of}
 use Rattle.schedule_file.specs.Refusals.{FirstBad}
-use Rattle.schedule_file.specs.declared.parser.TheConstants.{MAX_BYTES}
+use Rattle.topology.specs.declared.limits.TheConstants.{MOST_BYTES}
 use Rattle.route_replay.specs.Probed.{AreProbed}
 use Rattle.route_replay.specs.Text.{text, texts, stop, events_of}
 use Rattle.route_replay.specs.Turns.{WritesInTurn}
@@ -127,7 +127,7 @@ StopsRun bytes reached held held' = (run : FileRun bytes) × (run.stopped ≡ So
 abbrev pub IsLimit : List ℕ → LimitKind → ℕ → Option (List ℕ) → Option (List ℕ) → Type 0
 IsLimit bytes kind number held held' =
     MatchBool (is_of_run kind) (StopsRun bytes (record { kind = kind; number = number }) held held')
-    ((number ≡ MAX_BYTES) × (MAX_BYTES < length bytes))
+    ((number ≡ MOST_BYTES) × (MOST_BYTES < length bytes))
 
 -- how a replay ends, on a source and a sink as they were and as they are then
 pub record Replayed (source source' : SourceView) (sink sink' : SinkView) (status : Status) : Type 0 where
@@ -171,15 +171,15 @@ pub record Replayed (source source' : SourceView) (sink sink' : SinkView) (statu
   -- nothing is left of the file once it was parsed
   pub read : ends_read status ≡ true → IsAtEnd source'.left
   -- a file of the grammar is run to its end, or up to the limit that stops it, unless a side fails or memory runs out
-  pub complete : (bytes : List ℕ) → source.left ≡ Some bytes → length bytes ≤ MAX_BYTES → (run : FileRun bytes)
+  pub complete : (bytes : List ℕ) → source.left ≡ Some bytes → length bytes ≤ MOST_BYTES → (run : FileRun bytes)
       → (run.stopped ≡ None → (status ≡ Done) ⊎ ((status ≡ NoMemory) ⊎ ((status ≡ ReadFault) ⊎ (status ≡ WriteFault))))
       × ((reached : Reached) → run.stopped ≡ Some reached
       → (status ≡ Limit reached.kind reached.number) ⊎ ((status ≡ NoMemory) ⊎ ((status ≡ ReadFault) ⊎ (status ≡ WriteFault))))
   -- a file outside the grammar is refused by its first bad line, unless a read fails or memory runs out
-  pub refused : (bytes : List ℕ) → source.left ≡ Some bytes → length bytes ≤ MAX_BYTES → (line : ℕ) (kind : BadKind)
+  pub refused : (bytes : List ℕ) → source.left ≡ Some bytes → length bytes ≤ MOST_BYTES → (line : ℕ) (kind : BadKind)
       → FirstBad bytes line kind → (status ≡ BadSchedule line kind) ⊎ ((status ≡ NoMemory) ⊎ (status ≡ ReadFault))
   -- so is a file that is too long, by its length
-  pub too_long : (bytes : List ℕ) → source.left ≡ Some bytes → MAX_BYTES < length bytes
-      → (status ≡ Limit Bytes MAX_BYTES) ⊎ ((status ≡ NoMemory) ⊎ (status ≡ ReadFault))
+  pub too_long : (bytes : List ℕ) → source.left ≡ Some bytes → MOST_BYTES < length bytes
+      → (status ≡ Limit Bytes MOST_BYTES) ⊎ ((status ≡ NoMemory) ⊎ (status ≡ ReadFault))
   -- no call changes how much the sink can hold
   pub same_room : sink'.room ≡ sink.room

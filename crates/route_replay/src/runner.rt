@@ -10,9 +10,10 @@ use crate::directives::advance;
 use crate::ends::RunEnd;
 use path_vector::{GaoRexford, Policy};
 use route_io::{ReadEnd, Sink, Source, read_all};
-use schedule_file::{MAX_BYTES, Numbered, ParseEnd, Schedule, parse};
+use schedule_file::{Numbered, ParseEnd, Schedule, parse};
 use std::alloc::Global;
 use std::rc::Rc;
+use topology::limits::MOST_BYTES;
 use topology::{LimitKind, Status};
 use world_core::World;
 
@@ -61,11 +62,11 @@ fn run_schedule<O: Sink>(alloc: Global, schedule: Schedule, sink: &mut O) -> Res
 pub fn replay<I: Source, O: Sink>(alloc: Global, source: &mut I, sink: &mut O) -> Status
     ensures { Replayed (I.seen source.old) (I.seen source.new) (O.seen sink.old) (O.seen sink.new) result }
 {
-    let bytes = match read_all(alloc, source, MAX_BYTES as usize) {
+    let bytes = match read_all(alloc, source, MOST_BYTES as usize) {
         Ok(bytes) => bytes,
         Err(ReadEnd::NoMemory) => return Status::NoMemory,
         Err(ReadEnd::Fault) => return Status::ReadFault,
-        Err(ReadEnd::TooLong) => return Status::Limit(LimitKind::Bytes, MAX_BYTES),
+        Err(ReadEnd::TooLong) => return Status::Limit(LimitKind::Bytes, MOST_BYTES),
     };
     let schedule = match parse(alloc, &bytes) {
         Ok(schedule) => schedule,

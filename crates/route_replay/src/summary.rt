@@ -17,11 +17,12 @@ use epoch_packet::End;
 use path_vector::Policy;
 use route_io::Sink;
 use std::alloc::{AllocError, Global};
+use topology::limits::MOST_LINKS;
 use topology::{NodeId, Topology};
 use world_core::World;
 
-/// The most links of a network.
-const MOST_LINKS: u16 = 512;
+// The most links of a network, as a place among them.
+const LINK_PLACES: u16 = MOST_LINKS as u16;
 
 // How many nodes the network has.
 fn node_count(topology: &Topology) -> u64
@@ -36,12 +37,12 @@ fn link_count(topology: &Topology) -> u16
 {
     // that a network is valid, and has few links, is said where its nodes are read
     let _nodes = topology.nodes();
-    for place in 0..MOST_LINKS {
+    for place in 0..LINK_PLACES {
         let Some(_) = topology.link_at(place) else {
             return place;
         };
     }
-    MOST_LINKS
+    LINK_PLACES
 }
 
 // The entries of a node's log.

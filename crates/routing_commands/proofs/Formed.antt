@@ -6,7 +6,7 @@ use Rattle.std.specs.String.{string_bytes}
 use Rattle.topology.proofs.Tests.{same_refl}
 use Rattle.routing_commands.specs.declared.forms.Form.{Form}
 use Rattle.routing_commands.specs.declared.forms.Form.TheVariants.{Replay, Load, Node, KeptNode, Audit, Lead}
-use Rattle.routing_commands.specs.declared.forms.TheConstants.{MAX_LOAD, MAX_NODE}
+use Rattle.topology.specs.declared.limits.TheConstants.{HIGHEST_LOAD, HIGHEST_NODE}
 use Rattle.routing_commands.specs.Forms.{HasNoForm, IsForm, form_words}
 
 head_of : (a b : List ℕ) (xs ys : List (List ℕ)) → ◌≡◌ {A = List (List ℕ)} (a ∷ xs) (b ∷ ys) → a ≡ b
@@ -79,7 +79,7 @@ not_load word number other (Load n) is = other (head_of word (codes "load") (num
 not_load word number other (Node n a) is = no_size (word ∷ number ∷ []) (Node n a) two_and_three is
 not_load word number other (KeptNode n a f) is = no_size (word ∷ number ∷ []) (KeptNode n a f) two_and_four is
 
-pub no_number : (word number : List ℕ) → ((n : ℕ) → n ≤ MAX_LOAD → number ≢ decimal n) → HasNoForm (word ∷ number ∷ [])
+pub no_number : (word number : List ℕ) → ((n : ℕ) → n ≤ HIGHEST_LOAD → number ≢ decimal n) → HasNoForm (word ∷ number ∷ [])
 no_number word number none Replay is = no_size (word ∷ number ∷ []) Replay two_and_one is
 no_number word number none Audit is = no_size (word ∷ number ∷ []) Audit two_and_one is
 no_number word number none Lead is = no_size (word ∷ number ∷ []) Lead two_and_one is
@@ -96,7 +96,7 @@ no_count words one two three four (Load n) is = two (sized words (Load n) is)
 no_count words one two three four (Node n a) is = three (sized words (Node n a) is)
 no_count words one two three four (KeptNode n a f) is = four (sized words (KeptNode n a f) is)
 
-pub is_load : (word number : List ℕ) (n : ℕ) → word ≡ codes "load" → number ≡ decimal n → n ≤ MAX_LOAD → IsForm (word ∷ number ∷ []) (Load n)
+pub is_load : (word number : List ℕ) (n : ℕ) → word ≡ codes "load" → number ≡ decimal n → n ≤ HIGHEST_LOAD → IsForm (word ∷ number ∷ []) (Load n)
 is_load word number n first second small = record { spelled = rw (first, second) refl; in_range = small }
 
 pub sizes : (words : List (String Global)) → length (map (λ w. string_bytes w) words) ≡ length words
@@ -164,6 +164,6 @@ pub same_file : (words : List (List ℕ)) (m n : ℕ) (a b f g : Bor (List ℕ))
 same_file words m n a b f g is other = fourth_of (codes "node") (codes "node") (decimal m) (decimal n) a.now b.now f.now g.now (sym is.spelled ∙ other.spelled)
 
 -- a word that spells zero spells no number from 1
-pub not_zero : (word : List ℕ) (number : ℕ) → word ≡ decimal number → number ≡ 0 → (n : ℕ) → 1 ≤ n → n ≤ MAX_NODE → word ≢ decimal n
+pub not_zero : (word : List ℕ) (number : ℕ) → word ≡ decimal number → number ≡ 0 → (n : ℕ) → 1 ≤ n → n ≤ HIGHEST_NODE → word ≢ decimal n
 not_zero word number is none n low high e =
     let same : number ≡ n = decimal_injective number n (omega (arith, none)) (omega (arith, high)) (sym is ∙ e) in omega (arith, same, none, low)

@@ -1,7 +1,7 @@
 -- The forms of the words of the program.
 use Rattle.std.specs.Prelude.{ℕ, ◌≡◌, ◌≤◌, List, [], ◌∷◌, codes}
 use Rattle.std.specs.Fmt.{decimal}
-use Rattle.routing_commands.specs.declared.forms.TheConstants.{MAX_LOAD, MAX_NODE}
+use Rattle.topology.specs.declared.limits.TheConstants.{HIGHEST_LOAD, HIGHEST_NODE}
 use Rattle.routing_commands.specs.declared.forms.Form.{Form}
 use Rattle.routing_commands.specs.declared.forms.Form.TheVariants.{Replay, Load, Node, KeptNode, Audit, Lead}
 
@@ -17,9 +17,9 @@ form_words Lead = codes "lead" ∷ []
 -- its number is within its range
 abbrev pub InRange : Form → Type 0
 InRange Replay = Unit {0}
-InRange (Load number) = number ≤ MAX_LOAD
-InRange (Node id address) = (1 ≤ id) × (id ≤ MAX_NODE)
-InRange (KeptNode id address file) = (1 ≤ id) × (id ≤ MAX_NODE)
+InRange (Load number) = number ≤ HIGHEST_LOAD
+InRange (Node id address) = (1 ≤ id) × (id ≤ HIGHEST_NODE)
+InRange (KeptNode id address file) = (1 ≤ id) × (id ≤ HIGHEST_NODE)
 InRange Audit = Unit {0}
 InRange Lead = Unit {0}
 

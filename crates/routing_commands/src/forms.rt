@@ -5,13 +5,8 @@ ghost use Rattle.std.specs.String.{string_bytes};
 ghost use Rattle.routing_commands.specs.Forms.{HasNoForm, IsForm};
 
 use text_lines::read_number;
+use topology::limits::{HIGHEST_LOAD, HIGHEST_NODE};
 use topology::NodeId;
-
-/// The highest number of a load.
-pub const MAX_LOAD: u32 = 4_294_967_295;
-
-/// The highest number of a node.
-pub const MAX_NODE: u32 = 65_535;
 
 /// What is asked for.
 #[derive(Clone, Copy, Debug, PartialEq, Eq)]
@@ -73,7 +68,7 @@ fn load_form<'a>(word: &str, number: &str) -> Option<Form<'a>>
     ensures none { IfNone result (HasNoForm (word.now ∷ number.now ∷ [])) }
 {
     if word == "load" {
-        return match read_number(number.as_bytes(), MAX_LOAD) {
+        return match read_number(number.as_bytes(), HIGHEST_LOAD) {
             Some(number) => Some(Form::Load(number)),
             None => None,
         };
@@ -83,10 +78,10 @@ fn load_form<'a>(word: &str, number: &str) -> Option<Form<'a>>
 
 // The number of a node. None exactly where the word spells none.
 fn node_number(word: &str) -> Option<NodeId>
-    ensures some { IfSome result (λ node. (word.now ≡ decimal node) × (1 ≤ node) × (node ≤ MAX_NODE)) }
-    ensures none { IfNone result ((n : ℕ) → 1 ≤ n → n ≤ MAX_NODE → word.now ≢ decimal n) }
+    ensures some { IfSome result (λ node. (word.now ≡ decimal node) × (1 ≤ node) × (node ≤ HIGHEST_NODE)) }
+    ensures none { IfNone result ((n : ℕ) → 1 ≤ n → n ≤ HIGHEST_NODE → word.now ≢ decimal n) }
 {
-    let Some(number) = read_number(word.as_bytes(), MAX_NODE) else {
+    let Some(number) = read_number(word.as_bytes(), HIGHEST_NODE) else {
         return None;
     };
     if number == 0 {

@@ -13,7 +13,7 @@ use Rattle.schedule_file.specs.declared.table.Keyword.{Keyword}
 use Rattle.schedule_file.specs.declared.table.Keyword.TheVariants as keyword
 use Rattle.schedule_file.specs.declared.table.View.TheVariants.{Walk}
 use Rattle.schedule_file.specs.declared.table.SchemeName.TheVariants as name
-use Rattle.schedule_file.specs.declared.table.TheConstants.{MAX_PREFERENCE, MAX_HOPS, MAX_TIMES, MAX_MESSAGE, MAX_PACKET, MAX_EPOCH}
+use Rattle.topology.specs.declared.limits.TheConstants.{HIGHEST_PREFERENCE, HIGHEST_HOPS, MOST_TIMES, HIGHEST_MESSAGE, HIGHEST_PACKET, HIGHEST_EPOCH}
 use Rattle.schedule_file.specs.Spelling.{prefix_text, relation_text, IsNumber, IsRange}
 use Rattle.schedule_file.specs.Table.{keyword_text, plain_text, epoch_text, view_text, scheme_text}
 
@@ -95,10 +95,10 @@ SchemeInRange Backup = Unit {0}
 abbrev pub DeclaresInRange : Declaration → Type 0
 DeclaresInRange (Node id consolidator) = IsNumber id
 DeclaresInRange (Link a b relation) = IsNumber a × IsNumber b
-DeclaresInRange (Pref a b value) = IsNumber a × IsNumber b × (value ≤ MAX_PREFERENCE)
+DeclaresInRange (Pref a b value) = IsNumber a × IsNumber b × (value ≤ HIGHEST_PREFERENCE)
 DeclaresInRange (Hold a b) = IsNumber a × IsNumber b
 DeclaresInRange (Prefix p) = IsRange p
-DeclaresInRange (Hops hops) = hops ≤ MAX_HOPS
+DeclaresInRange (Hops hops) = hops ≤ HIGHEST_HOPS
 DeclaresInRange (Transient scheme) = SchemeInRange scheme
 
 -- each number of an instruction is within its range
@@ -106,17 +106,17 @@ abbrev pub DirectsInRange : Instruction → Type 0
 DirectsInRange (Origin event node p) = IsNumber node × IsRange p
 DirectsInRange (Single event node) = IsNumber node
 DirectsInRange (Pair event a b) = IsNumber a × IsNumber b
-DirectsInRange (Prefer node nbr value) = IsNumber node × IsNumber nbr × (value ≤ MAX_PREFERENCE)
-DirectsInRange (Propose node epoch) = IsNumber node × (1 ≤ epoch) × (epoch ≤ MAX_EPOCH)
-DirectsInRange (Drain times) = (1 ≤ times) × (times ≤ MAX_TIMES)
-DirectsInRange (Control number) = (1 ≤ number) × (number ≤ MAX_MESSAGE)
-DirectsInRange (ControlAll times) = (1 ≤ times) × (times ≤ MAX_TIMES)
-DirectsInRange (Inject packet node p) = (1 ≤ packet) × (packet ≤ MAX_PACKET) × IsNumber node × IsRange p
-DirectsInRange (Hop packet) = (1 ≤ packet) × (packet ≤ MAX_PACKET)
-DirectsInRange (HopTimes packet times) = (1 ≤ packet) × (packet ≤ MAX_PACKET) × (1 ≤ times) × (times ≤ MAX_TIMES)
+DirectsInRange (Prefer node nbr value) = IsNumber node × IsNumber nbr × (value ≤ HIGHEST_PREFERENCE)
+DirectsInRange (Propose node epoch) = IsNumber node × (1 ≤ epoch) × (epoch ≤ HIGHEST_EPOCH)
+DirectsInRange (Drain times) = (1 ≤ times) × (times ≤ MOST_TIMES)
+DirectsInRange (Control number) = (1 ≤ number) × (number ≤ HIGHEST_MESSAGE)
+DirectsInRange (ControlAll times) = (1 ≤ times) × (times ≤ MOST_TIMES)
+DirectsInRange (Inject packet node p) = (1 ≤ packet) × (packet ≤ HIGHEST_PACKET) × IsNumber node × IsRange p
+DirectsInRange (Hop packet) = (1 ≤ packet) × (packet ≤ HIGHEST_PACKET)
+DirectsInRange (HopTimes packet times) = (1 ≤ packet) × (packet ≤ HIGHEST_PACKET) × (1 ≤ times) × (times ≤ MOST_TIMES)
 DirectsInRange (Show view) = Unit {0}
-DirectsInRange (ShowEpoch view epoch) = (1 ≤ epoch) × (epoch ≤ MAX_EPOCH)
-DirectsInRange (ShowWalk packet) = (1 ≤ packet) × (packet ≤ MAX_PACKET)
+DirectsInRange (ShowEpoch view epoch) = (1 ≤ epoch) × (epoch ≤ HIGHEST_EPOCH)
+DirectsInRange (ShowWalk packet) = (1 ≤ packet) × (packet ≤ HIGHEST_PACKET)
 
 abbrev pub InRange : Line → Type 0
 InRange Blank = Unit {0}

@@ -24,7 +24,7 @@ use Rattle.schedule_file.specs.declared.table.SchemeName.TheVariants.{Deflect, D
 use Rattle.schedule_file.specs.declared.table.Part.{Part}
 use Rattle.schedule_file.specs.declared.table.Part.TheVariants.{Network, Run, Over}
 use Rattle.schedule_file.specs.declared.table.Shape.{Shape}
-use Rattle.schedule_file.specs.declared.table.TheConstants.{MAX_NODE, MAX_PREFERENCE, MAX_HOPS, MAX_TIMES, MAX_MESSAGE, MAX_PACKET, MAX_EPOCH}
+use Rattle.topology.specs.declared.limits.TheConstants.{HIGHEST_NODE, HIGHEST_PREFERENCE, HIGHEST_HOPS, MOST_TIMES, HIGHEST_MESSAGE, HIGHEST_PACKET, HIGHEST_EPOCH}
 use Rattle.schedule_file.specs.Words.{has_word, word_at, spells_number, spells_prefix}
 
 -- the verb of a node and a prefix: its word
@@ -258,17 +258,17 @@ fields Show words = view_fields (view_in (word_at 0 words))
 
 -- the word is one that may stand there
 abbrev pub spells_field : Field → List ℕ → Bool
-spells_field NodeNumber word = spells_number 1 MAX_NODE word
-spells_field Value word = spells_number 0 MAX_PREFERENCE word
-spells_field HopLimit word = spells_number 0 MAX_HOPS word
-spells_field Times word = spells_number 1 MAX_TIMES word
-spells_field MessageNumber word = spells_number 1 MAX_MESSAGE word
-spells_field PacketNumber word = spells_number 1 MAX_PACKET word
+spells_field NodeNumber word = spells_number 1 HIGHEST_NODE word
+spells_field Value word = spells_number 0 HIGHEST_PREFERENCE word
+spells_field HopLimit word = spells_number 0 HIGHEST_HOPS word
+spells_field Times word = spells_number 1 MOST_TIMES word
+spells_field MessageNumber word = spells_number 1 HIGHEST_MESSAGE word
+spells_field PacketNumber word = spells_number 1 HIGHEST_PACKET word
 spells_field Masked word = spells_prefix word
 spells_field (OneOf words) word = has_word words word
 spells_field Viewed word = is_some (view_in word)
 spells_field Schemed word = is_some (scheme_in word)
-spells_field EpochNumber word = spells_number 1 MAX_EPOCH word
+spells_field EpochNumber word = spells_number 1 HIGHEST_EPOCH word
 
 -- what is wrong with another word
 abbrev pub fault_of : Field → BadKind

@@ -62,5 +62,5 @@ pub mod table;
 pub mod words;
 
 pub use lines::{Declaration, Directive, Instruction, Line, Numbered, Schedule};
-pub use parser::{MAX_BYTES, ParseEnd, parse, parse_topology};
+pub use parser::{ParseEnd, parse, parse_topology};
 pub use printing::print;

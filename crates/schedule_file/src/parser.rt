@@ -83,9 +83,6 @@ impl Draft {
     }
 }
 
-/// The most bytes that a file may have. Whoever reads one refuses a longer one before it is parsed.
-pub const MAX_BYTES: u32 = 16_777_216;
-
 // What the lines of the text say, where this may stand behind `begin`.
 fn read(alloc: Global, text: &[u8], behind: Part) -> Result<Schedule, ParseEnd>
     requires { length text.now < 2 ^ 32 - 1 }

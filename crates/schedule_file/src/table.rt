@@ -8,27 +8,6 @@ ghost use Rattle.schedule_file.specs.Table.{keyword_text, view_text, scheme_text
 use crate::lines::Directive;
 use topology::{Epoch, NodeId, PrefixId, Relation};
 
-/// The highest number of a node. The lowest is 1.
-pub const MAX_NODE: u32 = 65_535;
-
-/// The highest preference. The lowest is 0.
-pub const MAX_PREFERENCE: u32 = 1_000_000;
-
-/// The highest limit of the moves that a packet may make. The lowest is 0.
-pub const MAX_HOPS: u32 = 65_535;
-
-/// The most times that one line repeats something. The fewest are 1.
-pub const MAX_TIMES: u32 = 1_000_000;
-
-/// The highest number of a control message. The lowest is 1.
-pub const MAX_MESSAGE: u32 = 1_000_000;
-
-/// The highest number of a packet. The lowest is 1.
-pub const MAX_PACKET: u32 = 4_294_967_295;
-
-/// The highest epoch. The lowest is 1.
-pub const MAX_EPOCH: u32 = 32;
-
 /// The first word of a line of a node and a prefix.
 #[derive(Clone, Copy, Debug, PartialEq, Eq)]
 pub enum OriginVerb {

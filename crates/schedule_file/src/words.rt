@@ -9,11 +9,9 @@ ghost use Rattle.schedule_file.specs.Table.Field.{NodeNumber, Value, HopLimit, T
 ghost use Rattle.schedule_file.specs.Standing.{Holds};
 
 use crate::prefixes::read_prefix;
-use crate::table::{
-    Keyword, MAX_EPOCH, MAX_HOPS, MAX_MESSAGE, MAX_NODE, MAX_PACKET, MAX_PREFERENCE, MAX_TIMES,
-    SchemeName, View, keyword_named, relation_named, scheme_named, view_named,
-};
+use crate::table::{Keyword, SchemeName, View, keyword_named, relation_named, scheme_named, view_named};
 use text_lines::{Line as Span, Tokens, read_number};
+use topology::limits::{HIGHEST_EPOCH, HIGHEST_HOPS, HIGHEST_MESSAGE, HIGHEST_NODE, HIGHEST_PACKET, HIGHEST_PREFERENCE, MOST_TIMES};
 use topology::{BadKind, Epoch, NodeId, Prefix, Relation};
 
 /// The words of one line: how many, and the first four. One that is not there is empty.
@@ -158,7 +156,7 @@ pub fn node_of(word: &[u8]) -> Result<NodeId, BadKind>
     ensures err { OnErr result (spells_field NodeNumber word.now ≡ false) }
     ensures kind { IfErr result (λ kind. kind ≡ BadNumber) }
 {
-    let number = number_of(word, MAX_NODE)?;
+    let number = number_of(word, HIGHEST_NODE)?;
     Ok(NodeId::new(number as u16))
 }
 
@@ -169,7 +167,7 @@ pub fn value_of(word: &[u8]) -> Result<u32, BadKind>
     ensures err { OnErr result (spells_field Value word.now ≡ false) }
     ensures kind { IfErr result (λ kind. kind ≡ BadNumber) }
 {
-    number_to(word, MAX_PREFERENCE)
+    number_to(word, HIGHEST_PREFERENCE)
 }
 
 /// How many moves a packet may make.
@@ -179,7 +177,7 @@ pub fn hops_of(word: &[u8]) -> Result<u16, BadKind>
     ensures err { OnErr result (spells_field HopLimit word.now ≡ false) }
     ensures kind { IfErr result (λ kind. kind ≡ BadNumber) }
 {
-    let hops = number_to(word, MAX_HOPS)?;
+    let hops = number_to(word, HIGHEST_HOPS)?;
     Ok(hops as u16)
 }
 
@@ -190,7 +188,7 @@ pub fn times_of(word: &[u8]) -> Result<u32, BadKind>
     ensures err { OnErr result (spells_field Times word.now ≡ false) }
     ensures kind { IfErr result (λ kind. kind ≡ BadNumber) }
 {
-    number_of(word, MAX_TIMES)
+    number_of(word, MOST_TIMES)
 }
 
 /// The number of a control message, from 1.
@@ -200,7 +198,7 @@ pub fn message_of(word: &[u8]) -> Result<u32, BadKind>
     ensures err { OnErr result (spells_field MessageNumber word.now ≡ false) }
     ensures kind { IfErr result (λ kind. kind ≡ BadNumber) }
 {
-    number_of(word, MAX_MESSAGE)
+    number_of(word, HIGHEST_MESSAGE)
 }
 
 /// The number of a packet, from 1.
@@ -210,7 +208,7 @@ pub fn packet_of(word: &[u8]) -> Result<u32, BadKind>
     ensures err { OnErr result (spells_field PacketNumber word.now ≡ false) }
     ensures kind { IfErr result (λ kind. kind ≡ BadNumber) }
 {
-    number_of(word, MAX_PACKET)
+    number_of(word, HIGHEST_PACKET)
 }
 
 /// The number of an epoch, from 1.
@@ -220,7 +218,7 @@ pub fn epoch_of(word: &[u8]) -> Result<Epoch, BadKind>
     ensures err { OnErr result (spells_field EpochNumber word.now ≡ false) }
     ensures kind { IfErr result (λ kind. kind ≡ BadNumber) }
 {
-    let epoch = number_of(word, MAX_EPOCH)?;
+    let epoch = number_of(word, HIGHEST_EPOCH)?;
     Ok(Epoch::new(epoch))
 }
 

@@ -7,7 +7,7 @@ use Rattle.topology.specs.Paths.{differ}
 use Rattle.route_io.specs.Causes.{RoseIf, AppendsFront}
 use Rattle.route_io.specs.Views.{SourceView, SinkView}
 use Rattle.route_io.proofs.Bytes.{stays_quiet}
-use Rattle.schedule_file.specs.declared.parser.TheConstants.{MAX_BYTES}
+use Rattle.topology.specs.declared.limits.TheConstants.{MOST_BYTES}
 use Rattle.topology.specs.declared.status.AuditKind.{AuditKind}
 use Rattle.topology.specs.declared.status.Status.TheVariants.{Done, WriteFault, BadTables, Inconsistent}
 use Rattle.table_audit.specs.declared.checking.Verdict.{Verdict}
@@ -52,8 +52,8 @@ none_is_bad bytes text rows items verdict same read are says consistent =
     none_of (Some bad) e = absurd (cc e)
 
 module _ (source source' : SourceView) (bytes : List ℕ) (read : (told : List ℕ) → source.left ≡ Some told → bytes ≡ told)
-    (short : length bytes ≤ MAX_BYTES) (at_end : IsAtEnd source'.left) (quiet : source'.faults ≡ source.faults) where
-  never_long : {P : Type 0} (told : List ℕ) → source.left ≡ Some told → MAX_BYTES < length told → P
+    (short : length bytes ≤ MOST_BYTES) (at_end : IsAtEnd source'.left) (quiet : source'.faults ≡ source.faults) where
+  never_long : {P : Type 0} (told : List ℕ) → source.left ≡ Some told → MOST_BYTES < length told → P
   never_long told t long = absurd (let same = ap length (read told t) in omega arith)
 
   -- a line is misspelled

@@ -13,7 +13,7 @@ use Rattle.schedule_file.specs.Table.Field.{NodeNumber, EpochNumber, Masked}
 use Rattle.schedule_file.specs.Words.{number_of, prefix_of, spells_number, word_at}
 use Rattle.table_audit.specs.declared.lines.Says.{Says}
 use Rattle.table_audit.specs.declared.lines.Says.TheVariants.{Nothing, Row, Misspelled}
-use Rattle.table_audit.specs.declared.lines.TheConstants.{MOST_NODES}
+use Rattle.topology.specs.declared.limits.TheConstants.{MOST_NODES}
 use Rattle.table_audit.specs.Tables.{before_colon, is_empty, is_unpublished, path_in, first_misspelled, first_misspelled_from, row_by, row_for, rows_from, rows_of, says, spells_epoch}
 use Rattle.table_audit.specs.declared.rows.AuditRow.{AuditRow}
 use Rattle.table_audit.specs.Reading.{nodes_behind}

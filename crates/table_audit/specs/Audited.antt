@@ -10,7 +10,7 @@ use Rattle.topology.specs.Lists.{Begins}
 use Rattle.topology.specs.Paths.{differ}
 use Rattle.route_io.specs.Causes.{RoseIf, AppendsFront}
 use Rattle.route_io.specs.Views.{SourceView, SinkView}
-use Rattle.schedule_file.specs.declared.parser.TheConstants.{MAX_BYTES}
+use Rattle.topology.specs.declared.limits.TheConstants.{MOST_BYTES}
 use Rattle.topology.specs.declared.status.AuditKind.{AuditKind}
 use Rattle.table_audit.specs.Rows.{first_bad}
 use Rattle.table_audit.specs.Tables.{rows_of, first_misspelled}
@@ -87,8 +87,8 @@ pub record Audited (source source' : SourceView) (sink sink' : SinkView) (status
   pub inconsistent : (line : ℕ) (kind : AuditKind) → status ≡ Inconsistent line kind
       → (bytes : List ℕ) → source.left ≡ Some bytes → IsInconsistent bytes line kind
   -- Limit: the text is too long
-  pub limit : (kind : LimitKind) (number : ℕ) → status ≡ Limit kind number → (kind ≡ Bytes) × (number ≡ MAX_BYTES)
-      × ((bytes : List ℕ) → source.left ≡ Some bytes → MAX_BYTES < length bytes)
+  pub limit : (kind : LimitKind) (number : ℕ) → status ≡ Limit kind number → (kind ≡ Bytes) × (number ≡ MOST_BYTES)
+      × ((bytes : List ℕ) → source.left ≡ Some bytes → MOST_BYTES < length bytes)
   -- ReadFault, WriteFault: a call of that side failed; after every other answer none has
   pub read_fault : RoseIf (status ≡ ReadFault) source.faults source'.faults
   pub write_fault : RoseIf (status ≡ WriteFault) sink.faults sink'.faults
@@ -102,16 +102,16 @@ pub record Audited (source source' : SourceView) (sink sink' : SinkView) (status
   -- nothing is left of the text once its rows were read
   pub read : ends_read status ≡ true → IsAtEnd source'.left
   -- a consistent text is found so, unless a side fails or memory runs out
-  pub complete : (bytes : List ℕ) → source.left ≡ Some bytes → length bytes ≤ MAX_BYTES → IsConsistent bytes
+  pub complete : (bytes : List ℕ) → source.left ≡ Some bytes → length bytes ≤ MOST_BYTES → IsConsistent bytes
       → (status ≡ Done) ⊎ ((status ≡ NoMemory) ⊎ ((status ≡ ReadFault) ⊎ (status ≡ WriteFault)))
   -- a text with a misspelled line is refused by the first one, unless a read fails or memory runs out
-  pub refused : (bytes : List ℕ) → source.left ≡ Some bytes → length bytes ≤ MAX_BYTES → (line : ℕ)
+  pub refused : (bytes : List ℕ) → source.left ≡ Some bytes → length bytes ≤ MOST_BYTES → (line : ℕ)
       → first_misspelled bytes ≡ Some line → (status ≡ BadTables line) ⊎ ((status ≡ NoMemory) ⊎ (status ≡ ReadFault))
   -- so is one with a bad row, by the first one
-  pub found : (bytes : List ℕ) → source.left ≡ Some bytes → length bytes ≤ MAX_BYTES → (line : ℕ) (kind : AuditKind)
+  pub found : (bytes : List ℕ) → source.left ≡ Some bytes → length bytes ≤ MOST_BYTES → (line : ℕ) (kind : AuditKind)
       → IsInconsistent bytes line kind → (status ≡ Inconsistent line kind) ⊎ ((status ≡ NoMemory) ⊎ (status ≡ ReadFault))
   -- and one that is too long, by its length
-  pub too_long : (bytes : List ℕ) → source.left ≡ Some bytes → MAX_BYTES < length bytes
-      → (status ≡ Limit Bytes MAX_BYTES) ⊎ ((status ≡ NoMemory) ⊎ (status ≡ ReadFault))
+  pub too_long : (bytes : List ℕ) → source.left ≡ Some bytes → MOST_BYTES < length bytes
+      → (status ≡ Limit Bytes MOST_BYTES) ⊎ ((status ≡ NoMemory) ⊎ (status ≡ ReadFault))
   -- no call changes how much the sink can hold
   pub same_room : sink'.room ≡ sink.room

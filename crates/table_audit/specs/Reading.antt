@@ -3,7 +3,7 @@ use Rattle.std.specs.Prelude.{ℕ, ◌≡◌, ◌&&◌, nat_lt, Option, Some, No
 use Rattle.schedule_file.specs.Table.{spells_field}
 use Rattle.schedule_file.specs.Table.Field.{NodeNumber}
 use Rattle.schedule_file.specs.Words.{number_of}
-use Rattle.table_audit.specs.declared.lines.TheConstants.{MOST_NODES}
+use Rattle.topology.specs.declared.limits.TheConstants.{MOST_NODES}
 use Rattle.table_audit.specs.declared.reading.RowsEnd.{RowsEnd}
 use Rattle.table_audit.specs.declared.reading.RowsEnd.TheVariants.{NoMemory, Misspelled}
 use Rattle.table_audit.specs.Tables.{first_misspelled}

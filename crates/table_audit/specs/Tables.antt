@@ -8,7 +8,7 @@ use Rattle.schedule_file.specs.Table.Field.{NodeNumber, EpochNumber, Masked}
 use Rattle.schedule_file.specs.Words.{number_of, prefix_of}
 use Rattle.table_audit.specs.declared.lines.Says.{Says}
 use Rattle.table_audit.specs.declared.lines.Says.TheVariants.{Nothing, Row, Misspelled}
-use Rattle.table_audit.specs.declared.lines.TheConstants.{MOST_NODES}
+use Rattle.topology.specs.declared.limits.TheConstants.{MOST_NODES}
 use Rattle.table_audit.specs.declared.rows.AuditRow.{AuditRow}
 
 -- there is none

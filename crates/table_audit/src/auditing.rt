@@ -5,8 +5,8 @@ use crate::checking::{Verdict, check_rows};
 use crate::laws::no_node_is_visited_twice;
 use crate::reading::{RowsEnd, read_rows};
 use route_io::{ReadEnd, Sink, Source, read_all, write_all};
-use schedule_file::MAX_BYTES;
 use std::alloc::Global;
+use topology::limits::MOST_BYTES;
 use topology::{LimitKind, Status};
 
 /// Reads a text from the source, and writes that its rows are consistent where none is bad. What a
@@ -15,11 +15,11 @@ pub fn audit<I: Source, O: Sink>(alloc: Global, source: &mut I, sink: &mut O) ->
     ensures { Audited (I.seen source.old) (I.seen source.new) (O.seen sink.old) (O.seen sink.new) result }
 {
     no_node_is_visited_twice();
-    let bytes = match read_all(alloc, source, MAX_BYTES as usize) {
+    let bytes = match read_all(alloc, source, MOST_BYTES as usize) {
         Ok(bytes) => bytes,
         Err(ReadEnd::NoMemory) => return Status::NoMemory,
         Err(ReadEnd::Fault) => return Status::ReadFault,
-        Err(ReadEnd::TooLong) => return Status::Limit(LimitKind::Bytes, MAX_BYTES),
+        Err(ReadEnd::TooLong) => return Status::Limit(LimitKind::Bytes, MOST_BYTES),
     };
     let rows = match read_rows(alloc, &bytes) {
         Ok(rows) => rows,

@@ -10,10 +10,8 @@ use crate::rows::{AuditRow, RowNodes};
 use schedule_file::words::{epoch_of, node_of, prefix_of};
 use std::alloc::Global;
 use text_lines::{Line, Tokens};
+use topology::limits::MOST_NODES;
 use topology::{NoMemory, NodeId};
-
-/// The most nodes of a path.
-const MOST_NODES: usize = 64;
 
 /// What a line says to the audit.
 #[derive(Debug, Drop)]

@@ -3,6 +3,7 @@ ghost use Rattle.std.specs.Prelude.{◌≡◌, ◌≢◌, ◌||◌, ◌⊎◌, �
 ghost use Rattle.std.specs.List.{list_any};
 ghost use Rattle.std.specs.List.Sorted.{IsStrictlyIncreasing};
 ghost use Rattle.topology.specs.declared.names.Trigger.{Trigger};
+ghost use Rattle.topology.specs.Limits.{CountsEndAt, NumbersEndAt};
 ghost use Rattle.topology.specs.Lists.{Among, ascending, has};
 ghost use Rattle.topology.specs.Paths.{differ};
 ghost use Rattle.topology.specs.Triggers.{Ascend, union};
@@ -47,4 +48,11 @@ pub fn a_union_has_the_triggers_of_both()
     ensures only { (ts us xs : List Trigger) → Ascend us → Ascend xs →
         ((x : Trigger) → Among x xs → Among x ts ⊎ Among x us) →
         ((x : Trigger) → Among x ts ⊎ Among x us → Among x xs) → xs ≡ union ts us }
+{}
+
+/// Each limit and each range ends at the number that is written here.
+#[tactic(auto, using(crate::proofs::Numbers::counts_end, crate::proofs::Numbers::numbers_end))]
+pub fn limits_end_there()
+    ensures counts { CountsEndAt }
+    ensures numbers { NumbersEndAt }
 {}

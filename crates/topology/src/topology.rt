@@ -4,6 +4,7 @@ ghost use Rattle.topology.specs.Lists.{ascending, has, put_ascending};
 ghost use Rattle.topology.specs.Net.{neighbours, relation, file_preference, prefers, has_prefix, holds_back, IsValid, IsPrefix, Leads};
 ghost use Rattle.topology.specs.Building.{nothing, with_node, with_link, with_pref, with_prefix, with_hold, with_hops, with_scheme, node_refusal, link_refusal, pref_refusal, prefix_refusal, scheme_refusal, AnswersBy};
 
+use crate::limits::{MOST_CONSOLIDATORS, MOST_LINKS, MOST_NODES, MOST_PREFIXES};
 use crate::node_set::insert_ascending;
 use crate::{
     BuildError, Hold, HoldTable, Link, LinkTable, NoMemory, NodeId, NodeSet, Pref, PrefTable,
@@ -13,15 +14,7 @@ use indexmap::IndexSet;
 use std::alloc::Global;
 use std::marker::Model;
 
-const MAX_NODES: usize = 64;
-
-const MAX_CONSOLIDATORS: usize = 7;
-
-const MAX_LINKS: usize = 512;
-
 const DEFAULT_PREFERENCE: u32 = 100;
-
-const MAX_PREFIXES: usize = 256;
 
 const DEFAULT_HOPS: u16 = 128;
 
@@ -92,10 +85,10 @@ impl Topology {
         if self.nodes.contains(id) {
             return Err(BuildError::DuplicateNode);
         }
-        if self.nodes.len() >= MAX_NODES {
+        if self.nodes.len() >= MOST_NODES {
             return Err(BuildError::TooMany);
         }
-        if consolidator && self.consolidators.len() >= MAX_CONSOLIDATORS {
+        if consolidator && self.consolidators.len() >= MOST_CONSOLIDATORS {
             return Err(BuildError::TooMany);
         }
         let _fits = id.number();
@@ -121,7 +114,7 @@ impl Topology {
         if self.links.has(a, b) {
             return Err(BuildError::DuplicateLink);
         }
-        if self.links.len() >= MAX_LINKS {
+        if self.links.len() >= MOST_LINKS {
             return Err(BuildError::TooMany);
         }
         Ok((from, to))
@@ -216,7 +209,7 @@ impl Topology {
         if self.prefixes.contains(&prefix) {
             return Err(BuildError::DuplicatePrefix);
         }
-        if self.prefixes.len() >= MAX_PREFIXES {
+        if self.prefixes.len() >= MOST_PREFIXES {
             return Err(BuildError::TooMany);
         }
         let (place, _) = self.prefixes.insert_full(prefix)?;

@@ -10,10 +10,8 @@ ghost use Rattle.transient_mode.specs.TransientHops.{asks_for_order};
 use crate::moves::{end_at, if_up, spent};
 use crate::{Move, View};
 use epoch_packet::{End, Packet, has_visited};
+use topology::limits::MOST_TRAIL;
 use topology::{NoMemory, NodeId, Scheme, Topology};
-
-// How many nodes a trail may have.
-const TRAIL_LENGTH: usize = 64;
 
 // Whether the link to the node is up, and the packet was not there.
 fn is_new(topology: &Topology, visited: u64, up: &[NodeId], node: NodeId) -> bool
@@ -40,7 +38,7 @@ fn first_new<'a>(
 fn forward(topology: &Topology, packet: &Packet, view: &View<'_>) -> Option<NodeId>
     ensures { result ≡ forward topology.now packet.now view.now }
 {
-    if packet.trail.as_slice().len() < TRAIL_LENGTH {
+    if packet.trail.as_slice().len() < MOST_TRAIL {
         first_new(topology, packet.visited, view.up, view.order).copied()
     } else {
         None
@@ -69,7 +67,7 @@ pub fn asks_for_order(topology: &Topology, packet: &Packet, at: NodeId, owns: bo
     ensures { (view : Sight) → view.at ≡ at → view.owns ≡ owns →
         result ≡ asks_for_order topology.now packet.now view }
 {
-    if owns || packet.budget == 0 || packet.trail.as_slice().len() >= TRAIL_LENGTH {
+    if owns || packet.budget == 0 || packet.trail.as_slice().len() >= MOST_TRAIL {
         return false;
     }
     match topology.scheme() {

@@ -41,7 +41,7 @@ use Rattle.world_core.specs.Happening.{AreSending, GoesWhere, KeepsNodes, Since,
 use Rattle.world_core.specs.Publications.{PublicationView, all_published}
 use Rattle.world_core.specs.Limits.{triggers_of, has_more_marks, makes_local}
 use Rattle.world_core.specs.Matching.{AreCrashed, AreLinks, AreMails, AreNodes, Counts, IsCounted, Stands}
-use Rattle.world_core.specs.declared.bounds.TheConstants.{MOST_TRIGGERS, MOST_CONTROL, MOST_PACKETS}
+use Rattle.topology.specs.declared.limits.TheConstants.{MOST_TRIGGERS, MOST_CONTROL, MOST_PACKETS}
 use Rattle.world_core.specs.Telling.{AreTold}
 use Rattle.world_core.specs.Turning.{Handles}
 use Rattle.world_core.specs.Walks.{AreWalks, AreWalksBut, JourneyView, still_after}

@@ -34,10 +34,9 @@ use Rattle.chronicle.specs.Walks.{packets}
 use Rattle.chronicle.proofs.Forwarding.{forwards_keep, injects_keep}
 use Rattle.chronicle.proofs.Quieting.{log_mails, log_quiet, quiet_packet}
 use Rattle.cut_laws.specs.Own.{SameNode}
-use Rattle.node_core.specs.declared.limits.TheConstants.{MOST_EPOCHS, MOST_ENTRIES, MOST_UPDATES, MOST_MARKS}
+use Rattle.topology.specs.declared.limits.TheConstants.{MOST_CONTROL, MOST_ENTRIES, MOST_EPOCHS, MOST_MARKS, MOST_PACKETS, MOST_TRIGGERS, MOST_UPDATES}
 use Rattle.node_core.specs.NodeLimits.{has_large_value, has_long_list, marks_of, node_above, first_of_node}
 use Rattle.node_core.specs.NodeLimits.{has_more_marks as node_has_more_marks}
-use Rattle.world_core.specs.declared.bounds.TheConstants.{MOST_TRIGGERS, MOST_CONTROL, MOST_PACKETS}
 use Rattle.world_core.specs.Limits.{triggers_of, has_more_epochs, has_more_entries, has_more_updates, has_more_control, has_more_packets, has_more_marks, first_above, above, makes_local}
 
 -- ---- sums and tests over all nodes, where what is read of one has changed

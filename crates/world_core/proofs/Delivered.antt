@@ -9,7 +9,7 @@ use Rattle.chronicle.specs.Facts.{Chronicle}
 use Rattle.chronicle.specs.Run.{after, run}
 use Rattle.std.specs.Prelude.{fold}
 use Rattle.world_core.specs.Counting.{AreFew, counts_after, no_deliveries}
-use Rattle.world_core.specs.declared.bounds.TheConstants.{MOST_EVENTS}
+use Rattle.topology.specs.declared.limits.TheConstants.{MOST_EVENTS}
 
 -- two that count, in either order
 in_turn : (a b : Bool) (n : ℕ) → (if a then suc (if b then suc n else n) else (if b then suc n else n)) ≡ (if b then suc (if a then suc n else n) else (if a then suc n else n))

@@ -6,7 +6,7 @@ use Rattle.topology.specs.Net.{Net}
 use Rattle.trigger_log.specs.Entries.{locals}
 use Rattle.trigger_log.specs.Sending.{sent_of}
 use Rattle.trigger_log.proofs.Collected.{none_at_first}
-use Rattle.node_core.specs.declared.limits.TheConstants.{MOST_MARKS}
+use Rattle.topology.specs.declared.limits.TheConstants.{MOST_MARKS}
 use Rattle.node_core.specs.Counted.{entry_marks, item_marks, row_marks}
 use Rattle.node_core.specs.NodeLimits.{marks_of}
 use Rattle.world_core.proofs.Counts.{any_none}

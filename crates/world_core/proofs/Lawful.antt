@@ -18,7 +18,7 @@ use Rattle.world_core.specs.Effects.{Tells}
 use Rattle.world_core.specs.Sound.{IsNoStray}
 use Rattle.cut_laws.specs.Joined.{Joined, FrontFits}
 use Rattle.world_core.specs.Happening.{IsRegular}
-use Rattle.world_core.specs.declared.bounds.TheConstants.{MOST_EVENTS}
+use Rattle.topology.specs.declared.limits.TheConstants.{MOST_EVENTS}
 
 few_sessions : (sessions n : ℕ) → sessions ≤ suc n → n < MOST_EVENTS → sessions < 2 ^ 32 - 1
 few_sessions sessions n most short = omega (arith, most, short)

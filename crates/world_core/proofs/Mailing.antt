@@ -19,7 +19,7 @@ use Rattle.chronicle.specs.Crashes.{crashed}
 use Rattle.chronicle.specs.Deliveries.{deliveries, is_next, may_come, next_mail}
 use Rattle.chronicle.specs.Facts.{Chronicle, Mail, Crash, Restart}
 use Rattle.chronicle.specs.Run.{run}
-use Rattle.world_core.specs.declared.bounds.TheConstants.{MOST_CONTROL}
+use Rattle.topology.specs.declared.limits.TheConstants.{MOST_CONTROL}
 use Rattle.world_core.specs.Counting.{counts_after, no_deliveries}
 use Rattle.world_core.specs.Matching.{AreMails, Counts, IsInside}
 use Rattle.world_core.proofs.Places.{same_some}

@@ -22,7 +22,7 @@ use Rattle.chronicle.specs.Run.{after, chronicle_of, run, step}
 use Rattle.node_core.specs.Counted.{is_long_item, is_long_row}
 use Rattle.node_core.specs.NodeLimits.{is_large, is_too_large, has_large_value, has_long_list}
 use Rattle.agreement_laws.specs.Given.{HasFewTriggers}
-use Rattle.world_core.specs.declared.bounds.TheConstants.{MOST_TRIGGERS}
+use Rattle.topology.specs.declared.limits.TheConstants.{MOST_TRIGGERS}
 use Rattle.world_core.specs.Happening.{ListsAreShort, ValuesAreSmall}
 use Rattle.world_core.specs.Limits.{triggers_of}
 use Rattle.world_core.proofs.AfterSteps.{run-push}

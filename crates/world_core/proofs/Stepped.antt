@@ -12,7 +12,7 @@ use Rattle.chronicle.specs.Run.{after, chronicle_of, run, step}
 use Rattle.agreement_laws.specs.Published.{Completes, PublishesLast}
 use Rattle.link_model.specs.declared.way_set.WaySet.{WaySet}
 use Rattle.world_core.specs.declared.network.Network.{Network}
-use Rattle.world_core.specs.declared.bounds.TheConstants.{MOST_EVENTS}
+use Rattle.topology.specs.declared.limits.TheConstants.{MOST_EVENTS}
 use Rattle.world_core.specs.Happening.{IsAsWas}
 use Rattle.world_core.specs.Limits.{above_by, limit_of}
 use Rattle.world_core.specs.Matching.{Counts, Stands}

@@ -18,7 +18,7 @@ use Rattle.chronicle.specs.Run.{chronicle_of, run, step}
 use Rattle.chronicle.specs.Steps.{Step, Idle, Goes}
 use Rattle.chronicle.specs.Walks.{packets}
 use Rattle.cut_laws.specs.Own.{SameNode}
-use Rattle.node_core.specs.declared.limits.TheConstants.{MOST_EPOCHS, MOST_ENTRIES, MOST_UPDATES, MOST_MARKS}
+use Rattle.topology.specs.declared.limits.TheConstants.{MOST_CONTROL, MOST_ENTRIES, MOST_EPOCHS, MOST_EVENTS, MOST_MARKS, MOST_PACKETS, MOST_TRIGGERS, MOST_UPDATES}
 use Rattle.node_core.specs.NodeLimits.{Reached, has_large_value, has_long_list, node_above, limit_before_marks, first_of_node}
 use Rattle.node_core.specs.NodeLimits.{StopsAt as NodeStopsAt}
 use Rattle.node_core.specs.Outputs.{Answers}
@@ -32,7 +32,6 @@ use Rattle.world_core.specs.declared.outcomes.Stop.TheVariants as stop
 use Rattle.world_core.specs.declared.network.Network.{Network}
 use Rattle.world_core.specs.Happening.{ListsAreShort}
 use Rattle.world_core.specs.Matching.{AreNodes, Counts, Stands}
-use Rattle.world_core.specs.declared.bounds.TheConstants.{MOST_EVENTS, MOST_TRIGGERS, MOST_CONTROL, MOST_PACKETS}
 use Rattle.world_core.specs.Limits.{limit_of, triggers_of, has_more_control, has_more_packets, has_more_marks, first_above, above, above_by, StopsAt, is_epochs, run_stop}
 use Rattle.world_core.proofs.Places.{same_some}
 use Rattle.world_core.proofs.Counts.{Logs, LogsBy, by_own, not_fewer, one_entry, total_now, within_counts, none_of_node, above_none, above_control, above_packets, above_marks, above_own}

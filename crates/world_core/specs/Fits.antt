@@ -2,17 +2,16 @@
 use Rattle.std.specs.Prelude.{Bool, ◌&&◌, nat_lt, nat_le, length}
 use Rattle.topology.specs.Lists.{has}
 use Rattle.topology.specs.Net.{Net, linked}
-use Rattle.node_core.specs.declared.limits.TheConstants.{MOST_EPOCHS, MOST_PREFERENCE}
+use Rattle.topology.specs.declared.limits.TheConstants.{HIGHEST_MESSAGE, HIGHEST_PREFERENCE, MOST_EPOCHS}
 use Rattle.chronicle.specs.declared.events.Event.{Event}
 use Rattle.chronicle.specs.declared.events.Event.TheVariants.{Originate, Withdraw, Prefer, Deliver, Fail, Restore, Notice, OpenSession, Flush, Snap, Propose, Control, Crash, Restart, Inject, Hop}
-use Rattle.world_core.specs.declared.bounds.TheConstants.{HIGHEST_MESSAGE}
 
 -- the names of the event are in the network: its node and prefix, or the link of its two ends; a preference is a
 -- million at most, an epoch 1 to 32, the number of a control message 1 to a million, and packets are numbered from 1
 abbrev pub fits : Net → Event → Bool
 fits net (Originate node prefix) = has net.nodes node && nat_lt prefix (length net.prefixes)
 fits net (Withdraw node prefix) = has net.nodes node && nat_lt prefix (length net.prefixes)
-fits net (Prefer node nbr value) = linked net node nbr && nat_le value MOST_PREFERENCE
+fits net (Prefer node nbr value) = linked net node nbr && nat_le value HIGHEST_PREFERENCE
 fits net (Deliver from to) = linked net from to
 fits net (Fail a b) = linked net a b
 fits net (Restore a b) = linked net a b

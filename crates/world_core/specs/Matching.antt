@@ -21,7 +21,7 @@ use Rattle.chronicle.specs.Crashes.{crashed}
 use Rattle.node_core.specs.declared.node.Node.{Node}
 use Rattle.node_core.specs.Standing.{StandsFor}
 use Rattle.world_core.specs.declared.network.Network.{Network}
-use Rattle.world_core.specs.declared.bounds.TheConstants.{MOST_TRIGGERS, MOST_CONTROL, MOST_PACKETS}
+use Rattle.topology.specs.declared.limits.TheConstants.{MOST_TRIGGERS, MOST_CONTROL, MOST_PACKETS}
 use Rattle.world_core.specs.Limits.{triggers_of, has_more_marks}
 use Rattle.chronicle.specs.Walks.{packets}
 use Rattle.world_core.specs.Publications.{all_published}

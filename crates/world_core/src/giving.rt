@@ -5,7 +5,7 @@ ghost use Rattle.topology.specs.Net.{Net};
 ghost use Rattle.chronicle.specs.Control.{mailed};
 ghost use Rattle.chronicle.specs.Facts.{Chronicle};
 ghost use Rattle.chronicle.specs.Run.{chronicle_of, given};
-ghost use Rattle.node_core.specs.declared.limits.TheConstants.{MOST_MARKS};
+ghost use Rattle.topology.specs.declared.limits.TheConstants.{MOST_CONTROL, MOST_MARKS, MOST_PACKETS};
 ghost use Rattle.node_core.specs.Inputs.{input_of};
 ghost use Rattle.node_core.specs.NodeLimits.{has_more_marks};
 ghost use Rattle.world_core.specs.Happening.{IsAfterStep, IsAsWas, MayHand, Stops};
@@ -13,16 +13,14 @@ ghost use Rattle.world_core.specs.Matching.{AreMails, AreNodes, Counts, Stands};
 ghost use Rattle.world_core.specs.Places.{HasPlaces};
 ghost use Rattle.chronicle.specs.Walks.{packets};
 ghost use Rattle.world_core.specs.Walks.{AreWalks};
-ghost use Rattle.world_core.specs.declared.bounds.TheConstants.{MOST_CONTROL, MOST_PACKETS};
 
-use crate::bounds::{MOST_CONTROL, MOST_PACKETS};
 use crate::limits::{counted, is_local, stop_of};
 use crate::network::Network;
 use crate::outcomes::{Effects, Outcome, Stop};
 use crate::turning::turn;
 use node_core::Input;
-use node_core::limits::MOST_MARKS;
 use path_vector::Policy;
+use topology::limits::{MOST_CONTROL, MOST_MARKS, MOST_PACKETS};
 use topology::{LimitKind, NodeId};
 
 impl<P: Policy + Copy> Network<P> {

@@ -4,7 +4,7 @@ ghost use Rattle.topology.specs.Net.{Net, IsValid};
 ghost use Rattle.path_vector.specs.Rules.{Rules};
 ghost use Rattle.chronicle.specs.declared.events.Event.{Event};
 ghost use Rattle.chronicle.specs.Run.{chronicle_of, run, step};
-ghost use Rattle.world_core.specs.declared.bounds.TheConstants.{MOST_EVENTS};
+ghost use Rattle.topology.specs.declared.limits.TheConstants.{MOST_EVENTS};
 ghost use Rattle.world_core.specs.declared.outcomes.Outcome.{Outcome};
 ghost use Rattle.world_core.specs.Effects.{Tells};
 ghost use Rattle.world_core.specs.Happening.{IsRegular, ListsAreShort};

@@ -2,7 +2,6 @@
 #![tactic(auto)]
 
 mod account;
-pub mod bounds;
 mod giving;
 pub mod laws;
 mod limits;

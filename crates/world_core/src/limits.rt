@@ -1,12 +1,12 @@
 //! How many events and triggers a run may have.
 ghost use Rattle.std.specs.Prelude.{◌≡◌, ◌≤◌, ◌<◌, ◌+◌, ◌-◌, IfOk, IfErr};
 ghost use Rattle.node_core.specs.Inputs.{input_of};
-ghost use Rattle.world_core.specs.declared.bounds.TheConstants.{MOST_TRIGGERS};
+ghost use Rattle.topology.specs.declared.limits.TheConstants.{MOST_TRIGGERS};
 ghost use Rattle.world_core.specs.Limits.{makes_local, run_stop};
 
-use crate::bounds::MOST_TRIGGERS;
 use crate::outcomes::Stop;
 use node_core::{Input, Stop as NodeStop};
+use topology::limits::MOST_TRIGGERS;
 use topology::{Item, LimitKind};
 
 /// Whether an entry that the input makes gets a trigger of its node: any but that of an update, or of a flush.

@@ -20,10 +20,11 @@ use epoch_packet::NodeList;
 use link_model::Links;
 use path_vector::Policy;
 use std::alloc::Global;
+use topology::limits::MOST_LINKS;
 use topology::{NoMemory, NodeId, PrefixId, Topology};
 
-// How many links there may be.
-const MAX_LINKS: u16 = 512;
+// The most links of a network, as a place among them.
+const LINK_PLACES: u16 = MOST_LINKS as u16;
 
 // The ends of the link at the place in file order, where there is one, and it is up.
 fn up_at(topology: &Topology, links: &Links, place: u16) -> Option<(NodeId, NodeId)>
@@ -50,7 +51,7 @@ fn links_up(
     // the network is valid: it has few links
     let _nodes = topology.nodes();
     let mut up = Vec::new(alloc);
-    for place in 0..MAX_LINKS {
+    for place in 0..LINK_PLACES {
         if let Some(ends) = up_at(topology, links, place) {
             up.push(ends)?;
         }

@@ -3,7 +3,7 @@ ghost use Rattle.std.specs.Prelude.{ℕ, ◌≡◌, ◌⊎◌, ◌≤◌, [], �
 ghost use Rattle.topology.specs.Lists.{has};
 ghost use Rattle.topology.specs.Net.{linked};
 ghost use Rattle.consolidator.specs.Seen.{message_seen};
-ghost use Rattle.node_core.specs.declared.limits.TheConstants.{MOST_EPOCHS};
+ghost use Rattle.topology.specs.declared.limits.TheConstants.{MOST_CONTROL, MOST_EPOCHS};
 ghost use Rattle.topology.specs.declared.ways.Way.{Way};
 ghost use Rattle.chronicle.specs.Crashes.{crashed};
 ghost use Rattle.chronicle.specs.Control.{mail_with, mailed};
@@ -12,7 +12,6 @@ ghost use Rattle.chronicle.specs.Publications.{publications};
 ghost use Rattle.chronicle.specs.Run.{run, step};
 ghost use Rattle.agreement_laws.specs.Published.{Completes, PublishesLast};
 ghost use Rattle.node_core.specs.Standing.{StandsFor};
-ghost use Rattle.world_core.specs.declared.bounds.TheConstants.{MOST_CONTROL};
 ghost use Rattle.world_core.specs.Fits.{fits};
 ghost use Rattle.world_core.specs.Effects.{Tells};
 ghost use Rattle.world_core.specs.Limits.{limit_of, StopsAt};
@@ -24,7 +23,6 @@ ghost use Rattle.world_core.specs.Stepping.{IsStep};
 ghost use Rattle.world_core.specs.View.{delivered};
 ghost use Rattle.world_core.specs.Walks.{walk_of};
 
-use crate::bounds::HIGHEST_MESSAGE;
 use crate::laws::every_run_is_sound;
 use crate::network::Network;
 use crate::outcomes::{Outcome, Stop};
@@ -35,11 +33,11 @@ use consolidator::Mail;
 use epoch_packet::{End, Visit};
 use link_model::Links;
 use node_core::Node;
-use node_core::limits::{MOST_EPOCHS, MOST_PREFERENCE};
 use path_vector::Policy;
 use std::alloc::Global;
 use std::marker::Model;
 use std::rc::Rc;
+use topology::limits::{HIGHEST_MESSAGE, HIGHEST_PREFERENCE, MOST_EPOCHS};
 use topology::{Epoch, NoMemory, NodeId, PrefixId, Topology};
 
 /// All nodes and links of a network, its control messages, what was published, and the events so far.
@@ -127,7 +125,7 @@ impl<P: Policy + Copy> World<P> {
             Event::Originate { node, prefix } => names(topology, *node, *prefix),
             Event::Withdraw { node, prefix } => names(topology, *node, *prefix),
             Event::Prefer { node, nbr, value } => {
-                joined(topology, *node, *nbr) && *value <= MOST_PREFERENCE
+                joined(topology, *node, *nbr) && *value <= HIGHEST_PREFERENCE
             }
             Event::Deliver { from, to } => joined(topology, *from, *to),
             Event::Fail { a, b } => joined(topology, *a, *b),

@@ -3,7 +3,7 @@ ghost use Rattle.std.specs.Prelude.{◌≡◌, ◌<◌, ◌≤◌, [], ◌∷◌
 ghost use Rattle.topology.specs.declared.ways.Way.{Way};
 ghost use Rattle.chronicle.specs.Deliveries.{next_delivery};
 ghost use Rattle.chronicle.specs.Run.{run, step};
-ghost use Rattle.world_core.specs.declared.bounds.TheConstants.{MOST_EVENTS};
+ghost use Rattle.topology.specs.declared.limits.TheConstants.{MOST_EVENTS};
 ghost use Rattle.world_core.specs.Effects.{Tells};
 ghost use Rattle.world_core.specs.Fits.{fits};
 ghost use Rattle.world_core.specs.Holding.{AddsEvent, AddsDelivery, Holds, IsNext};
@@ -11,13 +11,13 @@ ghost use Rattle.world_core.specs.Limits.{limit_of, StopsAt};
 ghost use Rattle.world_core.specs.Sound.{IsNoStray};
 ghost use Rattle.world_core.specs.Stepping.{IsStep};
 
-use crate::bounds::MOST_EVENTS;
 use crate::laws;
 use crate::network::Network;
 use crate::outcomes::{Outcome, Stop};
 use chronicle::Event;
 use link_model::WaySet;
 use path_vector::Policy;
+use topology::limits::MOST_EVENTS;
 use topology::{LimitKind, NoMemory, NodeId};
 
 /// A network, which ways are open in it, and what happened in it.

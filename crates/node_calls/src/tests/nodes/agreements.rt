@@ -3,12 +3,12 @@ use super::super::networks::APART;
 use super::desk::Desk;
 use consolidator::Message;
 use incomplete_closure::{RespondingNodes, Value};
-use node_core::limits::MOST_TRIGGERS;
 use node_core::{Input, Node, Stop};
 use path_vector::ShortestAll;
 use std::alloc::Global;
 use std::process::Abort;
 use std::test::Fail;
+use topology::limits::MOST_TRIGGERS;
 use topology::{Ballot, Epoch, LimitKind, NodeId, Trigger, Triggers};
 
 // What is done at node 1, and what it hands out, or why it does nothing. Each message that it sends gets the next

@@ -2,7 +2,7 @@ use Rattle.std.proofs.Common.{true≢false, ℕ, List, sym, ◌∙◌, subst, �
 use Rattle.std.specs.Fmt.{decimal}
 use Rattle.std.proofs.lemmas.Slice.Eq.{slice_eq-Decides}
 use Rattle.std.proofs.lemmas.Bool.Decides.{Decides-eqb}
-use Rattle.routing_commands.specs.declared.forms.TheConstants.{MAX_LOAD}
+use Rattle.topology.specs.declared.limits.TheConstants.{HIGHEST_LOAD}
 use Rattle.routing_commands.proofs.Formed.{not_load, no_number, is_load}
 use Rattle.routing_commands.proofs.forms.load_form.Goals as goal
 
@@ -17,7 +17,7 @@ returns-in-Some c =
 pub returns-in-None : goal.returns-in-None
 returns-in-None c = record {
   some = tt;
-  none = no_number _ _ (subst (λ (bytes : List ℕ). (n : ℕ) → n ≤ MAX_LOAD → bytes ≢ decimal n) c.as_bytes.ensures.value c.in-None.ensures.none);
+  none = no_number _ _ (subst (λ (bytes : List ℕ). (n : ℕ) → n ≤ HIGHEST_LOAD → bytes ≢ decimal n) c.as_bytes.ensures.value c.in-None.ensures.none);
 }
 
 pub returns : goal.returns

@@ -5,35 +5,34 @@ use Rattle.routing_commands.proofs.run.run.Goals as goal
 pub returns-clause-limits : goal.returns-clause-limits
 returns-clause-limits g c = record {
   counts = record {
+    nodes = refl;
+    consolidators = refl;
+    links = refl;
+    prefixes = refl;
     bytes = refl;
     events = refl;
-    epochs = refl;
     triggers = refl;
-    of_value = refl;
-    entries = refl;
-    updates = refl;
-    marks = refl;
     control = refl;
     packets = refl;
     frames = refl;
-    journal = refl;
-    journal_file = refl;
-    script_events = refl;
-    script_control = refl;
+    members = refl;
+    times = refl;
+    epochs = refl;
+    entries = refl;
+    updates = refl;
+    marks = refl;
+    pending = refl;
+    sessions = refl;
+    trail = refl;
   };
   numbers = record {
     load = refl;
     node = refl;
-    node_of_line = refl;
     preference = refl;
-    preference_of_event = refl;
     hops = refl;
-    times = refl;
     message = refl;
-    message_of_event = refl;
     packet = refl;
     epoch = refl;
-    members = refl;
     value = refl;
   };
 }

@@ -2,7 +2,7 @@ use Rattle.std.proofs.Common.{[], ◌∷◌, ◌++◌, ℕ, List, ◌≡◌, ◌
 use Rattle.std.specs.BTreeSet.{contains}
 use Rattle.std.specs.Ordering.{nat_cmp}
 use Rattle.leadership.specs.Deliveries.{delivers}
-use Rattle.leadership.specs.declared.bounds.TheConstants.{MOST_CONTROL, MOST_EVENTS}
+use Rattle.topology.specs.declared.limits.TheConstants.{MOST_CONTROL, MOST_EVENTS}
 use Rattle.leadership.specs.declared.events.LeadEvent.{LeadEvent}
 use Rattle.leadership.specs.declared.sites.Site.{Site}
 use Rattle.leadership.specs.Choices.{AreChosen, Choice, vote_of, vote_where, with_vote}

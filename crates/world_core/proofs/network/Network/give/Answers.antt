@@ -4,7 +4,7 @@ use Rattle.chronicle.specs.Logs.{log_of}
 use Rattle.chronicle.specs.Run.{carried_by, chronicle_of}
 use Rattle.node_core.specs.Inputs.{input_of}
 use Rattle.node_core.specs.Outputs.{Answers, told_by}
-use Rattle.world_core.specs.declared.bounds.TheConstants.{MOST_TRIGGERS}
+use Rattle.topology.specs.declared.limits.TheConstants.{MOST_TRIGGERS}
 use Rattle.world_core.specs.Limits.{makes_local, above_by, StopsAt}
 use Rattle.world_core.specs.Matching.{AreNodes}
 use Rattle.world_core.proofs.Counts.{marks_at}
