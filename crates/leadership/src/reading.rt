@@ -13,8 +13,8 @@ use crate::events::LeadEvent;
 use crate::scripts::{Directive, Keyword, Line};
 use schedule_file::words::{Words, epoch_of, message_of, node_of, times_of};
 use text_lines::read_number;
-use topology::limits::HIGHEST_VALUE;
 use topology::BadKind;
+use topology::limits::HIGHEST_VALUE;
 
 // The kind of line that the word begins.
 fn keyword_named(word: &[u8]) -> Option<Keyword>

@@ -16,7 +16,9 @@ use crate::fitting::{
 };
 use consolidator::Message;
 use incomplete_closure::{Report, Row, SessionRow, Value};
-use topology::limits::{MOST_ENTRIES, MOST_EPOCHS, MOST_MARKS, MOST_PENDING, MOST_SESSIONS, MOST_TRIGGERS, MOST_UPDATES};
+use topology::limits::{
+    MOST_ENTRIES, MOST_EPOCHS, MOST_MARKS, MOST_PENDING, MOST_SESSIONS, MOST_TRIGGERS, MOST_UPDATES,
+};
 use topology::{
     Ballot, Epoch, NodeId, Pending, Scope, Sent, SentItems, Topology, Trigger, Triggers,
 };

@@ -14,8 +14,8 @@ use crate::node::Node;
 use crate::outputs::Stop;
 use consolidator::{Mail, Message, Reply};
 use path_vector::Policy;
-use topology::limits::{MOST_ENTRIES, MOST_EPOCHS, MOST_MARKS, MOST_TRIGGERS, MOST_UPDATES};
 use topology::LimitKind;
+use topology::limits::{MOST_ENTRIES, MOST_EPOCHS, MOST_MARKS, MOST_TRIGGERS, MOST_UPDATES};
 
 // Whether the message proposes a value with more triggers than one may have.
 fn is_large(message: &Message) -> bool

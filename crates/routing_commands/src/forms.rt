@@ -5,8 +5,8 @@ ghost use Rattle.std.specs.String.{string_bytes};
 ghost use Rattle.routing_commands.specs.Forms.{HasNoForm, IsForm};
 
 use text_lines::read_number;
-use topology::limits::{HIGHEST_LOAD, HIGHEST_NODE};
 use topology::NodeId;
+use topology::limits::{HIGHEST_LOAD, HIGHEST_NODE};
 
 /// What is asked for.
 #[derive(Clone, Copy, Debug, PartialEq, Eq)]

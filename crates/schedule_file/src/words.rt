@@ -9,9 +9,14 @@ ghost use Rattle.schedule_file.specs.Table.Field.{NodeNumber, Value, HopLimit, T
 ghost use Rattle.schedule_file.specs.Standing.{Holds};
 
 use crate::prefixes::read_prefix;
-use crate::table::{Keyword, SchemeName, View, keyword_named, relation_named, scheme_named, view_named};
+use crate::table::{
+    Keyword, SchemeName, View, keyword_named, relation_named, scheme_named, view_named,
+};
 use text_lines::{Line as Span, Tokens, read_number};
-use topology::limits::{HIGHEST_EPOCH, HIGHEST_HOPS, HIGHEST_MESSAGE, HIGHEST_NODE, HIGHEST_PACKET, HIGHEST_PREFERENCE, MOST_TIMES};
+use topology::limits::{
+    HIGHEST_EPOCH, HIGHEST_HOPS, HIGHEST_MESSAGE, HIGHEST_NODE, HIGHEST_PACKET, HIGHEST_PREFERENCE,
+    MOST_TIMES,
+};
 use topology::{BadKind, Epoch, NodeId, Prefix, Relation};
 
 /// The words of one line: how many, and the first four. One that is not there is empty.
