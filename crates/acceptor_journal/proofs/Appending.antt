@@ -13,7 +13,7 @@ use Rattle.acceptor_journal.specs.declared.disk.DiskEnd.{DiskEnd}
 use Rattle.acceptor_journal.specs.declared.disk.DiskEnd.TheVariants as disk
 use Rattle.acceptor_journal.specs.declared.journal.JournalEnd.{JournalEnd}
 use Rattle.acceptor_journal.specs.declared.journal.JournalEnd.TheVariants.{NoMemory, Fault, Full}
-use Rattle.acceptor_journal.specs.declared.journal.TheConstants.{MAX_BYTES}
+use Rattle.acceptor_journal.specs.declared.journal.TheConstants.{MOST_JOURNAL_BYTES}
 use Rattle.acceptor_journal.proofs.Closing.{durable_reads, durable_left, durable_rewritten, torn_from, front_stays, rest_stays, opened_is}
 use Rattle.acceptor_journal.proofs.DiskCalls.{rose_after, quiet_rose}
 use Rattle.acceptor_journal.proofs.Moments.{started, weaker, goes_on}
@@ -24,7 +24,7 @@ module _ (at : ℕ) (bytes : List ℕ) (old : DiskView) where
   nothing_done : (file : List ℕ) → IsDurable old file → at < length file → LeavesOnly old old (IsMidway at bytes file)
   nothing_done file durable within = started old (IsMidway at bytes file) (λ image left. inl (ap (take (at + 1)) (durable_left old file image durable left)))
 
-  pub appends_full : MAX_BYTES < at + (6 + length bytes) → Appends at bytes old (Err Full) old
+  pub appends_full : MOST_JOURNAL_BYTES < at + (6 + length bytes) → Appends at bytes old (Err Full) old
   appends_full beyond = record {
     place = λ gate is. absurd (cc is);
     does = λ gate is. absurd (cc is);
@@ -37,7 +37,7 @@ module _ (at : ℕ) (bytes : List ℕ) (old : DiskView) where
     fault = quiet_rose (IsErrOf {T = ℕ} (Err Full) Fault) old.faults old.faults refl (λ e. absurd (cc e));
   }
 
-  pub appends_unmade : at + (6 + length bytes) ≤ MAX_BYTES → Appends at bytes old (Err NoMemory) old
+  pub appends_unmade : at + (6 + length bytes) ≤ MOST_JOURNAL_BYTES → Appends at bytes old (Err NoMemory) old
   appends_unmade fits = record {
     place = λ gate is. absurd (cc is);
     does = λ gate is. absurd (cc is);
@@ -50,7 +50,7 @@ module _ (at : ℕ) (bytes : List ℕ) (old : DiskView) where
     fault = quiet_rose (IsErrOf {T = ℕ} (Err NoMemory) Fault) old.faults old.faults refl (λ e. absurd (cc e));
   }
 
-  appends_failed : {T : Type 0} (new : DiskView) (why : DiskEnd) (r : Result ℕ JournalEnd) → at + (6 + length bytes) ≤ MAX_BYTES → IsErr r × IsErrAnd r (λ end. end ≡ end_of why)
+  appends_failed : {T : Type 0} (new : DiskView) (why : DiskEnd) (r : Result ℕ JournalEnd) → at + (6 + length bytes) ≤ MOST_JOURNAL_BYTES → IsErr r × IsErrAnd r (λ end. end ≡ end_of why)
       → ((file : List ℕ) → IsDurable old file → at < length file → LeavesOnly old new (IsMidway at bytes file)) → KeepsTelling old new → RoseIf (IsErrOf {T = T} (Err why) disk.Failed) old.faults new.faults
       → Appends at bytes old r new
   appends_failed {T = T} new why r fits h moments telling fault =
@@ -72,7 +72,7 @@ module _ (at : ℕ) (bytes : List ℕ) (old : DiskView) where
       (λ image left. front_stays at bytes file within image (torn_from old file (at + 1) (body bytes ++ 0 ∷ []) image durable left)) (goes.moments (durable_reads old file durable))
 
   -- the record was not staged
-  pub appends_unstaged : {T : Type 0} (new : DiskView) (why : DiskEnd) (r : Result ℕ JournalEnd) → at + (6 + length bytes) ≤ MAX_BYTES → IsErr r × IsErrAnd r (λ end. end ≡ end_of why)
+  pub appends_unstaged : {T : Type 0} (new : DiskView) (why : DiskEnd) (r : Result ℕ JournalEnd) → at + (6 + length bytes) ≤ MOST_JOURNAL_BYTES → IsErr r × IsErrAnd r (λ end. end ≡ end_of why)
       → Rewrites {T = T} (at + 1) (body bytes ++ 0 ∷ []) old (Err why) new → Appends at bytes old r new
   appends_unstaged {T = T} new why r fits h wrote =
       appends_failed {T = T} new why r fits h (staging_moments new (IsErrOf {T = T} (Err why) disk.Failed) wrote.effect) wrote.effect.telling wrote.effect.fault
@@ -96,13 +96,13 @@ module _ (at : ℕ) (bytes : List ℕ) (old : DiskView) where
     quiet = ap (λ (v : DiskView). v.faults) (staged.ok refl)
 
     -- the gate was not opened
-    pub appends_unopened : {S : Type 0} (new : DiskView) (why : DiskEnd) (r : Result ℕ JournalEnd) → at + (6 + length bytes) ≤ MAX_BYTES → IsErr r × IsErrAnd r (λ end. end ≡ end_of why)
+    pub appends_unopened : {S : Type 0} (new : DiskView) (why : DiskEnd) (r : Result ℕ JournalEnd) → at + (6 + length bytes) ≤ MOST_JOURNAL_BYTES → IsErr r × IsErrAnd r (λ end. end ≡ end_of why)
         → Rewrites {T = S} at (1 ∷ []) mid (Err why) new → Appends at bytes old r new
     appends_unopened {S = S} new why r fits h wrote =
         appends_failed {T = S} new why r fits h (opening_moments new (IsErrOf {T = S} (Err why) disk.Failed) wrote.effect) (keeps_both old mid new staged.effect.telling wrote.effect.telling)
         (rose_after (IsErrOf {T = S} (Err why) disk.Failed) old.faults mid.faults new.faults quiet wrote.effect.fault)
 
-    pub appends : {S : Type 0} (y : S) (new : DiskView) → at + (6 + length bytes) ≤ MAX_BYTES → Rewrites {T = S} at (1 ∷ []) mid (Ok y) new → Appends at bytes old (Ok (at + (5 + length bytes))) new
+    pub appends : {S : Type 0} (y : S) (new : DiskView) → at + (6 + length bytes) ≤ MOST_JOURNAL_BYTES → Rewrites {T = S} at (1 ∷ []) mid (Ok y) new → Appends at bytes old (Ok (at + (5 + length bytes))) new
     appends {S = S} y new fits wrote = record {
       place = λ gate is. cc (sym is);
       does = λ gate is. wrote.ok refl ∙ ap (λ v. synced (written at (1 ∷ []) v)) (staged.ok refl);

@@ -8,7 +8,7 @@ use Rattle.acceptor_journal.specs.JournalFiles.{HoldsKept, IsClosed, IsJournalFi
 use Rattle.acceptor_journal.specs.Places.{Place}
 use Rattle.acceptor_journal.specs.Journals.{ButForGate, IsMidway, shut, with_record}
 use Rattle.acceptor_journal.specs.Durable.{ReadUpTo, IsOrOneMore, EachOpening, EachReading, EachFinish, EachAppend}
-use Rattle.acceptor_journal.specs.declared.journal.TheConstants.{MAX_BYTES}
+use Rattle.acceptor_journal.specs.declared.journal.TheConstants.{MOST_JOURNAL_BYTES}
 use Rattle.acceptor_journal.proofs.Closing.{durable_reads, durable_left}
 use Rattle.acceptor_journal.proofs.Ended.{read_none, read_more, read_all, stays, shuts, same_back, gate_within, midway, appended, place_then}
 use Rattle.acceptor_journal.proofs.Histories.{durable_on}
@@ -83,7 +83,7 @@ each_finish reader file given old new answer f h yes_ended journal =
     }
 
 pub each_append : EachAppend
-each_append gate records bytes old new answer a h = elim (cases_lt MAX_BYTES (gate + (6 + length bytes))) [
+each_append gate records bytes old new answer a h = elim (cases_lt MOST_JOURNAL_BYTES (gate + (6 + length bytes))) [
   | inl beyond ↦
       let is_full = a.full.1 beyond in
       let same : new ≡ old = a.full_same is_full in

@@ -13,7 +13,7 @@ use Rattle.acceptor_journal.specs.Journals.{KeepsTelling, Opens, Reads, Finishes
 use Rattle.acceptor_journal.specs.Histories.{Call, Open, Next, Finish, Append, Crash, CrashIn, Stage, Closed, Reading, Appending, Transition, Keeps, IsHistory, KeepsRecords, CallsInARowAreAHistory, reader_of, keeper_of, restarted, disk_after, stage_after, with_given, given_so_far, kept, pending, further, or_else, under_way, calls}
 use Rattle.acceptor_journal.specs.declared.journal.JournalEnd.{JournalEnd}
 use Rattle.acceptor_journal.specs.declared.journal.JournalEnd.TheVariants.{NoMemory, Fault, Full}
-use Rattle.acceptor_journal.specs.declared.journal.TheConstants.{MAX_BYTES}
+use Rattle.acceptor_journal.specs.declared.journal.TheConstants.{MOST_JOURNAL_BYTES}
 use Rattle.acceptor_journal.proofs.Closing.{durable_reads, durable_left, durable_synced}
 use Rattle.acceptor_journal.proofs.Ended.{read_none, read_more, read_all, stays, shuts, gate_within, midway, appended, place_then}
 use Rattle.acceptor_journal.proofs.Images.{settled_left, settled_stays}
@@ -191,14 +191,14 @@ module _ (gate : ℕ) (bytes : List ℕ) (answer : Result ℕ JournalEnd) (old n
   append_inside : length bytes < 2 ^ 32 → gate < length (b.holds.file)
   append_inside small = gate_within gate (kept past) bytes b.holds.file b.holds.closed b.holds.place small
 
-  append_small : gate + (6 + length bytes) ≤ MAX_BYTES → length bytes < 2 ^ 32
+  append_small : gate + (6 + length bytes) ≤ MOST_JOURNAL_BYTES → length bytes < 2 ^ 32
   append_small fits = omega (arith, fits)
 
-  append_moments : gate + (6 + length bytes) ≤ MAX_BYTES → LeavesOnly old new (IsMidway gate bytes b.holds.file)
+  append_moments : gate + (6 + length bytes) ≤ MOST_JOURNAL_BYTES → LeavesOnly old new (IsMidway gate bytes b.holds.file)
   append_moments fits = a.moments b.holds.file b.holds.durable (append_inside (append_small fits))
 
   append_within : Within (Append bytes answer) old new past
-  append_within image left = elim (cases_lt MAX_BYTES (gate + (6 + length bytes))) [
+  append_within image left = elim (cases_lt MOST_JOURNAL_BYTES (gate + (6 + length bytes))) [
     | inl beyond ↦
         let same : new ≡ old = a.full_same (a.full.1 beyond) in
         let only = no_act old old (LeavesNow old) refl (λ image left. left) in
@@ -208,7 +208,7 @@ module _ (gate : ℕ) (bytes : List ℕ) (answer : Result ℕ JournalEnd) (old n
   ]
 
 append_step : (gate : ℕ) (bytes : List ℕ) (answer : Result ℕ JournalEnd) (old new : DiskView) (past : List Call) → Between old (Appending gate) past → Appends gate bytes old answer new → Between new (keeper_of answer) (Append bytes answer ∷ past)
-append_step gate bytes (Ok next) old new past b a = elim (cases_lt MAX_BYTES (gate + (6 + length bytes))) [
+append_step gate bytes (Ok next) old new past b a = elim (cases_lt MOST_JOURNAL_BYTES (gate + (6 + length bytes))) [
   | inl beyond ↦ absurd (cc (a.full.1 beyond))
   | inr fits ↦
       let small = append_small gate bytes (Ok next) old new past b a fits in
@@ -228,14 +228,14 @@ append_step gate bytes (Err Full) old new past b a =
     let same : new ≡ old = a.full_same refl in
     let moments = no_act old new (LeavesNow old) (ap (λ (v : DiskView). v.acts) same) (λ image left. left) in
     next_between (LeavesNow old) old new (Appending gate) Closed past (Append bytes (Err Full)) b moments a.telling (λ image left. b.images image (subst (λ v. LeavesNow v image) same left)) tt
-append_step gate bytes (Err Fault) old new past b a = elim (cases_lt MAX_BYTES (gate + (6 + length bytes))) [
+append_step gate bytes (Err Fault) old new past b a = elim (cases_lt MOST_JOURNAL_BYTES (gate + (6 + length bytes))) [
   | inl beyond ↦ absurd (cc (a.full.1 beyond))
   | inr fits ↦
       let moments = append_moments gate bytes (Err Fault) old new past b a fits in
       next_between (IsMidway gate bytes b.holds.file) old new (Appending gate) Closed past (Append bytes (Err Fault)) b moments a.telling
       (λ image left. append_within gate bytes (Err Fault) old new past b a image (then_left (IsMidway gate bytes b.holds.file) old new (Appending gate) past b moments image left)) tt
 ]
-append_step gate bytes (Err NoMemory) old new past b a = elim (cases_lt MAX_BYTES (gate + (6 + length bytes))) [
+append_step gate bytes (Err NoMemory) old new past b a = elim (cases_lt MOST_JOURNAL_BYTES (gate + (6 + length bytes))) [
   | inl beyond ↦ absurd (cc (a.full.1 beyond))
   | inr fits ↦
       let moments = append_moments gate bytes (Err NoMemory) old new past b a fits in

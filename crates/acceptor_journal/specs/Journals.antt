@@ -8,7 +8,7 @@ use Rattle.acceptor_journal.specs.Records.{Back, body}
 use Rattle.acceptor_journal.specs.Places.{Place}
 use Rattle.acceptor_journal.specs.declared.journal.JournalEnd.{JournalEnd}
 use Rattle.acceptor_journal.specs.declared.journal.JournalEnd.TheVariants.{Fault, Full}
-use Rattle.acceptor_journal.specs.declared.journal.TheConstants.{MAX_BYTES}
+use Rattle.acceptor_journal.specs.declared.journal.TheConstants.{MOST_JOURNAL_BYTES}
 
 -- ---- what a journal does to a file
 
@@ -109,7 +109,7 @@ pub record Appends (at : ℕ) (bytes : List ℕ) (old : DiskView) (answer : Resu
   -- and at each moment of the call it leaves the gate as before, or the record whole behind it
   pub moments : (file : List ℕ) → IsDurable old file → at < length file → LeavesOnly old new (IsMidway at bytes file)
   -- Full: exactly where the closed gate behind the record would end above the limit, and then nothing is done
-  pub full : IsErrOf answer Full ↔ (MAX_BYTES < at + (6 + length bytes))
+  pub full : IsErrOf answer Full ↔ (MOST_JOURNAL_BYTES < at + (6 + length bytes))
   pub full_same : IsErrOf answer Full → new ≡ old
   pub telling : KeepsTelling old new
   pub fault : RoseIf (IsErrOf answer Fault) old.faults new.faults

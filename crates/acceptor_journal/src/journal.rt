@@ -17,7 +17,7 @@ use std::alloc::{AllocError, Global};
 use std::marker::Model;
 
 /// A journal's file has at most as many bytes: 256 MiB.
-pub const MAX_BYTES: u64 = 268_435_456;
+pub const MOST_JOURNAL_BYTES: u64 = 268_435_456;
 
 /// Why a call of a journal has no answer. After `NoMemory` and `Fault` the file is to be opened again, but
 /// for [`Reader::next`], which may also be called again.
@@ -27,7 +27,7 @@ pub enum JournalEnd {
     NoMemory,
     /// A call of the disk failed, and its count of faults rose.
     Fault,
-    /// The closed gate behind the record would end above [`MAX_BYTES`]. Nothing was done.
+    /// The closed gate behind the record would end above [`MOST_JOURNAL_BYTES`]. Nothing was done.
     Full,
 }
 
@@ -135,7 +135,7 @@ impl Journal {
         ensures { Appends self piece.now (D.seen disk.old) result (D.seen disk.new) }
     {
         let size = piece.len() as u64;
-        if self.gate.saturating_add(6).saturating_add(size) > MAX_BYTES {
+        if self.gate.saturating_add(6).saturating_add(size) > MOST_JOURNAL_BYTES {
             return Err(JournalEnd::Full);
         }
         let Ok(behind) = body_of(self.alloc, piece) else {

@@ -18,5 +18,5 @@ pub mod memory;
 
 pub use disk::{Disk, DiskEnd};
 pub use file::FileDisk;
-pub use journal::{Journal, JournalEnd, MAX_BYTES, Reader, open_journal};
+pub use journal::{Journal, JournalEnd, MOST_JOURNAL_BYTES, Reader, open_journal};
 pub use memory::MemDisk;

@@ -1,6 +1,7 @@
 //! Laws of deflection over a network that stays as it is, whatever the order of the neighbours is at each hop. A call of a
 //! law brings what it says into the caller's proof.
 ghost use Rattle.std.specs.Prelude.{ℕ, ◌≡◌, ◌≤◌, ◌<◌, ◌*◌, ◌-◌, [], List, length, true};
+ghost use Rattle.topology.specs.declared.limits.TheConstants.{MOST_NODES, MOST_TRAIL};
 ghost use Rattle.topology.specs.Lists.{has};
 ghost use Rattle.topology.specs.Net.{Net, IsValid};
 ghost use Rattle.topology.specs.declared.names.Scheme.TheVariants as scheme;
@@ -29,7 +30,7 @@ pub fn a_packet_begins_a_tour()
 #[tactic(auto, using(crate::proofs::Touring::goes_on))]
 pub fn a_deflection_goes_on_with_the_tour()
     ensures { (net : Net) (terrain : Terrain) (hops from w : ℕ) (packet moved : Packet) (view : Sight) →
-        IsTerrain net terrain → Shows terrain view → length net.nodes ≤ 64 →
+        IsTerrain net terrain → Shows terrain view → length net.nodes ≤ MOST_NODES →
         IsTour net terrain hops (record { from = from; at = view.at; packet = packet }) →
         hop_under scheme.Deflect net packet view ≡ Next w moved →
         IsTour net terrain hops (record { from = from; at = w; packet = moved }) }
@@ -41,10 +42,10 @@ pub fn a_tour_has_few_moves()
         tour.moves ≤ 2 * (length net.nodes - 1) }
 {}
 
-/// The way back is shorter than 64 nodes, so that it always has room for one more.
+/// The way back is shorter than the longest trail, so that it always has room for one more.
 pub fn a_tour_has_room()
     ensures { (net : Net) (terrain : Terrain) (hops : ℕ) (trip : Trip) → IsTour net terrain hops trip →
-        length net.nodes ≤ 64 → length trip.packet.trail < 64 }
+        length net.nodes ≤ MOST_NODES → length trip.packet.trail < MOST_TRAIL }
 {}
 
 /// A walk that ends on a tour ends as it should: as delivered only where its first node is connected with an owner, as stuck
@@ -52,7 +53,7 @@ pub fn a_tour_has_room()
 #[tactic(auto, using(crate::proofs::Touring::ends_well))]
 pub fn a_tour_ends_well()
     ensures { (net : Net) (terrain : Terrain) (hops from : ℕ) (packet : Packet) (view : Sight) (ending : Ending) →
-        IsTerrain net terrain → Shows terrain view → length net.nodes ≤ 64 →
+        IsTerrain net terrain → Shows terrain view → length net.nodes ≤ MOST_NODES →
         IsTour net terrain hops (record { from = from; at = view.at; packet = packet }) →
         hop_under scheme.Deflect net packet view ≡ Ended ending →
         EndsWell net terrain hops (record { from = from; at = view.at; packet = packet }) ending }
@@ -61,7 +62,7 @@ pub fn a_tour_ends_well()
 /// After two moves for each of the other nodes, at a node that is connected with an owner, the packet is delivered.
 pub fn after_all_moves_a_tour_is_delivered()
     ensures { (net : Net) (terrain : Terrain) (hops from : ℕ) (packet : Packet) (view : Sight) →
-        IsTerrain net terrain → Shows terrain view → length net.nodes ≤ 64 →
+        IsTerrain net terrain → Shows terrain view → length net.nodes ≤ MOST_NODES →
         (tour : IsTour net terrain hops (record { from = from; at = view.at; packet = packet })) →
         2 * (length net.nodes - 1) ≤ tour.moves → Connects terrain view.at →
         hop_under scheme.Deflect net packet view ≡ Ended Delivered }

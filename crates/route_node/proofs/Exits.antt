@@ -16,7 +16,7 @@ use Rattle.acceptor_journal.proofs.Durable.{each_append}
 use Rattle.acceptor_journal.proofs.Moments.{left_now}
 use Rattle.wire_frames.specs.declared.frames.Frame.{Frame}
 use Rattle.wire_frames.specs.Frames.{spell}
-use Rattle.route_node.specs.declared.keeping.TheConstants.{MAX_JOURNAL}
+use Rattle.route_node.specs.declared.keeping.TheConstants.{MOST_JOURNAL}
 use Rattle.route_node.specs.Keeping.{KeptBy, ended_by, kept_as}
 use Rattle.route_node.specs.Running.{EndsServing, KeepsFrames}
 use Rattle.route_node.specs.Served.{BreaksOff}
@@ -100,7 +100,7 @@ module _ (who : Who) (first link : LinkView) (begun mid : DiskView) (now : Optio
   -- the frame was not kept
   pub served_unkept : (status : Status) (new : DiskView) → KeptBy now (spell f) mid (Err status) new
       → (BreaksOff who.records status → (status ≡ LinkFault → ⊥) → EndsServing who first link frames status)
-      → (journal_limit who.records frames f ≡ Some (record { kind = Journal; number = MAX_JOURNAL }) → EndsServing who first link frames (Limit Journal MAX_JOURNAL))
+      → (journal_limit who.records frames f ≡ Some (record { kind = Journal; number = MOST_JOURNAL }) → EndsServing who first link frames (Limit Journal MOST_JOURNAL))
       → (journal_limit who.records frames f ≡ None → AreInFront who first.incoming (f ∷ frames)) → ServedKept who first link begun new status
   served_unkept status new kept broken full front = by_case (what_was_kept who.records frames f now mid (kept_not status) new keeps.has kept)
     where
@@ -111,12 +111,12 @@ module _ (who : Who) (first link : LinkView) (begun mid : DiskView) (now : Optio
           let still = tried.appends.full_same (ap ended at_full) in
           let limit = ap (λ r. journal_limit r frames f) is ∙ no_room with_records frames f beyond in
           subst (λ d. ServedKept who first link begun d status) (sym still)
-          (subst (ServedKept who first link begun mid) (sym (same ∙ ap ended_by at_full)) (served_at_rest who first link begun mid now frames (Limit Journal MAX_JOURNAL) keeps (full limit) (λ e. cc e)))
+          (subst (ServedKept who first link begun mid) (sym (same ∙ ap ended_by at_full)) (served_at_rest who first link begun mid now frames (Limit Journal MOST_JOURNAL) keeps (full limit) (λ e. cc e)))
       by_end with_records is end tried same (inr not_full) =
-          let fits : place_behind (spellings (frames ++ with_records)) + (6 + length (spell f)) ≤ MAX_JOURNAL =
-          ⊎_elim (λ (beyond : MAX_JOURNAL < place_behind (spellings (frames ++ with_records)) + (6 + length (spell f))). absurd (not_full (let e = tried.appends.full.1 beyond in cc e)))
-          (λ (fit : place_behind (spellings (frames ++ with_records)) + (6 + length (spell f)) ≤ MAX_JOURNAL). fit)
-          (cases_lt MAX_JOURNAL (place_behind (spellings (frames ++ with_records)) + (6 + length (spell f)))) in
+          let fits : place_behind (spellings (frames ++ with_records)) + (6 + length (spell f)) ≤ MOST_JOURNAL =
+          ⊎_elim (λ (beyond : MOST_JOURNAL < place_behind (spellings (frames ++ with_records)) + (6 + length (spell f))). absurd (not_full (let e = tried.appends.full.1 beyond in cc e)))
+          (λ (fit : place_behind (spellings (frames ++ with_records)) + (6 + length (spell f)) ≤ MOST_JOURNAL). fit)
+          (cases_lt MOST_JOURNAL (place_behind (spellings (frames ++ with_records)) + (6 + length (spell f)))) in
           let room = ap (λ r. journal_limit r frames f) is ∙ room_left with_records frames f fits in
           let why : BreaksOff who.records (ended_by end) = subst (λ r. BreaksOff r (ended_by end)) (sym is) (breaks with_records end not_full) in
           let over : EndsServing who first link frames (ended_by end) = subst (EndsServing who first link frames) same (broken (subst (BreaksOff who.records) (sym same) why) (λ e. not_link end (sym same ∙ e))) in

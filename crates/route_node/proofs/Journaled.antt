@@ -20,7 +20,7 @@ use Rattle.acceptor_journal.proofs.JournalFiles.{at_rest, closed_back, place_mor
 use Rattle.acceptor_journal.proofs.Moments.{goes_on, started, weaker}
 use Rattle.wire_frames.specs.declared.frames.Frame.{Frame}
 use Rattle.wire_frames.specs.Frames.{spell}
-use Rattle.route_node.specs.declared.keeping.TheConstants.{MAX_JOURNAL}
+use Rattle.route_node.specs.declared.keeping.TheConstants.{MOST_JOURNAL}
 use Rattle.route_node.specs.Fronts.{Holds}
 use Rattle.route_node.specs.Keeping.{KeptBy, kept_as}
 use Rattle.route_node.specs.Running.{KeepsFrames}
@@ -96,18 +96,18 @@ next_gate first f frames = sym (place_more (spellings (frames ++ first)) (spell 
 
 -- how much one more record may take
 abbrev pub IsRoom : ℕ → Frame → Type 0
-IsRoom gate f = gate + (6 + length (spell f)) ≤ MAX_JOURNAL
+IsRoom gate f = gate + (6 + length (spell f)) ≤ MOST_JOURNAL
 
 pub room_left : (first before : List Frame) (f : Frame) → IsRoom (place_behind (spellings (before ++ first))) f → journal_limit (Some first) before f ≡ None
 room_left first before f fits =
-    let test : nat_lt MAX_JOURNAL (place_behind (spellings (before ++ first)) + (6 + length (spell f))) ≡ false = grind (arith, nat_tests, fits) in
-    ap (λ b. if b then Some (record { kind = Journal; number = MAX_JOURNAL }) else None) test
+    let test : nat_lt MOST_JOURNAL (place_behind (spellings (before ++ first)) + (6 + length (spell f))) ≡ false = grind (arith, nat_tests, fits) in
+    ap (λ b. if b then Some (record { kind = Journal; number = MOST_JOURNAL }) else None) test
 
-pub no_room : (first before : List Frame) (f : Frame) → MAX_JOURNAL < place_behind (spellings (before ++ first)) + (6 + length (spell f))
-    → journal_limit (Some first) before f ≡ Some (record { kind = Journal; number = MAX_JOURNAL })
+pub no_room : (first before : List Frame) (f : Frame) → MOST_JOURNAL < place_behind (spellings (before ++ first)) + (6 + length (spell f))
+    → journal_limit (Some first) before f ≡ Some (record { kind = Journal; number = MOST_JOURNAL })
 no_room first before f beyond =
-    let test : nat_lt MAX_JOURNAL (place_behind (spellings (before ++ first)) + (6 + length (spell f))) ≡ true = grind (arith, nat_tests, beyond) in
-    ap (λ b. if b then Some (record { kind = Journal; number = MAX_JOURNAL }) else None) test
+    let test : nat_lt MOST_JOURNAL (place_behind (spellings (before ++ first)) + (6 + length (spell f))) ≡ true = grind (arith, nat_tests, beyond) in
+    ap (λ b. if b then Some (record { kind = Journal; number = MOST_JOURNAL }) else None) test
 
 -- what an append came to, at the journal of some frames
 pub record Tried (first frames : List Frame) (f : Frame) (old : DiskView) (end : Result ℕ JournalEnd) (new : DiskView) : Type 0 where
@@ -165,9 +165,9 @@ module _ (who : Who) (incoming : Option (List ℕ)) (begun mid : DiskView) (now 
     where
       fits : (first : List Frame) (end : Result ℕ JournalEnd) → Tried first frames f mid end new → kept_now next ≡ kept_as end → IsRoom (place_behind (spellings (frames ++ first))) f
       fits first (Ok gate) tried same =
-          ⊎_elim (λ (beyond : MAX_JOURNAL < place_behind (spellings (frames ++ first)) + (6 + length (spell f))). absurd (cc (tried.appends.full.1 beyond)))
-          (λ (fit : place_behind (spellings (frames ++ first)) + (6 + length (spell f)) ≤ MAX_JOURNAL). fit)
-          (cases_lt MAX_JOURNAL (place_behind (spellings (frames ++ first)) + (6 + length (spell f))))
+          ⊎_elim (λ (beyond : MOST_JOURNAL < place_behind (spellings (frames ++ first)) + (6 + length (spell f))). absurd (cc (tried.appends.full.1 beyond)))
+          (λ (fit : place_behind (spellings (frames ++ first)) + (6 + length (spell f)) ≤ MOST_JOURNAL). fit)
+          (cases_lt MOST_JOURNAL (place_behind (spellings (frames ++ first)) + (6 + length (spell f))))
       fits first (Err end) tried same = absurd (cc same)
 
       by_case : WasKept who.records frames f mid (kept_now next) new

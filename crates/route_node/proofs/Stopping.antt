@@ -12,7 +12,7 @@ use Rattle.node_core.specs.NodeLimits.{Reached, first_of_node, node_above, has_m
 use Rattle.admission_laws.specs.NodeRuns.{gives}
 use Rattle.wire_frames.specs.declared.frames.Frame.{Frame}
 use Rattle.wire_frames.specs.Frames.{spell}
-use Rattle.route_node.specs.declared.keeping.TheConstants.{MAX_JOURNAL}
+use Rattle.route_node.specs.declared.keeping.TheConstants.{MOST_JOURNAL}
 use Rattle.topology.specs.declared.limits.TheConstants.{MOST_FRAMES}
 use Rattle.route_node.specs.Frames.{brought}
 use Rattle.route_node.specs.Served.{ends_serving}
@@ -51,7 +51,7 @@ at_input who before (Some i) = above (is_some who.records) who.rules who.net who
 at_journal : (records : Option (List Frame)) (before : List Frame) (f : Frame) → may_stop (is_some records) (journal_limit records before f) ≡ true
 at_journal None before f = refl
 at_journal (Some records) before f =
-    elim (nat_lt MAX_JOURNAL (place_behind (spellings (before ++ records)) + (6 + length (spell f)))) as (λ t. may_stop true (if t then Some (record { kind = Journal; number = MAX_JOURNAL }) else None) ≡ true) [
+    elim (nat_lt MOST_JOURNAL (place_behind (spellings (before ++ records)) + (6 + length (spell f)))) as (λ t. may_stop true (if t then Some (record { kind = Journal; number = MOST_JOURNAL }) else None) ≡ true) [
       | true ↦ refl
       | false ↦ refl
     ]

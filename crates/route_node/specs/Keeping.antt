@@ -7,13 +7,13 @@ use Rattle.acceptor_journal.specs.Views.{DiskView}
 use Rattle.acceptor_journal.specs.Journals.{Appends}
 use Rattle.acceptor_journal.specs.declared.journal.JournalEnd.{JournalEnd}
 use Rattle.acceptor_journal.specs.declared.journal.JournalEnd.TheVariants as journal
-use Rattle.route_node.specs.declared.keeping.TheConstants.{MAX_JOURNAL}
+use Rattle.route_node.specs.declared.keeping.TheConstants.{MOST_JOURNAL}
 
 -- the status of a run whose journal gave no answer
 abbrev pub ended_by : JournalEnd → Status
 ended_by journal.NoMemory = NoMemory
 ended_by journal.Fault = DiskFault
-ended_by journal.Full = Limit Journal MAX_JOURNAL
+ended_by journal.Full = Limit Journal MOST_JOURNAL
 
 -- the journal behind a call of it, or the status with which the run ends
 abbrev pub kept_as : Result ℕ JournalEnd → Result (Option ℕ) Status

@@ -19,7 +19,7 @@ use Rattle.wire_frames.specs.declared.frames.Frame.{Frame}
 use Rattle.wire_frames.specs.Frames.{spell}
 use Rattle.wire_frames.specs.Frames.{fits as has_spelling}
 use Rattle.wire_frames.specs.Reading.{Found, Whole, Partial, Wrong, found}
-use Rattle.route_node.specs.declared.keeping.TheConstants.{MAX_JOURNAL}
+use Rattle.route_node.specs.declared.keeping.TheConstants.{MOST_JOURNAL}
 use Rattle.topology.specs.declared.limits.TheConstants.{MOST_FRAMES}
 use Rattle.route_node.specs.Frames.{brought, telling}
 use Rattle.route_node.specs.Who.{Who, begun_by, run_over, spellings}
@@ -64,8 +64,8 @@ input_limit who before (Some i) = limit_at who.rules who.net who.node (run_over 
 abbrev pub journal_limit : Option (List Frame) → List Frame → Frame → Option Reached
 journal_limit None before f = None
 journal_limit (Some records) before f =
-    if nat_lt MAX_JOURNAL (place_behind (spellings (before ++ records)) + (6 + length (spell f)))
-    then Some (record { kind = Journal; number = MAX_JOURNAL }) else None
+    if nat_lt MOST_JOURNAL (place_behind (spellings (before ++ records)) + (6 + length (spell f)))
+    then Some (record { kind = Journal; number = MOST_JOURNAL }) else None
 
 -- the first of two counts that would be above their numbers
 abbrev pub first_of_two : Option Reached → Option Reached → Option Reached

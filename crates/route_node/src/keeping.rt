@@ -2,11 +2,11 @@
 ghost use Rattle.std.specs.Prelude.{◌≡◌};
 ghost use Rattle.route_node.specs.Keeping.{KeptBy, ended_by};
 
-use acceptor_journal::{Disk, Journal, JournalEnd, MAX_BYTES};
+use acceptor_journal::{Disk, Journal, JournalEnd, MOST_JOURNAL_BYTES};
 use topology::{LimitKind, Status};
 
 /// The most bytes of a journal, as a limit names them.
-pub const MAX_JOURNAL: u32 = MAX_BYTES as u32;
+pub const MOST_JOURNAL: u32 = MOST_JOURNAL_BYTES as u32;
 
 /// How a run ends where a call of its journal has no answer.
 pub(crate) fn status_of(end: JournalEnd) -> Status
@@ -15,7 +15,7 @@ pub(crate) fn status_of(end: JournalEnd) -> Status
     match end {
         JournalEnd::NoMemory => Status::NoMemory,
         JournalEnd::Fault => Status::DiskFault,
-        JournalEnd::Full => Status::Limit(LimitKind::Journal, MAX_JOURNAL),
+        JournalEnd::Full => Status::Limit(LimitKind::Journal, MOST_JOURNAL),
     }
 }
 

@@ -21,7 +21,7 @@ pub mod restoring;
 pub mod serving;
 
 pub use attending::{KeptNode, attend, attend_kept};
-pub use keeping::MAX_JOURNAL;
+pub use keeping::MOST_JOURNAL;
 pub use plain::attend_plain;
 pub use restoring::{Kept, restore};
 pub use serving::{serve, serve_kept};

@@ -9,13 +9,14 @@ use crate::draws::Draws;
 use crate::load_network::{NODES, PREFIXES, load_network};
 use schedule_file::Directive;
 use std::alloc::{AllocError, Global};
+use topology::limits::{MOST_CONTROL, MOST_TIMES};
 use topology::{Epoch, NoMemory, NodeId, PrefixId, Topology};
 
 /// As many deliveries as a line may ask for.
-const ALL_DELIVERIES: u32 = 1_000_000;
+const ALL_DELIVERIES: u32 = MOST_TIMES;
 
 /// As many control messages as a run may have.
-const ALL_MESSAGES: u32 = 16_384;
+const ALL_MESSAGES: u32 = MOST_CONTROL;
 
 /// So many deliveries come between a failure and the epoch behind it.
 const FEW_DELIVERIES: u32 = 20;

@@ -11,6 +11,7 @@ use Rattle.topology.specs.declared.names.Scheme.TheVariants.{Deflect, Detour, Ba
 use Rattle.topology.specs.declared.prefixes.Prefix.{Prefix}
 use Rattle.topology.specs.declared.building.BuildError.{BuildError}
 use Rattle.topology.specs.declared.building.BuildError.TheVariants.{DuplicateNode, UnknownNode, DuplicateLink, SelfLink, DuplicatePrefix, TooMany, NoMemory, NoLink}
+use Rattle.topology.specs.declared.limits.TheConstants.{MOST_CONSOLIDATORS, MOST_LINKS, MOST_NODES, MOST_PREFIXES}
 
 -- nothing was added: packets make 128 moves at most off the tables, and deflect
 abbrev pub nothing : Net
@@ -54,8 +55,8 @@ with_scheme net scheme = record net { scheme = scheme }
 abbrev pub node_refusal : Net → ℕ → Bool → Option BuildError
 node_refusal net id consolidator =
     if has net.nodes id then Some DuplicateNode
-    else if nat_le 64 (length net.nodes) then Some TooMany
-    else if consolidator && nat_le 7 (length net.consolidators) then Some TooMany
+    else if nat_le MOST_NODES (length net.nodes) then Some TooMany
+    else if consolidator && nat_le MOST_CONSOLIDATORS (length net.consolidators) then Some TooMany
     else None
 
 -- why a link is not added: the first that holds
@@ -65,7 +66,7 @@ link_refusal net a b =
     else if not (has net.nodes b) then Some (UnknownNode b)
     else if a == b then Some SelfLink
     else if linked net a b then Some DuplicateLink
-    else if nat_le 512 (length net.links) then Some TooMany
+    else if nat_le MOST_LINKS (length net.links) then Some TooMany
     else None
 
 -- why a preference is not added, and why a hold is not: the first that holds
@@ -81,7 +82,7 @@ pref_refusal net a b =
 abbrev pub prefix_refusal : Net → Prefix → Option BuildError
 prefix_refusal net p =
     if has_prefix net p then Some DuplicatePrefix
-    else if nat_le 256 (length net.prefixes) then Some TooMany
+    else if nat_le MOST_PREFIXES (length net.prefixes) then Some TooMany
     else None
 
 -- why a scheme is not set: the node of a detour is none of the network

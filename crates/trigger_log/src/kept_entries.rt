@@ -13,11 +13,12 @@ use crate::counters::next_number;
 use crate::entries::Entry;
 use path_vector::{Policy, RouteState};
 use std::alloc::Global;
+use topology::limits::MOST_ENTRIES;
 use topology::{NoMemory, NodeId, Topology};
 
 // The room that a log is made with: as many entries as a node may make, so that a log that grows is not copied. Memory
 // that is not touched costs nothing.
-const ROOM: usize = 2048;
+const ROOM: usize = MOST_ENTRIES as usize;
 
 /// The entries of a log from a place on, the oldest first, and the routes after the entries before that place, which the
 /// log has dropped. Places count from 1.

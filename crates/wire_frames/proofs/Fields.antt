@@ -10,6 +10,7 @@ use Rattle.topology.specs.declared.items.Sent.{Sent}
 use Rattle.topology.specs.declared.items.Pending.{Pending}
 use Rattle.topology.specs.declared.names.Scope.{Scope}
 use Rattle.topology.specs.declared.names.Scope.TheVariants.{One, All, Nothing}
+use Rattle.topology.specs.declared.limits.TheConstants.{MOST_ENTRIES, MOST_NODES, MOST_PREFIXES, MOST_SESSIONS, MOST_TRAIL, MOST_TRIGGERS, MOST_UPDATES}
 use Rattle.epoch_packet.specs.declared.walks.Mode.{Mode}
 use Rattle.epoch_packet.specs.declared.walks.Mode.TheVariants.{Stable, Transient}
 use Rattle.incomplete_closure.specs.declared.cut_rows.Row.{Row}
@@ -202,7 +203,7 @@ different_laws = record { law = λ seen. ordered_law node (λ n. not (has seen n
 
 pub nodes_law : IsFormat nodes
 unfolding nodes
-nodes_law = listed_law (few 64) (in_any_order {S = ℕ}) 0 (few_law 64 (omega arith)) any_order_laws
+nodes_law = listed_law (few MOST_TRAIL) (in_any_order {S = ℕ}) 0 (few_law 64 (omega arith)) any_order_laws
 
 pub links_law : IsFormat links
 unfolding links
@@ -223,7 +224,7 @@ path_good (n ∷ ns) = refl
 
 pub path_law : IsFormat path
 unfolding path
-path_law = meant_law (listed (few 64) different []) path_meaning (listed_law (few 64) different [] (few_law 64 (omega arith)) different_laws)
+path_law = meant_law (listed (few MOST_NODES) different []) path_meaning (listed_law (few MOST_NODES) different [] (few_law 64 (omega arith)) different_laws)
     (record { back = path_back; there = λ ns h. path_there ns; good = λ ns h. path_good ns })
 
 pub paths_laws : {S : Type 0} → IsSeries (paths_in_order {S = S})
@@ -231,7 +232,7 @@ paths_laws = record { law = λ s. path_law; same = λ s p. refl }
 
 pub paths_law : IsFormat paths
 unfolding paths
-paths_law = listed_law (many 256) (paths_in_order {S = ℕ}) 0 (many_law 256 (omega arith)) paths_laws
+paths_law = listed_law (many MOST_PREFIXES) (paths_in_order {S = ℕ}) 0 (many_law 256 (omega arith)) paths_laws
 
 -- ---- values
 
@@ -240,10 +241,10 @@ rising_triggers_laws = record { law = λ last. ordered_law trigger (earlier last
 
 pub value_law : IsFormat value
 unfolding value
-value_law = meant_law (pair (listed (few 64) rising 0) (listed (many 8192) rising_triggers no_trigger)) value_meaning
-    (pair_law (listed (few 64) rising 0) (listed (many 8192) rising_triggers no_trigger)
-    (listed_law (few 64) rising 0 (few_law 64 (omega arith)) rising_laws)
-    (listed_law (many 8192) rising_triggers no_trigger (many_law 8192 (omega arith)) rising_triggers_laws))
+value_law = meant_law (pair (listed (few MOST_NODES) rising 0) (listed (many MOST_TRIGGERS) rising_triggers no_trigger)) value_meaning
+    (pair_law (listed (few MOST_NODES) rising 0) (listed (many MOST_TRIGGERS) rising_triggers no_trigger)
+    (listed_law (few MOST_NODES) rising 0 (few_law 64 (omega arith)) rising_laws)
+    (listed_law (many MOST_TRIGGERS) rising_triggers no_trigger (many_law 8192 (omega arith)) rising_triggers_laws))
     (record { back = λ b h. refl; there = λ p h. refl; good = λ p h. refl })
 
 pub named_law : IsFormat named
@@ -261,7 +262,7 @@ items_laws = record { law = sent_law; same = sent_spells }
 
 pub more_items_law : (before : ℕ) → IsFormat (more_items before)
 unfolding more_items
-more_items_law before = tested_law w16 (2 ^ 16) (λ n. nat_le (before + n) 16384) wide16 (λ n h. let below : before + n ≤ 16384 = leb-true (before + n) 16384 h in omega arith)
+more_items_law before = tested_law w16 (2 ^ 16) (λ n. nat_le (before + n) MOST_UPDATES) wide16 (λ n h. let below : before + n ≤ 16384 = leb-true (before + n) 16384 h in omega arith)
 
 -- the row with another list
 abbrev row_with : Row → List Trigger → Row
@@ -307,12 +308,12 @@ report_with r ps = record { node = r.node; epoch = r.epoch; rows = r.rows; sessi
 pub report_law : IsFormat report
 unfolding report
 report_law =
-    let lists_law = pair_law (listed (many 2048) rows 0) (listed (many 65535) session_rows (0, 0))
-    (listed_law (many 2048) rows 0 (many_law 2048 (omega arith)) rows_laws)
-    (listed_law (many 65535) session_rows (0, 0) (many_law 65535 (omega arith)) session_rows_laws) in
-    meant_law (pair node (pair epoch (pair (listed (many 2048) rows 0) (listed (many 65535) session_rows (0, 0))))) report_meaning
-    (pair_law node (pair epoch (pair (listed (many 2048) rows 0) (listed (many 65535) session_rows (0, 0)))) node_law
-    (pair_law epoch (pair (listed (many 2048) rows 0) (listed (many 65535) session_rows (0, 0))) epoch_law lists_law))
+    let lists_law = pair_law (listed (many MOST_ENTRIES) rows 0) (listed (many MOST_SESSIONS) session_rows (0, 0))
+    (listed_law (many MOST_ENTRIES) rows 0 (many_law 2048 (omega arith)) rows_laws)
+    (listed_law (many MOST_SESSIONS) session_rows (0, 0) (many_law 65535 (omega arith)) session_rows_laws) in
+    meant_law (pair node (pair epoch (pair (listed (many MOST_ENTRIES) rows 0) (listed (many MOST_SESSIONS) session_rows (0, 0))))) report_meaning
+    (pair_law node (pair epoch (pair (listed (many MOST_ENTRIES) rows 0) (listed (many MOST_SESSIONS) session_rows (0, 0)))) node_law
+    (pair_law epoch (pair (listed (many MOST_ENTRIES) rows 0) (listed (many MOST_SESSIONS) session_rows (0, 0))) epoch_law lists_law))
     (record { back = λ r h. ap (report_with r) (none_back r.pending h); there = λ p h. refl; good = λ p h. refl })
 
 -- ---- packets

@@ -10,6 +10,7 @@ use Rattle.topology.specs.declared.names.Scope.{Scope}
 use Rattle.topology.specs.declared.names.Scope.TheVariants.{One, All, Nothing}
 use Rattle.topology.specs.declared.items.Sent.{Sent}
 use Rattle.topology.specs.declared.items.Pending.{Pending}
+use Rattle.topology.specs.declared.limits.TheConstants.{MOST_ENTRIES, MOST_MARKS, MOST_PENDING, MOST_SESSIONS, MOST_TRIGGERS}
 use Rattle.incomplete_closure.specs.declared.cut_rows.Row.{Row}
 use Rattle.incomplete_closure.specs.declared.reports.Report.{Report as TheReport}
 use Rattle.wire_frames.specs.Formats.{tested, ordered, pair, led, listed, many_fit, reached}
@@ -23,8 +24,8 @@ use Rattle.wire_frames.proofs.Fields.{node_law, prefix_law, positive_law, epoch_
 pub more_triggers_law : (low before : ℕ) → IsFormat (more_triggers low before)
 unfolding more_triggers
 more_triggers_law low before =
-    tested_law w16 (2 ^ 16) (λ n. is_in_range low 8192 n && nat_le (before + n) 65536) wide16
-    (λ n h. let below : n ≤ 8192 = leb-true n 8192 (and_parts (nat_le low n) (nat_le n 8192) (and_parts (is_in_range low 8192 n) (nat_le (before + n) 65536) h).0).1 in omega arith)
+    tested_law w16 (2 ^ 16) (λ n. is_in_range low MOST_TRIGGERS n && nat_le (before + n) MOST_MARKS) wide16
+    (λ n h. let below : n ≤ 8192 = leb-true n 8192 (and_parts (nat_le low n) (nat_le n 8192) (and_parts (is_in_range low MOST_TRIGGERS n) (nat_le (before + n) MOST_MARKS) h).0).1 in omega arith)
 
 pub triggers_law : (low before : ℕ) → IsFormat (triggers low before)
 unfolding triggers
@@ -128,15 +129,15 @@ pending_rows_laws = record { law = pending_row_law; same = pending_row_spells }
 -- ---- reports
 
 behind_rows_law : (marks : ℕ) → IsFormat (behind_rows marks)
-behind_rows_law marks = pair_law (listed (many 65535) session_rows (0, 0)) (listed (many 16128) pending_rows (nothing_pending marks))
-    (listed_law (many 65535) session_rows (0, 0) (many_law 65535 (omega arith)) session_rows_laws)
-    (listed_law (many 16128) pending_rows (nothing_pending marks) (many_law 16128 (omega arith)) pending_rows_laws)
+behind_rows_law marks = pair_law (listed (many MOST_SESSIONS) session_rows (0, 0)) (listed (many MOST_PENDING) pending_rows (nothing_pending marks))
+    (listed_law (many MOST_SESSIONS) session_rows (0, 0) (many_law 65535 (omega arith)) session_rows_laws)
+    (listed_law (many MOST_PENDING) pending_rows (nothing_pending marks) (many_law 16128 (omega arith)) pending_rows_laws)
 
 any_report_law : IsFormat any_report
 any_report_law =
-    let lists = led (listed (many 2048) listed_rows no_rows) (λ rs. behind_rows (reached listed_rows no_rows rs).marks) in
-    let lists_law = led_law (listed (many 2048) listed_rows no_rows) (λ rs. behind_rows (reached listed_rows no_rows rs).marks)
-    (listed_law (many 2048) listed_rows no_rows (many_law 2048 (omega arith)) listed_rows_laws) (λ rs. behind_rows_law (reached listed_rows no_rows rs).marks) in
+    let lists = led (listed (many MOST_ENTRIES) listed_rows no_rows) (λ rs. behind_rows (reached listed_rows no_rows rs).marks) in
+    let lists_law = led_law (listed (many MOST_ENTRIES) listed_rows no_rows) (λ rs. behind_rows (reached listed_rows no_rows rs).marks)
+    (listed_law (many MOST_ENTRIES) listed_rows no_rows (many_law 2048 (omega arith)) listed_rows_laws) (λ rs. behind_rows_law (reached listed_rows no_rows rs).marks) in
     meant_law (pair node (pair epoch lists)) listed_report_meaning (pair_law node (pair epoch lists) node_law (pair_law epoch lists epoch_law lists_law))
     (record { back = λ r h. refl; there = λ p h. refl; good = λ p h. refl })
 

@@ -4,6 +4,7 @@ use Rattle.std.specs.Prelude.{◌==◌}
 use Rattle.std.specs.List.{list_all}
 use Rattle.topology.specs.declared.frame_faults.FrameKind.TheVariants as fault
 use Rattle.topology.specs.declared.items.Pending.{Pending}
+use Rattle.topology.specs.declared.limits.TheConstants.{MOST_ENTRIES, MOST_PENDING, MOST_SESSIONS}
 use Rattle.incomplete_closure.specs.declared.cut_rows.Row.{Row}
 use Rattle.incomplete_closure.specs.declared.session_rows.SessionRow.{SessionRow}
 use Rattle.incomplete_closure.specs.declared.reports.Report.{Report as TheReport}
@@ -18,8 +19,8 @@ report_made n e rows sessions pending = record { node = n; epoch = e; rows = row
 
 -- the fields that were read, one behind the other
 pub parts_read : (n e : ℕ) (rows : List Row) (sessions : List SessionRow) (pending : List Pending) (b0 b1 b2 b3 b4 b5 : List ℕ) → node.reads b0 ≡ Ok (n, b1) → epoch.reads b1 ≡ Ok (e, b2)
-    → (listed (many 2048) listed_rows no_rows).reads b2 ≡ Ok (rows, b3) → (listed (many 65535) session_rows (0, 0)).reads b3 ≡ Ok (sessions, b4)
-    → (listed (many 16128) pending_rows (nothing_pending (reached listed_rows no_rows rows).marks)).reads b4 ≡ Ok (pending, b5)
+    → (listed (many MOST_ENTRIES) listed_rows no_rows).reads b2 ≡ Ok (rows, b3) → (listed (many MOST_SESSIONS) session_rows (0, 0)).reads b3 ≡ Ok (sessions, b4)
+    → (listed (many MOST_PENDING) pending_rows (nothing_pending (reached listed_rows no_rows rows).marks)).reads b4 ≡ Ok (pending, b5)
     → any_report.reads b0 ≡ Ok (report_made n e rows sessions pending, b5)
 parts_read n e rows sessions pending b0 b1 b2 b3 b4 b5 h0 h1 h2 h3 h4 = rw (h0, h1, h2, h3, h4) refl
 

@@ -9,6 +9,7 @@ use Rattle.std.proofs.Math.Nat.{mul-suc, mul-le-mul_left}
 use Rattle.topology.specs.declared.items.Sent.{Sent}
 use Rattle.topology.specs.declared.items.Pending.{Pending}
 use Rattle.topology.specs.declared.names.Trigger.{Trigger}
+use Rattle.topology.specs.declared.limits.TheConstants.{MOST_NODES, MOST_PREFIXES, MOST_TRAIL, MOST_TRIGGERS}
 use Rattle.incomplete_closure.specs.declared.cut_rows.Row.{Row}
 use Rattle.incomplete_closure.specs.declared.session_rows.SessionRow.{SessionRow}
 use Rattle.incomplete_closure.specs.declared.reports.Report.{Report as TheReport}
@@ -104,7 +105,7 @@ trigger_wide t = refl
 
 nodes_short : IsShort nodes 129
 unfolding nodes
-nodes_short = listed_short (few 64) (in_any_order {S = ℕ}) 0 1 64 2 (few_wide 64) (few_most 64) (λ t n fit. node_wide n)
+nodes_short = listed_short (few MOST_TRAIL) (in_any_order {S = ℕ}) 0 1 64 2 (few_wide 64) (few_most 64) (λ t n fit. node_wide n)
 
 links_short : IsShort links 127
 unfolding links
@@ -112,19 +113,19 @@ links_short = listed_short (few 63) rising 0 1 63 2 (few_wide 63) (few_most 63) 
 
 path_short : IsShort path 129
 unfolding path
-path_short = meant_short (listed (few 64) different []) path_meaning 129 (listed_short (few 64) different [] 1 64 2 (few_wide 64) (few_most 64) (λ t n fit. node_wide n))
+path_short = meant_short (listed (few MOST_NODES) different []) path_meaning 129 (listed_short (few MOST_NODES) different [] 1 64 2 (few_wide 64) (few_most 64) (λ t n fit. node_wide n))
 
 paths_short : IsShort paths 33026
 unfolding paths
-paths_short = listed_short (many 256) (paths_in_order {S = ℕ}) 0 2 256 129 (many_wide 256) (many_most 256) (λ t x fit. path_short.short x fit)
+paths_short = listed_short (many MOST_PREFIXES) (paths_in_order {S = ℕ}) 0 2 256 129 (many_wide 256) (many_most 256) (λ t x fit. path_short.short x fit)
 
 value_short : IsShort value 49283
 unfolding value
 value_short =
-    let responding = listed_short (few 64) rising 0 1 64 2 (few_wide 64) (few_most 64) (λ t n fit. node_wide n) in
-    let incomplete = listed_short (many 8192) rising_triggers no_trigger 2 8192 6 (many_wide 8192) (many_most 8192) (λ s t fit. omega (arith, trigger_wide t)) in
-    meant_short (pair (listed (few 64) rising 0) (listed (many 8192) rising_triggers no_trigger)) value_meaning 49283
-    (pair_short (listed (few 64) rising 0) (listed (many 8192) rising_triggers no_trigger) 129 49154 responding incomplete)
+    let responding = listed_short (few MOST_NODES) rising 0 1 64 2 (few_wide 64) (few_most 64) (λ t n fit. node_wide n) in
+    let incomplete = listed_short (many MOST_TRIGGERS) rising_triggers no_trigger 2 8192 6 (many_wide 8192) (many_most 8192) (λ s t fit. omega (arith, trigger_wide t)) in
+    meant_short (pair (listed (few MOST_NODES) rising 0) (listed (many MOST_TRIGGERS) rising_triggers no_trigger)) value_meaning 49283
+    (pair_short (listed (few MOST_NODES) rising 0) (listed (many MOST_TRIGGERS) rising_triggers no_trigger) 129 49154 responding incomplete)
 
 named_short : IsShort named 49290
 unfolding named ballot node positive
@@ -150,7 +151,7 @@ one_trigger_short = meant_short trigger one_meaning 6 (record { short = λ t fit
 
 more_most : (low n : ℕ) → (more_triggers low 0).fits n ≡ true → n ≤ 8192
 unfolding more_triggers
-more_most low n fit = leb-true n 8192 (and_parts (nat_le low n) (nat_le n 8192) (and_parts (is_in_range low 8192 n) (nat_le (0 + n) 65536) fit).0).1
+more_most low n fit = leb-true n 8192 (and_parts (nat_le low n) (nat_le n 8192) (and_parts (is_in_range low MOST_TRIGGERS n) (nat_le (0 + n) 65536) fit).0).1
 
 more_wide : (low before n : ℕ) → length ((more_triggers low before).spells n) ≡ 2
 unfolding more_triggers

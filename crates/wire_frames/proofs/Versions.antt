@@ -5,6 +5,7 @@ use Rattle.std.specs.List.{list_all}
 use Rattle.std.proofs.lemmas.Bool.{and_parts, and_from, not-true}
 use Rattle.topology.specs.declared.names.Trigger.{Trigger}
 use Rattle.topology.specs.declared.items.Sent.{Sent}
+use Rattle.topology.specs.declared.limits.TheConstants.{MOST_ENTRIES, MOST_SESSIONS}
 use Rattle.incomplete_closure.specs.declared.cut_rows.Row.{Row}
 use Rattle.incomplete_closure.specs.declared.reports.Report.{Report as TheReport}
 use Rattle.wire_frames.specs.Formats.{many_fit, reached, listed}
@@ -55,12 +56,12 @@ rows_plain before (r ∷ rs) h =
 pub report_is_plain : (r : TheReport) → report.fits r ≡ true → is_plain r ≡ true
 unfolding report
 report_is_plain r h =
-    let lists = (listed (many 2048) rows 0).fits r.rows && (listed (many 65535) session_rows (0, 0)).fits r.sessions in
+    let lists = (listed (many MOST_ENTRIES) rows 0).fits r.rows && (listed (many MOST_SESSIONS) session_rows (0, 0)).fits r.sessions in
     let p = and_parts (length r.pending == 0) (node.fits r.node && (epoch.fits r.epoch && lists)) h in
     let q = and_parts (node.fits r.node) (epoch.fits r.epoch && lists) p.1 in
     let s = and_parts (epoch.fits r.epoch) lists q.1 in
-    let t = and_parts ((listed (many 2048) rows 0).fits r.rows) ((listed (many 65535) session_rows (0, 0)).fits r.sessions) s.1 in
-    and_from (list_all is_plain_row r.rows) (length r.pending == 0) (rows_plain 0 r.rows (and_parts ((many 2048).fits (length r.rows)) (many_fit rows 0 r.rows) t.0).1) p.0
+    let t = and_parts ((listed (many MOST_ENTRIES) rows 0).fits r.rows) ((listed (many MOST_SESSIONS) session_rows (0, 0)).fits r.sessions) s.1 in
+    and_from (list_all is_plain_row r.rows) (length r.pending == 0) (rows_plain 0 r.rows (and_parts ((many MOST_ENTRIES).fits (length r.rows)) (many_fit rows 0 r.rows) t.0).1) p.0
 
 -- what version 2 spells is not
 pub listed_is_not_plain : (r : TheReport) → listed_report.fits r ≡ true → is_plain r ≡ false

@@ -8,6 +8,7 @@ use Rattle.topology.specs.declared.names.Scope.{Scope}
 use Rattle.topology.specs.declared.names.Scope.TheVariants.{One, All, Nothing}
 use Rattle.topology.specs.declared.ballots.Ballot.{Ballot}
 use Rattle.topology.specs.declared.items.Sent.{Sent}
+use Rattle.topology.specs.declared.limits.TheConstants.{HIGHEST_EPOCH, HIGHEST_NODE, HIGHEST_PREFERENCE, MOST_ENTRIES, MOST_NODES, MOST_PREFIXES, MOST_SESSIONS, MOST_TRAIL, MOST_TRIGGERS, MOST_UPDATES}
 use Rattle.incomplete_closure.specs.declared.cut_rows.Row.{Row}
 use Rattle.incomplete_closure.specs.declared.session_rows.SessionRow.{SessionRow}
 use Rattle.incomplete_closure.specs.declared.reports.Report.{Report}
@@ -23,7 +24,7 @@ use Rattle.wire_frames.specs.Formats.{Format, tested, number, ordered, pair, led
 
 -- a node
 unfoldable pub node : Format ℕ
-node = number w16 1 65535
+node = number w16 1 HIGHEST_NODE
 
 -- the place of a prefix in the order of the file
 unfoldable pub prefix : Format ℕ
@@ -35,15 +36,15 @@ positive = number w32 1 4294967295
 
 -- an epoch
 unfoldable pub epoch : Format ℕ
-epoch = number w32 1 32
+epoch = number w32 1 HIGHEST_EPOCH
 
 -- an epoch, or 0 for none
 unfoldable pub epoch_or_none : Format ℕ
-epoch_or_none = number w32 0 32
+epoch_or_none = number w32 0 HIGHEST_EPOCH
 
 -- a preference
 unfoldable pub preference : Format ℕ
-preference = number w32 0 1000000
+preference = number w32 0 HIGHEST_PREFERENCE
 
 -- any number of two bytes
 unfoldable pub any16 : Format ℕ
@@ -201,7 +202,7 @@ different = record { at = λ seen. ordered node (λ n. not (has seen n)); step =
 
 -- the nodes that a packet carries
 unfoldable pub nodes : Format (List ℕ)
-nodes = listed (few 64) (in_any_order {S = ℕ}) 0
+nodes = listed (few MOST_TRAIL) (in_any_order {S = ℕ}) 0
 
 -- the neighbours whose link is up
 unfoldable pub links : Format (List ℕ)
@@ -229,7 +230,7 @@ path_meaning = record { make = path_of; parts = nodes_of; only = is_path }
 
 -- a path, or none
 unfoldable pub path : Format (Option (List ℕ))
-path = meant (listed (few 64) different []) path_meaning
+path = meant (listed (few MOST_NODES) different []) path_meaning
 
 -- paths, one behind the other
 abbrev pub paths_in_order : {S : Type 0} → Series S (Option (List ℕ))
@@ -237,7 +238,7 @@ paths_in_order = record { at = λ s. path; step = λ s p. s; spells = path.spell
 
 -- the paths of a table, by prefix
 unfoldable pub paths : Format (List (Option (List ℕ)))
-paths = listed (many 256) (paths_in_order {S = ℕ}) 0
+paths = listed (many MOST_PREFIXES) (paths_in_order {S = ℕ}) 0
 
 -- ---- values
 
@@ -255,7 +256,7 @@ value_meaning = record {
 
 -- what is agreed on: the nodes that responded, and the incomplete triggers
 unfoldable pub value : Format Value
-value = meant (pair (listed (few 64) rising 0) (listed (many 8192) rising_triggers no_trigger)) value_meaning
+value = meant (pair (listed (few MOST_NODES) rising 0) (listed (many MOST_TRIGGERS) rising_triggers no_trigger)) value_meaning
 
 -- a ballot and the value accepted in it, or nothing
 unfoldable pub named : Format (Option (Ballot × Value))
@@ -275,9 +276,9 @@ row_meaning = record {
   only = λ r. is_one r.triggers;
 }
 
--- how many items a row has, where the rows before it have so many: 16384 together at most
+-- how many items a row has, where the rows before it have so many
 unfoldable pub more_items : ℕ → Format ℕ
-more_items before = tested w16 (λ n. nat_le (before + n) 16384)
+more_items before = tested w16 (λ n. nat_le (before + n) MOST_UPDATES)
 
 -- an entry of the cut, behind rows that have so many items
 unfoldable pub row : ℕ → Format Row
@@ -321,7 +322,7 @@ report_meaning = record {
 
 -- the report of a cut whose rows list one trigger each
 unfoldable pub report : Format Report
-report = meant (pair node (pair epoch (pair (listed (many 2048) rows 0) (listed (many 65535) session_rows (0, 0))))) report_meaning
+report = meant (pair node (pair epoch (pair (listed (many MOST_ENTRIES) rows 0) (listed (many MOST_SESSIONS) session_rows (0, 0))))) report_meaning
 
 -- ---- packets
 

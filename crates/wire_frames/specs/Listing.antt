@@ -8,6 +8,7 @@ use Rattle.topology.specs.declared.names.Scope.{Scope}
 use Rattle.topology.specs.declared.names.Scope.TheVariants.{One, All, Nothing}
 use Rattle.topology.specs.declared.items.Sent.{Sent}
 use Rattle.topology.specs.declared.items.Pending.{Pending}
+use Rattle.topology.specs.declared.limits.TheConstants.{MOST_ENTRIES, MOST_MARKS, MOST_PENDING, MOST_SESSIONS, MOST_TRIGGERS}
 use Rattle.incomplete_closure.specs.declared.cut_rows.Row.{Row}
 use Rattle.incomplete_closure.specs.declared.session_rows.SessionRow.{SessionRow}
 use Rattle.incomplete_closure.specs.declared.reports.Report.{Report}
@@ -16,9 +17,9 @@ use Rattle.wire_frames.specs.Fields.{node, prefix, positive, epoch, many, each, 
 
 -- ---- lists of triggers
 
--- how many triggers a list has, at least low and at most 8192, where the lists before it have so many: 65536 together at most
+-- how many triggers a list has, at least low, where the lists before it have so many
 unfoldable pub more_triggers : ℕ → ℕ → Format ℕ
-more_triggers low before = tested w16 (λ n. is_in_range low 8192 n && nat_le (before + n) 65536)
+more_triggers low before = tested w16 (λ n. is_in_range low MOST_TRIGGERS n && nat_le (before + n) MOST_MARKS)
 
 -- triggers, each behind the one before it: at least low of them, behind lists that have so many
 unfoldable pub triggers : ℕ → ℕ → Format (List Trigger)
@@ -198,7 +199,7 @@ pending_rows = record {
 
 -- what stands behind the rows of a report that list so many triggers: the session rows and the pending rows
 abbrev pub behind_rows : ℕ → Format (List SessionRow × List Pending)
-behind_rows marks = pair (listed (many 65535) session_rows (0, 0)) (listed (many 16128) pending_rows (nothing_pending marks))
+behind_rows marks = pair (listed (many MOST_SESSIONS) session_rows (0, 0)) (listed (many MOST_PENDING) pending_rows (nothing_pending marks))
 
 -- the node, the epoch, the rows, the sessions and the pending rows of a report
 abbrev pub listed_report_meaning : Meaning (ℕ × (ℕ × (List Row × (List SessionRow × List Pending)))) Report
@@ -210,7 +211,7 @@ listed_report_meaning = record {
 
 -- the report of a cut, whatever its rows list
 abbrev pub any_report : Format Report
-any_report = meant (pair node (pair epoch (led (listed (many 2048) listed_rows no_rows) (λ rows. behind_rows (reached listed_rows no_rows rows).marks)))) listed_report_meaning
+any_report = meant (pair node (pair epoch (led (listed (many MOST_ENTRIES) listed_rows no_rows) (λ rows. behind_rows (reached listed_rows no_rows rows).marks)))) listed_report_meaning
 
 -- the report of a cut that version 1 does not spell
 unfoldable pub listed_report : Format Report

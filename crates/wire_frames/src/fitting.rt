@@ -13,6 +13,10 @@ use crate::series::{
 };
 use epoch_packet::{End, Mode, Packet};
 use incomplete_closure::{Report, Row, SessionRow, Value};
+use topology::limits::{
+    HIGHEST_EPOCH, HIGHEST_PREFERENCE, MOST_ENTRIES, MOST_MARKS, MOST_NODES, MOST_PENDING,
+    MOST_PREFIXES, MOST_SESSIONS, MOST_TRAIL, MOST_TRIGGERS, MOST_UPDATES,
+};
 use topology::{
     Ballot, Epoch, NodeId, Path, Pending, PrefixId, Scope, Sent, Session, Trigger, Triggers,
 };
@@ -49,21 +53,21 @@ pub(crate) fn epoch_fits(number: Epoch) -> bool
     ensures { result ≡ epoch.fits number }
 {
     let number = number.number();
-    1 <= number && number <= 32
+    1 <= number && number <= HIGHEST_EPOCH
 }
 
 #[tactic(auto, unfolding(crate::specs::Fields::epoch_or_none))]
 pub(crate) fn epoch_or_none_fits(number: Epoch) -> bool
     ensures { result ≡ epoch_or_none.fits number }
 {
-    number.number() <= 32
+    number.number() <= HIGHEST_EPOCH
 }
 
 #[tactic(auto, unfolding(crate::specs::Fields::preference))]
 pub(crate) fn preference_fits(number: u32) -> bool
     ensures { result ≡ preference.fits number }
 {
-    number <= 1_000_000
+    number <= HIGHEST_PREFERENCE
 }
 
 #[tactic(auto, unfolding(crate::specs::Fields::any32))]
@@ -157,7 +161,7 @@ pub(crate) fn sent_fits(item: &Sent, trigger: Trigger) -> bool
 pub(crate) fn nodes_fits(list: &[NodeId]) -> bool
     ensures { result ≡ nodes.fits list.now }
 {
-    list.len() <= 64 && fit_many(&mut AnyOrder, list)
+    list.len() <= MOST_TRAIL && fit_many(&mut AnyOrder, list)
 }
 
 #[tactic(auto, unfolding(crate::specs::Fields::links, crate::specs::Fields::few))]
@@ -187,7 +191,7 @@ pub(crate) fn path_fits(way: &Option<Path>) -> bool
         None => true,
         Some(way) => {
             let list = way.nodes();
-            list.len() <= 64 && different_fit(list)
+            list.len() <= MOST_NODES && different_fit(list)
         }
     }
 }
@@ -197,21 +201,21 @@ pub(crate) fn paths_fits(table: &Paths) -> bool
     ensures { result ≡ paths.fits table.now }
 {
     let list = table.as_slice();
-    list.len() <= 256 && fit_many(&mut PathRun, list)
+    list.len() <= MOST_PREFIXES && fit_many(&mut PathRun, list)
 }
 
 #[tactic(auto, unfolding(crate::specs::Fields::few))]
 fn responding_fits(list: &[NodeId]) -> bool
-    ensures { result ≡ (listed (few 64) rising 0).fits list.now }
+    ensures { result ≡ (listed (few MOST_NODES) rising 0).fits list.now }
 {
-    list.len() <= 64 && fit_many(&mut Rising::first(), list)
+    list.len() <= MOST_NODES && fit_many(&mut Rising::first(), list)
 }
 
 #[tactic(auto, unfolding(crate::specs::Fields::many))]
 fn incomplete_fits(list: &[Trigger]) -> bool
-    ensures { result ≡ (listed (many 8192) rising_triggers no_trigger).fits list.now }
+    ensures { result ≡ (listed (many MOST_TRIGGERS) rising_triggers no_trigger).fits list.now }
 {
-    list.len() <= 8192 && fit_many(&mut RisingTriggers::first(), list)
+    list.len() <= MOST_TRIGGERS as usize && fit_many(&mut RisingTriggers::first(), list)
 }
 
 #[tactic(auto, unfolding(crate::specs::Fields::value))]
@@ -234,17 +238,17 @@ pub(crate) fn named_fits(accepted: &Option<(Ballot, Value)>) -> bool
 #[tactic(auto, unfolding(crate::specs::Fields::more_items))]
 fn items_fits(list: &[Sent], trigger: Trigger, before: u32) -> bool
     ensures fits { result ≡ (listed (more_items before) items trigger).fits list.now }
-    ensures few { IsTrue result → before + length list.now ≤ 16384 }
+    ensures few { IsTrue result → before + length list.now ≤ MOST_UPDATES }
 {
-    before <= 16_384
-        && list.len() <= (16_384 - before) as usize
+    before <= MOST_UPDATES
+        && list.len() <= (MOST_UPDATES - before) as usize
         && fit_many(&mut Items::of(trigger), list)
 }
 
 #[tactic(auto, unfolding(crate::specs::Fields::row, crate::specs::Fields::one_trigger))]
 pub(crate) fn row_fits(entry: &Row, before: u32) -> bool
     ensures fits { result ≡ (row before).fits entry.now }
-    ensures few { IsTrue result → before + length entry.now.sent ≤ 16384 }
+    ensures few { IsTrue result → before + length entry.now.sent ≤ MOST_UPDATES }
 {
     one_trigger_fits(&entry.triggers)
         && scope_fits(entry.scope)
@@ -284,28 +288,28 @@ pub(crate) fn session_row_fits(held: &SessionRow, nbr: NodeId, session: Session)
 
 #[tactic(auto, unfolding(crate::specs::Fields::many))]
 fn rows_fits(list: &[Row]) -> bool
-    ensures { result ≡ (listed (many 2048) rows 0).fits list.now }
+    ensures { result ≡ (listed (many MOST_ENTRIES) rows 0).fits list.now }
 {
-    list.len() <= 2048 && fit_many(&mut ReportRows::first(), list)
+    list.len() <= MOST_ENTRIES as usize && fit_many(&mut ReportRows::first(), list)
 }
 
 #[tactic(auto, unfolding(crate::specs::Fields::many))]
 fn sessions_fits(list: &[SessionRow]) -> bool
-    ensures { result ≡ (listed (many 65535) session_rows (0, 0)).fits list.now }
+    ensures { result ≡ (listed (many MOST_SESSIONS) session_rows (0, 0)).fits list.now }
 {
-    list.len() <= 65_535 && fit_many(&mut ReportSessions::first(), list)
+    list.len() <= MOST_SESSIONS as usize && fit_many(&mut ReportSessions::first(), list)
 }
 
 /// Whether the triggers are a list of at least `low`, behind lists that have so many.
 #[tactic(auto, unfolding(crate::specs::Listing::triggers, crate::specs::Listing::more_triggers))]
 pub(crate) fn list_fits(list: &[Trigger], low: u16, before: u32) -> bool
     ensures fits { result ≡ (triggers_from low before).fits list.now }
-    ensures few { IsTrue result → before + length list.now ≤ 65536 }
+    ensures few { IsTrue result → before + length list.now ≤ MOST_MARKS }
 {
-    if list.len() < low as usize || list.len() > 8192 {
+    if list.len() < low as usize || list.len() > MOST_TRIGGERS as usize {
         return false;
     }
-    if before > 65_536 || list.len() > (65_536 - before) as usize {
+    if before > MOST_MARKS || list.len() > (MOST_MARKS - before) as usize {
         return false;
     }
     fit_many(&mut RisingTriggers::first(), list)
@@ -327,7 +331,7 @@ pub(crate) fn update_triggers_fit(triggers: &Triggers) -> bool
 #[tactic(auto, unfolding(crate::specs::Listing::item))]
 pub(crate) fn item_fits(one: &Sent, before: u32) -> bool
     ensures fits { result ≡ (item before).fits one.now }
-    ensures few { IsTrue result → before + length one.now.triggers ≤ 65536 }
+    ensures few { IsTrue result → before + length one.now.triggers ≤ MOST_MARKS }
 {
     node_fits(one.to)
         && session_fits(one.session)
@@ -340,9 +344,9 @@ pub(crate) fn item_fits(one: &Sent, before: u32) -> bool
 pub(crate) fn items_fit(row: &mut ListedItems, list: &[Sent], before: u32) -> bool
     ensures fits { result ≡ (listed (more_items before) listed_items row.old).fits list.now }
     ensures reached { IsTrue result → row.new ≡ reached listed_items row.old list.now }
-    ensures few { IsTrue result → before + length list.now ≤ 16384 }
+    ensures few { IsTrue result → before + length list.now ≤ MOST_UPDATES }
 {
-    if before > 16_384 || list.len() > (16_384 - before) as usize {
+    if before > MOST_UPDATES || list.len() > (MOST_UPDATES - before) as usize {
         return false;
     }
     fit_many(row, list)
@@ -374,7 +378,7 @@ fn pending_key_fits(next: NodeId, place: PrefixId, nbr: NodeId, prefix: PrefixId
 #[tactic(auto, unfolding(crate::specs::Listing::pending_row))]
 pub(crate) fn pending_fits(row: &Pending, nbr: NodeId, prefix: PrefixId, before: u32) -> bool
     ensures fits { result ≡ (pending_row (record { last = (nbr, prefix); marks = before })).fits row.now }
-    ensures few { IsTrue result → before + length row.now.triggers ≤ 65536 }
+    ensures few { IsTrue result → before + length row.now.triggers ≤ MOST_MARKS }
 {
     pending_key_fits(row.to, row.prefix, nbr, prefix)
         && session_fits(row.session)
@@ -383,10 +387,10 @@ pub(crate) fn pending_fits(row: &Pending, nbr: NodeId, prefix: PrefixId, before:
 
 #[tactic(auto, unfolding(crate::specs::Fields::many))]
 fn listed_rows_fit(rows: &mut ListedRows, list: &[Row]) -> bool
-    ensures fits { result ≡ (listed (many 2048) listed_rows rows.old).fits list.now }
+    ensures fits { result ≡ (listed (many MOST_ENTRIES) listed_rows rows.old).fits list.now }
     ensures reached { IsTrue result → rows.new ≡ reached listed_rows rows.old list.now }
 {
-    if list.len() > 2048 {
+    if list.len() > MOST_ENTRIES as usize {
         return false;
     }
     fit_many(rows, list)
@@ -394,9 +398,9 @@ fn listed_rows_fit(rows: &mut ListedRows, list: &[Row]) -> bool
 
 #[tactic(auto, unfolding(crate::specs::Fields::many))]
 fn pending_rows_fit(list: &[Pending], before: u32) -> bool
-    ensures { result ≡ (listed (many 16128) pending_rows (nothing_pending before)).fits list.now }
+    ensures { result ≡ (listed (many MOST_PENDING) pending_rows (nothing_pending before)).fits list.now }
 {
-    list.len() <= 16_128 && fit_many(&mut PendingRun::behind(before), list)
+    list.len() <= MOST_PENDING as usize && fit_many(&mut PendingRun::behind(before), list)
 }
 
 // A report that version 1 does not spell.

@@ -1,5 +1,6 @@
 //! The items, the rows and the pending rows of reports whose lists have any number of triggers.
 ghost use Rattle.std.specs.Prelude.{◌≡◌, ◌+◌, ◌≤◌, List, length};
+ghost use Rattle.topology.specs.declared.limits.TheConstants.{MOST_MARKS, MOST_UPDATES};
 ghost use Rattle.topology.specs.declared.names.Trigger.{Trigger as AnyTrigger};
 ghost use Rattle.wire_frames.specs.Listing.{begun, no_rows, nothing_pending, only_of, with_row};
 
@@ -36,7 +37,7 @@ impl Model for ListedItems {
 impl ListedItems {
     /// Before the items of a row with these triggers, behind rows that list so many.
     pub(crate) fn begun(before: u32, triggers: &[Trigger]) -> ListedItems
-        requires { before + length triggers.now ≤ 65536 }
+        requires { before + length triggers.now ≤ MOST_MARKS }
         ensures { result ≡ begun before triggers.now }
     {
         let only = only_of(triggers);
@@ -49,7 +50,7 @@ impl ListedItems {
 
     /// The same behind a list of so many triggers, whose only one is told.
     fn behind(before: u32, count: u32, only: Option<Trigger>) -> ListedItems
-        requires { before + count ≤ 65536 }
+        requires { before + count ≤ MOST_MARKS }
         ensures { (ts : List AnyTrigger) → count ≡ length ts → only ≡ only_of ts → result
             ≡ begun before ts }
     {
@@ -148,7 +149,7 @@ impl ListedRows {
 
     // Goes past a row with so many items.
     fn pass(&mut self, items: u32, row: &ListedItems)
-        requires { self.old.items + items ≤ 16384 }
+        requires { self.old.items + items ≤ MOST_UPDATES }
         ensures { self.new ≡ with_row self.old items row.now }
     {
         self.items += items;

@@ -1,5 +1,6 @@
 //! Parts of frames, read into memory.
 ghost use Rattle.std.specs.Prelude.{◌≡◌, ◌+◌, ◌≤◌, [], ℕ, List, Option, length, true, IfOk};
+ghost use Rattle.topology.specs.declared.limits.TheConstants.{MOST_MARKS};
 ghost use Rattle.topology.specs.declared.names.Trigger.{Trigger as AnyTrigger};
 ghost use Rattle.incomplete_closure.specs.declared.reports.Report.{Report as AnyReport};
 ghost use Rattle.incomplete_closure.specs.declared.values.Value.{Value as AnyValue};
@@ -20,6 +21,9 @@ use crate::series::{
 use epoch_packet::{NodeList, Packet};
 use incomplete_closure::{PendingRows, Report, RespondingNodes, Rows, SessionRows, Value};
 use std::alloc::Global;
+use topology::limits::{
+    MOST_ENTRIES, MOST_NODES, MOST_PENDING, MOST_PREFIXES, MOST_SESSIONS, MOST_TRAIL, MOST_TRIGGERS,
+};
 use topology::{NodeId, Path, Triggers};
 
 // Reads so many nodes, none of which is there twice.
@@ -47,7 +51,7 @@ fn read_different(
 pub(crate) fn read_path(alloc: Global, fields: &mut Fields<'_>) -> Result<Option<Path>, ReadError>
     ensures { IfOk result (λ way. path.reads fields.old ≡ Ok (way, fields.new)) }
 {
-    let count = fields.few(64)?;
+    let count = fields.few(MOST_NODES)?;
     let list = read_different(alloc, count, fields)?;
     Ok(Path::new(list)?)
 }
@@ -56,7 +60,7 @@ pub(crate) fn read_path(alloc: Global, fields: &mut Fields<'_>) -> Result<Option
 fn read_nodes(alloc: Global, fields: &mut Fields<'_>) -> Result<NodeList, ReadError>
     ensures { IfOk result (λ x. nodes.reads fields.old ≡ Ok (x, fields.new)) }
 {
-    let count = fields.few(64)?;
+    let count = fields.few(MOST_TRAIL)?;
     let list = read_many(&mut AnyOrder, alloc, count, fields)?;
     Ok(NodeList::new(list))
 }
@@ -71,18 +75,18 @@ fn read_links(alloc: Global, fields: &mut Fields<'_>) -> Result<NodeList, ReadEr
 }
 
 fn read_responding(alloc: Global, fields: &mut Fields<'_>) -> Result<RespondingNodes, ReadError>
-    ensures { IfOk result (λ x. (listed (few 64) rising 0).reads fields.old ≡ Ok (x, fields.new)) }
+    ensures { IfOk result (λ x. (listed (few MOST_NODES) rising 0).reads fields.old ≡ Ok (x, fields.new)) }
 {
-    let count = fields.few(64)?;
+    let count = fields.few(MOST_NODES)?;
     let list = read_many(&mut Rising::first(), alloc, count, fields)?;
     Ok(RespondingNodes::new(list))
 }
 
 fn read_incomplete(alloc: Global, fields: &mut Fields<'_>) -> Result<Triggers, ReadError>
     ensures { IfOk result (λ x.
-        (listed (many 8192) rising_triggers no_trigger).reads fields.old ≡ Ok (x, fields.new)) }
+        (listed (many MOST_TRIGGERS) rising_triggers no_trigger).reads fields.old ≡ Ok (x, fields.new)) }
 {
-    let count = fields.many(8192)?;
+    let count = fields.many(MOST_TRIGGERS)?;
     let list = read_many(&mut RisingTriggers::first(), alloc, count, fields)?;
     Ok(Triggers::from_ascending(list)?)
 }
@@ -100,18 +104,18 @@ fn read_value(alloc: Global, fields: &mut Fields<'_>) -> Result<Value, ReadError
 }
 
 fn read_rows(alloc: Global, fields: &mut Fields<'_>) -> Result<Rows, ReadError>
-    ensures { IfOk result (λ x. (listed (many 2048) rows 0).reads fields.old ≡ Ok (x, fields.new)) }
+    ensures { IfOk result (λ x. (listed (many MOST_ENTRIES) rows 0).reads fields.old ≡ Ok (x, fields.new)) }
 {
-    let count = fields.many(2048)?;
+    let count = fields.many(MOST_ENTRIES)?;
     let list = read_many(&mut ReportRows::first(), alloc, count, fields)?;
     Ok(Rows::new(list))
 }
 
 fn read_sessions(alloc: Global, fields: &mut Fields<'_>) -> Result<SessionRows, ReadError>
-    ensures { IfOk result (λ x. (listed (many 65535) session_rows (0, 0)).reads fields.old
+    ensures { IfOk result (λ x. (listed (many MOST_SESSIONS) session_rows (0, 0)).reads fields.old
         ≡ Ok (x, fields.new)) }
 {
-    let count = fields.many(65_535)?;
+    let count = fields.many(MOST_SESSIONS)?;
     let list = read_many(&mut ReportSessions::first(), alloc, count, fields)?;
     Ok(SessionRows::new(list))
 }
@@ -142,7 +146,7 @@ pub(crate) fn read_triggers(
     fields: &mut Fields<'_>,
 ) -> Result<Triggers, ReadError>
     ensures list { IfOk result (λ x. (triggers low before).reads fields.old ≡ Ok (x, fields.new)) }
-    ensures few { IfOk result (λ x. before + length x ≤ 65536) }
+    ensures few { IfOk result (λ x. before + length x ≤ MOST_MARKS) }
 {
     let count = fields.more_triggers(low, before)?;
     let list = read_many(&mut RisingTriggers::first(), alloc, count, fields)?;
@@ -151,10 +155,10 @@ pub(crate) fn read_triggers(
 
 // Reads rows into memory, and tells how many triggers they and their items list.
 fn read_listed_rows(alloc: Global, fields: &mut Fields<'_>) -> Result<(Rows, u32), ReadError>
-    ensures { IfOk result (λ x. ((listed (many 2048) listed_rows no_rows).reads fields.old
+    ensures { IfOk result (λ x. ((listed (many MOST_ENTRIES) listed_rows no_rows).reads fields.old
         ≡ Ok (x.0, fields.new)) × (x.1 ≡ (reached listed_rows no_rows x.0).marks)) }
 {
-    let count = fields.many(2048)?;
+    let count = fields.many(MOST_ENTRIES)?;
     let mut run = ListedRows::first();
     let list = read_many(&mut run, alloc, count, fields)?;
     Ok((Rows::new(list), run.marks()))
@@ -165,10 +169,10 @@ fn read_pending(
     marks: u32,
     fields: &mut Fields<'_>,
 ) -> Result<PendingRows, ReadError>
-    ensures { IfOk result (λ x. (listed (many 16128) pending_rows (nothing_pending marks)).reads
+    ensures { IfOk result (λ x. (listed (many MOST_PENDING) pending_rows (nothing_pending marks)).reads
         fields.old ≡ Ok (x, fields.new)) }
 {
-    let count = fields.many(16_128)?;
+    let count = fields.many(MOST_PENDING)?;
     let list = read_many(&mut PendingRun::behind(marks), alloc, count, fields)?;
     Ok(PendingRows::new(list))
 }
@@ -199,7 +203,7 @@ fn read_listed_report(alloc: Global, fields: &mut Fields<'_>) -> Result<Report, 
 fn read_paths(alloc: Global, fields: &mut Fields<'_>) -> Result<Paths, ReadError>
     ensures { IfOk result (λ x. paths.reads fields.old ≡ Ok (x, fields.new)) }
 {
-    let count = fields.many(256)?;
+    let count = fields.many(MOST_PREFIXES as u32)?;
     let list = read_many(&mut PathRun, alloc, count, fields)?;
     Ok(Paths::new(list))
 }

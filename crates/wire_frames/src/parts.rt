@@ -1,5 +1,6 @@
 //! The parts of a body that spell paths, reports, values, packets and lists. Takes no memory.
 ghost use Rattle.std.specs.Prelude.{◌≡◌, ◌≤◌, ◌+◌, ◌-◌, ◌==◌, ◌&&◌, [], List, IfOk, length, take};
+ghost use Rattle.topology.specs.declared.limits.TheConstants.{MOST_MARKS};
 ghost use Rattle.topology.specs.declared.names.Trigger.{Trigger as AnyTrigger};
 ghost use Rattle.wire_frames.specs.Shown.{Gives, Passes, PassesAs, Cuts};
 ghost use Rattle.wire_frames.specs.Formats.{passed, listed, pair, reached};
@@ -12,14 +13,17 @@ use crate::reading::Fields;
 use crate::series::{
     AnyOrder, PathRun, ReportRows, ReportSessions, Rising, RisingTriggers, skip_many,
 };
+use topology::limits::{
+    MOST_ENTRIES, MOST_NODES, MOST_PENDING, MOST_PREFIXES, MOST_SESSIONS, MOST_TRAIL, MOST_TRIGGERS,
+};
 use topology::{NodeId, Trigger};
 
 // Goes over so many nodes, none of which is there twice.
 pub(crate) fn skip_different(count: u16, fields: &mut Fields<'_>) -> Result<(), FrameKind>
-    requires { count ≤ 64 }
+    requires { count ≤ MOST_NODES }
     ensures { Gives (λ _. fields.new) result (passed different [] count fields.old) }
 {
-    let mut seen = [NodeId::new(0); 64];
+    let mut seen = [NodeId::new(0); MOST_NODES];
     for i in 0..count {
         let node = fields.node()?;
         let place = i as usize;
@@ -62,7 +66,7 @@ impl<'a> Fields<'a> {
     fn skip_nodes(&mut self) -> Result<(), FrameKind>
         ensures { Passes nodes self.old result self.new }
     {
-        let count = self.few(64)?;
+        let count = self.few(MOST_TRAIL)?;
         skip_many(&mut AnyOrder, count, self)
     }
 
@@ -78,21 +82,21 @@ impl<'a> Fields<'a> {
     pub(crate) fn skip_path(&mut self) -> Result<(), FrameKind>
         ensures { Passes path self.old result self.new }
     {
-        let count = self.few(64)?;
+        let count = self.few(MOST_NODES)?;
         skip_different(count, self)
     }
 
     fn skip_responding(&mut self) -> Result<(), FrameKind>
-        ensures { Passes (listed (few 64) rising 0) self.old result self.new }
+        ensures { Passes (listed (few MOST_NODES) rising 0) self.old result self.new }
     {
-        let count = self.few(64)?;
+        let count = self.few(MOST_NODES)?;
         skip_many(&mut Rising::first(), count, self)
     }
 
     fn skip_incomplete(&mut self) -> Result<(), FrameKind>
-        ensures { Passes (listed (many 8192) rising_triggers no_trigger) self.old result self.new }
+        ensures { Passes (listed (many MOST_TRIGGERS) rising_triggers no_trigger) self.old result self.new }
     {
-        let count = self.many(8192)?;
+        let count = self.many(MOST_TRIGGERS)?;
         skip_many(&mut RisingTriggers::first(), count, self)
     }
 
@@ -105,16 +109,16 @@ impl<'a> Fields<'a> {
     }
 
     fn skip_rows(&mut self) -> Result<(), FrameKind>
-        ensures { Passes (listed (many 2048) rows 0) self.old result self.new }
+        ensures { Passes (listed (many MOST_ENTRIES) rows 0) self.old result self.new }
     {
-        let count = self.many(2048)?;
+        let count = self.many(MOST_ENTRIES)?;
         skip_many(&mut ReportRows::first(), count, self)
     }
 
     fn skip_sessions(&mut self) -> Result<(), FrameKind>
-        ensures { Passes (listed (many 65535) session_rows (0, 0)) self.old result self.new }
+        ensures { Passes (listed (many MOST_SESSIONS) session_rows (0, 0)) self.old result self.new }
     {
-        let count = self.many(65_535)?;
+        let count = self.many(MOST_SESSIONS)?;
         skip_many(&mut ReportSessions::first(), count, self)
     }
 
@@ -146,7 +150,7 @@ impl<'a> Fields<'a> {
     ) -> Result<(u32, Option<Trigger>), FrameKind>
         ensures list { PassesAs (λ ts. (length ts, only_of ts)) (triggers low before) self.old
             result self.new }
-        ensures few { IfOk result (λ seen. before + seen.0 ≤ 65536) }
+        ensures few { IfOk result (λ seen. before + seen.0 ≤ MOST_MARKS) }
     {
         let count = self.more_triggers(low, before)?;
         let mut run = RisingTriggers::first();
@@ -155,10 +159,10 @@ impl<'a> Fields<'a> {
     }
 
     fn skip_listed_rows(&mut self) -> Result<ListedRows, FrameKind>
-        ensures { PassesAs (reached listed_rows no_rows) (listed (many 2048) listed_rows no_rows)
+        ensures { PassesAs (reached listed_rows no_rows) (listed (many MOST_ENTRIES) listed_rows no_rows)
             self.old result self.new }
     {
-        let count = self.many(2048)?;
+        let count = self.many(MOST_ENTRIES)?;
         let mut rows = ListedRows::first();
         skip_many(&mut rows, count, self)?;
         Ok(rows)
@@ -166,10 +170,10 @@ impl<'a> Fields<'a> {
 
     // The pending rows, behind lists that have so many triggers: how many rows there are.
     fn skip_pending(&mut self, marks: u32) -> Result<u16, FrameKind>
-        ensures { PassesAs length (listed (many 16128) pending_rows (nothing_pending marks))
+        ensures { PassesAs length (listed (many MOST_PENDING) pending_rows (nothing_pending marks))
             self.old result self.new }
     {
-        let count = self.many(16_128)?;
+        let count = self.many(MOST_PENDING)?;
         skip_many(&mut PendingRun::behind(marks), count, self)?;
         Ok(count)
     }
@@ -193,7 +197,7 @@ impl<'a> Fields<'a> {
     fn skip_paths(&mut self) -> Result<(), FrameKind>
         ensures { Passes paths self.old result self.new }
     {
-        let count = self.many(256)?;
+        let count = self.many(MOST_PREFIXES as u32)?;
         skip_many(&mut PathRun, count, self)
     }
 

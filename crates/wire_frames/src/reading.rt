@@ -10,6 +10,9 @@ use crate::FrameKind;
 use epoch_packet::{End, Mode};
 use incomplete_closure::SessionRow;
 use std::marker::Model;
+use topology::limits::{
+    HIGHEST_EPOCH, HIGHEST_NODE, HIGHEST_PREFERENCE, MOST_MARKS, MOST_TRIGGERS, MOST_UPDATES,
+};
 use topology::{Ballot, Epoch, NodeId, PrefixId, Scope, Sent, Session, Trigger, Triggers};
 
 /// The bytes that are left of a body. Each call takes its field off the front, or answers what is wrong
@@ -96,25 +99,25 @@ impl<'a> Fields<'a> {
         self.rest
     }
 
-    pub(crate) fn number8(&mut self, low: u8, high: u8) -> Result<u8, FrameKind>
+    pub(crate) fn number8(&mut self, low: usize, high: usize) -> Result<u8, FrameKind>
         ensures number { Gives (λ x. (x, self.new)) result ((number w8 low high).reads self.old) }
         ensures small { IfOk result (λ n. n ≤ high) }
     {
         let (number, rest) = u8_at(self.rest)?;
         self.rest = rest;
-        if number < low || high < number {
+        if (number as usize) < low || high < number as usize {
             return Err(FrameKind::Value);
         }
         Ok(number)
     }
 
-    fn number16(&mut self, low: u16, high: u16) -> Result<u16, FrameKind>
+    fn number16(&mut self, low: u32, high: u32) -> Result<u16, FrameKind>
         ensures number { Gives (λ x. (x, self.new)) result ((number w16 low high).reads self.old) }
         ensures small { IfOk result (λ n. n ≤ high) }
     {
         let (number, rest) = u16_at(self.rest)?;
         self.rest = rest;
-        if number < low || high < number {
+        if u32::from(number) < low || high < u32::from(number) {
             return Err(FrameKind::Value);
         }
         Ok(number)
@@ -135,7 +138,7 @@ impl<'a> Fields<'a> {
     pub(crate) fn node(&mut self) -> Result<NodeId, FrameKind>
         ensures { Gives (λ x. (x, self.new)) result (node.reads self.old) }
     {
-        Ok(NodeId::new(self.number16(1, 65_535)?))
+        Ok(NodeId::new(self.number16(1, HIGHEST_NODE)?))
     }
 
     #[tactic(auto, unfolding(crate::specs::Fields::prefix))]
@@ -162,21 +165,21 @@ impl<'a> Fields<'a> {
     pub(crate) fn epoch(&mut self) -> Result<Epoch, FrameKind>
         ensures { Gives (λ x. (x, self.new)) result (epoch.reads self.old) }
     {
-        Ok(Epoch::new(self.number32(1, 32)?))
+        Ok(Epoch::new(self.number32(1, HIGHEST_EPOCH)?))
     }
 
     #[tactic(auto, unfolding(crate::specs::Fields::epoch_or_none))]
     pub(crate) fn epoch_or_none(&mut self) -> Result<Epoch, FrameKind>
         ensures { Gives (λ x. (x, self.new)) result (epoch_or_none.reads self.old) }
     {
-        Ok(Epoch::new(self.number32(0, 32)?))
+        Ok(Epoch::new(self.number32(0, HIGHEST_EPOCH)?))
     }
 
     #[tactic(auto, unfolding(crate::specs::Fields::preference))]
     pub(crate) fn preference(&mut self) -> Result<u32, FrameKind>
         ensures { Gives (λ x. (x, self.new)) result (preference.reads self.old) }
     {
-        self.number32(0, 1_000_000)
+        self.number32(0, HIGHEST_PREFERENCE)
     }
 
     #[tactic(auto, unfolding(crate::specs::Fields::any16))]
@@ -203,7 +206,7 @@ impl<'a> Fields<'a> {
     }
 
     #[tactic(auto, unfolding(crate::specs::Fields::few))]
-    pub(crate) fn few(&mut self, most: u8) -> Result<u16, FrameKind>
+    pub(crate) fn few(&mut self, most: usize) -> Result<u16, FrameKind>
         ensures number { Gives (λ x. (x, self.new)) result ((few most).reads self.old) }
         ensures small { IfOk result (λ n. n ≤ most) }
     {
@@ -211,7 +214,7 @@ impl<'a> Fields<'a> {
     }
 
     #[tactic(auto, unfolding(crate::specs::Fields::many))]
-    pub(crate) fn many(&mut self, most: u16) -> Result<u16, FrameKind>
+    pub(crate) fn many(&mut self, most: u32) -> Result<u16, FrameKind>
         ensures number { Gives (λ x. (x, self.new)) result ((many most).reads self.old) }
         ensures small { IfOk result (λ n. n ≤ most) }
     {
@@ -221,11 +224,11 @@ impl<'a> Fields<'a> {
     #[tactic(auto, unfolding(crate::specs::Fields::more_items))]
     pub(crate) fn more_items(&mut self, before: u32) -> Result<u16, FrameKind>
         ensures number { Gives (λ x. (x, self.new)) result ((more_items before).reads self.old) }
-        ensures small { IfOk result (λ n. before + n ≤ 16384) }
+        ensures small { IfOk result (λ n. before + n ≤ MOST_UPDATES) }
     {
         let (number, rest) = u16_at(self.rest)?;
         self.rest = rest;
-        if before > 16_384 || number as u32 > 16_384 - before {
+        if before > MOST_UPDATES || number as u32 > MOST_UPDATES - before {
             return Err(FrameKind::Value);
         }
         Ok(number)
@@ -235,14 +238,14 @@ impl<'a> Fields<'a> {
     #[tactic(auto, unfolding(crate::specs::Listing::more_triggers))]
     pub(crate) fn more_triggers(&mut self, low: u16, before: u32) -> Result<u16, FrameKind>
         ensures number { Gives (λ x. (x, self.new)) result ((more_triggers low before).reads self.old) }
-        ensures small { IfOk result (λ n. before + n ≤ 65536) }
+        ensures small { IfOk result (λ n. before + n ≤ MOST_MARKS) }
     {
         let (number, rest) = u16_at(self.rest)?;
         self.rest = rest;
-        if number < low || number > 8_192 {
+        if number < low || u32::from(number) > MOST_TRIGGERS {
             return Err(FrameKind::Value);
         }
-        if before > 65_536 || number as u32 > 65_536 - before {
+        if before > MOST_MARKS || number as u32 > MOST_MARKS - before {
             return Err(FrameKind::Value);
         }
         Ok(number)

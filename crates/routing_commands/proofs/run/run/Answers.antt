@@ -35,4 +35,5 @@ returns-clause-limits g c = record {
     epoch = refl;
     value = refl;
   };
+  journal = refl;
 }

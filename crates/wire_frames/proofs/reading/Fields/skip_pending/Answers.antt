@@ -5,12 +5,13 @@ use Rattle.wire_frames.specs.Listing.{pending_rows, nothing_pending}
 use Rattle.wire_frames.proofs.Skipping.{skipped_ok}
 use Rattle.wire_frames.proofs.Passing.{list_fails}
 use Rattle.wire_frames.proofs.reading.Fields.skip_pending.Goals as goal
+use Rattle.topology.specs.declared.limits.TheConstants.{MOST_PENDING}
 
 pub returns-in_err-skip_many : goal.returns-in_err-skip_many
 returns-in_err-skip_many c =
     let p = err_from_is_err_and c.from_residual-in_err-skip_many.result c.from_residual-in_err-skip_many.ensures.1 in
     rw (p.1, p.2)
-    (list_fails (many 16128) pending_rows (nothing_pending c.args.marks) c.in_ok-count.count c.args.self.now c.many.new.self c.in_err-skip_many.field-0.0 c.in_ok-count.ensures.number (rw c.behind.ensures at c.in_err-skip_many.ensures))
+    (list_fails (many MOST_PENDING) pending_rows (nothing_pending c.args.marks) c.in_ok-count.count c.args.self.now c.many.new.self c.in_err-skip_many.field-0.0 c.in_ok-count.ensures.number (rw c.behind.ensures at c.in_err-skip_many.ensures))
 
 pub returns : goal.returns
 returns c =

@@ -2,14 +2,15 @@ use Rattle.wire_frames.specs.Formats.{pair, listed}
 use Rattle.wire_frames.specs.Fields.{node, epoch, many, rows, session_rows, report, report_meaning}
 use Rattle.wire_frames.proofs.Passing.{pair_passes, meant_passes}
 use Rattle.wire_frames.proofs.reading.Fields.skip_report.Goals as goal
+use Rattle.topology.specs.declared.limits.TheConstants.{MOST_ENTRIES, MOST_SESSIONS}
 
 pub returns : goal.returns
 unfolding report
 returns c =
     let end = c.skip_sessions.new.self in
     let r = c.skip_sessions.result in
-    let first = listed (many 2048) rows 0 in
-    let second = listed (many 65535) session_rows (0, 0) in
+    let first = listed (many MOST_ENTRIES) rows 0 in
+    let second = listed (many MOST_SESSIONS) session_rows (0, 0) in
     meant_passes (pair node (pair epoch (pair first second))) report_meaning c.args.self.now end r
     (pair_passes node (pair epoch (pair first second)) c.in_ok-node.field-0 c.args.self.now c.node.new.self end r c.in_ok-node.ensures
     (pair_passes epoch (pair first second) c.in_ok-epoch.field-0 c.node.new.self c.epoch.new.self end r c.in_ok-epoch.ensures
