@@ -18,19 +18,21 @@ use topology::{Epoch, NoMemory, NodeId};
 pub struct HeldReports {
     epoch: Epoch,
     list: Vec<Rc<Report>>,
+    // Their value, once somebody asked for it: many ballots may be for the value of the same reports.
+    computed: Option<Value>,
 }
 
 impl Model for HeldReports {
     ghost use Rattle.std.specs.Prelude.{map};
     ghost use Rattle.std.specs.Rc.{rc_value};
     ghost use Rattle.incomplete_closure.specs.Seen.{reports_seen};
-    ghost use Rattle.consolidator.specs.Holding.{Holding, AreHeld};
+    ghost use Rattle.consolidator.specs.Holding.{Holding, AreHeld, IsComputed};
 
     ghost Value = { Holding };
 
     ghost view = { λ h. record { epoch = h.epoch; reports = reports_seen (map rc_value h.list.items) } };
 
-    ghost invariant = { λ h. AreHeld h.epoch (map rc_value h.list.items) };
+    ghost invariant = { λ h. AreHeld h.epoch (map rc_value h.list.items) × IsComputed h.computed (reports_seen (map rc_value h.list.items)) };
 }
 
 // The place of the first report of a higher node.
@@ -69,6 +71,7 @@ impl HeldReports {
         HeldReports {
             epoch,
             list: Vec::new(alloc),
+            computed: None,
         }
     }
 
@@ -101,6 +104,7 @@ impl HeldReports {
     {
         let place = place_of(&self.list, report.node);
         self.list.insert(place, report)?;
+        self.computed = None;
         Ok(())
     }
 
@@ -109,12 +113,20 @@ impl HeldReports {
         ensures { self.new ≡ record { epoch = self.old.epoch; reports = [] } }
     {
         self.list.clear();
+        self.computed = None;
     }
 
-    /// The value of the reports.
-    pub fn value(&self, alloc: Global) -> Result<Value, NoMemory>
-        ensures { IfOk result (λ value. value ≡ value_of self.now.reports) }
+    /// The value of the reports. It is computed where it was not asked for since the last report came.
+    pub fn value(&mut self, alloc: Global) -> Result<Value, NoMemory>
+        ensures value { IfOk result (λ value. value ≡ value_of self.old.reports) }
+        ensures same { self.new ≡ self.old }
     {
-        uncounted_closure(alloc, &self.list)
+        if let Some(value) = &self.computed {
+            return value.copy();
+        }
+        let value = uncounted_closure(alloc, &self.list)?;
+        let copy = value.copy()?;
+        self.computed = Some(value);
+        Ok(copy)
     }
 }

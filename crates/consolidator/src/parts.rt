@@ -74,6 +74,21 @@ fn no_round(promised: Option<Ballot>, own: Ballot) -> Option<Reason>
     None
 }
 
+// The value that an Accept is to carry: the one that is named, or that of the reports.
+fn value_to_propose(
+    alloc: Global,
+    reports: &mut HeldReports,
+    named: Option<Value>,
+) -> Result<Value, NoMemory>
+    ensures value { IfOk result (λ value. value ≡ or_fresh named (value_of reports.old.reports)) }
+    ensures same { reports.new ≡ reports.old }
+{
+    match named {
+        Some(value) => Ok(value),
+        None => reports.value(alloc),
+    }
+}
+
 impl Part {
     /// The part of a node that has seen nothing of the epoch. Takes no memory.
     pub fn new(alloc: Global, epoch: Epoch, node: NodeId) -> Part
@@ -159,16 +174,6 @@ impl Part {
         }
     }
 
-    // The value that an Accept is to carry: the one that is named, or that of the reports.
-    fn value_to_propose(&self, alloc: Global, named: Option<Value>) -> Result<Value, NoMemory>
-        ensures { IfOk result (λ value. value ≡ or_fresh named (value_of self.now.reports.reports)) }
-    {
-        match named {
-            Some(value) => Ok(value),
-            None => self.reports.value(alloc),
-        }
-    }
-
     // Proposes the value to all consolidators: they promised the ballot, a majority just now.
     fn accept_all(
         &mut self,
@@ -225,7 +230,7 @@ impl Part {
             Tally::Duplicate => Ok(Reply::Idle(Reason::Duplicate)),
             Tally::Counted => Ok(Reply::Sent(Outbox::new(Vec::new(alloc)))),
             Tally::Majority(named) => {
-                let value = self.value_to_propose(alloc, named)?;
+                let value = value_to_propose(alloc, &mut self.reports, named)?;
                 Ok(Reply::Sent(self.accept_all(alloc, members, ballot, value)?))
             }
         }
