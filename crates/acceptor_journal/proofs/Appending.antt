@@ -1,4 +1,4 @@
--- How a record is appended, call by call.
+-- Appending a record, call by call.
 use Rattle.std.proofs.Common.{ℕ, ◌+◌, ◌≤◌, ◌<◌, ◌≡◌, inl, List, [], ◌∷◌, ◌++◌, length, take, Some, option_map, Result, Ok, Err, IsErr, IsErrAnd, refl, sym, ap, ◌∙◌, subst, arith}
 use Rattle.std.specs.Result.{IsErrOf}
 use Rattle.route_io.specs.Causes.{RoseIf}
@@ -71,7 +71,7 @@ module _ (at : ℕ) (bytes : List ℕ) (old : DiskView) where
       weaker old new (LeavesNow (written (at + 1) (body bytes ++ 0 ∷ []) old)) (IsMidway at bytes file)
       (λ image left. front_stays at bytes file within image (torn_from old file (at + 1) (body bytes ++ 0 ∷ []) image durable left)) (goes.moments (durable_reads old file durable))
 
-  -- the record was not staged
+  -- the record was not written
   pub appends_unstaged : {T : Type 0} (new : DiskView) (why : DiskEnd) (r : Result ℕ JournalEnd) → at + (6 + length bytes) ≤ MOST_JOURNAL_BYTES → IsErr r × IsErrAnd r (λ end. end ≡ end_of why)
       → Rewrites {T = T} (at + 1) (body bytes ++ 0 ∷ []) old (Err why) new → Appends at bytes old r new
   appends_unstaged {T = T} new why r fits h wrote =
@@ -119,6 +119,6 @@ module _ (at : ℕ) (bytes : List ℕ) (old : DiskView) where
           (rose_after (IsErrOf {T = S} (Ok y) disk.Failed) old.faults mid.faults new.faults quiet wrote.effect.fault);
     }
 
--- the same piece under another name
+-- the same piece by another name
 pub rewrites_as : {T : Type 0} (at : ℕ) (piece other : List ℕ) (old : DiskView) (r : Result T DiskEnd) (new : DiskView) → piece ≡ other → Rewrites at piece old r new → Rewrites at other old r new
 rewrites_as at piece other old r new same was = subst (λ (l : List ℕ). Rewrites at l old r new) same was

@@ -1,4 +1,4 @@
--- How a gate is closed, and how a record is appended.
+-- Closing a gate, and appending a record.
 use Rattle.std.proofs.Common.{ℕ, ◌+◌, ◌≤◌, ◌<◌, ◌≡◌, ◌≢◌, ◌↔◌, inl, inr, Bool, false, Option, Some, List, [], ◌∷◌, ◌++◌, length, get_or, take, drop, Result, Ok, Err, IsErr, IsErrAnd, IfSome, IsTrue, refl, sym, ap, ap₂, ◌∙◌, subst, arith, option_map, append_assoc, length-append, take-append-drop}
 use Rattle.std.specs.Result.{IsErrOf}
 use Rattle.std.specs.Int.{w32, to_be_bytes}
@@ -23,7 +23,7 @@ use Rattle.acceptor_journal.proofs.Moments.{weaker}
 use Rattle.acceptor_journal.proofs.DiskCalls.{synced_moments}
 use Rattle.acceptor_journal.proofs.Telling.{keeps_synced}
 
--- ---- a file that durable
+-- ---- a durable file
 
 -- what a read gives is one of the files that a crash may leave
 pub durable_reads : (old : DiskView) (file : List ℕ) → IsDurable old file → ReadsAnImage old
@@ -49,7 +49,7 @@ pub durable_rewritten : (old : DiskView) (file : List ℕ) (at : ℕ) (piece : L
 durable_rewritten old file at piece durable =
     durable_synced (written at piece old) (overlaid file at piece) _ (ap (option_map (λ before. overlaid before at piece)) durable.content) (ap (option_map _) durable.told)
 
--- a crash after a write leaves the file but for its range
+-- a crash after a write leaves the file, except for the range of the write
 pub torn_from : (old : DiskView) (file : List ℕ) (at : ℕ) (piece image : List ℕ) → IsDurable old file → LeavesNow (written at piece old) image → Torn at (length piece) file image
 torn_from old file at piece image durable left =
     torn durable.acts file durable.only at piece image (subst (λ l. MayLeave l image) (cc (sym left.1 ∙ ap (option_map _) durable.told)) left.2)
@@ -74,7 +74,7 @@ already_shut at file is = elim (cases_lt at (length file)) [
   | inr past ↦ absurd (omega (arith, is, get_or_past file at 1 past))
 ]
 
--- a call that only looked, and has no answer
+-- a call that only looked, and failed
 pub finishes_not : (at : ℕ) (old new : DiskView) (r : Result ℕ JournalEnd) → IsErr r → LooksUp old r new → Finishes at old r new
 finishes_not at old new r failed was = record {
   place = λ gate is. absurd (cc (failed, is));
@@ -116,7 +116,7 @@ gate_moments at old new F goes file durable within not =
 gate_not : (old : DiskView) (at : ℕ) (shut : Bool) (file : List ℕ) → IfSome old.content (λ file. IsTrue shut ↔ (get_or file at 1 ≡ 0)) → ¬ IsTrue shut → old.content ≡ Some file → get_or file at 1 ≢ 0
 gate_not old at is_shut file gate not told here = not ((if_some old.content (λ file. IsTrue is_shut ↔ (get_or file at 1 ≡ 0)) gate file told).1 here)
 
--- a closed gate was to be written
+-- the closed gate should have been written
 pub finishes_unwritten : {T : Type 0} (at : ℕ) (old mid new : DiskView) (shut : Bool) (why : DiskEnd) (r : Result ℕ JournalEnd) → mid ≡ old → IfSome old.content (λ file. IsTrue shut ↔ (get_or file at 1 ≡ 0)) → ¬ IsTrue shut
     → IsErr r × IsErrAnd r (λ end. end ≡ end_of why) → Rewrites {T = T} at (0 ∷ []) mid (Err why) new → Finishes at old r new
 finishes_unwritten {T = T} at old mid new is_shut why r same gate not h wrote =
@@ -155,7 +155,7 @@ not_true b is yes_true = absurd (cc (is, yes_true))
 
 -- ---- appending a record
 
--- the file with what is to stand behind the gate
+-- the file with what follows the gate
 abbrev staged : ℕ → List ℕ → List ℕ → List ℕ
 staged at bytes file = overlaid file (at + 1) (body bytes ++ 0 ∷ [])
 
@@ -183,11 +183,11 @@ module _ (at : ℕ) (bytes file : List ℕ) (inside : at < length file) where
   staged_long =
       omega (arith, ap length staged_is, length-append (take (at + 1) file) (body bytes ++ 0 ∷ drop (at + (6 + length bytes)) file), long_front, length-append (body bytes) (0 ∷ drop (at + (6 + length bytes)) file))
 
-  -- while it is staged the front of the file stays
+  -- while the record is written, the part before the gate stays
   pub front_stays : (image : List ℕ) → Torn (at + 1) (length (body bytes ++ 0 ∷ [])) file image → IsMidway at bytes file image
   front_stays image t = inl (torn_front (at + 1) (length (body bytes ++ 0 ∷ [])) file image t (at + 1) (omega arith) (omega (arith, inside)))
 
-  -- while the gate is opened all else stays
+  -- while the gate is opened, all else stays
   pub rest_stays : (image : List ℕ) → Torn at 1 (staged at bytes file) image → IsMidway at bytes file image
   rest_stays image t =
       let here = drop_more image at 0 (omega (arith, t.no_shorter, staged_long)) in

@@ -1,4 +1,4 @@
--- What the calls of a disk leave, as parts of longer calls.
+-- The effects of a disk's calls, as parts of longer calls.
 use Rattle.std.proofs.Common.{ℕ, ◌≡◌, Option, Some, None, List, [], ◌∷◌, Result, Ok, Err, IsErr, IsErrAnd, OnOk, refl, sym, ap, ◌∙◌, subst, arith, option_map}
 use Rattle.std.specs.Result.{IsErrOf}
 use Rattle.route_io.specs.Causes.{RoseIf}
@@ -21,9 +21,9 @@ quiet_rose F before now same not = subst (λ n. RoseIf F before n) (sym same) (r
 pub rose_after : (F : Type 0) (before mid now : ℕ) → mid ≡ before → RoseIf F mid now → RoseIf F before now
 rose_after F before mid now same rose = subst (λ n. RoseIf F n now) same rose
 
--- ---- what was left
+-- ---- files that may be left
 
--- one act more, which a view is told by
+-- one more act, as a view tells it
 acts_left : (act : DiskAct) (acts : Option (List DiskAct)) (now : List DiskAct) → option_map (λ before. act ∷ before) acts ≡ Some now → (before : List DiskAct) × (acts ≡ Some before) × (now ≡ act ∷ before)
 acts_left act None now is = absurd (cc is)
 acts_left act (Some before) now is = (before, refl, cc is)
@@ -70,7 +70,7 @@ written_moments at piece old = one_act old (written at piece old) (Wrote at piec
 
 -- ---- calls that end
 
--- a call that failed and made no act, or for which there was no memory
+-- a call that failed without an act, or for want of memory
 pub goes_wrong : (why : DiskEnd) (old new w : DiskView) (F : Type 0) → (why ≡ Failed → F) → (why ≡ NoMemory → ¬ F) → ((image : List ℕ) → LeavesNow old image → LeavesNow w image)
     → (why ≡ Failed → Fails [] old new) → (why ≡ NoMemory → new ≡ old) → ActsWithin old new w F
 goes_wrong Failed old new w F so not into failed none =
@@ -88,7 +88,7 @@ goes_wrong NoMemory old new w F so not into failed none =
       fault = quiet_rose F old.faults new.faults (ap (λ (v : DiskView). v.faults) same) (not refl);
     }
 
--- the same where it was to make an act
+-- the same, if it should have made an act
 pub goes_wrong_at : (why : DiskEnd) (act : DiskAct) (old new w : DiskView) (F : Type 0) → (why ≡ Failed → F) → (why ≡ NoMemory → ¬ F) → ((image : List ℕ) → LeavesNow old image → LeavesNow w image)
     → ((image : List ℕ) → new.acts ≡ option_map (λ before. act ∷ before) old.acts → LeavesNow new image → LeavesNow w image)
     → (why ≡ Failed → Fails (act ∷ []) old new) → (why ≡ NoMemory → new ≡ old) → ActsWithin old new w F
@@ -107,7 +107,7 @@ goes_wrong_at NoMemory act old new w F so not into onto failed none =
       fault = quiet_rose F old.faults new.faults (ap (λ (v : DiskView). v.faults) same) (not refl);
     }
 
--- a part that went well, and then another
+-- a part that succeeded, and then another
 pub goes_then : (old mid new w : DiskView) (F : Type 0) → (ReadsAnImage old → LeavesOnly old mid (LeavesNow w)) → KeepsTelling old mid → mid.faults ≡ old.faults → ActsWithin mid new w F → ActsWithin old new w F
 goes_then old mid new w F first telling quiet second = record {
   moments = λ reads. goes_on old mid new (LeavesNow w) (first reads) (second.moments (telling.reads reads));
@@ -123,7 +123,7 @@ goes_nowhere old new w F same not into = record {
   fault = quiet_rose F old.faults new.faults (ap (λ (v : DiskView). v.faults) same) not;
 }
 
--- ---- calls that look
+-- ---- calls that only look
 
 pub looks : {T : Type 0} (r : Result T DiskEnd) (old new : DiskView) → OnOk r (new ≡ old) → (IsErrOf r Failed → Fails [] old new) → (IsErrOf r NoMemory → new ≡ old) → Looks old r new
 looks (Ok x) old new ok failed none = record { ok = λ is. ok; effect = goes_nowhere old new old _ ok (λ e. absurd (cc e)) (λ image left. left) }
@@ -133,7 +133,7 @@ looks {T = T} (Err why) old new ok failed none = record {
       (λ e. failed (ap Err e)) (λ e. none (ap Err e));
 }
 
--- ---- a piece that is written and made to stand
+-- ---- a piece that is written and made durable
 
 pub rewrites_not_written : {T : Type 0} (at : ℕ) (piece : List ℕ) (why : DiskEnd) (old new : DiskView) → (IsErrOf {T = T} (Err why) Failed → Fails (Wrote at piece ∷ []) old new) → (IsErrOf {T = T} (Err why) NoMemory → new ≡ old) → Rewrites {T = T} at piece old (Err why) new
 rewrites_not_written {T = T} at piece why old new failed none = record {
@@ -152,7 +152,7 @@ rewrites_not_synced {T = T} at piece why old mid new wrote failed none = record 
       (goes_wrong why mid new mid (IsErrOf {T = T} (Err why) Failed) (λ e. ap Err e) (λ is e. absurd (cc (is, e))) (λ image left. left) (λ e. failed (ap Err e)) (λ e. none (ap Err e))));
 }
 
--- what was made to stand
+-- what was made durable
 pub goes_synced : (old new w : DiskView) (F : Type 0) → new ≡ synced old → ¬ F → ((image : List ℕ) → LeavesNow old image → LeavesNow w image) → ActsWithin old new w F
 goes_synced old new w F same not into = subst (λ (v : DiskView). ActsWithin old v w F) (sym same) (record {
   moments = λ reads. synced_moments old (LeavesNow w) reads into;
@@ -172,13 +172,13 @@ rewrites {T = T} at piece x old mid new wrote done = record {
 pub looked : {T : Type 0} (x : T) (old new : DiskView) → new ≡ old → Looks old (Ok x) new
 looked x old new same = looks (Ok x) old new same (λ e. absurd (cc e)) (λ e. absurd (cc e))
 
--- ---- an end that is handed on
+-- ---- an end that is passed on
 
 residual_is : {T E : Type 0} (r : Result T E) (e : E) → IsErr r × IsErrAnd r (λ x. x ≡ e) → r ≡ Err e
 residual_is (Ok x) e h = absurd (cc h.0)
 residual_is (Err y) e h = ap Err h.1
 
--- what holds of the end that is handed on holds of the answer
+-- what holds of the end that is passed on holds of the answer
 pub rewrites_err : {T : Type 0} (at : ℕ) (piece : List ℕ) (r : Result T DiskEnd) (why : DiskEnd) (old new : DiskView) → IsErr r × IsErrAnd r (λ x. x ≡ why) → Rewrites {T = T} at piece old (Err why) new → Rewrites at piece old r new
 rewrites_err {T = T} at piece r why old new h was = subst (λ (x : Result T DiskEnd). Rewrites at piece old x new) (sym (residual_is r why h)) was
 

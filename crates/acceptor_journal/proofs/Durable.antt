@@ -1,4 +1,4 @@
--- What each call of a journal comes to, as whoever uses one knows it.
+-- The effect of each call of a journal, as its user knows it.
 use Rattle.std.proofs.Common.{ℕ, ◌+◌, ◌≤◌, ◌<◌, ◌^◌, ◌≡◌, ◌⊎◌, inl, inr, ⊎_elim, false, Option, Some, None, List, [], ◌∷◌, ◌++◌, length, sym, ap, ◌∙◌, subst, arith, length-append}
 use Rattle.std.proofs.lemmas.Bool.{cases_lt}
 use Rattle.acceptor_journal.specs.Views.{DiskView}
@@ -55,7 +55,7 @@ each_reading reader next file given old new answer r h =
       };
     }
 
--- one of them: a further record is there or not
+-- one of two: a further record is there, or not
 one_more : (records given : List (List ℕ)) (further : Option (List ℕ)) (file image : List ℕ) → IsJournalOf records further file → Back file ≡ given → IsJournalOf records further image → ((file ≡ image) ⊎ (given ≡ records)) → IsOrOneMore given (Back image)
 one_more records given further file image shape is there (inl same) = inl (ap Back (sym same) ∙ is)
 one_more records given None file image shape is there (inr same) = inl (is_kept records None image there ∙ sym same)

@@ -1,4 +1,4 @@
--- A file that was read to its end, and what closing its gate makes of it.
+-- A file that was read to its end, and the effect of closing its gate.
 use Rattle.std.proofs.Common.{ℕ, ◌+◌, ◌<◌, ◌^◌, ◌≡◌, ◌≢◌, ◌⊎◌, ◌==◌, inl, inr, true, false, Option, Some, None, List, [], ◌∷◌, ◌++◌, length, get_or, take, drop, refl, sym, ap, ap₂, ◌∙◌, subst, arith, append_assoc, length-append, length-drop, take-append-drop}
 use Rattle.std.proofs.lemmas.List.{length-take, take_at, drop_at, append-nil, get_or_at, drop_more}
 use Rattle.std.proofs.lemmas.Bool.{cases_eq}
@@ -15,9 +15,9 @@ use Rattle.acceptor_journal.proofs.JournalFiles.{fronts_none, fronts_more, front
 pub read_none : (file : List ℕ) → ReadUpTo 0 [] file
 read_none file = record { front = []; rest = file; fronts = fronts_none; is = refl; place = refl; back = refl }
 
--- ---- one record more
+-- ---- one more record
 
--- a record that was read durable in front, and is whole
+-- a record that was read stands in front, and is whole
 record Stood (rest bytes : List ℕ) (more : List (List ℕ)) : Type 0 where
   behind : List ℕ
   there : rest ≡ 1 ∷ behind
@@ -66,13 +66,13 @@ read_more at given file bytes next r gives =
           ∙ sym (append_assoc given (bytes ∷ []) (Back (drop (4 + length_in s.behind) s.behind))));
     }
 
--- behind the last record
+-- after the last record
 pub read_all : (at : ℕ) (given : List (List ℕ)) (file : List ℕ) (next : Place) → ReadUpTo at given file → IsNext file at None next → Back file ≡ given
 read_all at given file next r gives =
     let here : drop at file ≡ r.rest = ap₂ (λ (n : ℕ) (l : List ℕ). drop n l) r.place r.is ∙ drop_at r.front r.rest (length r.front) refl in
     r.back ∙ (ap (λ (l : List (List ℕ)). given ++ l) (sym (ap Back here) ∙ gives.0) ∙ append-nil given)
 
--- ---- the byte behind a front
+-- ---- the byte after the records in front
 
 module _ (at : ℕ) (file front rest : List ℕ) (gate : ℕ) (is : file ≡ front ++ gate ∷ rest) (place : at ≡ length front) where
   pub part_front : take at file ≡ front
@@ -99,10 +99,10 @@ module _ (at : ℕ) (file front rest : List ℕ) (gate : ℕ) (is : file ≡ fro
   pub part_shut : shut at file ≡ front ++ 0 ∷ rest
   part_shut = ap₂ (λ (x y : List ℕ). x ++ 0 ∷ y) part_front part_behind
 
--- ---- closing the gate behind what was read
+-- ---- closing the gate after what was read
 
 module _ (at : ℕ) (given : List (List ℕ)) (file : List ℕ) (r : ReadUpTo at given file) (ended : Back file ≡ given) where
-  -- a closed gate stays
+  -- a closed gate stays closed
   closed_gate : (records : List (List ℕ)) → IsClosed records file → (given ≡ records) × (file ≡ r.front ++ 0 ∷ drop (at + 1) file)
   closed_gate records c =
       let same : given ≡ records = sym ended ∙ closed_back records file c in
@@ -118,7 +118,7 @@ module _ (at : ℕ) (given : List (List ℕ)) (file : List ℕ) (r : ReadUpTo at
       let is = (closed_gate records c).1 in
       record { front = r.front; rest = drop (at + 1) file; fronts = r.fronts; is = part_shut at file r.front (drop (at + 1) file) 0 is r.place }
 
-  -- nothing durable there yet
+  -- nothing is there yet
   begun_at : (records : List (List ℕ)) → IsBegun records file → (given ≡ []) × (at ≡ 0)
   begun_at records b =
       let none : given ≡ [] = sym ended ∙ (begun_back records file b ∙ b.none) in
@@ -137,7 +137,7 @@ module _ (at : ℕ) (given : List (List ℕ)) (file : List ℕ) (r : ReadUpTo at
         is = ap (λ (n : ℕ). shut n file) here.1;
       }
 
-  -- a record durable behind a gate that is open
+  -- a record is behind an open gate
   opened_closed : (records : List (List ℕ)) (bytes : List ℕ) (o : IsStaged records bytes file) → o.gate ≡ 1 → IsClosed (records ++ bytes ∷ []) file
   opened_closed records bytes o is_open = record {
     front = o.front ++ 1 ∷ body bytes;
@@ -146,7 +146,7 @@ module _ (at : ℕ) (given : List (List ℕ)) (file : List ℕ) (r : ReadUpTo at
     is = o.is ∙ (ap (λ (g : ℕ). o.front ++ g ∷ (body bytes ++ 0 ∷ o.rest)) is_open ∙ sym (append_assoc o.front (1 ∷ body bytes) (0 ∷ o.rest)));
   }
 
-  -- or behind one that is not
+  -- or behind a gate that is not open
   unopened_is : (records : List (List ℕ)) (bytes : List ℕ) (o : IsStaged records bytes file) → o.gate ≢ 1 → (given ≡ records) × (r.front ≡ o.front)
   unopened_is records bytes o is_shut =
       let same : given ≡ records = sym ended ∙ (ap Back o.is ∙ unopened_back records o.front (body bytes ++ 0 ∷ o.rest) o.gate o.fronts is_shut) in
@@ -177,7 +177,7 @@ module _ (at : ℕ) (given : List (List ℕ)) (file : List ℕ) (r : ReadUpTo at
         is = part_shut at file o.front (body bytes ++ 0 ∷ o.rest) o.gate o.is (r.place ∙ ap length same.1);
       }
 
-  -- whatever file it is, at each moment it is one of the same records
+  -- in every case the file has the same records at each moment
   rest_stays : (records : List (List ℕ)) → IsClosed records file ⊎ IsBegun records file → (image : List ℕ) → ButForGate at file image → IsClosed records image ⊎ IsBegun records image
   rest_stays records (inl c) image but = inl (subst (IsClosed records) (sym (closed_same records c image but)) c)
   rest_stays records (inr b) image but = inr (begun_stays records b image but)
@@ -190,7 +190,7 @@ module _ (at : ℕ) (given : List (List ℕ)) (file : List ℕ) (r : ReadUpTo at
     | inr is_shut ↦ unopened_stays records bytes o is_shut image but
   ])
 
-  -- and then it is one of those that were read
+  -- and then it is a file of the records that were read
   rest_shuts : (records : List (List ℕ)) → IsClosed records file ⊎ IsBegun records file → IsClosed given (shut at file)
   rest_shuts records (inl c) = closed_shut records c
   rest_shuts records (inr b) = begun_shut records b
@@ -242,7 +242,7 @@ module _ (at : ℕ) (records : List (List ℕ)) (bytes file : List ℕ) (c : IsC
 
 -- ---- what may be read back while a gate is closed
 
--- no file but this one, or the records that were given are those without a further one
+-- only this file, or the records that were given are those without a further one
 pub same_back : (at : ℕ) (given : List (List ℕ)) (file : List ℕ) → ReadUpTo at given file → Back file ≡ given → (records : List (List ℕ)) (further : Option (List ℕ)) → IsJournalOf records further file → (image : List ℕ) → ButForGate at file image
     → (file ≡ image) ⊎ (given ≡ records)
 same_back at given file r ended records None (inl c) image but = inl (sym (closed_same at given file r ended records c image but))

@@ -21,7 +21,7 @@ reads_one : Back one ≡ frame ∷ []
 unfolding records_behind
 reads_one = refl
 
--- no gate, or none that is open
+-- no gate, or a gate that is not open
 reads_none : Back (7 ∷ 0 ∷ 0 ∷ 0 ∷ 6 ∷ 1 ∷ 6 ∷ 0 ∷ 0 ∷ 0 ∷ 0 ∷ 0 ∷ []) ≡ []
 unfolding records_behind
 reads_none = refl
@@ -53,14 +53,14 @@ begun = refl
 beyond : overlaid (4 ∷ []) 3 (9 ∷ []) ≡ 4 ∷ 0 ∷ 0 ∷ 9 ∷ []
 beyond = refl
 
--- ---- what a crash may leave: two bytes were written behind one
+-- ---- what a crash may leave: two bytes were written after one
 abbrev acts : List DiskAct
 acts = Wrote 1 (5 ∷ 6 ∷ []) ∷ Settled (0 ∷ []) ∷ []
 
 nothing_of_it : MayLeave acts (0 ∷ [])
 nothing_of_it = record { no_shorter = omega arith; no_longer = omega arith; others_stay = λ i lt untouched. refl }
 
--- anything but the byte before
+-- anything after the first byte
 other_bytes : MayLeave acts (0 ∷ 9 ∷ 9 ∷ [])
 other_bytes = record { no_shorter = omega arith; no_longer = omega arith; others_stay = first }
   where
@@ -74,7 +74,7 @@ never_the_byte_before may = let same : 1 ≡ 0 = may.others_stay 0 (omega arith)
 never_longer : ¬ MayLeave acts (0 ∷ 5 ∷ 6 ∷ 7 ∷ [])
 never_longer may = let le : 4 ≤ 3 = may.no_longer in omega (arith, le)
 
--- ---- what is to be kept: an append answered, one failed, and the file was opened again
+-- ---- what must be kept: one append returned Ok, one failed, and the file was opened again
 abbrev past : List Call
 past =
     Next (Ok (Some (7 ∷ [])))
@@ -92,7 +92,7 @@ keeps_the_first = refl
 the_second_may_be_there : pending past ≡ Some (8 ∷ [])
 the_second_may_be_there = refl
 
--- once a finish has answered, what was read counts, and nothing more
+-- once a finish returned Ok, what was read counts, and nothing more
 then_all_that_was_read : kept (Finish (Ok 12) ∷ Next (Ok None) ∷ Next (Ok (Some (8 ∷ []))) ∷ past) ≡ (7 ∷ []) ∷ (8 ∷ []) ∷ []
 then_all_that_was_read = refl
 
@@ -103,8 +103,8 @@ then_nothing_more = refl
 the_one_under_way_may_be_there : pending (CrashIn (Append (9 ∷ []) (Ok 18)) [] ∷ Finish (Ok 12) ∷ Next (Ok None) ∷ past) ≡ Some (9 ∷ [])
 the_one_under_way_may_be_there = refl
 
--- ---- why a file has to be one that a journal wrote: of this one nothing is read back, and a crash while its gate is closed may
--- leave two records more
+-- ---- why the file has to be one that a journal wrote: nothing is read back of this one, but a crash while its gate is
+-- closed may leave two more records
 abbrev stranger : List ℕ
 stranger = 7 ∷ 0 ∷ 0 ∷ 0 ∷ 1 ∷ 170 ∷ 1 ∷ 0 ∷ 0 ∷ 0 ∷ 0 ∷ 0 ∷ []
 
@@ -123,7 +123,7 @@ torn_while_it_is_closed = record { no_shorter = omega arith; no_longer = omega a
     each zero lt untouched = absurd (untouched (inl (omega arith, omega arith)))
     each (suc i) lt untouched = refl
 
--- ---- why a record is written as it is: behind a closed gate, to a file that durable, and the record is one byte 9
+-- ---- why a record is written like this: behind a closed gate, in a durable file; here the record is one byte 9
 
 -- a torn image: the gate is open, and the length is another
 abbrev torn_image : List ℕ
@@ -137,10 +137,10 @@ a_stranger = refl
 a_stranger_is_not_kept : ¬ IsKept [] (Some (9 ∷ [])) (Back torn_image)
 a_stranger_is_not_kept kept_then = ⊎_elim (λ none. absurd (cc (sym a_stranger ∙ none))) (λ more. absurd (cc (sym a_stranger ∙ more))) kept_then
 
--- a crash may leave it where the gate is opened in the write of the record
+-- a crash may leave it if the gate is opened in the write of the record
 one_write_for_all : MayLeave (Wrote 0 (1 ∷ 0 ∷ 0 ∷ 0 ∷ 1 ∷ 9 ∷ 0 ∷ []) ∷ Settled (0 ∷ []) ∷ []) torn_image
 one_write_for_all = record { no_shorter = omega arith; no_longer = omega arith; others_stay = λ i lt untouched. absurd (untouched (inl (omega arith, omega (arith, lt)))) }
 
--- and where no sync durable between the record and its gate
+-- and if there is no sync between the record and its gate
 no_sync_between : MayLeave (Wrote 0 (1 ∷ []) ∷ Wrote 1 (0 ∷ 0 ∷ 0 ∷ 1 ∷ 9 ∷ 0 ∷ []) ∷ Settled (0 ∷ []) ∷ []) torn_image
 no_sync_between = record { no_shorter = omega arith; no_longer = omega arith; others_stay = λ i lt untouched. absurd (untouched (inl (omega arith, omega (arith, lt)))) }

@@ -1,4 +1,4 @@
--- The five bytes in front of a record, as a buffer has them.
+-- The first five bytes of a record, as a buffer has them.
 use Rattle.std.proofs.Common.{ℕ, suc, ◌+◌, ◌-◌, ◌≤◌, ◌<◌, ◌≡◌, ◌≢◌, true, false, Option, Some, None, List, [], ◌∷◌, ◌++◌, length, take, drop, get_or, refl, sym, ap, ap₂, ◌∙◌, subst, arith, IfSome, take-append-drop}
 use Rattle.std.specs.Int.{w32, from_be_bytes}
 use Rattle.std.proofs.lemmas.List.{length-drop, take_all, drop_all, append-nil, drop-drop}
@@ -24,7 +24,7 @@ five (a ∷ b ∷ c ∷ d ∷ []) long = absurd (omega (arith, long))
 five (a ∷ b ∷ c ∷ d ∷ e ∷ []) long = refl
 five (a ∷ b ∷ c ∷ d ∷ e ∷ f ∷ more) long = absurd (omega (arith, long))
 
--- what is behind the gate
+-- what follows the gate
 abbrev behind_gate : List ℕ → ℕ → List ℕ → List ℕ
 behind_gate file at buf = get_or buf 1 0 ∷ get_or buf 2 0 ∷ get_or buf 3 0 ∷ get_or buf 4 0 ∷ drop (at + 5) file
 
@@ -35,7 +35,7 @@ head_there file at buf count fills all long =
     sym (take-append-drop 5 (drop at file)) ∙ (ap (λ (l : List ℕ). l ++ drop 5 (drop at file)) (front ∙ five buf long)
     ∙ ap (λ (l : List ℕ). get_or buf 0 0 ∷ get_or buf 1 0 ∷ get_or buf 2 0 ∷ get_or buf 3 0 ∷ get_or buf 4 0 ∷ l) (drop-drop 5 at file))
 
--- ---- how a call that looks for a record ends
+-- ---- the end of a call that looks for a record
 
 module _ (content : Option (List ℕ)) (size at left : ℕ) (sized : IfSome content (λ file. size ≡ length file)) (left_is : left ≡ size - at) where
   pub ends_short : left ≤ 5 → IfSome content (λ file. Back (drop at file) ≡ [])
@@ -106,7 +106,7 @@ found_here content at len buf count begins filled long all =
       omega (arith, within, long),
     ))
 
--- nothing is cut off of a record that durable there
+-- nothing is cut off from a record that is there
 pub found_whole : (content : Option (List ℕ)) (at len : ℕ) (buf : List ℕ) (count : ℕ) → IfSome content (λ file. IsRecordAt file at len) → IfSome content (λ file. Fills file (at + 5) buf count) → length buf ≡ len → count < length buf
     → IfSome content (λ file. HasRecord file at None)
 found_whole content at len buf count begins filled long cut =
@@ -115,7 +115,7 @@ found_whole content at len buf count begins filled long cut =
     let fills = if_some content (λ file. Fills file (at + 5) buf count) filled file told in
     absurd (omega (arith, begins_within file at len b, fills.size, long, cut)))
 
--- a list that was lent and given back
+-- a list that was lent and returned
 pub given_back : (n : ℕ) (was now : List ℕ) → length now ≡ length was → length was ≡ n → take n (now ++ drop (length now) was) ≡ now
 given_back n was now same long =
     ap (λ (l : List ℕ). take n (now ++ l)) (drop_all (length now) was (omega (arith, same))) ∙ (ap (take n) (append-nil now) ∙ take_all n now (omega (arith, same, long)))

@@ -1,4 +1,4 @@
--- What calls of a journal keep, one after another.
+-- What the calls of a journal keep, one after another.
 use Rattle.std.proofs.Common.{ℕ, ◌+◌, ◌≤◌, ◌<◌, ◌^◌, ◌≡◌, inl, inr, true, false, Option, Some, None, List, [], ◌∷◌, ◌++◌, length, Result, Ok, Err, refl, sym, ap, ◌∙◌, subst, arith, option_map, length-append}
 use Rattle.std.proofs.lemmas.Bool.{cases_lt}
 use Rattle.route_io.specs.Causes.{StaysTold}
@@ -22,14 +22,14 @@ use Rattle.acceptor_journal.proofs.JournalFiles.{holds_kept, at_rest}
 
 -- ---- what holds between two calls
 
--- a reader durable behind the records that it gave
+-- a reader after the records that it gave
 record HasRead (reader : Place) (view : DiskView) (given : List (List ℕ)) : Type 0 where
   file : List ℕ
   durable : IsDurable view file
   up_to : ReadUpTo reader.at given file
   ended : reader.ended ≡ true → Back file ≡ given
 
--- a journal durable at the closed gate behind its records
+-- a journal at the closed gate after its records
 record HasKept (gate : ℕ) (view : DiskView) (records : List (List ℕ)) (further : Option (List ℕ)) : Type 0 where
   file : List ℕ
   durable : IsDurable view file
@@ -51,7 +51,7 @@ record Between (view : DiskView) (holder : Stage) (past : List Call) : Type 0 wh
   images : (image : List ℕ) → LeavesNow view image → IsJournalOf (kept past) (pending past) image
   holds : Holds holder view past
 
--- and during one
+-- and during a call
 abbrev Within : Call → DiskView → DiskView → List Call → Type 0
 Within call old new past = (image : List ℕ) → LeftSince old new image → IsJournalOf (kept past) (further call past) image
 
@@ -62,7 +62,7 @@ content_told None new file stays is = absurd (cc is)
 content_told (Some f) None file stays is = absurd stays
 content_told (Some f) (Some g) file stays is = (g, refl)
 
--- a file that stood durable still, where no other could be left
+-- a durable file is still durable if no other file could be left
 pub durable_on : (old new : DiskView) (file : List ℕ) → IsDurable old file → LeavesOnly old new (LeavesNow old) → KeepsTelling old new → IsDurable new file
 durable_on old new file durable moments telling =
     let acts = acts_told old new (LeavesNow old) durable.acts moments durable.told in
@@ -72,7 +72,7 @@ durable_on old new file durable moments telling =
     let same : content.0 ≡ file = only content.0 (telling.reads (durable_reads old file durable) acts.0 content.0 acts.1 content.1) in
     record { acts = acts.0; told = acts.1; content = content.1 ∙ ap (λ (l : List ℕ). Some l) same; only = only }
 
--- ---- one call more
+-- ---- one more call
 
 next_between : (P : List ℕ → Type 0) (old new : DiskView) (had has : Stage) (past : List Call) (call : Call) → Between old had past → LeavesOnly old new P → KeepsTelling old new
     → ((image : List ℕ) → LeavesNow new image → IsJournalOf (kept (call ∷ past)) (pending (call ∷ past)) image) → Holds has new (call ∷ past) → Between new has (call ∷ past)
@@ -81,7 +81,7 @@ next_between P old new had has past call b moments telling images holds =
     let content = content_told old.content new.content b.file telling.told b.content in
     record { acts = acts.0; told = acts.1; file = content.0; content = content.1; reads = telling.reads b.reads; images = images; holds = holds }
 
--- a crash now leaves what it might have left since
+-- what a crash may leave now is among what it might have left since
 then_left : (P : List ℕ → Type 0) (old new : DiskView) (had : Stage) (past : List Call) → Between old had past → LeavesOnly old new P → (image : List ℕ) → LeavesNow new image → LeftSince old new image
 then_left P old new had past b moments image left = left_now old new P b.acts moments b.told image left
 
@@ -151,7 +151,7 @@ read_step reader next answer old new past b r =
 
 -- ---- finishing
 
--- a file that durable is one that may be left
+-- a durable file is one that may be left
 stood_of : (view : DiskView) (holder : Stage) (past : List Call) → Between view holder past → (file : List ℕ) → IsDurable view file → IsJournalOf (kept past) (pending past) file
 stood_of view holder past b file durable = b.images file (b.acts, b.told, b.reads b.acts file b.told durable.content)
 
@@ -245,7 +245,7 @@ append_step gate bytes (Err NoMemory) old new past b a = elim (cases_lt MOST_JOU
 
 -- ---- a crash
 
--- while this call is under way the files that could be left before it are some of those that may be left
+-- during this call, the files that could be left before it are among those that may be left
 still_left : (call : Call) (had : Stage) (old new : DiskView) (has : Stage) (past : List Call) → Between old had past → Keeps call had old new has → (image : List ℕ) → LeavesNow old image → IsJournalOf (kept past) (or_else (under_way call) (pending past)) image
 still_left (Open name answer) had old new has past b keeps image left = b.images image left
 still_left (Next answer) had old new has past b keeps image left = b.images image left
@@ -281,9 +281,9 @@ module _ (crash : Call) (shape : Option (List ℕ)) (image : List ℕ) (old : Di
   crash_step =
       next_between (IsJournalOf (kept past) shape) old (restarted image old) had Closed past crash b crash_moments crash_telling (λ other now. same other (crash_leaves other now)) tt
 
--- ---- all of them
+-- ---- all calls
 
--- each call goes from what holds between two calls to the same, and in between leaves a file of the records
+-- each call keeps what holds between two calls, and meanwhile leaves only files of the records
 record Advances (call : Call) (old new : DiskView) (has : Stage) (past : List Call) : Type 0 where
   within : Within call old new past
   between : Between new has (call ∷ past)

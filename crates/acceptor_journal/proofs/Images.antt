@@ -1,4 +1,4 @@
--- What a crash may leave after one act more.
+-- What a crash may leave after one more act.
 use Rattle.std.proofs.Common.{ℕ, suc, ◌+◌, ◌-◌, ◌≤◌, ◌<◌, max, ◌≡◌, ◌⊎◌, inl, inr, ⊎_elim, List, [], ◌∷◌, ◌++◌, length, get_or, set, take, drop, replicate, refl, sym, ap, ◌∙◌, subst, arith, length-append, length-drop}
 use Rattle.std.proofs.lemmas.List.{length-take, length-set, length-replicate, get_or-set_same, get_or-set_other, get_or-take, get_or-drop, get_or-append_right, get_or_append_left, ext_get_or, append-nil}
 use Rattle.std.proofs.lemmas.Bool.{cases_lt}
@@ -17,7 +17,7 @@ settled_reach (Settled file ∷ before) = omega arith
 pub settled_may : (acts : List DiskAct) → MayLeave acts (settled acts)
 settled_may acts = record { no_shorter = omega arith; no_longer = settled_reach acts; others_stay = λ i lt untouched. refl }
 
--- ---- one act more
+-- ---- one more act
 
 pub opened_may : (name : List ℕ) (acts : List DiskAct) (image : List ℕ) → MayLeave acts image → MayLeave (Opened name ∷ acts) image
 opened_may name acts image may = record { no_shorter = may.no_shorter; no_longer = may.no_longer; others_stay = may.others_stay }
@@ -64,7 +64,7 @@ front_long file at =
       length-replicate {A = ℕ} (at - length file) 0,
     )
 
--- outside the range it is as before
+-- outside the range the file is as before
 overlaid_same : (file : List ℕ) (at : ℕ) (piece : List ℕ) (i : ℕ) → i < length file → (i < at) ⊎ (at + length piece ≤ i)
     → get_or (overlaid file at piece) i 0 ≡ get_or file i 0
 overlaid_same file at piece i lt (inl before) =
@@ -99,9 +99,9 @@ overlaid_within file at piece le =
     ap (λ (n : ℕ). take at (file ++ replicate n 0) ++ (piece ++ drop (at + length piece) file)) none
     ∙ ap (λ (l : List ℕ). take at l ++ (piece ++ drop (at + length piece) file)) (append-nil file)
 
--- ---- a write behind a file that is all that a crash may leave
+-- ---- a write to a durable file
 
--- after a write of a piece that a crash cuts short: any bytes in its range and behind the old end, the same elsewhere
+-- after a write that a crash cuts short: any bytes in its range and beyond the old end, the same bytes elsewhere
 pub record Torn (at n : ℕ) (file image : List ℕ) : Type 0 where
   pub no_shorter : length file ≤ length image
   pub no_longer : length image ≤ max (length file) (at + n)
@@ -111,7 +111,7 @@ module _ (acts : List DiskAct) (file : List ℕ) (durable : (image : List ℕ) �
   pub is_settled : settled acts ≡ file
   is_settled = durable (settled acts) (settled_may acts)
 
-  -- nothing was written behind its end
+  -- nothing was written beyond its end
   pub reach_is : reach acts ≤ length file
   reach_is = elim (cases_lt (length file) (reach acts)) [
     | inl beyond ↦
@@ -149,7 +149,7 @@ module _ (acts : List DiskAct) (file : List ℕ) (durable : (image : List ℕ) �
       outside i (inl before) within = omega (arith, before, within.0)
       outside i (inr behind) within = omega (arith, behind, within.1)
 
--- a front before the range is the same
+-- the bytes before the range are the same
 pub torn_front : (at n : ℕ) (file image : List ℕ) → Torn at n file image → (p : ℕ) → p ≤ at → p ≤ length file → take p image ≡ take p file
 torn_front at n file image t p early within =
     ext_get_or 0 (take p image) (take p file) (omega (arith, length-take p image, length-take p file, t.no_shorter, within))
@@ -157,7 +157,7 @@ torn_front at n file image t p early within =
     let short : i < p = omega (arith, lt, length-take p image) in
     get_or-take p image i 0 short ∙ (t.same i (omega (arith, short, within)) (inl (omega (arith, short, early))) ∙ sym (get_or-take p file i 0 short)))
 
--- and so is what durable behind it
+-- and so are the bytes after it
 pub torn_behind : (at n : ℕ) (file image : List ℕ) → Torn at n file image → drop (at + n) image ≡ drop (at + n) file
 torn_behind at n file image t =
     let one = length-drop (at + n) image in

@@ -1,4 +1,4 @@
--- What files read as that a journal wrote.
+-- What files that a journal wrote read as.
 use Rattle.std.proofs.Common.{ℕ, ◌+◌, ◌≤◌, ◌<◌, ◌^◌, ◌≡◌, ◌≢◌, ◌⊎◌, inl, inr, true, Option, Some, None, List, [], ◌∷◌, ◌++◌, length, take, drop, refl, sym, ap, ap₂, ◌∙◌, arith, append_assoc, length-append, length-drop}
 use Rattle.std.specs.Int.{w32, to_be_bytes, from_be_bytes}
 use Rattle.std.proofs.lemmas.List.{length-take, take_at, drop_at, take-take, take-append-le, drop-append-le, drop-take, take_all, append-nil}
@@ -18,7 +18,7 @@ whole_from behind long = grind (arith, nat_tests)
 
 -- ---- one record in front
 
--- a record reads the same whatever durable behind it
+-- a record reads the same whatever follows it
 pub block_reads : (behind : List ℕ) (byte : ℕ) (rest : List ℕ) → 4 + length_in behind ≤ length behind
     → Back (1 ∷ (take (4 + length_in behind) behind ++ byte ∷ rest)) ≡ bytes_in behind ∷ Back (byte ∷ rest)
 block_reads behind byte rest enough =
@@ -44,7 +44,7 @@ length-body bytes = omega (arith, length-append (to_be_bytes w32 (length bytes))
 length_in-body : (bytes rest : List ℕ) → length bytes < 2 ^ 32 → length_in (body bytes ++ rest) ≡ length bytes
 length_in-body bytes rest small = from_be_bytes-to_be_bytes_4 (length bytes) small
 
--- the record that was made of some bytes reads as these
+-- the record made from some bytes reads as these bytes
 pub body_reads : (bytes : List ℕ) (byte : ℕ) (rest : List ℕ) → length bytes < 2 ^ 32 → Back (1 ∷ (body bytes ++ byte ∷ rest)) ≡ bytes ∷ Back (byte ∷ rest)
 body_reads bytes byte rest small =
     let nil = append-nil (body bytes) in
@@ -74,7 +74,7 @@ fronts_more records front bytes block f long reads = record {
 pub fronts_body : (records : List (List ℕ)) (front bytes : List ℕ) → Fronts records front → length bytes < 2 ^ 32 → Fronts (records ++ bytes ∷ []) (front ++ 1 ∷ body bytes)
 fronts_body records front bytes f small = fronts_more records front bytes (body bytes) f (length-body bytes) (λ byte rest. body_reads bytes byte rest small)
 
--- what is in front is told by its length
+-- the records in front are determined by their length
 pub same_parts : (file front rest other more : List ℕ) → file ≡ front ++ rest → file ≡ other ++ more → length front ≡ length other → (front ≡ other) × (rest ≡ more)
 same_parts file front rest other more one two long = (
   sym (take_at front rest (length other) long) ∙ (ap (take (length other)) (sym one ∙ two) ∙ take_at other more (length other) refl),

@@ -1,4 +1,4 @@
--- How a file is opened.
+-- Opening a file.
 use Rattle.std.proofs.Common.{ℕ, ◌≡◌, List, [], ◌∷◌, Result, Ok, Err, IsErr, IsErrAnd, refl, sym, ap, ◌∙◌, subst}
 use Rattle.std.specs.Result.{IsErrOf}
 use Rattle.route_io.specs.Causes.{RoseIf}
@@ -16,7 +16,7 @@ use Rattle.acceptor_journal.specs.declared.journal.JournalEnd.TheVariants.{Fault
 use Rattle.acceptor_journal.proofs.DiskCalls.{goes_wrong, goes_wrong_at, goes_then, goes_synced, looks, opened_leaves, opened_moments}
 use Rattle.acceptor_journal.proofs.Telling.{keeps_opened}
 
--- ---- how an end is handed on
+-- ---- how an end is passed on
 
 pub is_fault : {T : Type 0} (why : DiskEnd) (end : JournalEnd) → end ≡ end_of why → IsErrOf {T = T} (Err end) Fault → why ≡ disk.Failed
 is_fault disk.Failed end is e = refl
@@ -68,7 +68,7 @@ opens name old mid new was done =
       fault = rose_so ⊥ (IsErrOf {T = Place} (Ok at_start) Fault) old.faults new.faults (λ none. absurd none) (λ e. absurd (cc e)) goes.fault;
     }
 
--- ---- calls that look, as calls of a journal
+-- ---- calls that only look, as calls of a journal
 
 pub end_is : {T : Type 0} (r : Result T JournalEnd) (why : DiskEnd) → IsErr r × IsErrAnd r (λ end. end ≡ end_of why) → r ≡ Err (end_of why)
 end_is (Ok x) why h = absurd (cc h.0)
@@ -97,11 +97,11 @@ end_rose {T = T} {S = S} why before now rose =
     failed_is : IsErrOf {T = T} (Err why) disk.Failed → why ≡ disk.Failed
     failed_is e = cc e
 
--- a call of a disk that failed behind one that only looked
+-- a disk call that failed after one that only looked
 pub looks_up_from : {T S : Type 0} (r : Result T JournalEnd) (why : DiskEnd) (old mid new : DiskView) → mid ≡ old → IsErr r × IsErrAnd r (λ end. end ≡ end_of why)
     → (IsErrOf {T = S} (Err why) disk.Failed → Fails [] mid new) → (IsErrOf {T = S} (Err why) disk.NoMemory → new ≡ mid) → LooksUp old r new
 looks_up_from {S = S} r why old mid new same h failed none = looks_up_on {S = S} r why old mid new same h (looks (Err why) mid new tt failed none)
 
--- what holds of the end that is handed on holds of the answer
+-- what holds of the end that is passed on holds of the answer
 pub opens_err : (name : List ℕ) (r : Result Place JournalEnd) (why : DiskEnd) (old new : DiskView) → IsErr r × IsErrAnd r (λ end. end ≡ end_of why) → Opens name old (Err (end_of why)) new → Opens name old r new
 opens_err name r why old new h was = subst (λ (x : Result Place JournalEnd). Opens name old x new) (sym (end_is r why h)) was

@@ -1,4 +1,4 @@
--- What the calls of a disk do, where they succeed and where they fail.
+-- What the calls of a disk do when they succeed and when they fail.
 use Rattle.std.specs.Prelude.{ℕ, ◌+◌, ◌-◌, ◌<◌, ◌≤◌, ◌≡◌, ◌↔◌, Some, None, List, ◌∷◌, ◌++◌, length, take, drop, replicate, option_map, Result, Err}
 use Rattle.std.specs.declared.option.Option.{Option}
 use Rattle.route_io.specs.Causes.{Rose, StaysTold, next_count}
@@ -7,7 +7,7 @@ use Rattle.acceptor_journal.specs.declared.disk.DiskEnd.{DiskEnd}
 use Rattle.acceptor_journal.specs.declared.disk.DiskEnd.TheVariants.{Failed}
 use Rattle.acceptor_journal.specs.Images.{ReadsAnImage}
 
--- the file with a piece from this place on; between its old end and the place its bytes are zero
+-- the file with the piece from this place on; if the place is beyond the old end, the bytes between are zero
 abbrev pub overlaid : List ℕ → ℕ → List ℕ → List ℕ
 overlaid file at piece = take at (file ++ replicate (at - length file) 0) ++ (piece ++ drop (at + length piece) file)
 
@@ -22,7 +22,7 @@ written at piece disk = record disk {
   acts = option_map (λ before. Wrote at piece ∷ before) disk.acts;
 }
 
--- the file as it is read was settled; whoever tells no content is never said to settle one
+-- the file as it is read is settled; a disk that tells no content settles none
 abbrev pub settled_by : Option (List ℕ) → List DiskAct → List DiskAct
 settled_by None before = before
 settled_by (Some file) before = Settled file ∷ before
@@ -31,7 +31,8 @@ settled_by (Some file) before = Settled file ∷ before
 abbrev pub synced : DiskView → DiskView
 synced disk = record disk { acts = option_map (settled_by disk.content) disk.acts }
 
--- a call failed that was to make these acts. They count as made, and a read gives from then on any file that a crash may leave
+-- a call that should have made these acts failed. They count as made, and from then on a read gives any file that a
+-- crash may leave
 pub record Fails (made : List DiskAct) (old new : DiskView) : Type 0 where
   pub behind : new.acts ≡ option_map (λ before. made ++ before) old.acts
   pub told : StaysTold old.content new.content
@@ -39,8 +40,8 @@ pub record Fails (made : List DiskAct) (old new : DiskView) : Type 0 where
   pub later : old.faults ≤ new.faults
   pub rose : Rose old.faults new.faults
 
--- so many bytes of the file from this place on are in front of the buffer. A buffer with room gets none exactly where the
--- place is the end of the file or beyond
+-- `count` bytes of the file from this place on are in the front of the buffer. A buffer with room gets none exactly
+-- where the place is at the end of the file or beyond
 pub record ReadsFrom (file : List ℕ) (at : ℕ) (buf : List ℕ) (count : ℕ) : Type 0 where
   pub within : count ≤ length file - at
   pub bytes : take count buf ≡ take count (drop at file)

@@ -1,4 +1,4 @@
--- What an end of a disk's call is as an end of a journal's call.
+-- The end of a journal's call for each end of a disk's call.
 use Rattle.acceptor_journal.specs.declared.disk.DiskEnd.{DiskEnd}
 use Rattle.acceptor_journal.specs.declared.disk.DiskEnd.TheVariants as disk
 use Rattle.acceptor_journal.specs.declared.journal.JournalEnd.{JournalEnd}

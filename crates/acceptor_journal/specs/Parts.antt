@@ -23,7 +23,7 @@ pub record Looks {T : Type 0} (old : DiskView) (answer : Result T DiskEnd) (new 
   pub ok : IsOk answer → new ≡ old
   pub effect : ActsWithin old new old (IsErrOf answer Failed)
 
--- a call that wrote a piece and made it stand
+-- a call that wrote a piece and made it durable
 pub record Rewrites {T : Type 0} (at : ℕ) (piece : List ℕ) (old : DiskView) (answer : Result T DiskEnd) (new : DiskView) : Type 0 where
   pub ok : IsOk answer → new ≡ synced (written at piece old)
   pub effect : ActsWithin old new (written at piece old) (IsErrOf answer Failed)
@@ -39,7 +39,7 @@ pub record LooksUp {T : Type 0} (old : DiskView) (answer : Result T JournalEnd) 
   pub not_full : ¬ IsErrOf answer Full
   pub effect : ActsWithin old new old (IsErrOf answer Fault)
 
--- a record of so many bytes stands at this place of a file: the gate is open, and what is behind it is whole
+-- a record of `count` bytes is at this place of a file: the gate is open, and what follows it is whole
 pub record IsRecordAt (file : List ℕ) (at count : ℕ) : Type 0 where
   pub behind : List ℕ
   pub there : drop at file ≡ 1 ∷ behind
@@ -51,7 +51,7 @@ abbrev pub IsRecordOrEnd : List ℕ → ℕ → Option ℕ → Type 0
 IsRecordOrEnd file at (Some count) = IsRecordAt file at count
 IsRecordOrEnd file at None = Back (drop at file) ≡ []
 
--- the record that stands at this place of a file, or that there is none
+-- the record at this place of a file, or that there is none
 abbrev pub HasRecord : List ℕ → ℕ → Option (List ℕ) → Type 0
 HasRecord file at (Some bytes) = (Back (drop at file) ≡ bytes ∷ Back (drop (at + (5 + length bytes)) file)) × (at + (5 + length bytes) < length file)
 HasRecord file at None = Back (drop at file) ≡ []
@@ -60,7 +60,7 @@ HasRecord file at None = Back (drop at file) ≡ []
 abbrev pub found_bytes : Option (Vec ℕ Global) → Option (List ℕ)
 found_bytes found = option_map (λ v. v.items) found
 
--- what a reader answered, as lists
+-- what a reader returned, as lists
 abbrev pub given_by : Result (Option (Vec ℕ Global)) JournalEnd → Result (Option (List ℕ)) JournalEnd
 given_by (Ok found) = Ok (found_bytes found)
 given_by (Err end) = Err end

@@ -1,31 +1,31 @@
-//! A disk with one file, and what a crash may leave of it.
+//! A disk with one file, and what a crash may leave of the file.
 //!
-//! A crash is the end of the process or of the machine at any moment, inside a call too. What was written
-//! since the last [`sync`](Disk::sync) that succeeded may be there after it, or not, or in part: each range
-//! that was written may hold any bytes, and what was written behind the old end may be missing. All other
-//! bytes stay. After a sync a crash leaves what a read gives.
+//! A crash is the end of the process or of the machine at any moment, even inside a call. What was written since the
+//! last successful [`sync`](Disk::sync) may be there after the crash, or not, or in part: each range that was written
+//! may hold any bytes, and what was written beyond the old end may be missing. All other bytes stay. Right after a
+//! sync, a crash leaves what a read gives.
 ghost use Rattle.std.specs.Prelude.{◌≡◌, ◌≤◌, [], ◌∷◌, length, IfOk, OnOk, IfSome, IsErrOf, string_bytes};
 ghost use Rattle.acceptor_journal.specs.Views.{DiskView, Opened, Wrote};
 ghost use Rattle.acceptor_journal.specs.Disks.{Fails, ReadsFrom, opened, synced, written};
 
-/// Why a call of a disk has no answer.
+/// Why a call of a disk failed.
 #[derive(Clone, Copy, Debug, PartialEq, Eq)]
 pub enum DiskEnd {
-    /// Memory ran out. The disk is as it was.
+    /// Memory ran out. The disk is unchanged.
     NoMemory,
     /// The call failed, and the disk's count of faults rose.
     Failed,
 }
 
-/// A disk with one file. Places and lengths count bytes from 0. After a call that failed a read may give any
-/// file that a crash may leave; a later sync makes durable what is then read. The count of faults stops at its
-/// last value, 2^64 - 1, which counts as one that rose.
+/// A disk with one file. Places and lengths count bytes, from 0. After a failed call, a read may give any file that a
+/// crash may leave; a later sync makes durable what is then read. The count of faults stops at its highest value, 2^64
+/// - 1; a count at that value counts as raised.
 pub trait Disk {
-    /// What a read gives of the file, what was done to it, and how often a call has failed. What a disk tells
-    /// before a call it tells after it.
+    /// What contracts see of the disk: what a read gives of the file, what was done to it, and how often a call has
+    /// failed. What a disk tells before a call it tells after it.
     ghost seen: { Self → DiskView };
 
-    /// Opens the file of this name, and makes it where there is none. It is called before any other call.
+    /// Opens the file with this name, and creates it if there is none. This must be the first call.
     fn open_file(&mut self, name: &str) -> Result<(), DiskEnd>
         ensures ok { OnOk result (seen self.new ≡ opened name.now (seen self.old)) }
         ensures failed { IsErrOf result DiskEnd.Failed →
@@ -39,8 +39,8 @@ pub trait Disk {
         ensures failed { IsErrOf result DiskEnd.Failed → Fails [] (seen self.old) (seen self.new) }
         ensures no_memory { IsErrOf result DiskEnd.NoMemory → seen self.new ≡ seen self.old };
 
-    /// Reads bytes from the place `at` on into the front of `buf`, and answers how many. Into a buffer that
-    /// has room, 0 is the end of the file.
+    /// Reads bytes from place `at` on into the front of `buf`. Returns how many; if the buffer has room, 0 means the
+    /// end of the file.
     fn read_at(&mut self, at: u64, buf: &mut [u8]) -> Result<usize, DiskEnd>
         ensures bound { IfOk result (λ n. n ≤ length buf.new) }
         ensures bytes { IfOk result (λ n. IfSome (seen self.old).content (λ file.
@@ -49,15 +49,14 @@ pub trait Disk {
         ensures failed { IsErrOf result DiskEnd.Failed → Fails [] (seen self.old) (seen self.new) }
         ensures no_memory { IsErrOf result DiskEnd.NoMemory → seen self.new ≡ seen self.old };
 
-    /// Writes a piece from the place `at` on, over what is there and beyond the end. A gap before the piece
-    /// reads as zeros.
+    /// Writes a piece from place `at` on, over what is there and beyond the end. A gap before the piece reads as zeros.
     fn write_at(&mut self, at: u64, piece: &[u8]) -> Result<(), DiskEnd>
         ensures ok { OnOk result (seen self.new ≡ written at piece.now (seen self.old)) }
         ensures failed { IsErrOf result DiskEnd.Failed →
             Fails (Wrote at piece.now ∷ []) (seen self.old) (seen self.new) }
         ensures no_memory { IsErrOf result DiskEnd.NoMemory → seen self.new ≡ seen self.old };
 
-    /// Makes all that was written durable: a crash leaves what a read gives, until the next write.
+    /// Makes all that was written durable: until the next write, a crash leaves what a read gives.
     fn sync(&mut self) -> Result<(), DiskEnd>
         ensures ok { OnOk result (seen self.new ≡ synced (seen self.old)) }
         ensures failed { IsErrOf result DiskEnd.Failed → Fails [] (seen self.old) (seen self.new) }

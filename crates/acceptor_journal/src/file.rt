@@ -1,6 +1,6 @@
 //! The trusted edge: a disk that is a file of the system.
 //!
-//! What the system gives and keeps is told by no contract, so it tells neither content nor acts.
+//! No contract says what the system reads and keeps. So the disk tells neither content nor acts.
 ghost use Rattle.std.specs.Prelude.{◌≡◌, ◌≤◌, [], ◌∷◌, length, None, is_err, IfOk, IfSome, IsErrOf, OnOk};
 ghost use Rattle.route_io.specs.Causes.{counted};
 ghost use Rattle.acceptor_journal.specs.Views.{Opened, Wrote};
@@ -13,8 +13,8 @@ use std::os::unix::fs::FileExt;
 use std::path::Path;
 use std::rt::Files;
 
-/// A file of the system. Each error that the system answers is counted, and so is a call before a file was
-/// opened. It is for one process at a time. A name is one of the system; its folder has to be there.
+/// A file of the system. Each error of the system is counted as a fault, and so is a call before a file was opened.
+/// Only one process may use the file. The name is a path of the system, whose folder must exist.
 #[derive(Drop)]
 pub struct FileDisk<'a, R: Files<File = File>> {
     files: &'a R,
@@ -23,7 +23,7 @@ pub struct FileDisk<'a, R: Files<File = File>> {
 }
 
 impl<'a, R: Files<File = File>> FileDisk<'a, R> {
-    /// No file was opened yet.
+    /// A disk without an open file.
     pub fn new(files: &'a R) -> FileDisk<'a, R>
         ensures { result.faults ≡ 0 }
     {
@@ -140,7 +140,7 @@ impl<'a, R: Files<File = File>> Disk for FileDisk<'a, R> {
     }
 }
 
-// Opens a file, or makes it, and makes its name durable in its folder.
+// Opens or creates a file, and makes its name durable in its folder.
 fn open<R: Files<File = File>>(files: &R, name: &str) -> io::Result<File> {
     let file = OpenOptions::new()
         .read(true)

@@ -1,11 +1,10 @@
-//! The file of a journal, and the calls that read it back and add to it.
+//! The file of a journal, and the calls that read it back and append to it.
 //!
-//! The file is a list of records, and behind the last one a closed gate. A record is a gate byte, which is 1,
-//! then its length in four bytes, the highest first, and then its bytes. A gate of any other byte is closed:
-//! the records end there, and also where the length, the bytes and one further byte are not all there. A
-//! record is written behind a closed gate, with the next closed gate behind it, and made durable before
-//! its own gate is opened, as a log makes a record durable before it counts (Gray and Reuter, 1993). So a crash
-//! leaves it whole or not at all.
+//! The file is a list of records, followed by a closed gate. A record is a gate byte, which is 1, then its length in
+//! four bytes, the highest first, and then its bytes. A gate with any other byte is closed, and the records end there.
+//! They also end where the length, the bytes and one further byte are not all there. A record is written behind a
+//! closed gate, with the next closed gate after it, and made durable before its own gate is opened, just as a log makes
+//! a record durable before it counts (Gray and Reuter, 1993). So a crash leaves the record whole or not at all.
 ghost use Rattle.std.specs.Prelude.{◌≡◌, ◌+◌, ◌<◌, ◌≤◌, ◌^◌, ◌↔◌, ◌++◌, [], ◌∷◌, true, get_or, length, take, drop, IfOk, IfSome, IsTrue};
 ghost use Rattle.acceptor_journal.specs.Disks.{ReadsFrom};
 ghost use Rattle.acceptor_journal.specs.Journals.{Appends, Finishes, Opens, Reads};
@@ -16,23 +15,22 @@ use crate::disk::{Disk, DiskEnd};
 use std::alloc::{AllocError, Global};
 use std::marker::Model;
 
-/// A journal's file has at most as many bytes: 256 MiB.
+/// The most bytes of a journal's file: 256 MiB.
 pub const MOST_JOURNAL_BYTES: u64 = 268_435_456;
 
-/// Why a call of a journal has no answer. After `NoMemory` and `Fault` the file is to be opened again, but
-/// for [`Reader::next`], which may also be called again.
+/// Why a call of a journal failed. After `NoMemory` or `Fault` the file must be opened again; only [`Reader::next`] may
+/// be called again instead.
 #[derive(Clone, Copy, Debug, PartialEq, Eq)]
 pub enum JournalEnd {
     /// Memory ran out.
     NoMemory,
     /// A call of the disk failed, and its count of faults rose.
     Fault,
-    /// The closed gate behind the record would end above [`MOST_JOURNAL_BYTES`]. Nothing was done.
+    /// The closed gate after the record would end above [`MOST_JOURNAL_BYTES`]. Nothing was done.
     Full,
 }
 
-/// The place that was reached in a file that is read back, and whether it is the end of the records. It holds
-/// no record.
+/// The place that a reader has reached in a file, and whether the records end there. It holds no record.
 #[derive(Drop)]
 pub struct Reader {
     alloc: Global,
@@ -48,7 +46,7 @@ impl Model for Reader {
     ghost view = { λ r. record { at = r.place; ended = r.ended } };
 }
 
-/// The place of the closed gate behind the records of a file. It holds no record.
+/// The place of the closed gate after the records of a file. It holds no record.
 #[derive(Drop)]
 pub struct Journal {
     alloc: Global,
@@ -76,8 +74,8 @@ impl From<DiskEnd> for JournalEnd {
     }
 }
 
-/// Opens the file of this name, which is made where there is none, and makes what a read gives of it durable:
-/// from then on what is read back is what a crash leaves.
+/// Opens the file with this name, creates it if there is none, and makes its present content durable. So what is read
+/// back from now on is what a crash leaves.
 pub fn open_journal<D: Disk>(alloc: Global, disk: &mut D, name: &str) -> Result<Reader, JournalEnd>
     ensures { Opens name.now (D.seen disk.old) result (D.seen disk.new) }
 {
@@ -92,8 +90,8 @@ pub fn open_journal<D: Disk>(alloc: Global, disk: &mut D, name: &str) -> Result<
 }
 
 impl Reader {
-    /// The next record, or None behind the last one. The bytes of a record are as they were appended; it may
-    /// have none. After a failure the place is as it was.
+    /// The next record, or `None` after the last one. The bytes of a record are as they were appended; there may be
+    /// none. After a failure the place is unchanged.
     pub fn next<D: Disk>(&mut self, disk: &mut D) -> Result<Option<Vec<u8>>, JournalEnd>
         ensures { Reads self.old (D.seen disk.old) (given_by result) self.new (D.seen disk.new) }
     {
@@ -108,8 +106,8 @@ impl Reader {
         Ok(found)
     }
 
-    /// Closes the gate behind the records, and makes that durable. Condition: [`next`](Reader::next) has
-    /// answered None. What is behind the gate stays as it is.
+    /// Closes the gate after the records, and makes that durable. Condition: [`next`](Reader::next) has returned
+    /// `None`. What is behind the gate stays as it is.
     pub fn finish<D: Disk>(self, disk: &mut D) -> Result<Journal, JournalEnd>
         requires { self.ended ≡ true }
         ensures { Finishes self.at (D.seen disk.old) result (D.seen disk.new) }
@@ -128,9 +126,8 @@ impl Reader {
 }
 
 impl Journal {
-    /// Appends a record of these bytes. Behind the gate their length, they and a closed gate are written and
-    /// made durable, and only then the gate is opened. After `NoMemory` or `Fault` the record may be there or
-    /// not.
+    /// Appends a record of these bytes. First their length, the bytes and a closed gate are written behind the present
+    /// gate and made durable. Only then the gate is opened. After `NoMemory` or `Fault` the record may be there or not.
     pub fn append<D: Disk>(self, disk: &mut D, piece: &[u8]) -> Result<Journal, JournalEnd>
         ensures { Appends self piece.now (D.seen disk.old) result (D.seen disk.new) }
     {
@@ -150,7 +147,7 @@ impl Journal {
     }
 }
 
-// What stands behind the gate of a record, and a closed gate.
+// What follows the gate of a record: the length, the bytes, and a closed gate.
 fn body_of(alloc: Global, piece: &[u8]) -> Result<Vec<u8>, AllocError>
     requires { length piece.now < 2 ^ 32 }
     ensures { IfOk result (λ v. v.items ≡ body piece.now ++ 0 ∷ []) }
@@ -192,7 +189,7 @@ fn fill<D: Disk>(disk: &mut D, at: u64, buf: &mut [u8]) -> Result<usize, DiskEnd
     Ok(done)
 }
 
-// One read into the buffer behind what it has.
+// One read into the buffer, after what it already has.
 fn read_behind<D: Disk>(
     disk: &mut D,
     at: u64,
@@ -221,7 +218,7 @@ fn write_through<D: Disk>(disk: &mut D, at: u64, piece: &[u8]) -> Result<(), Dis
     Ok(())
 }
 
-// How long the record at this place is, or None where there is none.
+// The length of the record at this place; `None` if there is no record.
 fn length_at<D: Disk>(disk: &mut D, at: u64) -> Result<Option<u32>, DiskEnd>
     ensures record { IfOk result (λ found. IfSome (D.seen disk.old).content (λ file.
         IsRecordOrEnd file at found)) }
@@ -248,7 +245,7 @@ fn length_at<D: Disk>(disk: &mut D, at: u64) -> Result<Option<u32>, DiskEnd>
     Ok(Some(len))
 }
 
-// The record at this place, or None where there is none.
+// The record at this place; `None` if there is none.
 fn find<D: Disk>(alloc: Global, disk: &mut D, at: u64) -> Result<Option<Vec<u8>>, JournalEnd>
     ensures record { IfOk result (λ found. IfSome (D.seen disk.old).content (λ file.
         HasRecord file at (found_bytes found))) }

@@ -1,13 +1,13 @@
-//! A journal in a file: the records that were appended are there again after a crash.
+//! A journal in a file: the records that were appended are still there after a crash.
 //!
-//! [`open_journal`] opens a file, [`Reader::next`] gives its records one after another, [`Reader::finish`]
-//! makes a [`Journal`] of a reader that has reached the end, and [`Journal::append`] adds a record. They read
-//! and write through a [`Disk`]: [`FileDisk`] is a file of the system, the trusted edge; [`MemDisk`] is one
-//! in memory, with listed calls that fail.
+//! [`open_journal`] opens a file, [`Reader::next`] gives its records one after another, [`Reader::finish`] turns a
+//! reader that has reached the end into a [`Journal`], and [`Journal::append`] adds a record. They read and write
+//! through a [`Disk`]. [`FileDisk`] is a file of the system, the trusted edge; [`MemDisk`] is a disk in memory, with
+//! calls that are listed to fail.
 //!
-//! What a crash may leave of a file stands in `specs/Images.antt`, which records a file has in
-//! `specs/Records.antt`, what each call promises in `specs/Journals.antt`, and what holds of any calls and
-//! crashes, one after another, in `specs/Histories.antt` ([`laws`]).
+//! `specs/Images.antt` defines what a crash may leave of a file, `specs/Records.antt` the records of a file,
+//! `specs/Journals.antt` what each call promises, and `specs/Histories.antt` what holds of any sequence of calls and
+//! crashes ([`laws`]).
 #![tactic(auto)]
 
 pub mod disk;

@@ -1,5 +1,4 @@
-//! A disk in memory, with calls that are listed to fail. It is for tests: it keeps what each write has
-//! replaced.
+//! A disk in memory, with calls that are listed to fail. It is for tests: it keeps what each write replaced.
 ghost use Rattle.std.specs.Prelude.{◌≡◌, ◌≤◌, ◌↔◌, ◌∷◌, [], Some, length, IfErr, IfOk, IsErrOf, IsTrue, IsErr, OnErr, OnOk};
 ghost use Rattle.route_io.specs.Calls.{IsFresh, NextIsListed};
 ghost use Rattle.route_io.specs.Causes.{Rose, counted};
@@ -13,23 +12,23 @@ use route_io::Calls;
 use std::alloc::{AllocError, Global};
 use std::mem;
 
-/// A call that was made on a disk in memory, with what is to be known of it.
+/// A call that was made on a disk in memory, with what must be known of it.
 #[derive(Drop)]
 pub enum Made {
-    /// The file was opened under this name, or was to be.
+    /// The file was opened with this name, or the opening failed.
     Opened(Vec<u8>),
-    /// A piece was written from this place on, and the file before was this one.
+    /// A piece was written from this place on; the last field is the file before.
     Wrote(u64, Vec<u8>, Vec<u8>),
-    /// A piece was to be written from this place on, and the file is as it was.
+    /// A write of a piece from this place on failed; the file is unchanged.
     Tried(u64, Vec<u8>),
     /// All that was written was made durable.
     Synced,
 }
 
-/// A file in memory. It keeps a record of its calls, by which it tells what a crash may leave: for each write
-/// the file as it was before. A call that fails leaves the file as it was, though a crash may then leave a
-/// part of what was to be written. Opening, writing and syncing want memory for this; so a call that is
-/// listed may end with [`DiskEnd::NoMemory`] where it opens or writes. Reading and the length want none.
+/// A file in memory. It records its calls, and tells from them what a crash may leave; for each write it keeps the file
+/// as it was before. A failed call leaves the file unchanged, though a crash may then leave a part of what should have
+/// been written. Opening, writing and syncing need memory for the record. So a listed call that opens or writes may end
+/// with [`DiskEnd::NoMemory`]. Reading and the length need none.
 #[derive(Drop)]
 pub struct MemDisk {
     alloc: Global,
@@ -39,8 +38,8 @@ pub struct MemDisk {
 }
 
 impl MemDisk {
-    /// The file has this content, and a crash leaves it. The calls whose numbers are in `failing`, counted
-    /// from 1 over all kinds, fail.
+    /// A disk with this content, which a crash leaves. The calls with the numbers in `failing`, counted from 1 over all
+    /// kinds, fail.
     pub fn new(alloc: Global, content: Vec<u8>, failing: Vec<u64>) -> MemDisk
         ensures seen { ⟦<MemDisk as Disk>⟧.seen result ≡ record {
           content = Some content.items;
@@ -184,7 +183,7 @@ impl Disk for MemDisk {
     }
 }
 
-// A call that is listed fails, and is counted.
+// Makes a listed call fail, and counts it.
 fn answer(calls: &mut Calls, listed: bool) -> Result<(), DiskEnd>
     ensures fails { IsErr result ↔ IsTrue listed }
     ensures failed { IfErr result (λ why. why ≡ DiskEnd.Failed) }
@@ -199,7 +198,7 @@ fn answer(calls: &mut Calls, listed: bool) -> Result<(), DiskEnd>
     Ok(())
 }
 
-// The file with a piece at this place.
+// The file with this piece at this place.
 fn with_piece(alloc: Global, file: &[u8], at: u64, piece: &[u8]) -> Result<Vec<u8>, AllocError>
     ensures { IfOk result (λ v. v.items ≡ overlaid file.now at piece.now) }
 {

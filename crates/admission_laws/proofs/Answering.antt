@@ -1,4 +1,4 @@
--- What a node does with an input keeps that every fact fits, where its log and its epoch stay within the limits.
+-- What a node does with an input keeps that every fact fits, if its log and its epoch stay within the limits.
 use Rattle.std.proofs.Common.{ℕ, suc, ◌^◌, ◌≤◌, Bool, true, false, cond, not, ◌&&◌, ◌||◌, ◌==◌, Option, Some, None, List, [], ◌∷◌, ◌≡◌, ◌≢◌, refl, sym, ◌∙◌, ap, subst, arith, length, is_some, option_and_then}
 use Rattle.std.specs.Prelude.{nat_lt, nat_le, if◌then◌else◌}
 use Rattle.std.specs.List.{list_all}
@@ -48,7 +48,7 @@ use Rattle.admission_laws.proofs.Logs.{log_fits, newest_epoch_low, newest_path_c
 use Rattle.admission_laws.proofs.Replying.{one_more}
 use Rattle.admission_laws.proofs.Entries.{local_is, write_fits, open_fits, raise_fits}
 
--- every fact fits where a step of u goes on within the limits of a node
+-- every fact fits if a step of u stays within the limits of a node
 abbrev pub Fine : Rules → Net → ℕ → Step → Type 0
 Fine rules net u (Idle why) = Unit {0}
 Fine rules net u (Goes now) = Within rules net u (log_of u now) → epoch u now ≤ MOST_EPOCHS → AllFacts net u now
@@ -76,7 +76,7 @@ up_is net u w (x ∷ up) all there =
     ]) refl there
 
 module _ (rules : Rules) (net : Net) (u : ℕ) (valid : IsValid net) (own : has net.nodes u ≡ true) (carried : Carried) where
-  -- where a step does nothing for a reason, and else goes on so
+  -- a step is idle for a reason, or else does this
   unless_fine : (why : Option Reason) (now : Chronicle) → (why ≡ None → Fine rules net u (Goes now)) → Fine rules net u (unless why now)
   unless_fine None now fine = fine refl
   unless_fine (Some why) now fine = tt

@@ -1,4 +1,4 @@
--- The ballots and values that a node reads of what it did and heard fit.
+-- The ballots and values that a node reads from its own acts and from what it heard fit.
 use Rattle.std.proofs.Common.{ℕ, ◌+◌, ◌<◌, ◌^◌, max, Bool, true, false, ◌&&◌, ◌==◌, nat_lt, nat_le, Option, Some, None, List, [], ◌∷◌, ◌≡◌, refl, arith, option_map, if◌then◌else◌, IfSome}
 use Rattle.std.specs.Prelude.{is_some}
 use Rattle.std.specs.List.{list_all}
@@ -96,7 +96,7 @@ module _ (net : Net) where
       (fact_of e f (and_left (control_fits net f) (list_all (control_fits net) past) all))
       (agreement_fits e past (and_right (control_fits net f) (list_all (control_fits net) past) all))
 
-  -- ---- what is read of one agreement
+  -- ---- readings of one agreement
 
   -- a ballot that fits, where there is one
   abbrev pub HasBallot : Option Ballot → Type 0

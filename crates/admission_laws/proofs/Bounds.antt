@@ -1,4 +1,4 @@
--- Numbers that fit, and what is counted of a log.
+-- Numbers that fit, and counts of a log.
 use Rattle.std.proofs.Common.{ℕ, suc, ◌+◌, ◌^◌, ◌<◌, ◌≤◌, Bool, true, false, cond, Some, List, [], ◌∷◌, length, ◌≡◌, ap, arith, filter}
 use Rattle.std.specs.Prelude.{nat_lt, nat_le}
 use Rattle.std.specs.List.{list_any}
@@ -49,7 +49,7 @@ pub record Within (rules : Rules) (net : Net) (u : ℕ) (h : List Entry) : Type 
   pub updates : length (sent_of rules net u h) ≤ MOST_UPDATES
   pub short : list_any is_long_item (sent_of rules net u h) ≡ false
 
--- a log of which a report may be made: no list of what is held back is too long, and all lists have few triggers
+-- a log of which a report may be made: the list of held-back updates is not too long, and all lists have few triggers
 pub record Reportable (rules : Rules) (net : Net) (u : ℕ) (h : List Entry) : Type 0 where
   pub rows : list_any is_long_row (pending_rows rules net u h) ≡ false
   pub marks : marks_of rules net u h ≤ MOST_MARKS

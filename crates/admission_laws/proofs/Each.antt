@@ -1,4 +1,4 @@
--- A test that each of a list passes.
+-- Tests that each element of a list passes.
 use Rattle.std.proofs.Common.{ℕ, zero, suc, ◌+◌, ◌<◌, Bool, true, false, cond, ◌==◌, ◌||◌, List, [], ◌∷◌, ◌++◌, ◌≡◌, ◌⊎◌, ⊎_elim, inl, inr, refl, subst, arith, map, filter, flat_map}
 use Rattle.std.specs.List.{list_all, list_any, range_with_len}
 use Rattle.topology.specs.Lists.{has, Among}
@@ -48,7 +48,7 @@ passing_filter test (y ∷ ys) x there =
       | false ↦ λ e a. passing_filter test ys x a
     ]) refl there
 
--- ---- tests that none of a list passes
+-- ---- tests that no element passes
 
 -- none of two lists
 none_append : {A : Type 0} (test : A → Bool) (xs ys : List A) → list_any test (xs ++ ys) ≡ false → (list_any test xs ≡ false) × (list_any test ys ≡ false)
@@ -80,7 +80,7 @@ none_made test f (y ∷ ys) x none there =
     ⊎_elim (λ (same : y ≡ x). subst (λ z. test (f z) ≡ false) same (or_left (test (f y)) (list_any test (map f ys)) none))
     (λ (later : Among x ys). none_made test f ys x (or_right (test (f y)) (list_any test (map f ys)) none) later) there
 
--- ---- where things are from
+-- ---- where members come from
 
 -- what is in two lists is in one of them
 pub among_append : {A : Type 0} (xs ys : List A) (x : A) → Among x (xs ++ ys) → Among x xs ⊎ Among x ys

@@ -1,4 +1,4 @@
--- What a node does by its log, its sessions and its epoch keeps that every fact fits.
+-- Entries, openings and cuts of a node keep that every fact fits.
 use Rattle.std.proofs.Common.{ℕ, suc, ◌≤◌, true, false, cond, ◌&&◌, ◌==◌, List, [], ◌∷◌, ◌≡◌, refl, arith, length}
 use Rattle.std.specs.Prelude.{nat_le}
 use Rattle.std.specs.List.{list_all}

@@ -1,4 +1,4 @@
--- What every fact of a node's own run is.
+-- Properties of every fact in a node's own run.
 use Rattle.std.proofs.Common.{ℕ, ◌^◌, ◌≡◌, Bool, true, ◌&&◌, ◌==◌, nat_lt}
 use Rattle.std.specs.List.{list_all}
 use Rattle.topology.specs.Lists.{has}

@@ -1,4 +1,4 @@
--- The run of a node that admits each input: every fact of it fits, and so does all that the node hands out.
+-- If a node admits each input, every fact of its run fits, and so does all that the node hands out.
 use Rattle.std.proofs.Common.{ℕ, ◌^◌, ◌≤◌, Bool, true, false, ◌&&◌, ◌==◌, Option, Some, None, List, [], ◌∷◌, ◌≡◌, refl, sym, ◌∙◌, ap, subst, arith}
 use Rattle.std.specs.Prelude.{nat_lt}
 use Rattle.std.specs.List.{list_all, list_any}
@@ -57,13 +57,13 @@ short_lists rules net u now short = (
   or_right (list_any is_long_item (sent_of rules net u (log_of u now))) (list_any is_long_row (pending_rows rules net u (log_of u now))) short,
 )
 
--- where no count is above its number, none but the marks is, nor are they
+-- if no count is above its limit, only the marks could be, and they are not
 before_marks : (o : Option Reached) (more : Bool) → or_marks o more ≡ None → (o ≡ None) × (more ≡ false)
 before_marks None true e = absurd (cc e)
 before_marks None false e = (refl, refl)
 before_marks (Some r) more e = absurd (cc e)
 
--- a log is within the limits where no count is above its number
+-- a log is within the limits if no count is above its limit
 log_within : (rules : Rules) (net : Net) (u : ℕ) (now : Chronicle) → node_above rules net u now ≡ None → Within rules net u (log_of u now)
 log_within rules net u now none = record {
   entries = let count = (within rules net u now none).2 in grind (arith, nat_tests);
@@ -71,7 +71,7 @@ log_within rules net u now none = record {
   short = (short_lists rules net u now (or_right (has_large_value u now) (has_long_list rules net u now) (within rules net u now none).1)).0;
 }
 
--- and of it a report may be made, where its lists have few triggers
+-- a report may be made of it, if its lists have few triggers
 log_reportable : (rules : Rules) (net : Net) (u : ℕ) (now : Chronicle) → node_above rules net u now ≡ None → has_more_marks rules net u now ≡ false → Reportable rules net u (log_of u now)
 unfolding has_more_marks
 log_reportable rules net u now none few = record {
@@ -148,7 +148,7 @@ module _ (rules : Rules) (net : Net) (u : ℕ) (valid : IsValid net) (here : has
   fine_on past [] fine admitted = fine
   fine_on past (i ∷ before) fine admitted = fine_more (going_on rules net u past before) i (fine_on past before fine admitted.2) admitted.0 admitted.1
 
-  -- a crash and a restart leave all that is asked
+  -- a crash and a restart leave all that is needed
   fine_again : (past : Chronicle) → IsFine past → IsFine (Restart u ∷ Crash u ∷ past)
   fine_again past fine =
       let crashed = own_same rules net past (Crash u ∷ past) u fine.own (same_by_fact u (Crash u) past tt) in
@@ -188,13 +188,13 @@ module _ (net : Net) (u : ℕ) where
   outputs_fit (f ∷ past) all =
       each_append (output_fits net u) (outputs past) (output_by f past) (outputs_fit past (facts_before net u f past all)) (shown_fits f past (first_fact net u f past all))
 
--- all that a node hands out is what its addressees admit
+-- all that a node hands out is admitted by its addressees
 pub all_fit : (rules : Rules) (net : Net) (u : ℕ) (inputs : List Input) → IsValid net → has net.nodes u ≡ true → AllAdmitted rules net u [] inputs
     → list_all (output_fits net u) (outputs (alone rules net u inputs)) ≡ true
 all_fit rules net u inputs valid here admitted =
     outputs_fit net u (alone rules net u inputs) (fine_on rules net u valid here [] inputs (fine_none rules net u valid here) admitted).facts
 
--- and what it hands out once it was started again
+-- so is what it hands out after a restart
 pub all_fit_again : (rules : Rules) (net : Net) (u : ℕ) (kept inputs : List Input) → IsValid net → has net.nodes u ≡ true → AllAdmitted rules net u [] kept
     → AllAdmitted rules net u (restarted rules net u kept) inputs → list_all (output_fits net u) (outputs (going_on rules net u (restarted rules net u kept) inputs)) ≡ true
 all_fit_again rules net u kept inputs valid here before admitted =

@@ -1,4 +1,4 @@
--- The reports that a node holds fit, and their nodes ascend: it refuses a second one of a node.
+-- The reports that a node holds fit, and their nodes ascend; the node refuses a second report of a node.
 use Rattle.std.proofs.Common.{ℕ, Bool, true, false, ◌&&◌, ◌||◌, ◌==◌, nat_le, nat_lt, Some, None, List, [], ◌∷◌, ◌≡◌, refl, sym, subst, arith, if◌then◌else◌}
 use Rattle.std.specs.Prelude.{is_some}
 use Rattle.std.specs.List.{list_all}

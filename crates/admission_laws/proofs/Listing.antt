@@ -1,4 +1,4 @@
--- The triggers that entries, their items and what they hold back list are of the network.
+-- The triggers listed by entries, by their items and by held-back updates are of the network.
 use Rattle.std.proofs.Common.{ℕ, true, ⊎_elim, inl, inr, List, [], ◌∷◌, ◌≡◌, ◌≢◌, refl}
 use Rattle.topology.specs.declared.names.Scope.{Scope}
 use Rattle.topology.specs.declared.names.Scope.TheVariants.{One, All, Nothing}

@@ -1,4 +1,4 @@
--- What is read of a run of which every fact fits.
+-- Readings of a run in which every fact fits.
 use Rattle.std.proofs.Common.{ℕ, zero, suc, ◌≤◌, Bool, true, false, cond, ◌&&◌, ◌==◌, Option, Some, None, List, [], ◌∷◌, ◌≡◌, refl, arith, length, IfSome, slice_get, option_map, option_and_then}
 use Rattle.std.specs.Prelude.{nat_lt, nat_le}
 use Rattle.std.specs.List.{list_all}

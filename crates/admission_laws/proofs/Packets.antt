@@ -1,4 +1,4 @@
--- A packet that fits fits after each move.
+-- A packet that fits still fits after each move.
 use Rattle.std.proofs.Common.{ℕ, suc, ◌-◌, ◌^◌, ◌<◌, ◌≤◌, true, false, cond, ◌&&◌, ◌||◌, ◌==◌, Option, Some, None, List, [], ◌∷◌, ◌++◌, ◌≡◌, refl, ◌∙◌, arith, length, find, IfSome}
 use Rattle.std.specs.Prelude.{nat_lt, nat_le, not, if◌then◌else◌}
 use Rattle.std.specs.List.{list_all}

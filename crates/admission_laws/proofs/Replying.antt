@@ -1,4 +1,4 @@
--- A ballot that a node starts, a control message that it hears, and the table that it publishes: all facts of its run are still such as are admitted.
+-- After a ballot, a control message or a table, all facts of the run still fit.
 use Rattle.std.proofs.Common.{ℕ, Bool, true, false, ◌&&◌, ◌||◌, ◌==◌, nat_lt, Option, Some, None, List, [], ◌∷◌, length, find, ◌≡◌, refl, sym, ◌∙◌, ap, subst, option_map, option_and_then, if◌then◌else◌, IfSome}
 use Rattle.std.specs.List.{list_all}
 use Rattle.topology.specs.declared.status.Reason.{Reason}
@@ -44,7 +44,7 @@ use Rattle.admission_laws.proofs.Saying.{mail_fits, mail_small, replies_fit, bal
 use Rattle.admission_laws.proofs.Tables.{table_of_fits}
 use Rattle.admission_laws.proofs.Unheard.{IsUnheard, answer_keeps, publish_keeps}
 
--- ---- what the agreements read of facts that are such
+-- ---- the agreements' readings of such facts
 
 module _ (net : Net) (u : ℕ) where
   -- a message about ballots

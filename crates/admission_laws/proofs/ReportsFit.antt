@@ -55,7 +55,7 @@ from_fits net u w s n (x ∷ xs) node session one few all =
     and_both (listed_fits net it) (list_all (listed_fits net) (sent_from w s (suc n) xs)) (sent_is net w s n x.triggers node session one (omega arith) lists)
     (from_fits net u w s (suc n) xs node session (omega arith) (omega arith) (and_right (update_fits net u x) (list_all (update_fits net u) xs) all))
 
--- what all rows pass, those behind the first n pass
+-- if all rows pass, those after the first n do
 each_left : (test : Row → Bool) (n : ℕ) (rows : List Row) → list_all test rows ≡ true → list_all test (drop n rows) ≡ true
 each_left test zero rows all = all
 each_left test (suc n) [] all = refl

@@ -1,4 +1,4 @@
--- What a node says about agreement is admitted.
+-- What a node sends for an agreement is admitted.
 use Rattle.std.proofs.Common.{ℕ, Bool, true, false, ◌&&◌, ◌||◌, ◌==◌, not, nat_lt, nat_le, Option, Some, None, List, [], ◌∷◌, length, ◌≡◌, refl, sym, ◌∙◌, subst, arith, if◌then◌else◌}
 use Rattle.std.specs.List.{list_all, AllByRecursion}
 use Rattle.std.proofs.lemmas.Bool.Decides.{nat_tests}
@@ -54,7 +54,7 @@ consolidators_known net valid =
 pub nodes_known : (net : Net) → list_all (has net.nodes) (ascending net.nodes) ≡ true
 nodes_known net = all_of (has net.nodes) (ascending net.nodes) (λ n a. sym (has-ascending net.nodes n) ∙ among_has (ascending net.nodes) n a)
 
--- ---- what goes out in one agreement
+-- ---- messages of one agreement
 
 -- to a node, and such as u may say
 abbrev pub going_fits : Net → ℕ → ℕ × Ballots Value → Bool
@@ -137,7 +137,7 @@ module _ (net : Net) (u : ℕ) where
         ]
     answers_fit (Decision w) here fit small = refl
 
--- ---- what goes out of all agreements
+-- ---- messages of all agreements
 
 -- to a node, and such as u may say
 abbrev pub mail_fits : Net → ℕ → ℕ × Message → Bool

@@ -1,4 +1,4 @@
--- The sessions of a log: their numbers, their order, and how many there are.
+-- The sessions of a log: their numbers, their order, and their count.
 use Rattle.std.proofs.Common.{ℕ, ◌+◌, ◌^◌, ◌<◌, ◌≤◌, Bool, true, false, cond, not, ◌==◌, ◌&&◌, ◌||◌, Option, Some, None, List, [], ◌∷◌, ◌++◌, ◌≡◌, ⊎_elim, inl, inr, refl, sym, ◌∙◌, ap, subst, arith, length, map, flat_map}
 use Rattle.std.specs.Prelude.{nat_lt, nat_le}
 use Rattle.std.specs.List.{list_all, AllByRecursion}
@@ -227,7 +227,7 @@ module _ (h : List Entry) where
       next_neighbour : (a b : SessionRow) → a.nbr < b.nbr → sooner a b ≡ true
       next_neighbour a b less = grind (arith, nat_tests)
 
--- ---- how many there are
+-- ---- how many sessions there are
 
 -- one update at most comes with an entry
 received_few : (triggers : List Trigger) (scope : Scope) (cause : Cause) (v s : ℕ) → length (received_by triggers scope cause v s) ≤ 1

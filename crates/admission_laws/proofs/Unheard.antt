@@ -1,4 +1,4 @@
--- What an input but a control message adds: it changes nothing of the reports that a node holds.
+-- An input that is no control message leaves the reports that a node holds.
 use Rattle.std.proofs.Common.{ℕ, true, false, suc, not, nat_lt, Option, Some, None, List, [], ◌∷◌, find, length, option_map, option_and_then, if◌then◌else◌}
 use Rattle.topology.specs.declared.names.Scope.TheVariants.{One, All}
 use Rattle.topology.specs.declared.status.Reason.{Reason}

@@ -1,4 +1,4 @@
--- The value of reports that fit fits.
+-- The value of fitting reports fits.
 use Rattle.std.proofs.Common.{Bool, true, ◌&&◌, nat_lt, nat_le, List, [], ◌∷◌, filter, map, length, ◌≡◌, ⊎_elim, inl, inr, refl, sym, subst, arith}
 use Rattle.std.specs.List.{list_all}
 use Rattle.topology.specs.declared.items.Pending.{Pending}

@@ -26,7 +26,7 @@ use Rattle.admission_laws.proofs.Bounds.{below_is, kept_few, most_is, not_long}
 use Rattle.admission_laws.proofs.Listing.{pending_known}
 use Rattle.admission_laws.proofs.Sessions.{AllFit, held_number, neighbour_is, order_append, order_map}
 
--- ---- numbers that rise
+-- ---- ascending numbers
 
 -- what all of a list are, those that a test leaves are
 all_left : (P : ℕ → Type 0) (test : ℕ → Bool) (xs : List ℕ) → AllByRecursion P xs → AllByRecursion P (filter test xs)

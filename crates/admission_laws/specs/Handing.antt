@@ -10,18 +10,19 @@ use Rattle.node_core.specs.Names.{is_number}
 use Rattle.node_core.specs.Outputs.{Output, Logged, Cut, Send, Mail, Published, Forward, Ended}
 use Rattle.node_core.specs.PacketFits.{packet_fits}
 
--- a path of u, or none, for each prefix of the network
+-- for each prefix of the network a path of u, or none
 abbrev pub table_fits : Net → ℕ → List (Option (List ℕ)) → Bool
 table_fits net u paths = length paths == length net.prefixes && list_all (path_fits net u) paths
 
--- a report has a row for each session with a neighbour that was ever held: the first with each, and one for each entry that
--- opened another
+-- the report is not too long: it has a row for each session ever held, which are the first with each neighbour, and at
+-- most one for each entry
 abbrev pub is_short : Message → Bool
 is_short (Reports r) = nat_le (length r.sessions) 2112
 is_short (Agrees e m) = true
 
--- an item is one of u for a neighbour, in a session from 1; a control message is one of u for a node; a table has a value
--- and paths that fit; a packet is for a node, and ends with its number: all names are of the network, and each number is in its range
+-- an item is from u to a neighbour, in a session from 1; a control message is from u to a node; a table has a value and
+-- paths that fit; a packet goes to a node; an end has the number of its packet. All names are in the network, and each
+-- number is in its range
 abbrev pub output_fits : Net → ℕ → Output → Bool
 output_fits net u (Logged index) = true
 output_fits net u (Cut e) = epoch_fits e

@@ -1,5 +1,5 @@
-//! The choice of a backup: one of the paths that a node had to choose from when it published its newest table,
-//! the published one among them. A packet that has left the stable tables goes on along it, and visits no node again.
+//! The choice of a backup: one of the paths from which a node chose when it published its newest table; the published
+//! path is one of them. A packet that has left the stable tables goes on along it, and visits no node twice.
 #![tactic(auto)]
 
 ghost use Rattle.std.specs.Prelude.{◌≡◌};
@@ -20,7 +20,7 @@ fn any_visited(topology: &Topology, visited: u64, nodes: &[NodeId]) -> bool
         .any(|node| has_visited(topology, visited, *node))
 }
 
-// Whether a packet can go to the first of the nodes, and was at none of them.
+// Whether the link to the first node is up, and no node counts as visited.
 fn is_open(topology: &Topology, visited: u64, up: &[NodeId], nodes: &[NodeId]) -> bool
     ensures { result ≡ is_open topology.now visited up.now nodes.now }
 {
@@ -40,9 +40,9 @@ fn qualifies(topology: &Topology, visited: u64, up: &[NodeId], path: &Path) -> b
     }
 }
 
-/// The first of the backups that a packet can take: the link to its second node is up, and none of its
-/// nodes after the first counts as visited. `up` has the neighbours whose link is up. None exactly
-/// where it can take none. Takes no memory.
+/// The first backup that a packet can take: the link to its second node is up, and none of its nodes after the first
+/// counts as visited. `up` has the neighbours whose link is up. The answer is `None` exactly where it can take none.
+/// Takes no memory.
 pub fn backup_for<'a>(
     topology: &Topology,
     backups: &'a [Path],

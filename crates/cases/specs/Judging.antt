@@ -7,13 +7,13 @@ use Rattle.cases.specs.declared.wanted.Wanted.TheVariants.{Whole, Lines}
 use Rattle.cases.specs.declared.verdict.Verdict.{Verdict}
 use Rattle.cases.specs.declared.verdict.Verdict.TheVariants.{Passed, Failed}
 
--- two runs ended with the same line, wrote the same text, and gave their links the same bytes
+-- the two runs ended with the same line, wrote the same text, and sent the same bytes over their links
 pub record IsSame (wanted came : Outcome) : Type 0 where
   pub same_end : string_bytes wanted.end ≡ string_bytes came.end
   pub same_text : string_bytes wanted.text ≡ string_bytes came.text
   pub same_answers : wanted.answers.items ≡ came.answers.items
 
--- a case whose whole text is known passes exactly where just what is wanted came
+-- a case whose whole text is known passes exactly where its outcome is what is wanted
 abbrev pub Judges : Verdict → Wanted → Outcome → Type 0
 Judges Passed (Whole wanted) came = IsSame wanted came
 Judges (Failed cause) (Whole wanted) came = ¬ (IsSame wanted came)

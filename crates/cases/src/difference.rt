@@ -1,4 +1,4 @@
-//! Whether what came is what must come, and the first thing in which it differs.
+//! Compares a run with what is wanted, and names the first difference.
 ghost use Rattle.std.specs.Prelude.{◌↔◌, IsTrue};
 ghost use Rattle.cases.specs.Judging.{IsSame};
 
@@ -6,7 +6,7 @@ use crate::outcome::Outcome;
 use crate::wanted::Part;
 use std::alloc::{AllocError, Global};
 
-/// Whether what came is just what must come.
+/// Whether the run is exactly what is wanted.
 pub fn is_same(wanted: &Outcome, came: &Outcome) -> bool
     ensures { IsTrue result ↔ IsSame wanted.now came.now }
 {
@@ -47,13 +47,13 @@ fn byte_difference(alloc: Global, wanted: &[u8], came: &[u8]) -> Result<String, 
     format!(in alloc; "bytes of the answers: wanted: {wanted}, came: {came}")
 }
 
-// The ends of two runs, which differ.
+// The ends of two runs that end differently.
 fn end_difference(alloc: Global, wanted: &str, came: &str) -> Result<String, AllocError> {
     let (wanted, came) = (wanted.trim_ascii_end(), came.trim_ascii_end());
     format!(in alloc; "the end: wanted: {wanted}, came: {came}")
 }
 
-/// The first thing in which what came differs from what must come.
+/// The first difference between the run and what is wanted.
 pub fn difference(alloc: Global, wanted: &Outcome, came: &Outcome) -> Result<String, AllocError> {
     if wanted.end != came.end {
         return end_difference(alloc, wanted.end.as_str(), came.end.as_str());
@@ -64,7 +64,7 @@ pub fn difference(alloc: Global, wanted: &Outcome, came: &Outcome) -> Result<Str
     byte_difference(alloc, wanted.answers.as_slice(), came.answers.as_slice())
 }
 
-// The first of these lines that does not stand in the text behind those before it.
+// The first of these lines that does not come in the text after the lines before it.
 fn missing<'a>(text: &str, lines: &'a str) -> Option<&'a str> {
     let mut written = text.lines();
     for line in lines.lines() {
@@ -75,7 +75,7 @@ fn missing<'a>(text: &str, lines: &'a str) -> Option<&'a str> {
     None
 }
 
-/// The first thing in which what came differs from what is known of what must come.
+/// The first difference between the run and what is known of what is wanted.
 pub fn part_difference(
     alloc: Global,
     part: &Part,

@@ -1,10 +1,10 @@
-//! The files of a case: its name, a point and what the file has.
+//! The files of a case. Each is named by the case, a point, and what the file holds.
 use anyhow::Result;
 use std::fs;
 use std::io::ErrorKind;
 use std::rt::Files;
 
-/// The bytes of this file of the case. None where there is no such file.
+/// The bytes of this file of the case; `None` if there is no such file.
 pub fn bytes_of<R: Files + AllocGlobal>(
     rt: &R,
     name: &str,
@@ -18,7 +18,7 @@ pub fn bytes_of<R: Files + AllocGlobal>(
     }
 }
 
-/// The text of this file of the case. None where there is no such file.
+/// The text of this file of the case; `None` if there is no such file.
 pub fn text_of<R: Files + AllocGlobal>(rt: &R, name: &str, ending: &str) -> Result<Option<String>> {
     match bytes_of(rt, name, ending)? {
         Some(bytes) => Ok(Some(String::from_utf8(bytes)?)),
@@ -26,7 +26,7 @@ pub fn text_of<R: Files + AllocGlobal>(rt: &R, name: &str, ending: &str) -> Resu
     }
 }
 
-/// The text of this file of the case, or this text where there is no such file.
+/// The text of this file of the case, or `otherwise` if there is no such file.
 pub fn text_or<R: Files + AllocGlobal>(
     rt: &R,
     name: &str,

@@ -1,4 +1,5 @@
-//! Tables of lines, each of which stands last in turn: what is wrong with it, a colon, and the line.
+//! Tables of last lines. A row has the fault of a line, a colon, and the line, which is put behind the schedule in its
+//! turn.
 use crate::outcome::{Outcome, end_line, outcome_of};
 use anyhow::Result;
 use std::alloc::{AllocError, Global};
@@ -8,7 +9,7 @@ fn lines_in(front: &[u8]) -> usize {
     front.iter().filter(|byte| **byte == b'\n').count()
 }
 
-// The front with this line behind it.
+// The front followed by this line.
 fn followed(alloc: Global, front: &[u8], line: &str) -> Result<Vec<u8>, AllocError> {
     let mut file = Vec::from_slice(alloc, front)?;
     file.extend_from_slice(line.as_bytes())?;
@@ -16,7 +17,7 @@ fn followed(alloc: Global, front: &[u8], line: &str) -> Result<Vec<u8>, AllocErr
     Ok(file)
 }
 
-// How a run must end whose last line has this number and this fault, or is good.
+// How a run must end whose last line has this number and this fault, or is `good`.
 fn wanted_end(alloc: Global, number: usize, fault: &str) -> Result<String, AllocError> {
     if fault == "good" {
         return end_line(alloc, 0, "");
@@ -25,7 +26,7 @@ fn wanted_end(alloc: Global, number: usize, fault: &str) -> Result<String, Alloc
     end_line(alloc, 4, note.as_str())
 }
 
-// What is wrong with what came. A run that reaches the last line may write what it will.
+// What is wrong with a run. The text of a run that reaches the last line does not matter.
 fn fault_of(
     alloc: Global,
     line: &str,
@@ -43,7 +44,7 @@ fn fault_of(
     Ok(None)
 }
 
-// What is wrong with what comes of this row.
+// What is wrong with the run of this row.
 fn row_fault(alloc: Global, words: &[String], front: &[u8], row: &str) -> Result<Option<String>> {
     let Some((fault, line)) = row.split_once(": ") else {
         return Ok(Some(format!(in alloc; "no row: {row}")?));
@@ -55,7 +56,7 @@ fn row_fault(alloc: Global, words: &[String], front: &[u8], row: &str) -> Result
     Ok(fault_of(alloc, line, wanted.as_str(), &came)?)
 }
 
-/// What is wrong with what comes of the first row that fails. Empty rows and rows that begin with `#` are none.
+/// What is wrong with the first row that fails. Empty rows, and rows that begin with `#`, are skipped.
 pub fn first_fault(
     alloc: Global,
     words: &[String],

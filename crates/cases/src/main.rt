@@ -1,6 +1,6 @@
-//! Runs the cases that standard input names, one a line, over memory. Writes of each whether what must come of it came.
+//! Runs over memory the cases that standard input names, one on each line. Writes for each case whether it passed.
 //!
-//! A case is a few files in the folder where this runs. docs/ARCHITECTURE.md tells how one is added.
+//! A case is a few files in the folder where this program runs. docs/ARCHITECTURE.md says how to add one.
 #![tactic(auto)]
 
 mod difference;
@@ -17,7 +17,7 @@ use std::process::ExitCode;
 use std::rt::Files;
 use verdict::{Verdict, verdict_of};
 
-// Runs the case and writes its line. Whether it passed.
+// Runs the case and writes its line. Returns whether it passed.
 fn passes<R: Files + Print + AllocGlobal>(rt: &R, name: &str) -> Result<bool> {
     match verdict_of(rt, name) {
         Ok(Verdict::Passed) => {
@@ -35,7 +35,7 @@ fn passes<R: Files + Print + AllocGlobal>(rt: &R, name: &str) -> Result<bool> {
     }
 }
 
-// Whether all cases of these names passed.
+// Whether all cases with these names passed.
 fn all_pass<R: Files + Print + AllocGlobal>(rt: &R, names: &str) -> Result<bool> {
     let mut passed = true;
     for name in names.lines() {

@@ -1,4 +1,4 @@
-//! What comes of a run over memory.
+//! The outcome of a run over memory.
 use acceptor_journal::MemDisk;
 use anyhow::Result;
 use route_io::{MemLink, MemSink, MemSource};
@@ -11,17 +11,17 @@ const TEXT_ROOM: usize = 131_072;
 // How many bytes a run may send over its link.
 const LINK_ROOM: usize = 16_384;
 
-// How many bytes a run may note: more than the longest line.
+// How many bytes of notes a run may write; more than the longest line.
 const NOTE_ROOM: usize = 256;
 
-/// What a run came to.
+/// The outcome of a run.
 #[derive(Drop)]
 pub struct Outcome {
-    /// The code with which the process would end, and behind it what was noted.
+    /// The exit code of the process, followed by the notes.
     pub end: String,
     /// What was written.
     pub text: String,
-    /// What went over the link.
+    /// The bytes that were sent over the link.
     pub answers: Vec<u8>,
 }
 
@@ -34,7 +34,7 @@ fn held(alloc: Global, sink: &MemSink) -> Result<String> {
     Ok(String::from_utf8(Vec::from_slice(alloc, sink.held())?)?)
 }
 
-/// How a run with this code and these notes ends: one line.
+/// How a run with this code and these notes ends, as one line.
 pub fn end_line(alloc: Global, code: u8, notes: &str) -> Result<String, AllocError> {
     if notes.is_empty() {
         return format!(in alloc; "{code}\n");
@@ -42,7 +42,7 @@ pub fn end_line(alloc: Global, code: u8, notes: &str) -> Result<String, AllocErr
     format!(in alloc; "{code} {notes}")
 }
 
-/// What comes of these words, with this source, where these frames come over the link.
+/// The outcome of a run with these words and this source, where these frames come over the link.
 pub fn outcome_of(
     alloc: Global,
     words: &[String],

@@ -1,8 +1,8 @@
-//! Frames as a case has them: two digits for each byte, with spaces between, and comments behind `#`.
+//! Frames as a case spells them: two digits for each byte, with spaces between bytes, and comments after `#`.
 use anyhow::Result;
 use std::alloc::{AllocError, Global};
 
-// The digits alone.
+// Only the digits of the text.
 fn digits_of(alloc: Global, text: &str) -> Result<String, AllocError> {
     let mut digits = String::new(alloc);
     for line in text.lines() {

@@ -1,4 +1,4 @@
-//! One case: what its files ask for, what comes of it, and whether it is what must come.
+//! One case: what its files ask for, the outcome of its run, and whether that is what is wanted.
 ghost use Rattle.std.specs.Prelude.{IfOk};
 ghost use Rattle.cases.specs.Judging.{Judges};
 
@@ -12,16 +12,16 @@ use anyhow::{Result, bail};
 use std::alloc::{AllocError, Global};
 use std::rt::Files;
 
-/// What is said of a case.
+/// The verdict on a case.
 #[derive(Drop)]
 pub enum Verdict {
-    /// What must come of it came.
+    /// The outcome is what is wanted.
     Passed,
-    /// Something else came: the first difference.
+    /// The outcome is different; this is the first difference.
     Failed(String),
 }
 
-// The words of the case, one a line: `replay` where no file has them.
+// The words of the case, one on each line; `replay` if it has no file of words.
 fn words_of<R: Files + AllocGlobal>(rt: &R, name: &str) -> Result<Vec<String>> {
     let text = text_or(rt, name, "words", "replay\n")?;
     let mut words = Vec::new(rt.alloc());
@@ -31,7 +31,7 @@ fn words_of<R: Files + AllocGlobal>(rt: &R, name: &str) -> Result<Vec<String>> {
     Ok(words)
 }
 
-// What the case is read from: a schedule, the network of a node, or nothing where the words ask for no file.
+// The source of the case: a schedule, the network of a node, or nothing if the words need no file.
 fn source_of<R: Files + AllocGlobal>(rt: &R, name: &str) -> Result<Vec<u8>> {
     for ending in ["schedule", "network"] {
         if let Some(source) = bytes_of(rt, name, ending)? {
@@ -44,7 +44,7 @@ fn source_of<R: Files + AllocGlobal>(rt: &R, name: &str) -> Result<Vec<u8>> {
     Ok(Vec::new(rt.alloc()))
 }
 
-// What is said of what came.
+// The verdict on an outcome.
 fn verdict_on(alloc: Global, wanted: &Wanted, came: &Outcome) -> Result<Verdict, AllocError>
     ensures { IfOk result (λ verdict. Judges verdict wanted.now came.now) }
 {

@@ -1,14 +1,14 @@
-//! What must come of a case.
+//! The wanted outcome of a case.
 use crate::files::{text_of, text_or};
 use crate::outcome::Outcome;
 use crate::spelled::bytes_spelled;
 use anyhow::Result;
 use std::rt::Files;
 
-/// What must come of a case.
+/// The wanted outcome of a case.
 #[derive(Drop)]
 pub enum Wanted {
-    /// Just this.
+    /// Exactly this outcome.
     Whole(Outcome),
     /// This end, and a text with these lines.
     Lines(Part),
@@ -21,11 +21,11 @@ pub struct Part {
     pub end: String,
     /// Lines that must stand in the text, in this order.
     pub lines: String,
-    /// How many lines the text must have, where it is known.
+    /// How many lines the text must have, if that is known.
     pub count: Option<usize>,
 }
 
-// How many lines the text of the case must have, where a file says it.
+// How many lines the text of the case must have, if a file says it.
 fn count_of<R: Files + AllocGlobal>(rt: &R, name: &str) -> Result<Option<usize>> {
     let Some(text) = text_of(rt, name, "count")? else {
         return Ok(None);
@@ -33,7 +33,7 @@ fn count_of<R: Files + AllocGlobal>(rt: &R, name: &str) -> Result<Option<usize>>
     Ok(Some(text.as_str().trim_ascii().parse::<usize>()?))
 }
 
-/// What the files of the case say.
+/// The wanted outcome, from the files of the case.
 pub fn wanted_of<R: Files + AllocGlobal>(rt: &R, name: &str) -> Result<Wanted> {
     let end = text_or(rt, name, "end", "0\n")?;
     if let Some(lines) = text_of(rt, name, "has")? {

@@ -1,4 +1,5 @@
--- What a node dropped, in any chronicle: all of it when it published epochs below one that is above them all.
+-- What a node dropped, in any chronicle: if an epoch is above all that the node published, then all that it dropped was
+-- dropped below that epoch.
 use Rattle.std.proofs.Common.{ℕ, true, false, ◌==◌, ◌&&◌, nat_lt, Option, Some, None, List, [], ◌∷◌, ◌≡◌, refl, ◌∙◌, ap, arith}
 use Rattle.std.specs.Prelude.{if◌then◌else◌}
 use Rattle.std.proofs.lemmas.Bool.Decides.{nat_tests}
@@ -20,7 +21,7 @@ use Rattle.chronicle.specs.Steps.{Carried, sends, mails, write, open_session, ma
 use Rattle.chronicle.proofs.Blocks.{same_number, opening, greeting}
 use Rattle.chronicle.specs.Publications.{Publication, epoch_of, publications, newest, is_above}
 
--- what is above the newest of more is above the first
+-- an epoch above the newest of a longer list is above the first one
 pub above_one : (e : ℕ) (t : Publication) (other : Option Publication) → is_above e (Some (tables.newer epoch_of t other)) ≡ true → nat_lt t.epoch e ≡ true
 above_one e t None above = above
 above_one e t (Some o) above =
@@ -38,7 +39,7 @@ above_others e t (Some o) above =
       | false ↦ λ low high. grind (arith, nat_tests)
     ]) refl above
 
--- where e is above all that u published, all that u dropped it dropped below e
+-- if e is above all that u published, all that u dropped was dropped by tables below e
 pub all_below : (net : Net) (u e : ℕ) (past : Chronicle) → is_above e (newest u past) ≡ true → dropped_below net u e past ≡ dropped net u past
 all_below net u e [] above = refl
 all_below net u e (Publish w d value paths ∷ past) above =
@@ -65,7 +66,7 @@ all_below net u e (Restart w ∷ past) above = all_below net u e past above
 all_below net u e (Visit w packet ∷ past) above = all_below net u e past above
 all_below net u e (End k ending ∷ past) above = all_below net u e past above
 
--- a table of e or above is none that counts below e
+-- a table of e or a higher epoch does not count as below e
 pub below_stays : (net : Net) (u e w d : ℕ) (value : Value) (paths : List (Option (List ℕ))) (past : Chronicle) → ((w == u) ≡ true → nat_lt d e ≡ false)
     → dropped_below net u e (Publish w d value paths ∷ past) ≡ dropped_below net u e past
 below_stays net u e w d value paths past above =
@@ -75,7 +76,7 @@ below_stays net u e w d value paths past above =
       | false ↦ λ a. refl
     ]) above
 
--- ---- what each step of a node drops: nothing, but for its table
+-- ---- what each step of a node drops: nothing, except by its table
 
 -- what is sent drops nothing
 pub dropped_sends : (net : Net) (v u : ℕ) (carried : Carried) (now : Chronicle) (gs : List Going) → dropped net v (happen now (sends carried u gs)) ≡ dropped net v now
@@ -104,14 +105,14 @@ pub dropped_raise : (rules : Rules) (net : Net) (carried : Carried) (u d : ℕ) 
 unfolding raise
 dropped_raise rules net carried u d past v = dropped_mails net v u (reporting rules net u d (kept_log net u past)) (take_cut net carried u d past) ∙ dropped_take_cut net carried u d past v
 
--- a table that u publishes drops what may be dropped, where all nodes responded
+-- a table that u publishes drops all that may be dropped, if all nodes responded
 pub dropped_own : (net : Net) (u e : ℕ) (value : Value) (paths : List (Option (List ℕ))) (past : Chronicle) (c : List Entry) → cut u e past ≡ Some c
     → dropped net u (Publish u e value paths ∷ past) ≡ (if all_responded value net.nodes then droppable (lists value.incomplete) (dropped net u past) c else dropped net u past)
 dropped_own net u e value paths past c is =
     ap (λ b. if b && all_responded value net.nodes then dropped_with value (cut u e past) (dropped net u past) else dropped net u past) (same_number u)
     ∙ ap (λ o. if all_responded value net.nodes then dropped_with value o (dropped net u past) else dropped net u past) is
 
--- one of another node drops nothing of u
+-- a table of another node drops nothing of u
 pub dropped_other : (net : Net) (u w e : ℕ) (value : Value) (paths : List (Option (List ℕ))) (past : Chronicle) → (w == u) ≡ false → dropped net u (Publish w e value paths ∷ past) ≡ dropped net u past
 dropped_other net u w e value paths past off = ap (λ b. if b && all_responded value net.nodes then dropped_with value (cut u e past) (dropped net u past) else dropped net u past) off
 
@@ -125,7 +126,7 @@ pub reported_mails : (net : Net) (v e u : ℕ) (ms : List (ℕ × Message)) (now
 reported_mails net v e u [] now = refl
 reported_mails net v e u (m ∷ ms) now = reported_mails net v e u ms (Mail u m.0 m.1 ∷ now)
 
--- a cut that is taken is the log, without what was dropped of it
+-- a cut that is taken is the log, without its dropped entries
 pub reported_now : (rules : Rules) (net : Net) (carried : Carried) (u e : ℕ) (past : Chronicle) → reported_cut net u e (raise rules net carried u e past) ≡ Some (kept_log net u past)
 unfolding raise take_cut
 reported_now rules net carried u e past =
@@ -144,7 +145,7 @@ pub reported_write : (rules : Rules) (net : Net) (carried : Carried) (u : ℕ) (
 unfolding write
 reported_write rules net carried u k past v e = reported_sends net v e u carried (Log u k ∷ past) (going_by rules net u (log_of u past) k)
 
--- a rise changes the cuts as they are reported by its fact alone
+-- a rise changes the reported cuts only by its own fact
 pub reported_raise : (rules : Rules) (net : Net) (carried : Carried) (u d : ℕ) (past : Chronicle) (v e : ℕ) → reported_cut net v e (raise rules net carried u d past) ≡ reported_cut net v e (Raise u d ∷ past)
 unfolding raise take_cut
 reported_raise rules net carried u d past v e =

@@ -1,5 +1,5 @@
-//! Runs of the top call and of its notes, over memory: each side failing in turn, room that ends, words of no form. Tests
-//! alone. What whole files come to stands in `cases`.
+//! Tests of the top call and its notes, over memory: each side fails in turn, rooms are too small, and words have no
+//! known form. Whole files are tested in `cases`.
 #![tactic(auto)]
 
 #[cfg(test)]

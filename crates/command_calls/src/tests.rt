@@ -1,4 +1,4 @@
-//! Runs over memory: words, notes, room, and each side failing in turn.
+//! Runs over memory: words, notes, room, and the failure of each side in turn.
 mod kept_nodes;
 mod over_links;
 mod waiting_peer;
@@ -12,7 +12,7 @@ use std::alloc::Global;
 use std::test::Fail;
 use topology::{AuditKind, BadKind, FrameFault, LimitKind, NodeId, Status};
 
-// A route goes out along three nodes, and is taken back.
+// A route spreads along three nodes, and is withdrawn.
 const FILE: &str = "\
 node 1 consolidator
 node 2
@@ -57,7 +57,7 @@ fn words_of(alloc: Global, words: &[&str]) -> Result<Vec<String>, Fail> {
     Ok(given)
 }
 
-// A link on which nothing comes, and that takes nothing.
+// A link that brings nothing and takes nothing.
 fn no_link(alloc: Global) -> MemLink {
     let none = Vec::new(alloc);
     MemLink::new(
@@ -69,7 +69,7 @@ fn no_link(alloc: Global) -> MemLink {
     )
 }
 
-// A disk without a file, for words that ask for none.
+// A disk without a file, for words that need none.
 fn no_disk(alloc: Global) -> MemDisk {
     MemDisk::new(alloc, Vec::new(alloc), Vec::new(alloc))
 }
@@ -84,8 +84,8 @@ fn text_of(alloc: Global, sink: &MemSink) -> Result<String, Fail> {
     Ok(String::from_utf8(Vec::from_slice(alloc, sink.held())?)?)
 }
 
-// The status of a run of this file with these words and failing calls. The two sinks have what was
-// written and noted then.
+// The status of a run of this file with these words and failing calls. The two sinks have what was written and what was
+// noted.
 fn status_of(
     alloc: Global,
     words: &[&str],
@@ -173,7 +173,7 @@ fn runs_a_file_and_names_each_fault(rt: HostRuntime) -> Result<(), Fail> {
     Ok(())
 }
 
-// Words of no form.
+// Words with no known form.
 const NO_FORMS: [&[&str]; 15] = [
     &["load"],
     &["load", ""],
@@ -316,7 +316,7 @@ fn faults_of_the_notes_change_no_status(rt: HostRuntime) -> Result<(), Fail> {
     Ok(())
 }
 
-// Adds lines with so many numbers, from 0.
+// Adds lines with the numbers from 0 on, `count` of them.
 fn add_lines(file: &mut String, begin: &str, count: u32, end: &str) -> Result<(), Fail> {
     for number in 0..count {
         file.push_str(begin)?;
@@ -326,7 +326,7 @@ fn add_lines(file: &mut String, begin: &str, count: u32, end: &str) -> Result<()
     Ok(())
 }
 
-// A file whose one view has 15360 lines of about 25 bytes.
+// A file with one view, which has 15360 lines of about 25 bytes.
 fn long_view(alloc: Global) -> Result<String, Fail> {
     let mut file = String::new(alloc);
     add_lines(&mut file, "node 1", 60, "\n")?;
@@ -357,7 +357,7 @@ fn writes_a_long_view_by_the_page(rt: HostRuntime) -> Result<(), Fail> {
     Ok(())
 }
 
-// The status of a run of a file of so many of these bytes, and what was noted.
+// The status of a run of a file of so many of these bytes, and the notes.
 fn end_of_bytes(alloc: Global, byte: u8, count: usize) -> Result<(Status, String), Fail> {
     let words = words_of(alloc, &["replay"])?;
     let mut source = MemSource::new(vec![in alloc; byte; count]?, Vec::new(alloc));

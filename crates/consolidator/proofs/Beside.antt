@@ -1,4 +1,4 @@
--- What other nodes do, and the reports that a node mails, leave what it keeps as it is.
+-- Facts of other nodes, and the reports that a node mails, leave the node's state as it is.
 use Rattle.std.proofs.Common.{ℕ, true, false, ◌≡◌, ◌==◌, refl, sym, ap, subst, List, [], ◌∷◌, length, if◌then◌else◌}
 use Rattle.topology.specs.Lists.{ascending}
 use Rattle.topology.specs.Net.{Net}
@@ -17,7 +17,7 @@ use Rattle.consolidator.specs.Parts as part
 use Rattle.consolidator.specs.Standing.{StandsFor}
 use Rattle.consolidator.proofs.Parting.{goes_on, stands_other}
 
--- as the agreement of an epoch reads it, the fact is none of u either
+-- in the agreement of an epoch, too, the fact is not u's
 fact_beside : (e u : ℕ) (f : Fact) → IsBeside u f → others.IsBeside u (fact_in e f)
 fact_beside e u (Start node d b) q = elim (d == e) as (λ t. others.IsBeside {V = Value} u (if t then paxos.Start node b else paxos.Other)) [ true ↦ q | false ↦ tt ]
 fact_beside e u (Mail from to (Reports report)) q = tt
@@ -27,7 +27,7 @@ fact_beside e u (Heard node from (Agrees d m)) q = elim (d == e) as (λ t. other
 fact_beside e u (Crash node) q = q
 fact_beside e u Other q = tt
 
--- the reports that u holds are as they were
+-- the reports that u holds stay as they were
 reports_beside : (past : Chronicle) (u e : ℕ) (f : Fact) → IsBeside u f → reports_held u e (f ∷ past) ≡ reports_held u e past
 reports_beside past u e (Start node d b) q = refl
 reports_beside past u e (Mail from to m) q = refl
@@ -35,7 +35,7 @@ reports_beside past u e (Heard node from m) q = ap (λ t. if t then held_by e m 
 reports_beside past u e (Crash node) q = ap (λ t. if t then [] else reports_held u e past) q
 reports_beside past u e Other q = refl
 
--- so is its part in an agreement
+-- u's part in an agreement stays as it was
 part_beside : (n : ℕ) (kept : Part) (past : paxos.Chronicle Value) (reports : List Report) (u : ℕ) (f : paxos.Fact Value) → others.IsBeside u f
     → part.StandsFor n kept past reports u → part.StandsFor n kept (f ∷ past) reports u
 part_beside n kept past reports u f q h =
@@ -44,7 +44,7 @@ part_beside n kept past reports u f q h =
     (proposer_beside n kept.proposer past u f q h.proposer)
     (record { started = started_beside past u f q; proposed = λ b. proposed_beside past u b f q; decision = decision_beside past u f q }) refl h
 
--- what is none of u leaves all that it keeps
+-- a fact that is not u's leaves u's state
 pub stands_beside : (net : Net) (kept : Kept) (past : Chronicle) (u : ℕ) (f : Fact) → IsBeside u f → StandsFor net kept past u → StandsFor net kept (f ∷ past) u
 stands_beside net kept past u f q h =
     let n = length (ascending net.consolidators) in
@@ -56,17 +56,17 @@ stands_beside net kept past u f q h =
           (part_beside n p (agreement e past) (reports_held u e past) u (fact_in e f) (fact_beside e u f q) (h.each e));
     }
 
--- a report that u mails changes nothing of what it keeps
+-- a report that u mails leaves u's state
 pub stands_reported : (net : Net) (kept : Kept) (past : Chronicle) (u to : ℕ) (report : Report) → StandsFor net kept past u → StandsFor net kept (Mail u to (Reports report) ∷ past) u
 stands_reported net kept past u to report h = record {
   number = h.number;
   each = λ e. stands_other (length (ascending net.consolidators)) (part_in u e kept.parts) (agreement e past) (reports_held u e past) u (h.each e);
 }
 
--- the decision of an epoch that u knows is as it was
+-- the decision of an epoch that u knows stays as it was
 pub known_beside : (past : Chronicle) (u e : ℕ) (f : Fact) → IsBeside u f → known u e (f ∷ past) ≡ known u e past
 known_beside past u e f q = decision_beside (agreement e past) u (fact_in e f) (fact_beside e u f q)
 
--- so is it where u mails a report
+-- it also stays when u mails a report
 pub known_reported : (past : Chronicle) (u e to : ℕ) (report : Report) → known u e (Mail u to (Reports report) ∷ past) ≡ known u e past
 known_reported past u e to report = refl

@@ -1,4 +1,4 @@
--- What a part says to a message of its agreement, and what it is then.
+-- How a part answers a message of its agreement, and its state after that.
 use Rattle.std.proofs.Common.{ℕ, true, false, Bool, ◌≡◌, refl, sym, ◌∙◌, ap, subst, Option, Some, None, List, [], ◌∷◌, length, map, if◌then◌else◌}
 use Rattle.std.specs.Prelude.{is_some, IfSome, option_map, Result, Ok, Err, IfOk}
 use Rattle.std.specs.Option.{option_or}
@@ -39,7 +39,7 @@ use Rattle.consolidator.specs.Readings.{put_report, nodes_of, is_empty}
 use Rattle.consolidator.specs.Seen.{mails_seen}
 use Rattle.consolidator.proofs.Parting.{answered, tallied, decides, decided_known, leaves_announce}
 
--- one message to each, as it is sent
+-- one message to each, in the form in which it is sent
 pub each_of : (e : ℕ) (nodes : List ℕ) (m : Message Value) → map (λ (to : ℕ). (to, Agrees e m)) nodes ≡ of_epoch e (to_each nodes m)
 each_of e [] m = refl
 each_of e (x ∷ xs) m = let head : ℕ × mail.Message = (x, Agrees e m) in ap (λ zs. head ∷ zs) (each_of e xs m)
@@ -88,7 +88,7 @@ promises members nodes mails old a past reports u from b says sent h =
     (sent ∙ ap made h.acceptor.accepted)
     (answered (length members) old a past reports u from (Prepare b) out (λ d. refl) tt (tt, tt) takes h)
 
--- what is sent, where the epoch and the pair are told apart
+-- what is sent, with the epoch and the pair given apart
 pub one_promise : (seen : List (ℕ × mail.Message)) (from e d : ℕ) (b : Ballot) (named kept old : Option (Pair Value)) → seen ≡ (from, Agrees d (Promise b named)) ∷ [] → d ≡ e → named ≡ kept → kept ≡ old → seen ≡ (from, Agrees e (Promise b old)) ∷ []
 one_promise seen from e d b named kept old sent same copied stays =
     let made : ℕ → Option (Pair Value) → List (ℕ × mail.Message) = λ x p. (from, Agrees x (Promise b p)) ∷ [] in
@@ -108,7 +108,7 @@ accepts members nodes mails old a past reports u from b v says sent h =
     is_heard members nodes mails old (record old { acceptor = a }) past reports u from (Accept b v) out says.answer (accept_says members nodes (value_of reports) past u from b v) sent
     (answered (length members) old a past reports u from (Accept b v) out (λ d. refl) tt (tt, tt) takes h)
 
--- what is refused leaves the acceptor
+-- a refused message leaves the acceptor
 pub keeps_acceptor : (n : ℕ) (old : Part) (a : Accepting Value) (past : Chronicle Value) (reports : List Report) (u : ℕ) → a ≡ old.acceptor → StandsFor n old past reports u → StandsFor n (record old { acceptor = a }) past reports u
 keeps_acceptor n old a past reports u same h = let P : Accepting Value → Type 0 = λ z. StandsFor n (record old { acceptor = z }) past reports u in subst P (sym same) h
 
@@ -157,7 +157,7 @@ is_preparing phase b e = subst IsPreparing (sym e) tt
 not_both : (phase : Phase) (b : Ballot) → phase ≡ Preparing b → phase ≡ Idle → ⊥
 not_both phase b p q = absurd (cc (sym p ∙ q))
 
--- where a ballot is prepared no decision is known
+-- if a ballot is prepared, no decision is known
 pub undecided : (n : ℕ) (old : Part) (past : Chronicle Value) (reports : List Report) (u : ℕ) (b : Ballot) → old.proposer.phase ≡ Preparing b → StandsFor n old past reports u → decision past u ≡ None
 undecided n old past reports u b phase h =
     (elim (decision past u) as (λ d. (is_some d ≡ true → old.proposer.phase ≡ Idle) → d ≡ None) [
@@ -185,7 +185,7 @@ pub promise_refused : (members nodes : List ℕ) (old : Part) (t : Tallying Valu
 promise_refused members nodes old t past reports u from b named why refused same h =
     is_refused members nodes old (record old { proposer = t }) past reports u from (Promise b named) why refused (keeps_proposer (length members) old t past reports u same h)
 
--- a majority has promised: the value goes out
+-- a majority promised: the value goes out
 pub promise_majority : (members nodes : List ℕ) (mails : List TheMail) (old new : Part) (t : Tallying Value) (past : Chronicle Value) (reports : List Report) (u from : ℕ) (b : Ballot) (named : Option (Pair Value)) (best : Option Value) (v : Value)
     → SaysPromise (tally.Majority best) (length members) old.proposer t past (promise_delivery u from b named) → t.phase ≡ old.proposer.phase → old.proposer.phase ≡ Preparing b
     → v ≡ or_fresh best (value_of old.reports.reports) → mails_seen mails ≡ of_epoch old.reports.epoch (to_each members (Accept b v))
@@ -215,7 +215,7 @@ pub vote_refused : (members nodes : List ℕ) (old : Part) (t : Tallying Value) 
 vote_refused members nodes old t past reports u from b why refused same h =
     is_refused members nodes old (record old { proposer = t }) past reports u from (Accepted b) why refused (keeps_proposer (length members) old t past reports u same h)
 
--- a majority has accepted: the value that was proposed goes to all nodes
+-- a majority accepted: the proposed value goes to all nodes
 pub vote_majority : (members nodes : List ℕ) (mails : List TheMail) (old : Part) (t : Tallying Value) (past : Chronicle Value) (reports : List Report) (u from : ℕ) (b : Ballot) (v : Option (Unit {0}))
     → SaysVote (tally.Majority v) (length members) old.proposer t past (vote_delivery u from b) → t.phase ≡ old.proposer.phase → old.proposer.phase ≡ Gathering b
     → mails_seen mails ≡ of_epoch old.reports.epoch (announce nodes old.proposed)
@@ -308,7 +308,7 @@ own_round (Some b) last u e h =
     let same : mine ≡ b = same_parts mine b e (sym h) in
     ap (λ (c : Ballot). is_last (Some c)) same
 
--- the reasons, where it is told whether a decision is known and whether a report is held
+-- the reasons, given whether a decision is known and whether a report is held
 abbrev not_proposing_if : Chronicle Value → ℕ → (decided empty : Bool) → Option Reason
 not_proposing_if past u decided empty =
     if decided then Some reason.Decided else if empty then Some reason.NoReport else no_round (promised past u) (started past u)
@@ -338,7 +338,7 @@ why_not_round n old past reports u unknown some h =
     ∙ ap (λ r. option_or (is_last (promised past u)) r) (own_round (started past u) old.proposer.last_round u h.proposer.last_round h.own) in
     rounds ∙ sym (not_proposing_then past reports u still ∙ ap (not_proposing_if past u false) is)
 
--- where a ballot may be started no decision is known
+-- if a ballot may be started, no decision is known
 pub undecided_free : (past : Chronicle Value) (reports : List Report) (u : ℕ) → not_proposing past reports u ≡ None → decision past u ≡ None
 undecided_free past reports u e =
     (elim (decision past u) as (λ d. not_proposing_if past u (is_some d) (is_empty reports) ≡ None → d ≡ None) [
@@ -362,7 +362,7 @@ started_so members mails old new past reports u is sent goes = record {
   stands = subst (λ w. StandsFor (length members) new (opened_as w members past u) reports u) is (goes (undecided_free past reports u (sym is)));
 }
 
--- ---- what calls said
+-- ---- the answers of the calls
 
 pub ok_then : {E X : Type 0} (r : Result X E) {P Q : X → Type 0} → IfOk r P → ((x : X) → P x → Q x) → IfOk r Q
 ok_then (Ok x) h f = f x h
@@ -403,7 +403,7 @@ vote_phase t old new from is = ap (λ (x : Tallying Value). x.phase) is ∙ phas
 pub won_now : (t : Tally Value) (v : Option Value) (old new : Tallying Value) (from : ℕ) (named : Option (Pair Value)) → t ≡ tally.Majority v → new ≡ after_promise t old from named → new.won ≡ true
 won_now t v old new from named is kept = ap (λ (x : Tallying Value). x.won) (kept ∙ ap (λ (s : Tally Value). after_promise s old from named) is)
 
--- a value that is announced, as it is sent
+-- a value that is announced, in the form in which it is sent
 pub announces : (seen : List (ℕ × mail.Message)) (e d : ℕ) (nodes : List ℕ) (kept : Option Value) (v w : Value) → seen ≡ map (λ (to : ℕ). (to, Agrees d (Decision w))) nodes → d ≡ e → kept ≡ Some v → w ≡ v
     → seen ≡ of_epoch e (announce nodes kept)
 announces seen e d nodes kept v w sent same is copied =

@@ -1,4 +1,4 @@
--- What holds of reports that are held.
+-- Properties of the reports that are held.
 use Rattle.std.proofs.Common.{ℕ, zero, suc, Bool, true, false, ◌||◌, ◌==◌, List, [], ◌∷◌, map, insert, nat_lt, nat_cmp, Less, ◌≡◌, refl, sym, ◌∙◌, ap, subst, arith, if◌then◌else◌}
 use Rattle.std.specs.List.{AllByRecursion}
 use Rattle.std.specs.List.Sorted.{IsStrictlySortedBy}
@@ -13,12 +13,12 @@ use Rattle.consolidator.specs.Readings.{put_report}
 use Rattle.consolidator.specs.Readings as reading
 use Rattle.consolidator.specs.Holding.{AreHeld, place_of}
 
--- the nodes are the same as definitions see them
+-- the definitions see the same nodes
 pub nodes_seen : (rs : List TheReport) → reading.nodes_of (reports_seen rs) ≡ nodes_of rs
 nodes_seen [] = refl
 nodes_seen (r ∷ rs) = ap (λ ns. r.node ∷ ns) (nodes_seen rs)
 
--- an insert at the place is what the definition says
+-- inserting at the place is what the definition says
 pub insert_seen : (r : TheReport) (rs : List TheReport) → reports_seen (insert rs (place_of r.node rs) r) ≡ put_report (report_seen r) (reports_seen rs)
 insert_seen r [] = refl
 insert_seen r (x ∷ xs) =
@@ -27,7 +27,7 @@ insert_seen r (x ∷ xs) =
       | false ↦ ap (λ zs. report_seen x ∷ zs) (insert_seen r xs)
     ]
 
--- ---- it is held with the others
+-- ---- the report is held with the others
 
 same_epoch : (e : ℕ) (r : TheReport) (rs : List TheReport) (n : ℕ) → r.epoch ≡ e → AllByRecursion (λ (x : TheReport). x.epoch ≡ e) rs → AllByRecursion (λ (x : TheReport). x.epoch ≡ e) (insert rs n r)
 same_epoch e r [] zero is all = (is, tt)
@@ -86,7 +86,7 @@ insert_held e r rs is new held = record {
   nodes = sorted_insert r rs (subst (λ ns. has ns r.node ≡ false) (nodes_seen rs) new) held.nodes;
 }
 
--- ---- they may be put together
+-- ---- they can be combined
 
 pub together : (e : ℕ) (rs : List TheReport) → AreHeld e rs → OfOneEpoch rs
 together e rs held = record {
@@ -108,6 +108,6 @@ map_insert f [] (suc n) x = refl
 map_insert f (y ∷ ys) zero x = refl
 map_insert f (y ∷ ys) (suc n) x = ap (λ zs. f y ∷ zs) (map_insert f ys n x)
 
--- the values, after one was put in at its place
+-- the values after one was inserted at its place
 pub put_in : {A : Type 0} (f : A → TheReport) (old new : List A) (n : ℕ) (x : A) → new ≡ insert old n x → n ≡ place_of (f x).node (map f old) → map f new ≡ insert (map f old) (place_of (f x).node (map f old)) (f x)
 put_in f old new n x items placed = ap (λ zs. map f zs) items ∙ (map_insert f old n x ∙ ap (λ k. insert (map f old) k (f x)) placed)

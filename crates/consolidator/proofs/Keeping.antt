@@ -59,7 +59,7 @@ placed_new node e place now ps is end made = end ∙ sym (ap (place_in e) made �
 pub same_new : (node e : ℕ) (now ps : List Part) → now ≡ ps ++ no_part node e ∷ [] → (d : ℕ) → part_in node d now ≡ part_in node d ps
 same_new node e now ps made d = ap (part_in node d) made ∙ part_new node e d ps
 
--- ---- what stands at the place
+-- ---- the part at the place
 
 pub at_place : (node e : ℕ) (ps : List Part) (x : Part) → place_in e ps < length ps → x ≡ get_or ps (place_in e ps) x → x ≡ part_in node e ps
 at_place node e [] x inside is = absurd (omega (arith, inside))
@@ -96,7 +96,7 @@ part_set node e d (p ∷ ps) x inside is =
           ∙ crossed (e == d) (p.reports.epoch == d) x p (part_in node d ps) (λ a b. not_both p.reports.epoch e d q a b)
     ]) refl inside
 
--- ---- all parts, after one of them went on
+-- ---- all parts, after one of them changed
 
 pub parts_hear : (net : Net) (reply : Reply) (old now : List Part) (new : Part) (past : Chronicle) (u from : ℕ) (m : Message)
     → ((d : ℕ) → part_in u d now ≡ (if epoch_of m == d then new else part_in u d old)) → AreParts net old past u → Hears net reply new past (delivery u from m) → HearsAll net reply now past (delivery u from m)
@@ -123,7 +123,7 @@ parts_propose net reply old now part_old new past u e is epoch h one =
           ]) refl);
     }
 
--- what stands at the place of an epoch is of that epoch
+-- the part at the place of an epoch is of that epoch
 pub place_epoch : (node e place : ℕ) (mid : List Part) (was : Part) → place ≡ place_in e mid → place < length mid → was ≡ get_or mid place was → was.reports.epoch ≡ e
 place_epoch node e place mid was at within value =
     let placed : place_in e mid < length mid = subst (λ (k : ℕ). k < length mid) at within in
@@ -169,7 +169,7 @@ pub not_is_true : (b : Bool) → not b ≡ true → b ≡ false
 not_is_true true e = absurd (cc e)
 not_is_true false e = refl
 
--- what is for u
+-- a message for u
 pub handled : (net : Net) (reply : Reply) (parts : List Part) (past : Chronicle) (u from : ℕ) (m : Message) → (has net.consolidators u || is_for_all m) ≡ true → HearsAll net reply parts past (delivery u from m)
     → Handles net reply (record { node = u; parts = parts }) past (delivery u from m)
 unfolding refusal_of received
@@ -189,7 +189,7 @@ handled_by net reply node old now past u from m here h one =
     subst (λ (w : ℕ). Handles net reply (record { node = node; parts = now }) past (delivery w from m)) h.number
     (handled net reply now past node from m here (one past here (subst (λ (w : ℕ). AreParts net old past w) (sym h.number) h.each)))
 
--- what is not
+-- a message that is not for u
 pub not_handled : (net : Net) (kept : Kept) (past : Chronicle) (u from : ℕ) (m : Message) → (has net.consolidators kept.node || is_for_all m) ≡ false → StandsFor net kept past u
     → Handles net (told.Idle reason.NotConsolidator) kept past (delivery u from m)
 unfolding refusal_of received

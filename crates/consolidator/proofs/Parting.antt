@@ -1,4 +1,4 @@
--- What a part stands for, after one more fact.
+-- What a part stands for after one more fact.
 use Rattle.std.proofs.Common.{ℕ, ap₂, true, false, Bool, ◌≡◌, ◌==◌, refl, sym, ◌∙◌, ap, subst, Option, Some, None, List, [], ◌∷◌, if◌then◌else◌}
 use Rattle.std.specs.Prelude.{is_some, IfSome}
 use Rattle.std.specs.List.{AllByRecursion}
@@ -25,7 +25,7 @@ use Rattle.consolidator.specs.declared.parts.Part.{Part}
 use Rattle.consolidator.specs.Holding.{Holding}
 use Rattle.consolidator.specs.Parts.{StandsFor, no_part, gone, of_use}
 
--- ---- what else is read
+-- ---- other readings
 
 known_by : {V : Type 0} (m : Message V) (d : Bool) (v : Option V) → d ≡ is_some v → decided_by m d ≡ is_some (decision_by m v)
 known_by (Decision x) d None e = refl
@@ -48,7 +48,7 @@ decided_known (Mail w to m ∷ past) u = decided_known past u
 decided_known (Crash w ∷ past) u = decided_known past u
 decided_known (Other ∷ past) u = decided_known past u
 
--- neither the ballot that u started last, nor what it proposed, nor the decision that it knows is another one
+-- the last ballot that u started, what it proposed and the decision that it knows stay the same
 pub record Same (now past : Chronicle Value) (u : ℕ) : Type 0 where
   pub started : started now u ≡ started past u
   pub proposed : (b : Ballot) → proposed now u b ≡ proposed past u b
@@ -74,14 +74,14 @@ same_value (Decision v) w u b p h = elim (w == u) as (λ t. (if t then p else p)
 same_mail : (past : Chronicle Value) (u w to : ℕ) (m : Message Value) → Leaves u w m → Same (Mail w to m ∷ past) past u
 same_mail past u w to m h = record { started = refl; proposed = λ b. same_value m w u b (proposed past u b) h; decision = refl }
 
--- nor after messages were sent that are no Accept
+-- they also stay after messages were sent that are no Accept
 pub same_posted : (past : Chronicle Value) (u w : ℕ) (ms : List (ℕ × Message Value)) → AllByRecursion (λ m. Leaves u w m.1) ms → Same (posted w ms past) past u
 same_posted past u w [] all = same_self past u
 same_posted past u w (m ∷ ms) all =
     same_trans (posted w ms (Mail w m.0 m.1 ∷ past)) (Mail w m.0 m.1 ∷ past) past u
     (same_posted (Mail w m.0 m.1 ∷ past) u w ms all.1) (same_mail past u w m.0 m.1 all.0)
 
--- a message tells no decision
+-- the message is no decision
 abbrev pub TellsNone : Message Value → Type 0
 TellsNone m = (d : Option Value) → decision_by m d ≡ d
 
@@ -95,7 +95,7 @@ same_heard past u w from m none = record {
   ];
 }
 
--- ---- what is kept goes on
+-- ---- the stored state goes on
 
 pub goes_on : (n : ℕ) (old : Part) (a : Accepting Value) (t : Tallying Value) (now past : Chronicle Value) (reports : List Report) (u : ℕ)
     → accepting.StandsFor a now u → tallying.StandsFor n t now u → Same now past u → t.phase ≡ old.proposer.phase
@@ -130,7 +130,7 @@ answered n old a past reports u from m out none passes leaves takes h =
     (proposer_posted n old.proposer now u u out leaves (proposer_unread n old.proposer past u (Heard u from m) passes h.proposer))
     (same_trans (posted u out now) now past u (same_posted now u u out leaves) (same_heard past u u from m none)) refl h
 
--- the proposer took the message, and these messages, of which none is an Accept, answer it
+-- the proposer took the message, and these messages answer it; none of them is an Accept
 pub tallied : (n : ℕ) (old : Part) (t : Tallying Value) (past : Chronicle Value) (reports : List Report) (u from : ℕ) (m : Message Value) (out : List (ℕ × Message Value))
     → TellsNone m → PassesBy u u m → AllByRecursion (λ o. Leaves u u o.1) out
     → tallying.StandsFor n t (Heard u from m ∷ past) u → t.phase ≡ old.proposer.phase → StandsFor n old past reports u
@@ -142,7 +142,7 @@ tallied n old t past reports u from m out none passes leaves takes phase h =
     (proposer_posted n t now u u out leaves takes)
     (same_trans (posted u out now) now past u (same_posted now u u out leaves) (same_heard past u u from m none)) phase h
 
--- one message to each, which is no Accept
+-- one message to each, not an Accept
 pub leaves_each : (u w : ℕ) (nodes : List ℕ) (m : Message Value) → Leaves u w m → AllByRecursion (λ (o : ℕ × Message Value). Leaves u w o.1) (to_each nodes m)
 leaves_each u w [] m h = tt
 leaves_each u w (x ∷ xs) m h = (h, leaves_each u w xs m h)
@@ -183,7 +183,7 @@ accepts_all n old t v past reports u b (to ∷ tos) member still phase takes h =
       over = λ e. absurd (none_some (decision (posted u out past) u) (same ∙ still) e);
     }
 
--- the value went out, and an equal one is kept
+-- the value went out, and an equal one is stored
 pub accepts_copy : (n : ℕ) (old : Part) (t : Tallying Value) (v kept : Value) (past : Chronicle Value) (reports : List Report) (u : ℕ) (b : Ballot) (members : List ℕ)
     → kept ≡ v → has members u ≡ true → decision past u ≡ None → t.phase ≡ Gathering b
     → ((to : ℕ) (tos : List ℕ) → tallying.StandsFor n t (posted u (to_each (to ∷ tos) (Accept b v)) past) u)
@@ -270,7 +270,7 @@ crashes n old past reports u h = record {
   over = λ e. refl;
 }
 
--- ---- nothing happened yet
+-- ---- nothing has happened yet
 
 pub nothing_made : (a : Accepting Value) (t : Tallying Value) (h : Holding) (node epoch : ℕ) → (a.promised ≡ None) × (a.accepted ≡ None) → t.node ≡ node → (t.last_round ≡ 0) × (t ≡ forgotten t)
     → h.epoch ≡ epoch → h.reports ≡ [] → ◌≡◌ {A = Part} (record { acceptor = a; proposer = t; proposed = None; reports = h; decision = None }) (no_part node epoch)

@@ -1,4 +1,4 @@
--- What the agreement of an epoch reads of what a node does.
+-- What the agreement of an epoch reads of a node's acts.
 use Rattle.std.proofs.Common.{ℕ, true, false, Bool, ◌≡◌, ◌==◌, ◌||◌, ◌<◌, ◌≤◌, refl, sym, ◌∙◌, ap, subst, arith, Option, Some, None, List, [], ◌∷◌, length, if◌then◌else◌}
 use Rattle.std.specs.Prelude.{is_some}
 use Rattle.std.proofs.lemmas.Bool.Decides.{nat_tests}
@@ -29,14 +29,14 @@ same_number e = grind (arith, nat_tests)
 
 -- ---- the epoch itself
 
--- what is sent of the epoch is what its agreement sends
+-- what the node sends for the epoch is what the agreement sends
 agreement_posted : (e u : ℕ) (ms : List (ℕ × paxos.Message Value)) (past : Chronicle) → agreement e (posted u (of_epoch e ms) past) ≡ paxos_answers.posted u ms (agreement e past)
 agreement_posted e u [] past = refl
 agreement_posted e u (m ∷ ms) past =
     agreement_posted e u ms (Mail u m.0 (Agrees e m.1) ∷ past)
     ∙ ap (λ t. paxos_answers.posted u ms ((if t then paxos.Mail u m.0 m.1 else paxos.Other) ∷ agreement e past)) (same_number e)
 
--- no report comes with what is sent
+-- no report is among the messages sent
 reports_posted : (e u w : ℕ) (ms : List (ℕ × Message)) (past : Chronicle) → reports_held u e (posted w ms past) ≡ reports_held u e past
 reports_posted e u w [] past = refl
 reports_posted e u w (m ∷ ms) past = reports_posted e u w ms (Mail w m.0 m.1 ∷ past)
@@ -51,7 +51,7 @@ either : {A : Type 0} (b : Bool) (x : A) → (if b then x else x) ≡ x
 either true x = refl
 either false x = refl
 
--- what it sends when it heard the message
+-- what the node sends after it heard the message
 abbrev said : Net → Chronicle → ℕ → ℕ → ℕ → paxos.Message Value → List (ℕ × paxos.Message Value)
 said net past u e from m = answers (ballot_setup (ascending net.consolidators) (ascending net.nodes) (value_of (reports_held u e past))) (agreement e past) u from m
 
@@ -130,17 +130,17 @@ hears_report net reply new past u from r h = record {
   stands = report_in net new past u from r (refuses_report (is_some (known u r.epoch past)) (has (nodes_of (reports_held u r.epoch past)) r.node)) h.stands;
 }
 
--- ---- a message, as it came
+-- ---- a delivered message
 
 or_left : (b : Bool) → (b || false) ≡ true → b ≡ true
 or_left true h = refl
 or_left false h = h
 
--- who hears what is for consolidators is one of them
+-- a node that hears a message for consolidators is one of them
 pub member_of : (net : Net) (u : ℕ) (members : List ℕ) → members ≡ ascending net.consolidators → (has net.consolidators u || false) ≡ true → has members u ≡ true
 member_of net u members is h = ap (λ ms. has ms u) is ∙ (has-ascending net.consolidators u ∙ or_left (has net.consolidators u) h)
 
--- there are few of them
+-- there are not too many of them
 pub few_members : (net : Net) (members : List ℕ) → IsValid net → members ≡ ascending net.consolidators → length members < 4294967296
 few_members net members valid is =
     let few : length net.consolidators ≤ 7 = valid.few_consolidators in
@@ -191,7 +191,7 @@ heard_other net kept past u w from d (Reports r) other h =
     (subst (λ (rs : List Report). part.StandsFor (length (ascending net.consolidators)) kept (paxos.Other ∷ agreement d past) rs u) (sym (either (w == u) (reports_held u d past)))
     (stands_other (length (ascending net.consolidators)) kept (agreement d past) (reports_held u d past) u h))
 
--- a message of one epoch leaves the part of another one
+-- a message of one epoch leaves the parts of other epochs
 pub hears_other : (net : Net) (kept : Part) (past : Chronicle) (u from d : ℕ) (m : Message) (why : Option Reason) → (epoch_of m == d) ≡ false
     → IsPart net kept past u d → IsPart net kept (received_as why net past u from m) u d
 hears_other net kept past u from d m (Some why) other h = h
@@ -237,7 +237,7 @@ asks_so net reply why past u e d same h =
     subst (λ ms. Says reply why ms) (sym (asks_of net past u e))
     (subst (λ x. Says reply why (of_epoch x (to_each (ascending net.consolidators) (paxos.Prepare (next_ballot (agreement e past) u))))) same h)
 
--- a ballot of one epoch leaves the part of another one
+-- a ballot of one epoch leaves the parts of other epochs
 pub proposes_other : (net : Net) (kept : Part) (past : Chronicle) (u e d : ℕ) (why : Option Reason) → (e == d) ≡ false
     → IsPart net kept past u d → IsPart net kept (proposed_as why net past u e) u d
 proposes_other net kept past u e d (Some why) other h = h

@@ -14,12 +14,12 @@ pub record Holding : Type 0 where
   pub epoch : ℕ
   pub reports : List Report
 
--- they are of this epoch, and their nodes ascend without repeats
+-- the reports are of this epoch, and their nodes ascend without repeats
 pub record AreHeld (epoch : ℕ) (reports : List TheReport) : Type 0 where
   pub epochs : AllByRecursion (λ (r : TheReport). r.epoch ≡ epoch) reports
   pub nodes : IsStrictlySortedBy nat_cmp (nodes_of reports)
 
--- the place of the first report of a higher node, or the end
+-- the place of the first report of a higher node, or the length
 abbrev pub place_of : ℕ → List TheReport → ℕ
 place_of node [] = 0
 place_of node (r ∷ rs) = if nat_lt node r.node then 0 else suc (place_of node rs)

@@ -1,4 +1,4 @@
--- Messages and mails as definitions see them.
+-- Messages and mails as the definitions see them.
 use Rattle.std.specs.Prelude.{ℕ, List, map}
 use Rattle.paxos_core.specs.Facts as paxos
 use Rattle.incomplete_closure.specs.Seen.{report_seen}

@@ -1,4 +1,4 @@
--- What a node keeps stands for what it saw.
+-- When a node's state stands for what it saw.
 use Rattle.std.specs.Prelude.{ℕ, ◌≡◌, List, length}
 use Rattle.topology.specs.Lists.{ascending}
 use Rattle.topology.specs.Net.{Net}
@@ -13,42 +13,42 @@ use Rattle.consolidator.specs.Replies.{Says}
 use Rattle.consolidator.specs.Keeping.{Kept, part_in}
 use Rattle.consolidator.specs.Parts as part
 
--- it is u's part in the agreement of e after these facts
+-- `kept` is u's part in the agreement of e after these facts
 abbrev pub IsPart : Net → Part → Chronicle → ℕ → ℕ → Type 0
 IsPart net kept past u e = part.StandsFor (length (ascending net.consolidators)) kept (agreement e past) (reports_held u e past) u
 
--- each of them is u's part in the agreement of its epoch
+-- each of the parts is u's part in the agreement of its epoch
 abbrev pub AreParts : Net → List Part → Chronicle → ℕ → Type 0
 AreParts net parts past u = (e : ℕ) → IsPart net (part_in u e parts) past u e
 
--- it is what u keeps after these facts
+-- `kept` is the state of u after these facts
 pub record StandsFor (net : Net) (kept : Kept) (past : Chronicle) (u : ℕ) : Type 0 where
   pub number : kept.node ≡ u
   pub each : AreParts net kept.parts past u
 
--- a message that is for the node came to it: the reply is that of the rules, and the part of its epoch goes on
+-- a message for the node arrived: the reply is that of the rules, and the part of its epoch goes on as they say
 pub record Hears (net : Net) (reply : Reply) (new : Part) (past : Chronicle) (d : Delivery Message) : Type 0 where
   pub answer : Says reply (refused past d.node d.from d.message) (replies net past d.node d.from d.message)
   pub stands : IsPart net new
       (received_as (refused past d.node d.from d.message) net past d.node d.from d.message) d.node (epoch_of d.message)
 
--- the same, with all parts
+-- the same for all parts
 pub record HearsAll (net : Net) (reply : Reply) (new : List Part) (past : Chronicle) (d : Delivery Message) : Type 0 where
   pub answer : Says reply (refused past d.node d.from d.message) (replies net past d.node d.from d.message)
   pub stands : AreParts net new
       (received_as (refused past d.node d.from d.message) net past d.node d.from d.message) d.node
 
--- a consolidator u was to propose a value for e: the same
+-- a consolidator u should propose a value for e: the reply is that of the rules, and all parts go on as they say
 pub record ProposesAll (net : Net) (reply : Reply) (new : List Part) (past : Chronicle) (u e : ℕ) : Type 0 where
   pub answer : Says reply (not_proposing (agreement e past) (reports_held u e past) u) (asks net past u e)
   pub stands : AreParts net new (proposed_as (not_proposing (agreement e past) (reports_held u e past) u) net past u e) u
 
--- a message came to a node: the reply is that of the rules, and what the node keeps stands for what happened then
+-- a message arrived at a node: the reply is that of the rules, and the node's state stands for what happened then
 pub record Handles (net : Net) (reply : Reply) (kept : Kept) (past : Chronicle) (d : Delivery Message) : Type 0 where
   pub answer : Says reply (refusal_of net past d.node d.from d.message) (replies net past d.node d.from d.message)
   pub stands : StandsFor net kept (received net past d.node d.from d.message) d.node
 
--- u was to propose a value for e: the same
+-- u should propose a value for e: the reply is that of the rules, and the node's state stands for what happened then
 pub record Proposes (net : Net) (reply : Reply) (kept : Kept) (past : Chronicle) (u e : ℕ) : Type 0 where
   pub answer : Says reply (proposal_refusal net past u e) (asks net past u e)
   pub stands : StandsFor net kept (proposed net past u e) u

@@ -1,4 +1,4 @@
-//! What a node says and learns of the agreement on the value of each epoch.
+//! A node's part in the agreements of all epochs.
 ghost use Rattle.std.specs.Prelude.{ℕ, ◌≡◌, ◌||◌, ◌<◌, ◌≤◌, ◌∷◌, [], true, map, option_copied, length, IfOk, OnOk};
 ghost use Rattle.topology.specs.Lists.{has};
 ghost use Rattle.topology.specs.Net.{Net};
@@ -19,9 +19,9 @@ use std::alloc::Global;
 use std::marker::Model;
 use topology::{Epoch, NoMemory, NodeId, Reason, Topology};
 
-/// A node's part in the agreement on the value of each epoch. It collects reports and proposes a value,
-/// promises and accepts, and learns the decision. A node that is no consolidator learns decisions alone.
-/// Promises, acceptances, rounds and decisions outlive a crash, what was collected does not.
+/// A node's part in the agreement on the value of each epoch. It collects reports, proposes a value, promises and
+/// accepts ballots, and learns the decision. A node that is no consolidator only learns decisions. Promises,
+/// acceptances, rounds and decisions outlive a crash; collected reports and tallies do not.
 #[derive(Drop)]
 pub struct Consolidator {
     alloc: Global,
@@ -37,7 +37,7 @@ impl Model for Consolidator {
     ghost view = { λ c. record { node = c.node; parts = c.parts.items } };
 }
 
-// The place of the part of the epoch, or the end.
+// The place of the epoch's part, or the length of the list.
 fn place_of(parts: &[Part], epoch: Epoch) -> usize
     ensures place { result ≡ place_in epoch parts.now }
     ensures within { result ≤ length parts.now }
@@ -52,7 +52,7 @@ fn place_of(parts: &[Part], epoch: Epoch) -> usize
     place
 }
 
-// The place of the part of the epoch, which is made where there is none.
+// The place of the epoch's part. A part is made if there is none.
 fn place_for(
     alloc: Global,
     parts: &mut Vec<Part>,
@@ -71,7 +71,7 @@ fn place_for(
     Ok(place)
 }
 
-// The part of its epoch hears the message.
+// Hands the message to the part of its epoch.
 fn hear_in(
     alloc: Global,
     parts: &mut Vec<Part>,
@@ -91,7 +91,7 @@ fn hear_in(
     Ok(reply)
 }
 
-// A consolidator is to propose a value for the epoch.
+// Has a consolidator propose a value for the epoch.
 fn propose_in(
     alloc: Global,
     parts: &mut Vec<Part>,
@@ -122,7 +122,7 @@ fn is_for(topology: &Topology, node: NodeId, message: &Message) -> bool
     is_consolidator(topology, node) || message.is_for_all()
 }
 
-// Each part loses what was collected.
+// Drops what each part collected.
 fn forget_each(parts: &mut [Part])
     ensures { parts.new ≡ map gone parts.old }
 {
@@ -144,7 +144,7 @@ fn decision_in(parts: &[Part], epoch: Epoch) -> Option<&Value>
 }
 
 impl Consolidator {
-    /// A node that has seen nothing.
+    /// The state of a node before its first message.
     pub fn new(alloc: Global, _topology: &Topology, node: NodeId) -> Result<Consolidator, NoMemory>
         ensures { IfOk result (λ consolidator. (net : Net) → StandsFor net consolidator [] node) }
     {
@@ -155,7 +155,7 @@ impl Consolidator {
         })
     }
 
-    /// The node is to propose a value for the epoch.
+    /// Has the node propose a value for the epoch.
     pub fn propose(
         self,
         topology: &Topology,
@@ -173,7 +173,7 @@ impl Consolidator {
         Ok((consolidator, reply))
     }
 
-    /// A message came to the node.
+    /// Handles a message that arrived at the node.
     pub fn handle(
         self,
         topology: &Topology,
@@ -193,7 +193,7 @@ impl Consolidator {
         Ok((consolidator, reply))
     }
 
-    /// A crash of the node: the reports that it holds and its tallies are lost. Takes no memory.
+    /// Handles a crash of the node: its reports and tallies are lost. Takes no memory.
     pub fn forget(&mut self)
         ensures { (net : Net) (past : Chronicle) (u : ℕ) → StandsFor net self.old past u →
             StandsFor net self.new (Crash u ∷ past) u }
@@ -201,7 +201,7 @@ impl Consolidator {
         forget_each(&mut self.parts);
     }
 
-    /// The decision of the epoch, where the node knows it. Takes no memory.
+    /// The decision of the epoch, if the node knows it. Takes no memory.
     pub fn decision(&self, epoch: Epoch) -> Option<&Value>
         ensures { (net : Net) (past : Chronicle) (u : ℕ) → StandsFor net self.now past u →
             option_copied result ≡ known u epoch past }

@@ -13,7 +13,7 @@ use std::marker::Model;
 use std::rc::Rc;
 use topology::{Epoch, NoMemory, NodeId};
 
-/// Reports of one epoch, one of each node, by their nodes.
+/// Reports of one epoch, one for each node, ordered by node.
 #[derive(Drop)]
 pub struct HeldReports {
     epoch: Epoch,
@@ -50,7 +50,7 @@ fn place_of(reports: &[Rc<Report>], node: NodeId) -> usize
     place
 }
 
-// Whether one of them is of the node.
+// Whether one of the reports is the node's.
 fn has_node(reports: &[Rc<Report>], node: NodeId) -> bool
     ensures { result ≡ has (nodes_of (reports_seen (map rc_value reports.now))) node }
 {
@@ -63,7 +63,7 @@ fn has_node(reports: &[Rc<Report>], node: NodeId) -> bool
 }
 
 impl HeldReports {
-    /// No report of the epoch. Takes no memory.
+    /// No reports yet. Takes no memory.
     pub fn new(alloc: Global, epoch: Epoch) -> HeldReports
         ensures epoch { result.epoch ≡ epoch }
         ensures none { result.reports ≡ [] }
@@ -94,7 +94,7 @@ impl HeldReports {
         has_node(&self.list, node)
     }
 
-    /// Keeps the report, where none of its node is held.
+    /// Keeps the report, unless one of its node is held already.
     pub fn keep(&mut self, report: Rc<Report>) -> Result<(), NoMemory>
         requires epoch { report.value.epoch ≡ self.old.epoch }
         requires new { has (nodes_of self.old.reports) report.value.node ≡ false }

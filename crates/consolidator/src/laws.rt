@@ -1,4 +1,4 @@
-//! Laws of what a node keeps. A call of a law brings what it says into the caller's proof.
+//! Laws of what a node stores. A call of a law gives the caller's proof what the law says.
 ghost use Rattle.std.specs.Prelude.{ℕ, ◌≡◌, ◌∷◌};
 ghost use Rattle.topology.specs.Net.{Net};
 ghost use Rattle.incomplete_closure.specs.Reports.{Report as AnyReport};
@@ -9,8 +9,8 @@ ghost use Rattle.consolidator.specs.Beside.{IsBeside};
 ghost use Rattle.consolidator.specs.Keeping.{Kept};
 ghost use Rattle.consolidator.specs.Standing.{StandsFor};
 
-/// What other nodes do, what has nothing to do with agreement, and the reports that a node mails leave all
-/// that it keeps, and each decision that it knows, as they are.
+/// What other nodes do, facts outside the agreements, and the reports that a node mails leave all that the node stores,
+/// and each decision that it knows, as they are.
 #[tactic(auto, using(crate::proofs::Beside::known_beside))]
 pub fn others_change_nothing_of_what_a_node_keeps()
     ensures beside { (net : Net) (kept : Kept) (past : Chronicle) (u : ℕ) (f : Fact) → IsBeside u f →

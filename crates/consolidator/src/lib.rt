@@ -1,4 +1,4 @@
-//! What consolidators hold, say and learn: reports of cuts, and the agreement on the value of each epoch.
+//! Consolidators: they hold the reports of cuts, and agree on the value of each epoch.
 #![tactic(auto)]
 
 pub mod consolidators;

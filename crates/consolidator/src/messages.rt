@@ -1,4 +1,4 @@
-//! What goes over the control network.
+//! The messages of the control network.
 ghost use Rattle.std.specs.Prelude.{◌≡◌, ◌∷◌, [], Option, map, IfOk};
 ghost use Rattle.consolidator.specs.Answers.{is_for_all as is_open};
 ghost use Rattle.consolidator.specs.Messages.{epoch_of};
@@ -13,14 +13,14 @@ use topology::{Ballot, Epoch, NoMemory, NodeId, Reason};
 /// A message of the control network.
 #[derive(Debug, Drop)]
 pub enum Message {
-    /// The report of a cut, for consolidators.
+    /// The report of a cut. It goes to consolidators.
     Report(Rc<Report>),
     /// Asks a consolidator to promise the ballot.
     Prepare {
         epoch: Epoch,
         ballot: Ballot,
     },
-    /// The ballot is promised; names what the sender accepted last.
+    /// The sender promises the ballot, and names what it accepted last.
     Promise {
         epoch: Epoch,
         ballot: Ballot,
@@ -32,19 +32,19 @@ pub enum Message {
         ballot: Ballot,
         value: Value,
     },
-    /// The value of the ballot is accepted.
+    /// The sender accepted the value of the ballot.
     Accepted {
         epoch: Epoch,
         ballot: Ballot,
     },
-    /// The value is chosen, for every node.
+    /// The value is chosen. This goes to every node.
     Decision {
         epoch: Epoch,
         value: Value,
     },
 }
 
-// What a Promise names.
+// A copy of what a Promise names.
 fn copy_named(named: &Option<(Ballot, Value)>) -> Result<Option<(Ballot, Value)>, NoMemory>
     ensures { IfOk result (λ copy. copy ≡ named.now) }
 {
@@ -55,7 +55,7 @@ fn copy_named(named: &Option<(Ballot, Value)>) -> Result<Option<(Ballot, Value)>
 }
 
 impl Message {
-    /// The epoch that it is about.
+    /// The epoch that the message is about.
     pub fn epoch(&self) -> Epoch
         ensures { result ≡ epoch_of (message_seen self.now) }
     {
@@ -69,14 +69,14 @@ impl Message {
         }
     }
 
-    /// Whether it is for every node, and not for consolidators alone.
+    /// Whether the message is for every node, and not only for consolidators.
     pub fn is_for_all(&self) -> bool
         ensures { result ≡ is_open (message_seen self.now) }
     {
         matches!(self, Message::Decision { .. })
     }
 
-    /// An equal message. The report of a cut is shared.
+    /// An equal message. The report of a cut is shared, not copied.
     pub fn copy(&self) -> Result<Message, NoMemory>
         ensures { IfOk result (λ copy. message_seen copy ≡ message_seen self.now) }
     {
@@ -123,7 +123,7 @@ pub struct Mail {
     pub message: Message,
 }
 
-/// Messages in the order in which they are sent.
+/// Mails in the order in which they are sent.
 #[derive(Debug, Drop)]
 pub struct Outbox {
     list: Vec<Mail>,
@@ -139,7 +139,7 @@ impl Model for Outbox {
 }
 
 impl Outbox {
-    /// These messages. Takes no memory.
+    /// An outbox from a list. Takes no memory.
     pub fn new(list: Vec<Mail>) -> Outbox
         ensures { result ≡ list.items }
     {
@@ -152,7 +152,7 @@ impl Outbox {
         &self.list
     }
 
-    /// The messages themselves. Takes no memory.
+    /// The mails as a list. Takes no memory.
     pub fn into_list(self) -> Vec<Mail>
         ensures { result.items ≡ self }
     {
@@ -160,7 +160,7 @@ impl Outbox {
     }
 }
 
-// One message.
+// An outbox with one message.
 pub(crate) fn one(alloc: Global, to: NodeId, message: Message) -> Result<Outbox, NoMemory>
     ensures { IfOk result (λ mails. mails_seen mails ≡ (to, message_seen message) ∷ []) }
 {
@@ -169,7 +169,7 @@ pub(crate) fn one(alloc: Global, to: NodeId, message: Message) -> Result<Outbox,
     Ok(Outbox::new(list))
 }
 
-// The message to each of the nodes.
+// An outbox with the message for each of the nodes.
 pub(crate) fn to_each(
     alloc: Global,
     nodes: &[NodeId],
@@ -188,7 +188,7 @@ pub(crate) fn to_each(
     Ok(Outbox::new(list))
 }
 
-/// What a node does with a message, or when it is to propose: it sends messages, or nothing happens.
+/// What a node does when a message arrives, or when it should propose: it sends messages, or it does nothing.
 #[derive(Debug, Drop)]
 pub enum Reply {
     Sent(Outbox),

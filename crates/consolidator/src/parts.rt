@@ -26,12 +26,12 @@ use std::alloc::Global;
 use std::rc::Rc;
 use topology::{Ballot, Epoch, NoMemory, NodeId, Reason, Topology};
 
-/// What a node promised, counted, holds and knows of one epoch. After an `Err` it is of no use.
+/// What a node promised, counted, holds and knows in one epoch. After an `Err` it must not be used again.
 #[derive(Drop)]
 pub struct Part {
     pub(crate) acceptor: Acceptor<Value>,
     pub(crate) proposer: Proposer<Value>,
-    /// The value that went out with the ballot whose acceptances are counted.
+    /// The value that was sent with the ballot whose acceptances are counted.
     pub(crate) proposed: Option<Value>,
     pub(crate) reports: HeldReports,
     pub(crate) decision: Option<Value>,
@@ -47,7 +47,7 @@ fn accepted_pair(acceptor: &Acceptor<Value>) -> Result<Option<(Ballot, Value)>, 
     }
 }
 
-// The round of a ballot, 0 where there is none.
+// The round of a ballot; 0 without one.
 fn round_of(ballot: Option<Ballot>) -> u32
     ensures { result ≡ round_of ballot }
 {
@@ -57,7 +57,8 @@ fn round_of(ballot: Option<Ballot>) -> u32
     }
 }
 
-// The ballot above which there is no round: the promised one, or else the own one.
+// The reason `NoRound` with the ballot that has the highest round already: the promised one, or else the own one.
+// `None` if both can be exceeded.
 fn no_round(promised: Option<Ballot>, own: Ballot) -> Option<Reason>
     ensures reason { result ≡ no_round promised (Some own) }
     ensures promised { IsNone result → round_of promised < 4294967295 }
@@ -74,7 +75,7 @@ fn no_round(promised: Option<Ballot>, own: Ballot) -> Option<Reason>
     None
 }
 
-// The value that an Accept is to carry: the one that is named, or that of the reports.
+// The value for the Accept: the one that a promise named, or else the value of the held reports.
 fn value_to_propose(
     alloc: Global,
     reports: &mut HeldReports,
@@ -90,7 +91,7 @@ fn value_to_propose(
 }
 
 impl Part {
-    /// The part of a node that has seen nothing of the epoch. Takes no memory.
+    /// The part of a node before it has seen anything of the epoch. Takes no memory.
     pub fn new(alloc: Global, epoch: Epoch, node: NodeId) -> Part
         ensures { result ≡ no_part node epoch }
     {
@@ -103,7 +104,7 @@ impl Part {
         }
     }
 
-    /// A report of the epoch came.
+    /// Handles a report of the epoch.
     pub fn on_report(&mut self, alloc: Global, report: Rc<Report>) -> Result<Reply, NoMemory>
         requires { report.value.epoch ≡ self.old.reports.epoch }
         ensures epoch { OnOk result (self.new.reports.epoch ≡ self.old.reports.epoch) }
@@ -121,7 +122,7 @@ impl Part {
         Ok(Reply::Sent(Outbox::new(Vec::new(alloc))))
     }
 
-    /// Another consolidator, or this one, asks for a promise.
+    /// Handles a request for a promise, from another consolidator or this one.
     pub fn on_prepare(
         &mut self,
         alloc: Global,
@@ -149,7 +150,7 @@ impl Part {
         }
     }
 
-    /// A consolidator asks to accept a value.
+    /// Handles a request to accept a value.
     pub fn on_accept(
         &mut self,
         alloc: Global,
@@ -174,7 +175,7 @@ impl Part {
         }
     }
 
-    // Proposes the value to all consolidators: they promised the ballot, a majority just now.
+    // Proposes the value to all consolidators, now that a majority promised the ballot.
     fn accept_all(
         &mut self,
         alloc: Global,
@@ -205,7 +206,7 @@ impl Part {
         Ok(mails)
     }
 
-    /// A consolidator promises a ballot.
+    /// Handles the promise of a ballot by a consolidator.
     pub fn on_promise(
         &mut self,
         alloc: Global,
@@ -236,7 +237,7 @@ impl Part {
         }
     }
 
-    // Tells all nodes the value, where one is chosen.
+    // Tells all nodes the value, if one is chosen.
     fn announce(
         &self,
         alloc: Global,
@@ -258,7 +259,7 @@ impl Part {
         }
     }
 
-    /// A consolidator accepted the value of a ballot. There are so many consolidators.
+    /// Handles the acceptance of a ballot's value by a consolidator. `members` is the number of consolidators.
     pub fn on_accepted(
         &mut self,
         alloc: Global,
@@ -285,7 +286,7 @@ impl Part {
         }
     }
 
-    /// The value is chosen. Reports and tally are of no use any more. Takes no memory.
+    /// Handles a decision. Reports and tally are dropped, as they are no longer needed. Takes no memory.
     pub fn on_decision(&mut self, alloc: Global, value: Value) -> Reply
         ensures epoch { self.new.reports.epoch ≡ self.old.reports.epoch }
         ensures heard { (members nodes : List ℕ) (past : paxos.Chronicle AnyValue) (reports : List AnyReport)
@@ -301,7 +302,7 @@ impl Part {
         Reply::Sent(Outbox::new(Vec::new(alloc)))
     }
 
-    // Why no ballot can be started, where there is a reason.
+    // The reason why no ballot can be started, if there is one.
     fn reason_not_to_propose(&self, node: NodeId) -> Option<Reason>
         ensures reason { (n : ℕ) (past : paxos.Chronicle AnyValue) (reports : List AnyReport) →
             StandsFor n self.now past reports node → result ≡ not_proposing past reports node }
@@ -337,7 +338,7 @@ impl Part {
         Ok(mails)
     }
 
-    /// The node is to propose a value.
+    /// Has the node propose a value.
     pub fn propose(
         &mut self,
         alloc: Global,
@@ -355,7 +356,7 @@ impl Part {
         }
     }
 
-    /// A crash of the node: what it collected is lost. Takes no memory.
+    /// Handles a crash of the node: what it collected is lost. Takes no memory.
     pub fn forget(&mut self)
         ensures { self.new ≡ gone self.old }
     {
@@ -364,7 +365,7 @@ impl Part {
         self.reports.clear();
     }
 
-    /// A message of the epoch came, which is for the node.
+    /// Handles a message of the epoch that is for the node.
     pub fn hear(
         &mut self,
         alloc: Global,

@@ -1,4 +1,4 @@
--- What each act leaves of the readings.
+-- How each act changes the readings.
 use Rattle.std.proofs.Common.{ℕ, zero, suc, ◌<◌, ◌≤◌, Bool, true, false, not, ◌==◌, ◌&&◌, nat_lt, nat_le, Option, Some, None, List, [], ◌∷◌, ◌++◌, ◌≡◌, refl, sym, ◌∙◌, ap, arith, true≢false, length, slice_get, if◌then◌else◌}
 use Rattle.std.proofs.lemmas.Bool.Decides.{nat_tests}
 use Rattle.std.proofs.lemmas.List.{length_push, append-nil, append_assoc}
@@ -12,7 +12,7 @@ use Rattle.control_mail.proofs.Places.{pushed_get}
 
 -- ---- messages stay
 
--- an act leaves all messages
+-- an act removes no message
 more : (act : MailAct) (acts : MailActs) → Begins (letters acts) (letters (act ∷ acts))
 more (Posts from to message) acts = (record { from = from; to = to; message = message } ∷ [], refl)
 more (Delivers number) acts = ([], append-nil (letters acts))
@@ -38,7 +38,7 @@ and_false false b e = refl
 one_more : (xs : List Letter) (x : Letter) (k : ℕ) → length (xs ++ x ∷ []) < k → length xs < k
 one_more xs x k h = omega (arith, length_push xs x)
 
--- what was never sent was never delivered
+-- a message that was not sent yet was never delivered
 pub never : (k : ℕ) (acts : MailActs) → length (letters acts) < k → deliveries k acts ≡ 0
 never k [] h = refl
 never k (Posts from to message ∷ acts) h = never k acts (one_more (letters acts) (record { from = from; to = to; message = message }) k h)
@@ -49,7 +49,7 @@ never k (Restarts node ∷ acts) h = never k acts h
 same_number : (a b : ℕ) → (a == b) ≡ true → b ≡ a
 same_number a b e = grind (arith, nat_tests)
 
--- a delivery of what no message has for a number counts nowhere
+-- a delivery of a number without a message is not counted
 pub uncounted : (number k : ℕ) (acts : MailActs) → is_number number acts ≡ false → deliveries k (Delivers number ∷ acts) ≡ deliveries k acts
 uncounted number k acts none =
     (elim (number == k) as (λ t. (number == k) ≡ t → (if t && is_number k acts then suc (deliveries k acts) else deliveries k acts) ≡ deliveries k acts) [
@@ -67,11 +67,11 @@ is_place place n h = grind (arith, nat_tests)
 itself : (k : ℕ) → (k == k) ≡ true
 itself k = grind (arith, nat_tests)
 
--- a message is counted
+-- a delivery of a message is counted
 pub counted_once : (place : ℕ) (acts : MailActs) → place < length (letters acts) → deliveries (suc place) (Delivers (suc place) ∷ acts) ≡ suc (deliveries (suc place) acts)
 counted_once place acts h = rw (itself (suc place), is_place place (length (letters acts)) h) refl
 
--- ---- what waits
+-- ---- messages that wait
 
 place_of : {A : Type 0} (k : ℕ) (xs : List A) (x : A) → at_place k xs ≡ Some x → (0 < k) × (k ≤ length xs)
 place_of zero xs x e = absurd (cc e)
@@ -155,7 +155,7 @@ came : (acts : MailActs) (o : Option Letter) (u : ℕ) → is_for u o ≡ true �
 came acts None u e runs = absurd (true≢false (sym e))
 came acts (Some m) u e runs = rw (eq_of m.to u e, runs) refl
 
--- what waits for a node that runs may be next
+-- a message that waits for a running node may be next
 pub next_from : (acts : MailActs) (u k : ℕ) → waits acts u k ≡ true → crashed u acts ≡ false → is_next acts k ≡ true
 next_from acts u k waiting runs =
     let is = both (deliveries k acts == 0) (is_for u (letter k acts)) waiting in

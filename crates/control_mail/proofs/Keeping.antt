@@ -1,4 +1,4 @@
--- Inboxes that keep what is so, and what a change of one of them leaves.
+-- Inboxes that show the state of all nodes, and a change of one inbox.
 use Rattle.std.proofs.Common.{ℕ, zero, suc, ◌<◌, Bool, true, false, ◌==◌, ◌&&◌, Option, Some, None, IfNone, is_some, not, Result, Ok, Err, OnOk, List, [], ◌∷◌, ◌++◌, ◌≡◌, ◌≢◌, ◌⊎◌, inl, inr, ⊎_elim, refl, sym, ◌∙◌, ap, arith, true≢false, length, get_or, set, slice_get, if◌then◌else◌}
 use Rattle.std.specs.BTreeSet.{BTreeSet, contains, Updates}
 use Rattle.std.specs.Ordering.{nat_cmp}
@@ -9,7 +9,7 @@ use Rattle.control_mail.specs.declared.inbox.Inbox.{Inbox}
 use Rattle.control_mail.specs.Keeping.{Stopped, Waiting, IsAbsent, IsAt, HasInbox, IsInbox, Keeps, none_stopped, none_waiting, with_stopped, with_waiting}
 use Rattle.control_mail.proofs.Places.{same_some, get_set_same, get_set_other, pushed_at, still_at, end_at}
 
--- a node has an inbox, or none is of it
+-- the node has an inbox, or no inbox is its own
 pub has_or_absent : (boxes : List Inbox) (u : ℕ) → HasInbox boxes u ⊎ IsAbsent boxes u
 has_or_absent [] u = inr (λ i b here. absurd (cc here))
 has_or_absent (a ∷ boxes) u = ⊎_elim
@@ -24,7 +24,7 @@ has_or_absent (a ∷ boxes) u = ⊎_elim
     lacks ne absent zero b here same = ne (ap (λ (x : Inbox). x.node) (same_some a b here) ∙ same)
     lacks ne absent (suc i) b here same = absent i b here same
 
--- what is kept is said in another way
+-- the same state, said in another way
 pub keeps_same : (boxes : List Inbox) (s t : Stopped) (w v : Waiting) → ((u : ℕ) → s u ≡ t u) → ((u k : ℕ) → w u k ≡ v u k) → Keeps boxes s w → Keeps boxes t v
 keeps_same boxes s t w v stops waits keeps = record {
   apart = keeps.apart;
@@ -41,7 +41,7 @@ keeps_none = record {
   idle = λ u k absent. refl;
 }
 
--- ---- one of them changes: nothing else is so of any other node
+-- ---- one inbox changes, and the state of no other node does
 
 pub record Apart (node : ℕ) (s t : Stopped) (w v : Waiting) : Type 0 where
   pub stops : (u : ℕ) → u ≢ node → t u ≡ s u
@@ -54,7 +54,7 @@ module _ (s t : Stopped) (w v : Waiting) where
     holds = λ k. is.holds k ∙ sym (others.waits b.node k ne);
   }
 
--- which inbox stood at a place before one of them changed
+-- the inbox at a place before the change
 record Was (boxes : List Inbox) (place i : ℕ) (new b : Inbox) : Type 0 where
   old : Inbox
   here : slice_get boxes i ≡ Some old
@@ -80,7 +80,7 @@ module _ (boxes : List Inbox) (place : ℕ) (a new : Inbox) (at : slice_get boxe
       (λ (ne : i ≢ place). record { place = i; at = record { inbox = b; here = get_set_other boxes place i new (λ e. ne (sym e)) ∙ here; is_of = refl } })
       (cases_eq i place)
 
-  -- each node that had an inbox has one
+  -- each node that had an inbox still has one
   pub has_after : (u : ℕ) → HasInbox boxes u → HasInbox (set boxes place new) u
   has_after u has =
       let here = now has.place has.at.inbox has.at.here in
@@ -113,7 +113,7 @@ module _ (boxes : List Inbox) (place : ℕ) (a new : Inbox) (at : slice_get boxe
           still s t w v a.node b others (λ e. other.0 (keeps.apart i place b a here at e)) (keeps.each i b here))
           before.is
 
--- ---- one more
+-- ---- one more inbox
 
 pub has_more : (boxes : List Inbox) (new : Inbox) (u : ℕ) → HasInbox boxes u → HasInbox (boxes ++ new ∷ []) u
 has_more boxes new u has = record { place = has.place; at = record { inbox = has.at.inbox; here = still_at boxes new has.place has.at.inbox has.at.here; is_of = has.at.is_of } }
@@ -165,7 +165,7 @@ apart_waiting node number new s w = record { stops = λ u ne. refl; waits = λ u
 pub apart_stopped : (node : ℕ) (new : Bool) (s : Stopped) (w : Waiting) → Apart node s (with_stopped node new s) w w
 apart_stopped node new s w = record { stops = λ u ne. rw (not_same u node ne) refl; waits = λ u k ne. refl }
 
--- the inbox after a number was put into it, or taken out
+-- the inbox after a number was added or removed
 pub inbox_updated : (a new : Inbox) (number : ℕ) (value : Bool) (s : Stopped) (w : Waiting) → new.node ≡ a.node → new.crashed ≡ a.crashed → Updates nat_cmp a.waiting new.waiting number value
     → IsInbox s w a → IsInbox s (with_waiting a.node number value w) new
 inbox_updated a new number value s w node crashed updates is = record {
@@ -179,7 +179,7 @@ inbox_updated a new number value s w node crashed updates is = record {
 no_number : (s : BTreeSet ℕ) (k : ℕ) → s.keys ≡ [] → contains nat_cmp s k ≡ false
 no_number s k e = rw e refl
 
--- ---- what each call leaves
+-- ---- the inboxes after each call
 
 pub absent_of : (o : Option ℕ) (t : Bool) (P : Type 0) → IfNone o P → is_some o ≡ not t → t ≡ true → P
 absent_of None t P p is e = p
@@ -214,7 +214,7 @@ put_new boxes after new node number is absent same runs one s w keeps = rw (is, 
     alone : (k : ℕ) → (number == k) ≡ with_waiting new.node number true w new.node k
     alone k = rw (is_same new.node new.node refl, keeps.idle new.node k gone) (yes_no (number == k))
 
--- of a node without an inbox nothing is taken
+-- nothing is removed for a node without an inbox
 pub nothing_taken : (boxes : List Inbox) (node number : ℕ) → IsAbsent boxes node → (s : Stopped) (w : Waiting) → Keeps boxes s w → Keeps boxes s (with_waiting node number false w)
 nothing_taken boxes node number absent s w keeps = keeps_same boxes s s w (with_waiting node number false w) (λ u. refl) (λ u k.
     (elim (node == u) as (λ t. (node == u) ≡ t → w u k ≡ (if t && number == k then false else w u k)) [

@@ -32,7 +32,7 @@ lower_has p q (Some x) (Some y) first second k e = ⊎_elim
     one_of : (x y : ℕ) → (min x y ≡ x) ⊎ (min x y ≡ y)
     one_of x y = grind (arith, nat_tests)
 
--- the lowest number of two that are each the lowest
+-- of two lowest numbers the lower one is the lowest of both
 pub lowest_either : (p q r : ℕ → Bool) (a b c : Option ℕ) → c ≡ lower a b → ((k : ℕ) → r k ≡ (p k || q k)) → IsLowest p a → IsLowest q b → IsLowest r c
 lowest_either p q r a b c is same first second = record {
   some = λ k e. same k ∙ lower_has p q a b first.some second.some k (sym is ∙ e);
@@ -87,7 +87,7 @@ found_least p a (suc n) k low high e =
         (λ (ne : k ≢ a). above ne)
         (cases_eq k a)
 
--- the first that a search upwards finds is the lowest one
+-- the first number that a search upwards finds is the lowest
 pub lowest_found : (p : ℕ → Bool) (a n : ℕ) → ((k : ℕ) → p k ≡ true → (a ≤ k) × (k < a + n)) → IsLowest p (find p (range_with_len a n))
 lowest_found p a n within = record {
   some = λ k e. found_has p a n k e;

@@ -1,4 +1,4 @@
--- Places of lists: one more at the end, and another one at a place.
+-- Places in lists: one more element at the end, and a replaced element.
 use Rattle.std.proofs.Common.{ℕ, zero, suc, ◌<◌, Bool, true, false, ◌==◌, Some, List, [], ◌∷◌, ◌++◌, map, ◌≡◌, ◌≢◌, ◌⊎◌, inl, inr, ⊎_elim, refl, sym, ap, arith, true≢false, length, set, slice_get, if◌then◌else◌}
 use Rattle.std.specs.List.{list_any}
 use Rattle.std.proofs.lemmas.Bool.Decides.{nat_tests}
@@ -18,20 +18,20 @@ get_set_other (y ∷ ys) zero (suc j) x ne = refl
 get_set_other (y ∷ ys) (suc i) zero x ne = refl
 get_set_other (y ∷ ys) (suc i) (suc j) x ne = get_set_other ys i j x (λ e. ne (ap suc e))
 
--- a place of a list with one more at its end is one of the list, or the end
+-- a place of a list with one more element is a place of the list, or the end
 pub pushed_at : {A : Type 0} (xs : List A) (y : A) (i : ℕ) (x : A) → slice_get (xs ++ y ∷ []) i ≡ Some x → (slice_get xs i ≡ Some x) ⊎ ((i ≡ length xs) × (x ≡ y))
 pushed_at [] y zero x e = inr (refl, same_some x y (sym e))
 pushed_at [] y (suc i) x e = absurd (cc e)
 pushed_at (z ∷ zs) y zero x e = inl e
 pushed_at (z ∷ zs) y (suc i) x e = ⊎_elim (λ here. inl here) (λ (last : (i ≡ length zs) × (x ≡ y)). inr (ap suc last.0, last.1)) (pushed_at zs y i x e)
 
--- what stood there stays
+-- the earlier elements stay
 pub still_at : {A : Type 0} (xs : List A) (y : A) (i : ℕ) (x : A) → slice_get xs i ≡ Some x → slice_get (xs ++ y ∷ []) i ≡ Some x
 still_at [] y i x e = absurd (cc e)
 still_at (z ∷ zs) y zero x e = e
 still_at (z ∷ zs) y (suc i) x e = still_at zs y i x e
 
--- the new one stands at the end
+-- the new element stands at the end
 pub end_at : {A : Type 0} (xs : List A) (y : A) → slice_get (xs ++ y ∷ []) (length xs) ≡ Some y
 end_at [] y = refl
 end_at (z ∷ zs) y = end_at zs y
@@ -52,13 +52,13 @@ pushed_get [] y (suc j) = rw (zero_suc j) refl
 pushed_get (z ∷ zs) y zero = rw (suc_zero (length zs)) refl
 pushed_get (z ∷ zs) y (suc j) = rw (suc_suc (length zs) j) (pushed_get zs y j)
 
--- another element that looks the same
+-- a replacement that looks the same
 pub map_set : {A B : Type 0} (f : A → B) (xs : List A) (i : ℕ) (x y : A) → slice_get xs i ≡ Some x → f y ≡ f x → map f (set xs i y) ≡ map f xs
 map_set f [] i x y e same = refl
 map_set f (z ∷ zs) zero x y e same = ap (λ a. a ∷ map f zs) (cc (same, same_some z x e))
 map_set f (z ∷ zs) (suc i) x y e same = ap (λ l. f z ∷ l) (map_set f zs i x y e same)
 
--- where a test finds something
+-- a test that finds something
 pub record Finds {A : Type 0} (p : A → Bool) (xs : List A) : Type 0 where
   pub place : ℕ
   pub item : A

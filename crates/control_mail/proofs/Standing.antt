@@ -1,4 +1,4 @@
--- Mails that stand for acts, after each call.
+-- Mails stand for acts after each call.
 use Rattle.std.proofs.Common.{ℕ, zero, suc, ◌+◌, ◌<◌, true, false, not, ◌==◌, Option, Some, List, [], ◌∷◌, ◌++◌, ◌≡◌, ◌≢◌, ⊎_elim, refl, sym, ◌∙◌, ap, arith, true≢false, length, set, slice_get}
 use Rattle.std.specs.BTreeSet.{contains}
 use Rattle.std.specs.Ordering.{nat_cmp}
@@ -34,7 +34,7 @@ many net mails acts stands = sym (length-map mails.kept letter_seen) ∙ ap leng
 abbrev pub HasEach : List Inbox → List ℕ → Type 0
 HasEach boxes nodes = (u : ℕ) → has nodes u ≡ true → HasInbox boxes u
 
--- each node in front of a place has one
+-- each node before a place has one
 abbrev pub HasBefore : List Inbox → List ℕ → ℕ → Type 0
 HasBefore boxes nodes n = (i u : ℕ) → slice_get nodes i ≡ Some u → i < n → HasInbox boxes u
 
@@ -116,7 +116,7 @@ delivered net kept before after acts place x y here same once keeps others stand
     unlike : (k : ℕ) → k ≢ place → (suc place == suc k) ≡ false
     unlike k ne = grind (arith, nat_tests)
 
--- a delivery of a number that no message has
+-- a delivery of a number without a message
 pub idle : (net : Net) (mails : Office) (acts : MailActs) (number : ℕ) → is_number number acts ≡ false → StandsFor net mails acts → StandsFor net mails (Delivers number ∷ acts)
 idle net mails acts number none stands = record {
   kept = stands.kept;
@@ -137,7 +137,7 @@ module _ (net : Net) (kept : List Kept) (before after : List Inbox) (acts : Mail
 -- ---- the next message
 
 module _ (net : Net) (mails : Office) (acts : MailActs) (stands : StandsFor net mails acts) where
-  -- what an inbox offers may be next
+  -- a message that an inbox offers may be next
   offered : (k : ℕ) → offers mails.boxes k ≡ true → is_next acts k ≡ true
   offered k e =
       let found = any_at (is_ready k) mails.boxes e in
@@ -146,7 +146,7 @@ module _ (net : Net) (mails : Office) (acts : MailActs) (stands : StandsFor net 
       let is = stands.sorted.each found.place b found.here in
       next_from acts b.node k (sym (is.holds k) ∙ ready.1) (sym is.crashed ∙ not_true b.crashed ready.0)
 
-  -- what may be next is offered
+  -- a message that may be next is offered
   offers_it : (k : ℕ) → Nexts acts k → offers mails.boxes k ≡ true
   offers_it k next = ⊎_elim
       (λ (has : HasInbox mails.boxes next.letter_is.to).
@@ -169,7 +169,7 @@ module _ (net : Net) (mails : Office) (acts : MailActs) (stands : StandsFor net 
       (next, omega arith, omega arith))
       (λ k low h. is.least k (offers_it k (next_is acts k h)))
 
--- the next message is the lowest that may be
+-- the next message is the lowest that may be next
 pub next_lowest : (acts : MailActs) → IsLowest (is_next acts) (next_letter acts)
 unfolding next_letter
 next_lowest acts = lowest_found (is_next acts) 1 (length (letters acts)) (λ k e.

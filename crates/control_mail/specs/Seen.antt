@@ -1,11 +1,11 @@
--- Messages that are kept, as definitions see them.
+-- The stored messages, as the definitions see them.
 use Rattle.std.specs.Prelude.{List, map}
 use Rattle.consolidator.specs.Seen.{message_seen}
 use Rattle.control_mail.specs.declared.inbox.Inbox.{Inbox}
 use Rattle.control_mail.specs.declared.kept.Kept.{Kept}
 use Rattle.control_mail.specs.Readings.{Letter}
 
--- the messages that are kept, the oldest first, and the inboxes of the nodes
+-- the stored messages, the oldest first, and the inboxes of the nodes
 pub record Office : Type 0 where
   pub kept : List Kept
   pub boxes : List Inbox

@@ -1,4 +1,4 @@
-//! What waits for one node.
+//! The messages that wait for one node.
 ghost use Rattle.std.specs.Prelude.{ℕ, ◌≡◌, true, false, OnOk, OnErr};
 ghost use Rattle.std.specs.Ordering.{nat_cmp};
 ghost use Rattle.std.specs.BTreeSet.{IsEmpty, Updates};
@@ -8,7 +8,7 @@ use std::alloc::Global;
 use std::collections::BTreeSet;
 use topology::{NoMemory, NodeId};
 
-/// A node, whether it is crashed, and the numbers of the messages to it that were never delivered.
+/// A node, whether it is crashed, and the numbers of the messages for it that were never delivered.
 #[derive(Drop)]
 pub struct Inbox {
     node: NodeId,
@@ -17,7 +17,7 @@ pub struct Inbox {
 }
 
 impl Inbox {
-    /// The node runs, and nothing waits for it. Takes no memory.
+    /// The inbox of a running node for which nothing waits. Takes no memory.
     pub fn new(alloc: Global, node: NodeId) -> Inbox
         ensures node { result.node ≡ node }
         ensures runs { result.crashed ≡ false }
@@ -44,14 +44,14 @@ impl Inbox {
         self.crashed
     }
 
-    /// The node is crashed from now on, or not. What waits for it waits on. Takes no memory.
+    /// Sets whether the node is crashed. The messages that wait for it keep waiting. Takes no memory.
     pub fn set_crashed(&mut self, crashed: bool)
         ensures { self.new ≡ record { node = self.old.node; crashed = crashed; waiting = self.old.waiting } }
     {
         self.crashed = crashed;
     }
 
-    /// The number waits from now on.
+    /// Adds a number that waits.
     pub fn add(&mut self, number: u32) -> Result<(), NoMemory>
         ensures node { self.new.node ≡ self.old.node }
         ensures crashed { self.new.crashed ≡ self.old.crashed }
@@ -62,7 +62,7 @@ impl Inbox {
         Ok(())
     }
 
-    /// The number does not wait from now on. Takes no memory.
+    /// Removes a number that waits. Takes no memory.
     pub fn remove(&mut self, number: u32)
         ensures node { self.new.node ≡ self.old.node }
         ensures crashed { self.new.crashed ≡ self.old.crashed }
@@ -71,8 +71,7 @@ impl Inbox {
         self.waiting.remove(&number);
     }
 
-    /// The lowest number that waits. None where nothing waits, or where the node is crashed. Takes no
-    /// memory.
+    /// The lowest number that waits. The answer is `None` if nothing waits, or if the node is crashed. Takes no memory.
     pub fn next(&self) -> Option<u32>
         ensures { IsLowest (λ k. is_ready k self.now) result }
     {

@@ -1,4 +1,4 @@
-//! What waits for each node.
+//! The messages that wait for each node.
 ghost use Rattle.std.specs.BTreeSet.{contains};
 ghost use Rattle.std.specs.Ordering.{nat_cmp};
 ghost use Rattle.std.specs.Prelude.{ℕ, ◌≡◌, ◌==◌, true, false, [], IfOk, OnOk, OnErr, IfSome, IfNone};
@@ -9,7 +9,7 @@ use std::alloc::Global;
 use std::marker::Model;
 use topology::{NoMemory, NodeId};
 
-/// An inbox for each node that was added, and for each that something was sent to.
+/// An inbox for each node that was added, and for each node to which something was sent.
 #[derive(Drop)]
 pub struct Inboxes {
     boxes: Vec<Inbox>,
@@ -36,7 +36,7 @@ fn with_one(alloc: Global, node: NodeId, number: u32) -> Result<Inbox, NoMemory>
     Ok(inbox)
 }
 
-// The lower one of two numbers, where both are there.
+// The lower of two numbers, if both are there; otherwise the one that is there.
 fn lower_of(a: Option<u32>, b: Option<u32>) -> Option<u32>
     ensures { result ≡ lower a b }
 {
@@ -49,7 +49,7 @@ fn lower_of(a: Option<u32>, b: Option<u32>) -> Option<u32>
     }
 }
 
-// The place of the inbox of a node. None where it has none.
+// The place of a node's inbox; `None` if it has none.
 fn place_of(boxes: &[Inbox], node: NodeId) -> Option<usize>
     ensures some { IfSome result (λ place. IsAt boxes.now node place) }
     ensures none { IfNone result (IsAbsent boxes.now node) }
@@ -64,7 +64,7 @@ fn place_of(boxes: &[Inbox], node: NodeId) -> Option<usize>
     None
 }
 
-// The lowest number that waits for a node that is not crashed.
+// The lowest number that waits for a running node.
 fn lowest_of(boxes: &[Inbox]) -> Option<u32>
     ensures { IsLowest (offers boxes.now) result }
 {
@@ -76,7 +76,7 @@ fn lowest_of(boxes: &[Inbox]) -> Option<u32>
 }
 
 impl Inboxes {
-    /// No inbox. Takes no memory.
+    /// No inboxes. Takes no memory.
     pub fn new(alloc: Global) -> Inboxes
         ensures { result ≡ [] }
     {
@@ -86,7 +86,7 @@ impl Inboxes {
         }
     }
 
-    /// The node has an inbox from now on.
+    /// Adds an inbox for the node, unless it has one.
     pub fn open(&mut self, node: NodeId) -> Result<(), NoMemory>
         ensures keeps { OnOk result ((stopped : Stopped) (waiting : Waiting) → Keeps self.old stopped waiting →
             Keeps self.new stopped waiting) }
@@ -100,7 +100,7 @@ impl Inboxes {
         Ok(())
     }
 
-    /// The number waits for the node from now on.
+    /// Adds the number to those that wait for the node.
     pub fn put(&mut self, node: NodeId, number: u32) -> Result<(), NoMemory>
         ensures keeps { OnOk result ((stopped : Stopped) (waiting : Waiting) → Keeps self.old stopped waiting →
             Keeps self.new stopped (with_waiting node number true waiting)) }
@@ -114,7 +114,7 @@ impl Inboxes {
         self.boxes[place].add(number)
     }
 
-    /// The number does not wait for the node from now on. Takes no memory.
+    /// Removes the number from those that wait for the node. Takes no memory.
     pub fn take(&mut self, node: NodeId, number: u32)
         ensures keeps { (stopped : Stopped) (waiting : Waiting) → Keeps self.old stopped waiting →
             Keeps self.new stopped (with_waiting node number false waiting) }
@@ -125,8 +125,7 @@ impl Inboxes {
         }
     }
 
-    /// The node is crashed from now on, or not. Of a node without an inbox nothing is kept. Takes no
-    /// memory.
+    /// Sets whether the node is crashed. For a node without an inbox nothing is stored. Takes no memory.
     pub fn set_crashed(&mut self, node: NodeId, crashed: bool)
         ensures keeps { (stopped : Stopped) (waiting : Waiting) → Keeps self.old stopped waiting →
             HasInbox self.old node → Keeps self.new (with_stopped node crashed stopped) waiting }
@@ -147,8 +146,7 @@ impl Inboxes {
         }
     }
 
-    /// The lowest number that waits for a node that is not crashed. Goes once over the inboxes, and takes
-    /// no memory.
+    /// The lowest number that waits for a running node. Looks at each inbox once, and takes no memory.
     pub fn next(&self) -> Option<u32>
         ensures { IsLowest (offers self.now) result }
     {

@@ -1,4 +1,4 @@
-//! A message that is kept.
+//! A stored message.
 use consolidator::Mail;
 use topology::NodeId;
 

@@ -1,10 +1,10 @@
-//! The control messages of a network: each kept for good, with how often it was delivered, and which one
-//! is delivered next.
+//! The control messages of a network. Each is stored for good, with the number of its deliveries; and one of them is
+//! delivered next.
 //!
-//! Messages are numbered from 1 in the order in which they are sent. None is ever dropped: each may be
-//! delivered any number of times, and each delivery is counted, also one that does nothing. A delivery of
-//! a number that no message has counts nowhere. The next message is the lowest that was never delivered
-//! and whose addressee is not crashed. A node crashes and comes back; what waits for it waits on.
+//! Messages are numbered from 1 in the order in which they are sent. No message is ever dropped. Each may be delivered
+//! any number of times, and each delivery is counted, even one that changes nothing. A delivery of a number without a
+//! message is not counted. The next message is the lowest one that was never delivered and whose addressee is not
+//! crashed. When a node crashes and comes back, the messages that wait for it keep waiting.
 #![tactic(auto)]
 
 pub mod inbox;

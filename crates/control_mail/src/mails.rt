@@ -18,7 +18,7 @@ use topology::{NoMemory, NodeId, Topology};
 /// The control messages of a network, and which of its nodes are crashed.
 #[derive(Drop)]
 pub struct Mails {
-    // Each message, at its number less 1.
+    // The messages; number n stands at place n - 1.
     kept: Vec<Kept>,
     inboxes: Inboxes,
 }
@@ -34,7 +34,7 @@ impl Model for Mails {
     ghost invariant = { λ m. length m.kept.items < 2 ^ 32 };
 }
 
-// The number after these. None where no number is left.
+// The next number after so many messages; `None` if there is none left.
 fn number_after(count: usize) -> Option<u32>
     ensures some { IfSome result (λ number. number ≡ suc count) }
     ensures none { IfNone result (2 ^ 32 - 1 ≤ count) }
@@ -45,7 +45,7 @@ fn number_after(count: usize) -> Option<u32>
     Some(count as u32 + 1)
 }
 
-// The place of the message with a number, among so many. None where none has it.
+// The place of the message with a number, among so many messages; `None` if no message has it.
 fn place_of(number: u32, count: usize) -> Option<usize>
     ensures some { IfSome result (λ place. (number ≡ suc place) × (place < count)) }
     ensures none { IfNone result ((nat_lt 0 number && nat_le number count) ≡ false) }
@@ -58,7 +58,7 @@ fn place_of(number: u32, count: usize) -> Option<usize>
 }
 
 impl Mails {
-    /// No message, and each node runs.
+    /// No messages, and all nodes running.
     pub fn new(alloc: Global, topology: &Topology) -> Result<Mails, NoMemory>
         ensures { IfOk result (λ mails. StandsFor topology.now mails []) }
     {
@@ -73,8 +73,8 @@ impl Mails {
         })
     }
 
-    /// A node sends a message: it gets the next number, and waits for its addressee. Refused, as for want
-    /// of memory, where no number is left: the last one is 2^32 - 1.
+    /// Sends a message: it gets the next number, and waits for its addressee. If no number is left (the last is 2^32 -
+    /// 1), the call fails with `NoMemory`.
     pub fn post(&mut self, from: NodeId, mail: Mail) -> Result<(), NoMemory>
         ensures ok { OnOk result ((net : Net) (acts : MailActs) → StandsFor net self.old acts →
             StandsFor net self.new (Posts from mail.to (message_seen mail.message) ∷ acts)) }
@@ -95,8 +95,8 @@ impl Mails {
         Ok(())
     }
 
-    /// A message is delivered once more. It stays, and no longer waits. Of a number that no message has
-    /// nothing is counted. Takes no memory.
+    /// Delivers a message once more. It is kept, and no longer waits. If no message has the number, nothing is counted.
+    /// Takes no memory.
     pub fn deliver(&mut self, number: u32)
         ensures { (net : Net) (acts : MailActs) → StandsFor net self.old acts → deliveries number acts < 2 ^ 32 - 1 →
             StandsFor net self.new (Delivers number ∷ acts) }
@@ -110,7 +110,7 @@ impl Mails {
         self.inboxes.take(to, number);
     }
 
-    /// A node of the network crashes. What waits for it waits on. Takes no memory.
+    /// Marks a node of the network as crashed. The messages that wait for it keep waiting. Takes no memory.
     pub fn crash(&mut self, node: NodeId)
         ensures { (net : Net) (acts : MailActs) → StandsFor net self.old acts → has net.nodes node ≡ true →
             StandsFor net self.new (Crashes node ∷ acts) }
@@ -118,7 +118,7 @@ impl Mails {
         self.inboxes.set_crashed(node, true);
     }
 
-    /// A node of the network comes back. Takes no memory.
+    /// Marks a node of the network as running again. Takes no memory.
     pub fn restart(&mut self, node: NodeId)
         ensures { (net : Net) (acts : MailActs) → StandsFor net self.old acts → has net.nodes node ≡ true →
             StandsFor net self.new (Restarts node ∷ acts) }
@@ -126,7 +126,7 @@ impl Mails {
         self.inboxes.set_crashed(node, false);
     }
 
-    /// The message with a number, and how often it was delivered. None exactly where no message has the
+    /// The message with a number, and how often it was delivered. The answer is `None` exactly where no message has the
     /// number. Takes no memory.
     pub fn kept(&self, number: u32) -> Option<&Kept>
         ensures some { IfSome result (λ kept. (net : Net) (acts : MailActs) → StandsFor net self.now acts →
@@ -140,15 +140,15 @@ impl Mails {
         Some(&self.kept[place])
     }
 
-    /// How many messages there are: the number of the last one. Takes no memory.
+    /// The number of messages, which is also the number of the last one. Takes no memory.
     pub fn count(&self) -> u32
         ensures { (net : Net) (acts : MailActs) → StandsFor net self.now acts → result ≡ length (letters acts) }
     {
         self.kept.len() as u32
     }
 
-    /// The number of the next message: the lowest that was never delivered and whose addressee is not
-    /// crashed. Goes once over the inboxes of the nodes, and takes no memory.
+    /// The number of the next message: the lowest one that was never delivered and whose addressee is not crashed.
+    /// Looks at each inbox once, and takes no memory.
     pub fn next(&self) -> Option<u32>
         ensures { (net : Net) (acts : MailActs) → StandsFor net self.now acts → result ≡ next_letter acts }
     {

@@ -1,4 +1,4 @@
--- Walks over networks that do not move: a packet that is stuck, and one that is delivered.
+-- Walks over networks that do not change: one packet that is stuck, and one that is delivered.
 use Rattle.std.specs.Prelude.{ℕ, List, [], ◌∷◌, Option, Some, None, ◌≡◌, refl, reverse}
 use Rattle.topology.specs.Lists.{ascending}
 use Rattle.topology.specs.declared.links.Link.{Link}
@@ -22,7 +22,7 @@ a_link a b = record { a = a; b = b; relation = Any }
 abbrev network : List ℕ → List Link → Net
 network nodes links = record { nodes = nodes; consolidators = []; links = links; preferences = []; prefixes = []; holds = []; hops = 128; scheme = Deflect }
 
--- the line 1 2 3 4, and node 5 alone, which owns the prefix
+-- the line 1 2 3 4; node 5, which owns the prefix, has no link
 abbrev line : Net
 line = network (1 ∷ 2 ∷ 3 ∷ 4 ∷ 5 ∷ []) (a_link 1 2 ∷ a_link 2 3 ∷ a_link 3 4 ∷ [])
 

@@ -1,4 +1,4 @@
--- What the tests of a network that does not move tell.
+-- What the tests of a network that does not change decide.
 use Rattle.std.proofs.Common.{ℕ, ◌≤◌, Bool, true, false, not, ◌&&◌, ◌||◌, ◌==◌, List, [], ◌∷◌, length, ◌≡◌, ◌↔◌, inl, inr, refl, sym, ◌∙◌, ap, subst, arith}
 use Rattle.std.specs.List.{list_all, AllByRecursion}
 use Rattle.topology.specs.Lists.{has, ascending}
@@ -11,12 +11,12 @@ use Rattle.deflect_delivery.specs.declared.stills.Still.{Still}
 use Rattle.deflect_delivery.specs.Stills.{IsOrderOf, AreOrders, IsStill}
 use Rattle.deflect_delivery.proofs.Lists.{has_all}
 
--- each of a list passes the test
+-- each element of a list passes the test
 pub all_pass : {X : Type 0} (test : X → Bool) (xs : List X) → list_all test xs ≡ true → AllByRecursion (λ x. test x ≡ true) xs
 all_pass test [] is = tt
 all_pass test (x ∷ xs) is = (and_left (test x) (list_all test xs) is, all_pass test xs (and_right (test x) (list_all test xs) is))
 
--- and where each passes, so do all
+-- if each passes, `list_all` is true
 pub pass_all : {X : Type 0} (test : X → Bool) (xs : List X) → AllByRecursion (λ x. test x ≡ true) xs → list_all test xs ≡ true
 pass_all test [] each = refl
 pass_all test (x ∷ xs) each = and_both (test x) (list_all test xs) each.0 (pass_all test xs each.1)
@@ -30,20 +30,20 @@ among ys (x ∷ xs) is w there =
       | inr e ↦ among ys xs (and_right (has ys x) (list_all (has ys) xs) is) w e
     ]
 
--- and where each is, the test says so
+-- if each is, the test says so
 all_among : (ys xs : List ℕ) → ((w : ℕ) → has xs w ≡ true → has ys w ≡ true) → list_all (has ys) xs ≡ true
 all_among ys [] inside = refl
 all_among ys (x ∷ xs) inside =
     and_both (has ys x) (list_all (has ys) xs) (inside x (or_first (x == x) (has xs x) (same_refl x))) (all_among ys xs (λ w there. inside w (or_second (x == w) (has xs w) there)))
 
--- two tests that imply each other are one
+-- two tests that imply each other are equal
 one_test : (a b : Bool) → (a ≡ true → b ≡ true) → (b ≡ true → a ≡ true) → a ≡ b
 one_test true b forth back = sym (forth refl)
 one_test false true forth back = back refl
 one_test false false forth back = refl
 
 module _ (net : Net) (u : ℕ) (order : List ℕ) (valid : IsValid net) where
-  -- an order of the right length, with different neighbours alone, has all of them
+  -- an order of the right length that has only different neighbours has all of them
   is_order : length order ≡ length (neighbours net u) → list_all (has (neighbours net u)) order ≡ true → differ order ≡ true → IsOrderOf net u order
   is_order long near apart =
       let inside = among (neighbours net u) order near in
@@ -53,14 +53,14 @@ module _ (net : Net) (u : ℕ) (order : List ℕ) (valid : IsValid net) where
         once = apart;
       }
 
-  -- and an order has the right length
+  -- an order has the right length
   has_length : IsOrderOf net u order → length order ≡ length (neighbours net u)
   has_length is =
       let most = no_more order (neighbours net u) is.once (λ w there. sym (is.all w) ∙ there) in
       let least = no_more (neighbours net u) order (differ-neighbours net u valid) (λ w there. is.all w ∙ there) in
       omega (arith, most, least)
 
-  -- and neighbours alone
+  -- an order has only neighbours
   has_neighbours : IsOrderOf net u order → list_all (has (neighbours net u)) order ≡ true
   has_neighbours is = all_among (neighbours net u) order (λ w there. sym (is.all w) ∙ there)
 
@@ -69,11 +69,11 @@ module _ (net : Net) (u : ℕ) (order : List ℕ) (valid : IsValid net) where
     pub other_length : (length order ≡ length near → ⊥) → (false ≡ true → IsOrderOf net u order) × (IsOrderOf net u order → false ≡ true)
     other_length apart = (λ e. absurd (cc e), λ is. absurd (apart (has_length is ∙ ap (λ l. length l) (sym are))))
 
-    -- nor is one with a stranger
+    -- a list with another node is no order
     pub has_stranger : (inside : Bool) → inside ≡ list_all (has near) order → inside ≡ false → (inside ≡ true → IsOrderOf net u order) × (IsOrderOf net u order → inside ≡ true)
     has_stranger inside tests off = (λ on. absurd (cc (sym off ∙ on)), λ is. tests ∙ (ap (λ l. list_all (has l) order) are ∙ has_neighbours is))
 
-    -- a list of the right length, with neighbours alone, is an order where they differ
+    -- a list of neighbours of the right length is an order exactly where its nodes differ
     pub as_they_differ : length order ≡ length near → (inside apart : Bool) → inside ≡ list_all (has near) order → inside ≡ true → apart ≡ differ order
         → (apart ≡ true → IsOrderOf net u order) × (IsOrderOf net u order → apart ≡ true)
     as_they_differ long inside apart tests on differs = (
@@ -82,15 +82,15 @@ module _ (net : Net) (u : ℕ) (order : List ℕ) (valid : IsValid net) where
     )
 
 module _ (net : Net) (still : Still) where
-  -- its links pass
+  -- the links pass
   pub links_pass : (links : Bool) → links ≡ list_all (λ (link : ℕ × ℕ). linked net link.0 link.1) still.up → IsStill net still → links ≡ true
   links_pass links tests fits = tests ∙ pass_all (λ (link : ℕ × ℕ). linked net link.0 link.1) still.up fits.links
 
-  -- and its owners
+  -- the owners pass
   pub owners_pass : (owners : Bool) → owners ≡ list_all (has net.nodes) still.owners → IsStill net still → owners ≡ true
   owners_pass owners tests fits = tests ∙ pass_all (has net.nodes) still.owners fits.owners
 
-  -- links and owners are of the network, and so it is where the orders are
+  -- if links and owners are in the network, the value fits exactly where the orders do
   pub as_orders_are : (links owners orders : Bool) (nodes : List ℕ) (list : List (List ℕ)) → links ≡ list_all (λ (link : ℕ × ℕ). linked net link.0 link.1) still.up → links ≡ true
       → owners ≡ list_all (has net.nodes) still.owners → owners ≡ true → nodes ≡ ascending net.nodes → list ≡ still.orders → (orders ≡ true ↔ AreOrders net nodes list)
       → (orders ≡ true → IsStill net still) × (IsStill net still → orders ≡ true)

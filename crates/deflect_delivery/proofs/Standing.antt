@@ -1,4 +1,4 @@
--- What each node of a network that does not move sees.
+-- What each node of a network that does not change sees.
 use Rattle.std.proofs.Common.{ℕ, Bool, true, false, not, ◌&&◌, ◌||◌, ◌==◌, List, [], ◌∷◌, filter, ◌≡◌, refl, sym, ◌∙◌, ap, subst, inl, inr}
 use Rattle.std.specs.Prelude.{if◌then◌else◌}
 use Rattle.std.specs.List.{list_any, AllByRecursion}
@@ -12,7 +12,7 @@ use Rattle.deflect_delivery.specs.Terrain.{IsTerrain, Shows}
 use Rattle.deflect_delivery.specs.declared.stills.Still.{Still}
 use Rattle.deflect_delivery.specs.Stills.{joins, order_beside, order_of, sight, terrain, IsOrderOf, AreOrders, IsStill}
 
--- what is left of a list passes the test and was in it
+-- an element of a filtered list passes the test and was in the list
 pub has_left : (test : ℕ → Bool) (xs : List ℕ) (w : ℕ) → has xs w ≡ true → has (filter test xs) w ≡ test w
 has_left test [] w there = cc
 has_left test (x ∷ xs) w there =
@@ -25,7 +25,7 @@ has_left test (x ∷ xs) w there =
           ])
     ]) refl there
   where
-    -- what is not there does not pass; what is in front is there where it does
+    -- an element that is not there does not pass; the front element is kept if it passes
     none_left : (ys : List ℕ) (n : ℕ) → test n ≡ false → has (filter test ys) n ≡ false
     none_left [] n off = refl
     none_left (y ∷ ys) n off =
@@ -47,7 +47,7 @@ has_left test (x ∷ xs) w there =
           | false ↦ λ e. none_left xs w e
         ]) refl)
 
--- what is not in a list is not left of it
+-- an element that is not in a list is not in the filtered list
 none_there : (test : ℕ → Bool) (xs : List ℕ) (w : ℕ) → has xs w ≡ false → has (filter test xs) w ≡ false
 none_there test [] w off = refl
 none_there test (x ∷ xs) w off =
@@ -78,7 +78,7 @@ up_is_linked net (link ∷ up) u v all is =
       | inr later ↦ up_is_linked net up u v all.1 later
     ]
 
--- up is up both ways
+-- a link is up in both directions
 up_both_ways : (up : List (ℕ × ℕ)) (u v : ℕ) → list_any (λ (link : ℕ × ℕ). are_ends u v link.0 link.1) up ≡ list_any (λ (link : ℕ × ℕ). are_ends v u link.0 link.1) up
 up_both_ways [] u v = refl
 up_both_ways (link ∷ up) u v =
@@ -108,7 +108,7 @@ module _ (net : Net) (still : Still) (valid : IsValid net) (fits : IsStill net s
     of_nodes = λ u v is. (linked_nodes net u v valid (joined_linked u v is)).1;
   }
 
-  -- the neighbours whose link is up are those that are joined
+  -- the neighbours whose link is up are those that `joins` gives
   near_is : (u w : ℕ) (b : Bool) → has (neighbours net u) w ≡ b → has (filter (joins still u) (neighbours net u)) w ≡ joins still u w
   near_is u w true near = has_left (joins still u) (neighbours net u) w near
   near_is u w false near =
@@ -118,7 +118,7 @@ module _ (net : Net) (still : Still) (valid : IsValid net) (fits : IsStill net s
         | false ↦ λ e. refl
       ]) refl)
 
-  -- each node sees it as it is
+  -- each node sees the truth
   pub shows : (u : ℕ) → Shows (terrain still) (sight net still u)
   shows u = record {
     owns = refl;

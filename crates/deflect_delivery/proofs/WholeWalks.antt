@@ -1,4 +1,4 @@
--- A walk over a network that does not move, from its first node to its end.
+-- A walk over a network that does not change, from its first node to its end.
 use Rattle.std.proofs.Common.{ℕ, zero, suc, ◌+◌, ◌*◌, ◌-◌, ◌≤◌, ◌<◌, true, Some, None, List, [], ◌∷◌, length, reverse, ◌≡◌, ◌⊎◌, inl, inr, refl, sym, ◌∙◌, ap, subst, arith}
 use Rattle.std.proofs.lemmas.List.{length-reverse, reverse-reverse}
 use Rattle.topology.specs.Lists.{has}
@@ -20,24 +20,24 @@ use Rattle.deflect_delivery.proofs.Tours.{trip, few_moves}
 use Rattle.deflect_delivery.proofs.Touring.{begins, goes_on, ends_well}
 use Rattle.deflect_delivery.proofs.Standing.{is_terrain, shows}
 
--- a node is there, so that some are
+-- a node is there, so there is at least one
 pub some_nodes : (nodes : List ℕ) (u : ℕ) → has nodes u ≡ true → 0 < length nodes
 some_nodes [] u is = cc
 some_nodes (x ∷ nodes) u is = omega arith
 
--- the packet stands at a node, on its tour, after so many hops
+-- after this many hops the packet stands at a node, on its tour
 pub record IsOn (net : Net) (still : Still) (from hops : ℕ) (before : List ℕ) (trip : Trip) : Type 0 where
   pub tour : IsTour net (terrain still) (moves_given net) trip
   pub moves : tour.moves ≡ hops
   pub visits : length before ≡ hops
 
 module _ (net : Net) (still : Still) (from : ℕ) where
-  -- what holds of a walk after so many hops
+  -- the invariant of a walk after this many hops
   abbrev pub Runs : ℕ → Progress → Type 0
   Runs hops (At before u packet) = IsOn net still from hops before (trip from u packet)
   Runs hops (Over visits ending) = Delivers net still from (reverse visits) ending
 
--- an end that is as it should be
+-- the end is right
 ends_by : (net : Net) (still : Still) (from u : ℕ) (before : List ℕ) (packet : Packet) (ending : Ending) → length before ≤ 2 * (length net.nodes - 1)
     → EndsWell net (terrain still) (moves_given net) (trip from u packet) ending → Delivers net still from (reverse (u ∷ before)) ending
 ends_by net still from u before packet ending few well = record {
@@ -49,14 +49,14 @@ ends_by net still from u before packet ending few well = record {
       omega (arith, few, long);
 }
   where
-    -- it is not for want of moves
+    -- the walk did not end for want of moves
     by_ending : (e : Ending) → EndsWell net (terrain still) (moves_given net) (trip from u packet) e → (e ≡ Delivered) ⊎ (e ≡ Stuck)
     by_ending Delivered w = inl refl
     by_ending Stuck w = inr refl
     by_ending Expired w = absurd (w.in_time (omega arith) refl)
 
 module _ (net : Net) (still : Still) (from : ℕ) (valid : IsValid net) (fits : IsStill net still) where
-  -- one hop more
+  -- one more hop
   runs_on : (hops : ℕ) (before : List ℕ) (u : ℕ) (packet : Packet) (h : Hop) → IsOn net still from hops before (trip from u packet)
       → hop_under scheme.Deflect net packet (sight net still u) ≡ h → Runs net still from (suc hops) (come_to before u h)
   runs_on hops before u packet (Next w moved) on is =
@@ -75,7 +75,7 @@ module _ (net : Net) (still : Still) (from : ℕ) (valid : IsValid net) (fits : 
       ends_by net still from u before packet ending (omega (arith, few, made, long))
       (ends_well net (terrain still) (moves_given net) from packet (sight net still u) (is_terrain net still valid fits) (shows net still valid fits u) valid.few_nodes on.tour ending is)
 
-  -- from any point of it
+  -- from any point of the walk
   runs_more : (hops : ℕ) (c : Progress) → Runs net still from hops c → Runs net still from (suc hops) (one_more net still c)
   unfolding one_more
   runs_more hops (At before u packet) on = runs_on hops before u packet (hop_under scheme.Deflect net packet (sight net still u)) on refl
@@ -122,13 +122,13 @@ module _ (net : Net) (still : Still) (from : ℕ) (valid : IsValid net) (fits : 
     ended_delivers visits ending is =
         delivers_by (2 * length net.nodes) (after_hops net still start (2 * length net.nodes)) visits ending (runs (2 * length net.nodes)) is
 
-    -- a walk that is over, with what holds of it
+    -- a walk that is over, with its properties
     with_end : (visits : List ℕ) (ending : Ending) → whole_walk net still p from ≡ Over visits ending → WalkDelivers net still p from
     with_end visits ending is =
         let over : IsOver (whole_walk net still p from) (reverse visits) ending = is ∙ ap (λ v. Over v ending) (sym (reverse-reverse visits)) in
         record { visits = reverse visits; ending = ending; over = over; delivers = ended_delivers (reverse visits) ending over }
 
-    -- so it is with the whole walk
+    -- the whole walk is like this
     by_end : (visits : List ℕ) × ((ending : Ending) × (whole_walk net still p from ≡ Over visits ending)) → WalkDelivers net still p from
     by_end (visits, (ending, is)) = with_end visits ending is
 
@@ -136,7 +136,7 @@ module _ (net : Net) (still : Still) (from : ℕ) (valid : IsValid net) (fits : 
     unfolding whole_walk
     walk_delivers = by_end (over_by (after_hops net still start (2 * length net.nodes)) (runs (2 * length net.nodes)))
 
-    -- what is over stays so
+    -- a walk that is over stays over
     stays_over : (visits : List ℕ) (ending : Ending) (hops more : ℕ) → after_hops net still start hops ≡ Over visits ending → after_hops net still start (more + hops) ≡ Over visits ending
     unfolding one_more
     stays_over visits ending hops zero is =
@@ -146,7 +146,7 @@ module _ (net : Net) (still : Still) (from : ℕ) (valid : IsValid net) (fits : 
         let one : suc (more + hops) ≡ suc more + hops = omega arith in
         subst (λ n. after_hops net still start n ≡ Over visits ending) one (ap (one_more net still) (stays_over visits ending hops more is))
 
-    -- a walk that stands somewhere has a hop left
+    -- a walk that is not over has a hop left
     left_by : (hops : ℕ) (c : Progress) (before : List ℕ) (u : ℕ) (packet : Packet) → Runs net still from hops c → At before u packet ≡ c → suc hops ≤ 2 * length net.nodes
     left_by hops c before u packet runs is =
         let on : IsOn net still from hops before (trip from u packet) = subst (Runs net still from hops) (sym is) runs in

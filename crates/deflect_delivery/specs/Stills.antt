@@ -1,4 +1,4 @@
--- A network that does not move: links that are up, owners, and an order of the neighbours of each node.
+-- A network that does not change: the links that are up, the owners, and the order of each node's neighbours.
 use Rattle.std.specs.Prelude.{ℕ, ◌≡◌, Bool, true, ◌==◌, None, List, [], ◌∷◌, filter, if◌then◌else◌}
 use Rattle.std.specs.List.{list_any, AllByRecursion}
 use Rattle.topology.specs.Lists.{has, ascending}
@@ -13,7 +13,7 @@ use Rattle.deflect_delivery.specs.Terrain.{Terrain}
 abbrev pub joins : Still → ℕ → ℕ → Bool
 joins still u v = list_any (λ (link : ℕ × ℕ). are_ends u v link.0 link.1) still.up
 
--- the order that stands where u stands among the nodes; none where u is no node
+-- the order at the place where u stands in the nodes; none if u is not there
 abbrev pub order_beside : List ℕ → List (List ℕ) → ℕ → List ℕ
 order_beside [] orders u = []
 order_beside (x ∷ nodes) [] u = []
@@ -27,7 +27,7 @@ order_of net still u = order_beside (ascending net.nodes) still.orders u
 abbrev pub up_near : Net → Still → ℕ → List ℕ
 up_near net still u = filter (joins still u) (neighbours net u)
 
--- what u knows of a packet that is deflected
+-- what u knows when a deflected packet is there
 abbrev pub sight : Net → Still → ℕ → Sight
 sight net still u = record {
   at = u;
@@ -42,19 +42,19 @@ sight net still u = record {
 abbrev pub terrain : Still → Terrain
 terrain still = record { joins = joins still; owns = has still.owners }
 
--- all neighbours of u, each once
+-- the order has all neighbours of u, each once
 pub record IsOrderOf (net : Net) (u : ℕ) (order : List ℕ) : Type 0 where
   pub all : (w : ℕ) → has order w ≡ has (neighbours net u) w
   pub once : differ order ≡ true
 
--- one such order for each of the nodes, as they come
+-- such an order for each of the nodes, in their order
 abbrev pub AreOrders : Net → List ℕ → List (List ℕ) → Type 0
 AreOrders net [] [] = Unit {0}
 AreOrders net [] (order ∷ orders) = ⊥
 AreOrders net (u ∷ nodes) [] = ⊥
 AreOrders net (u ∷ nodes) (order ∷ orders) = IsOrderOf net u order × AreOrders net nodes orders
 
--- links of the network are up, nodes of it are owners, and each node has an order of all its neighbours
+-- the links and owners are in the network, and each node has an order of all its neighbours
 pub record IsStill (net : Net) (still : Still) : Type 0 where
   pub links : AllByRecursion (λ (link : ℕ × ℕ). linked net link.0 link.1 ≡ true) still.up
   pub owners : AllByRecursion (λ n. has net.nodes n ≡ true) still.owners

@@ -1,4 +1,4 @@
-//! Whether something is a network that does not move.
+//! Tests whether a value is a network that does not change.
 ghost use Rattle.std.specs.Prelude.{ℕ, ◌≡◌, ◌↔◌, true};
 ghost use Rattle.std.specs.List.{list_all};
 ghost use Rattle.topology.specs.Lists.{has};
@@ -10,7 +10,7 @@ use crate::{Orders, Still, UpLinks};
 use epoch_packet::NodeList;
 use topology::{NodeId, Topology};
 
-// Whether none of the nodes is there twice.
+// Whether no node occurs twice.
 fn all_differ(nodes: &[NodeId]) -> bool
     ensures { result ≡ differ nodes.now }
 {
@@ -20,7 +20,7 @@ fn all_differ(nodes: &[NodeId]) -> bool
     }
 }
 
-// Whether each of the ones is among the others.
+// Whether each of the ones is in the others.
 fn are_among(ones: &[NodeId], others: &[NodeId]) -> bool
     ensures { result ≡ list_all (has others.now) ones.now }
 {
@@ -41,7 +41,7 @@ fn is_node(topology: &Topology, node: NodeId) -> bool
     topology.rank_of(node).is_some()
 }
 
-// Whether the links are those of the network.
+// Whether all links are in the network.
 fn are_links(topology: &Topology, links: &UpLinks) -> bool
     ensures { result ≡ list_all (λ (link : ℕ × ℕ). linked topology.now link.0 link.1) links.now }
 {
@@ -51,18 +51,18 @@ fn are_links(topology: &Topology, links: &UpLinks) -> bool
         .all(|link| is_linked(topology, link.0, link.1))
 }
 
-// Whether the nodes are those of the network.
+// Whether all nodes are in the network.
 fn are_nodes(topology: &Topology, nodes: &NodeList) -> bool
     ensures { result ≡ list_all (has topology.now.nodes) nodes.now }
 {
     nodes.as_slice().iter().all(|node| is_node(topology, *node))
 }
 
-// Whether the order has all neighbours of the node, each once. A list that is longer or shorter is not looked at.
+// Whether the order has all neighbours of the node, each once. A list of another length is refused at once.
 fn is_order(topology: &Topology, node: NodeId, order: &[NodeId]) -> bool
     ensures { result ≡ true ↔ IsOrderOf topology.now node order.now }
 {
-    // the network is valid: its nodes differ
+    // brings in the invariant of the topology: its nodes differ
     let _nodes = topology.nodes();
     let near = topology.neighbours(node);
     if order.len() != near.len() {
@@ -71,7 +71,7 @@ fn is_order(topology: &Topology, node: NodeId, order: &[NodeId]) -> bool
     are_among(order, near) && all_differ(order)
 }
 
-// Whether there is such an order for each of the nodes.
+// Whether there is such an order for each node.
 fn are_orders(topology: &Topology, nodes: &[NodeId], orders: &[NodeList]) -> bool
     ensures { result ≡ true ↔ AreOrders topology.now nodes.now orders.now }
 {
@@ -87,8 +87,8 @@ fn are_orders(topology: &Topology, nodes: &[NodeId], orders: &[NodeList]) -> boo
 }
 
 impl Still {
-    /// Whether this is a network that does not move over the topology: links of it are up, nodes of it are owners, and there
-    /// is an order for each of its nodes. Takes no memory.
+    /// Whether the value fits the topology: its links and owners are in the network, and there is an order for each
+    /// node. Takes no memory.
     pub fn fits(&self, topology: &Topology) -> bool
         ensures { result ≡ true ↔ IsStill topology.now self.now }
     {

@@ -1,5 +1,5 @@
-//! Laws of deflection over a network that stays as it is, whatever the order of the neighbours is at each hop. A call of a
-//! law brings what it says into the caller's proof.
+//! Laws of deflection over a network that does not change. The order of the neighbours may differ at each hop. A call
+//! of a law gives the caller's proof what the law says.
 ghost use Rattle.std.specs.Prelude.{ℕ, ◌≡◌, ◌≤◌, ◌<◌, ◌*◌, ◌-◌, [], List, length, true};
 ghost use Rattle.topology.specs.declared.limits.TheConstants.{MOST_NODES, MOST_TRAIL};
 ghost use Rattle.topology.specs.Lists.{has};
@@ -17,7 +17,7 @@ ghost use Rattle.deflect_delivery.specs.declared.stills.Still.{Still};
 ghost use Rattle.deflect_delivery.specs.Stills.{IsStill};
 ghost use Rattle.deflect_delivery.specs.Delivering.{WalkDelivers};
 
-/// A packet that was at one node alone since it left the tables, with no way back, begins a tour there.
+/// A packet that has been at just one node since it left the tables, and has no way back, begins a tour there.
 #[tactic(auto, using(crate::proofs::Touring::begins))]
 pub fn a_packet_begins_a_tour()
     ensures { (net : Net) (terrain : Terrain) (u : ℕ) (packet : Packet) → has net.nodes u ≡ true →
@@ -25,8 +25,8 @@ pub fn a_packet_begins_a_tour()
         IsTour net terrain packet.budget (record { from = u; at = u; packet = packet }) }
 {}
 
-/// Each deflection goes on with the tour, whatever the order of the neighbours is: to a node that the packet did not see,
-/// or back.
+/// Each deflection continues the tour, for every order of the neighbours: to a node that the packet has not seen, or
+/// back.
 #[tactic(auto, using(crate::proofs::Touring::goes_on))]
 pub fn a_deflection_goes_on_with_the_tour()
     ensures { (net : Net) (terrain : Terrain) (hops from w : ℕ) (packet moved : Packet) (view : Sight) →
@@ -36,20 +36,20 @@ pub fn a_deflection_goes_on_with_the_tour()
         IsTour net terrain hops (record { from = from; at = w; packet = moved }) }
 {}
 
-/// On a tour a packet makes at most two moves for each of the other nodes.
+/// On a tour a packet makes at most two moves for each node other than the first.
 pub fn a_tour_has_few_moves()
     ensures { (net : Net) (terrain : Terrain) (hops : ℕ) (trip : Trip) (tour : IsTour net terrain hops trip) →
         tour.moves ≤ 2 * (length net.nodes - 1) }
 {}
 
-/// The way back is shorter than the longest trail, so that it always has room for one more.
+/// The way back is shorter than 64 nodes, so it always has room for one more.
 pub fn a_tour_has_room()
     ensures { (net : Net) (terrain : Terrain) (hops : ℕ) (trip : Trip) → IsTour net terrain hops trip →
         length net.nodes ≤ MOST_NODES → length trip.packet.trail < MOST_TRAIL }
 {}
 
-/// A walk that ends on a tour ends as it should: as delivered only where its first node is connected with an owner, as stuck
-/// only where it is not, and as expired only where it had too few moves.
+/// The end of a walk on a tour is right: delivered only if its first node is connected to an owner, stuck only if it is
+/// not, and expired only if it had too few moves.
 #[tactic(auto, using(crate::proofs::Touring::ends_well))]
 pub fn a_tour_ends_well()
     ensures { (net : Net) (terrain : Terrain) (hops from : ℕ) (packet : Packet) (view : Sight) (ending : Ending) →
@@ -59,7 +59,7 @@ pub fn a_tour_ends_well()
         EndsWell net terrain hops (record { from = from; at = view.at; packet = packet }) ending }
 {}
 
-/// After two moves for each of the other nodes, at a node that is connected with an owner, the packet is delivered.
+/// After two moves for each other node, at a node that is connected to an owner, the packet is delivered.
 pub fn after_all_moves_a_tour_is_delivered()
     ensures { (net : Net) (terrain : Terrain) (hops from : ℕ) (packet : Packet) (view : Sight) →
         IsTerrain net terrain → Shows terrain view → length net.nodes ≤ MOST_NODES →
@@ -68,8 +68,8 @@ pub fn after_all_moves_a_tour_is_delivered()
         hop_under scheme.Deflect net packet view ≡ Ended Delivered }
 {}
 
-/// The walk over a network that does not move comes to its end. It is delivered exactly where links that are up connect its
-/// first node with an owner, else it is stuck; it never expires, and has at most two moves for each of the other nodes.
+/// A walk over a network that does not change ends. It is delivered exactly if links that are up connect its first node
+/// to an owner, and stuck otherwise. It never expires, and has at most two moves for each node other than the first.
 #[tactic(auto, using(crate::proofs::WholeWalks::walk_delivers))]
 pub fn a_whole_walk_delivers()
     ensures { (net : Net) (still : Still) (p u : ℕ) → IsValid net → IsStill net still →

@@ -1,8 +1,8 @@
-//! The walk of a packet that is deflected over a network that does not move: links that are up or down, owners of a
-//! prefix, and an order of the neighbours of each node, all for good.
+//! The walk of a deflected packet over a network that does not change. Which links are up, which nodes own the prefix,
+//! and the order in which each node tries its neighbours all stay the same.
 //!
-//! Such a walk is delivered exactly where links that are up connect its first node with an owner, else it is stuck. It
-//! makes at most two moves for each of the other nodes: one to come there, and one to go back.
+//! Such a walk is delivered exactly if links that are up connect its first node to an owner; otherwise it is stuck. It
+//! makes at most two moves for each node other than the first: one to get there, and one to go back.
 #![tactic(auto)]
 
 mod fitting;

@@ -4,7 +4,7 @@ ghost use Rattle.std.specs.Prelude.{◌≡◌};
 use epoch_packet::NodeList;
 use std::marker::Model;
 
-/// For each node, as the nodes ascend, the order in which it tries its neighbours.
+/// For each node, in ascending order of the nodes, the order in which it tries its neighbours.
 #[derive(Debug, Drop)]
 pub struct Orders {
     list: Vec<NodeList>,
@@ -19,7 +19,7 @@ impl Model for Orders {
 }
 
 impl Orders {
-    /// These orders. Takes no memory.
+    /// Orders from a list. Takes no memory.
     pub fn new(list: Vec<NodeList>) -> Orders
         ensures { result ≡ list.items }
     {

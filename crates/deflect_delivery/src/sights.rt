@@ -1,4 +1,4 @@
-//! What the nodes of a network that does not move know of it.
+//! What the nodes of a network that does not change know of it.
 ghost use Rattle.std.specs.Prelude.{◌≡◌, IfOk};
 ghost use Rattle.topology.specs.LinkStates.{are_ends};
 ghost use Rattle.topology.specs.Lists.{has};
@@ -9,7 +9,7 @@ use std::alloc::Global;
 use topology::{NoMemory, NodeId, Topology};
 use transient_mode::View;
 
-// Whether a link with the ends c and d joins a and b.
+// Whether c and d are the nodes a and b, in either order.
 fn are_ends(a: NodeId, b: NodeId, c: NodeId, d: NodeId) -> bool
     ensures { result ≡ are_ends a b c d }
 {
@@ -38,7 +38,7 @@ impl Still {
     pub(crate) fn order(&self, topology: &Topology, node: NodeId) -> &[NodeId]
         ensures { result.now ≡ order_of topology.now self.now node }
     {
-        // the network is valid: its nodes differ
+        // brings in the invariant of the topology: its nodes differ
         let _nodes = topology.nodes();
         let Some(place) = topology.rank_of(node) else {
             return &[];
@@ -67,7 +67,7 @@ impl Still {
         Ok(up)
     }
 
-    // What the node knows of a packet that is deflected.
+    // What the node knows when a deflected packet is there.
     pub(crate) fn view<'a>(
         &'a self,
         topology: &Topology,

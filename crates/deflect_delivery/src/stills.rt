@@ -1,9 +1,9 @@
-//! A network that does not move.
+//! A network that does not change.
 use crate::orders::Orders;
 use crate::up_links::UpLinks;
 use epoch_packet::NodeList;
 
-/// A network that does not move, as packets of one prefix meet it.
+/// A network that does not change, as packets of one prefix meet it.
 #[derive(Debug, Drop)]
 pub struct Still {
     pub up: UpLinks,

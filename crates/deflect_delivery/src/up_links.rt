@@ -4,7 +4,7 @@ ghost use Rattle.std.specs.Prelude.{◌≡◌};
 use std::marker::Model;
 use topology::NodeId;
 
-/// Links that are up, each by its ends, in either order.
+/// Links that are up, each given by its ends, in either order.
 #[derive(Debug, Drop)]
 pub struct UpLinks {
     list: Vec<(NodeId, NodeId)>,
@@ -19,7 +19,7 @@ impl Model for UpLinks {
 }
 
 impl UpLinks {
-    /// These links. Takes no memory.
+    /// Links from a list. Takes no memory.
     pub fn new(list: Vec<(NodeId, NodeId)>) -> UpLinks
         ensures { result ≡ list.items }
     {

@@ -1,4 +1,4 @@
-//! The walk of a packet over a network that does not move.
+//! The walk of a packet over a network that does not change.
 ghost use Rattle.std.specs.Prelude.{◌≡◌, ◌<◌, ◌++◌, ◌∷◌, [], None, true, IfOk};
 ghost use Rattle.topology.specs.Lists.{has};
 ghost use Rattle.topology.specs.declared.names.Scheme.TheVariants as scheme;
@@ -16,7 +16,7 @@ use transient_mode::{Move, deflect};
 /// A walk that is over.
 #[derive(Debug, Drop)]
 pub struct StillWalk {
-    /// Where the packet was, the first node at the front.
+    /// The nodes where the packet was, the first one in front.
     pub visits: NodeList,
     pub end: End,
 }
@@ -51,17 +51,17 @@ fn hop(
     Ok((moved, to))
 }
 
-// A walk that is not over.
+// A walk that has not ended.
 #[derive(Drop)]
 struct Walk {
-    /// The nodes before, the first one at the front.
+    /// The earlier nodes of the walk, the first one in front.
     visits: Vec<NodeId>,
     at: NodeId,
     packet: Packet,
 }
 
 impl Walk {
-    // The walk after one hop more, and how it has ended, if it has.
+    // The walk after one more hop, and how it ended, if it did.
     fn go_on(
         self,
         alloc: Global,
@@ -94,10 +94,10 @@ impl Walk {
     }
 }
 
-/// The walk of a packet that leaves the tables at a node, and is deflected from node to node of a network that does not
-/// move, with one move more than two for each of the other nodes. It is delivered exactly where links that are up connect its
-/// first node with an owner, else it is stuck. Links that are up are links of the network, owners are nodes of it, and so is
-/// the first node; [`Still::fits`] tells. Errs only for want of memory.
+/// The walk of a packet that leaves the tables at a node and is deflected over a network that does not change. It has
+/// one move more than two for each other node. The walk is delivered exactly if links that are up connect its first
+/// node to an owner; otherwise it is stuck. The links, the owners and the first node have to be in the network
+/// ([`Still::fits`] tests this for links, owners and orders). The only error is want of memory.
 pub fn still_walk(
     alloc: Global,
     topology: &Topology,
@@ -112,7 +112,7 @@ pub fn still_walk(
     ensures delivers { IfOk result (λ walk.
         Delivers topology.now still.now from walk.visits walk.end) }
 {
-    // the network is valid
+    // brings in the invariant of the topology
     let _nodes = topology.nodes();
     let mut walk = Walk {
         visits: Vec::new(alloc),

@@ -1,4 +1,4 @@
--- A packet that is deflected arrives, in every run.
+-- In every run a deflected packet arrives.
 use Rattle.std.proofs.Common.{ℕ, ◌+◌, ◌≤◌, ◌*◌, ◌-◌, true, false, Option, Some, None, List, ◌∷◌, length, ◌≡◌, refl, sym, ◌∙◌, ap, subst, arith}
 use Rattle.std.specs.Prelude.{if◌then◌else◌}
 use Rattle.topology.specs.declared.names.Scheme.TheVariants as scheme
@@ -43,7 +43,7 @@ module _ (rules : Rules) (net : Net) (past : Chronicle) (k : ℕ) where
       ap (λ h. publish rules net at.node past (off_tables past at.packet h)) is
       ∙ (end_is_quiet rules net at.node at.packet.id Delivered past ∙ ap (λ n. End n Delivered ∷ past) number)
 
-  -- where the packet may stand, and its walk may have ended
+  -- the cases of where the packet stands and whether its walk has ended
   delivers_hopped : (at : Option Standing) (end : Option Ending)
       → ((a : Standing) → at ≡ Some a → (a.packet.id ≡ k) × (a.packet.mode ≡ Transient) × (transient_hop net a.packet (sight rules net a.node past a.packet.prefix (up_links net a.node past)) ≡ Ended Delivered))
       → IdleOrDelivers k past (if is_stopped past (stands_at at end) then Idle Crashed else hopped rules net past at end)

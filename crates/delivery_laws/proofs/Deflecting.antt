@@ -1,4 +1,4 @@
--- A packet that is deflected in a run, hop by hop.
+-- A deflected packet in a run, hop by hop.
 use Rattle.std.proofs.Common.{ℕ, ◌+◌, ◌≤◌, ◌*◌, ◌-◌, Bool, true, false, not, ◌&&◌, ◌==◌, Option, Some, None, List, [], ◌∷◌, length, ◌≡◌, ◌⊎◌, inl, inr, ⊎_elim, refl, sym, ◌∙◌, ap, subst, arith}
 use Rattle.std.specs.Prelude.{if◌then◌else◌}
 use Rattle.std.proofs.lemmas.Bool.Decides.{nat_tests}
@@ -45,11 +45,11 @@ unfolding up_links
 up_is net u past w near = has_left (λ x. is_up (link u x past)) (neighbours net u) w near
 
 module _ (net : Net) (valid : IsValid net) where
-  -- who has a link that is up is a neighbour
+  -- the end of an up link is a neighbour
   up_near : (u : ℕ) (past : Chronicle) (w : ℕ) → has (up_links net u past) w ≡ true → has (neighbours net u) w ≡ true
   up_near u past w up = neighbours_linked net u w valid ∙ and_left (linked net u w) (has net.nodes w) (up_is_near net u past w up)
 
-  -- a link is up from both ends
+  -- a link is up in both directions
   up_back : (u w : ℕ) (past : Chronicle) → has (up_links net u past) w ≡ true → has (up_links net w past) u ≡ true
   up_back u w past up =
       let near = up_near u past w up in
@@ -68,7 +68,7 @@ module _ (net : Net) (valid : IsValid net) where
     order = λ w up. (order_is_whole net u (reads (log_of u past)) p rules valid).all w ∙ up_near u past w up;
   }
 
-  -- a node that is none of the network has no link
+  -- a node outside the network has no link
   no_link : (u : ℕ) (past : Chronicle) (w : ℕ) → has net.nodes u ≡ false → has (up_links net u past) w ≡ true → ⊥
   no_link u past w outside up =
       let node = (linked_nodes net u w valid (and_left (linked net u w) (has net.nodes w) (up_is_near net u past w up))).0 in
@@ -81,7 +81,7 @@ pub record OnTour (net : Net) (on : Terrain) (at : Standing) : Type 0 where
   pub from : ℕ
   pub tour : IsTour net on net.hops (trip from at.node at.packet)
 
--- it stands where it entered, at what is no node
+-- it stands where it entered, which is not a node of the network
 pub record Outside (net : Net) (at : Standing) : Type 0 where
   pub outside : has net.nodes at.node ≡ false
   pub whole : at.packet.budget ≡ net.hops
@@ -90,7 +90,7 @@ pub record Outside (net : Net) (at : Standing) : Type 0 where
 abbrev pub IsDeflected : Net → Terrain → Standing → Type 0
 IsDeflected net on at = OnTour net on at ⊎ Outside net at
 
--- where an owner can be reached, and there are moves enough, an end is a delivery
+-- if an owner can be reached and there are enough moves, the end is a delivery
 abbrev pub EndsSo : Net → Terrain → Standing → Ending → Type 0
 EndsSo net on at end = 2 * (length net.nodes - 1) ≤ net.hops → Connects on at.node → end ≡ Delivered
 
@@ -98,7 +98,7 @@ EndsSo net on at end = 2 * (length net.nodes - 1) ≤ net.hops → Connects on a
 abbrev pub stand : ℕ → Packet → Standing
 stand u packet = record { node = u; packet = packet }
 
--- a packet with the whole hop limit that was at one node alone
+-- a packet with the whole hop limit that has been at just one node
 pub begins_at : (net : Net) (on : Terrain) (u : ℕ) (packet : Packet) → packet.budget ≡ net.hops → packet.visited ≡ bit net u → packet.trail ≡ [] → IsDeflected net on (stand u packet)
 begins_at net on u packet whole alone none =
     (elim (has net.nodes u) as (λ t. has net.nodes u ≡ t → IsDeflected net on (stand u packet)) [
@@ -125,7 +125,7 @@ module _ (rules : Rules) (net : Net) (valid : IsValid net) (past : Chronicle) (a
   moves_on (inr off) w moved is =
       absurd (no_link net valid at.node past w off.outside (is_move scheme.Deflect net at.packet moved view w is).link_is_up)
 
-  -- without links nothing is reached but the node itself
+  -- without links only the node itself is reached
   owner_here : Outside net at → Connects here at.node → view.owns ≡ true
   owner_here off (owner, owns_it, ([], same)) = subst (λ x. here.owns x ≡ true) (sym same) owns_it
   owner_here off (owner, owns_it, (w ∷ nodes, lead)) = absurd (no_link net valid at.node past w off.outside lead.0)
@@ -144,14 +144,14 @@ module _ (rules : Rules) (net : Net) (valid : IsValid net) (past : Chronicle) (a
       same_end : (a b : Ending) → Ended a ≡ Ended b → a ≡ b
       same_end a b same = cc
 
-  -- after two moves for each of the other nodes, where the node is connected with an owner, the next hop delivers the packet
+  -- after two moves for each other node, if the node is connected to an owner, the next hop delivers the packet
   pub delivers : IsDeflected net here at → 2 * (length net.nodes - 1) + at.packet.budget ≤ net.hops → Connects here at.node → hop_under scheme.Deflect net at.packet view ≡ Ended Delivered
   delivers (inl on) many way =
       let spent = on.tour.spent in
       is_delivered net here net.hops on.from at.packet view (is_terrain net valid at.packet.prefix past) (shows net valid rules at.node at.packet.prefix past) valid.few_nodes on.tour (omega (arith, spent, many)) way
   delivers (inr off) many way = owner_delivers (owner_here off way)
 
-  -- it has at least all moves left but two for each of the other nodes
+  -- it has at least the moves left that remain after two for each other node
   pub few_spent : IsDeflected net here at → net.hops ≤ at.packet.budget + 2 * (length net.nodes - 1)
   few_spent (inl on) =
       let few = few_moves net here net.hops (trip on.from at.node at.packet) on.tour in

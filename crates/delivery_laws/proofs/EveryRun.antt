@@ -1,4 +1,4 @@
--- Packets that are deflected, in every run.
+-- Deflected packets in every run.
 use Rattle.std.proofs.Common.{ℕ, ◌+◌, ◌≤◌, ◌*◌, ◌-◌, Bool, true, false, not, ◌&&◌, ◌==◌, Option, Some, None, List, [], ◌∷◌, length, fold, ◌≡◌, ◌⊎◌, inl, inr, ⊎_elim, refl, sym, ◌∙◌, ap, subst, arith}
 use Rattle.std.specs.Prelude.{if◌then◌else◌}
 use Rattle.std.proofs.lemmas.Bool.Decides.{nat_tests}
@@ -36,12 +36,12 @@ use Rattle.delivery_laws.proofs.Deflecting.{IsDeflected, EndsSo, stand, begins_a
 use Rattle.delivery_laws.proofs.Ended.{NoneEnded, after_event}
 use Rattle.delivery_laws.proofs.Staying.{one_fact, stayed}
 
--- packet k is deflected as it should be, over links and to owners as they are now, and where its walk has ended it was so too
+-- packet k is deflected by the rules, over the present links and owners; if its walk has ended, the same held then
 pub record Goes (net : Net) (past : Chronicle) (k : ℕ) (at : Standing) : Type 0 where
   pub deflected : IsDeflected net (terrain_now net at.packet.prefix past) at
   pub ended : (end : Ending) → ending k past ≡ Some end → EndsSo net (terrain_now net at.packet.prefix past) at end
 
--- so it is for each packet off the tables while links and owners stay
+-- this holds of each packet off the tables while links and owners stay the same
 abbrev pub AllGo : Net → Chronicle → Type 0
 AllGo net past = (k : ℕ) (at : Standing) → standing k past ≡ Some at → at.packet.mode ≡ Transient → stays k at.packet.prefix past ≡ true → Goes net past k at
 

@@ -1,4 +1,4 @@
--- Packets that are deflected over a star, and what counts as a change since they left the tables.
+-- Packets deflected in a star, and which facts count as a change since they left the tables.
 use Rattle.std.specs.Prelude.{ℕ, ◌≡◌, ◌≤◌, ◌*◌, ◌-◌, ◌+◌, Bool, true, false, Option, Some, None, List, [], ◌∷◌, ◌++◌, length, reverse, refl}
 use Rattle.std.proofs.Common.{arith}
 use Rattle.topology.specs.Lists.{has}
@@ -23,7 +23,7 @@ use Rattle.walk_laws.specs.Readings.{nodes_of}
 use Rattle.delivery_laws.specs.Unchanged.{stays, terrain_now}
 use Rattle.delivery_laws.specs.Deflected.{MayArrive}
 
--- a star about 1
+-- a star with centre 1
 abbrev star : Net
 star = record (network (1 ∷ 2 ∷ 3 ∷ 4 ∷ []) (a_link 1 2 Any ∷ a_link 1 3 Any ∷ a_link 1 4 Any ∷ [])) { hops = 6 }
 
@@ -41,7 +41,7 @@ packet = record { id = 1; prefix = 0; epoch = 0; mode = Transient; budget = 6; r
 abbrev there : Standing
 there = record { node = 2; packet = packet }
 
--- it may arrive: by 1 links that are up lead to 4
+-- it may arrive: links that are up lead by 1 to 4
 owns_it : owns (reads (log_of 4 (after_these entered))) 0 ≡ true
 unfolding all
 owns_it = refl
@@ -81,7 +81,7 @@ arrives = refl
 
 -- ---- what counts as a change
 
--- a link that fails, or is restored, and an owner that comes or goes, since the packet entered
+-- since the packet entered: a link that fails or is restored, and an owner that comes or goes
 fails_since : stays 1 0 (after_these (entered ++ Fail 1 3 ∷ [])) ≡ false
 unfolding all
 fails_since = refl
@@ -94,7 +94,7 @@ goes_since : stays 1 0 (after_these (entered ++ Hop 1 ∷ Withdraw 4 0 ∷ Hop 1
 unfolding all
 goes_since = refl
 
--- no owner of another prefix, no update, no crash, and nothing that was there before the packet
+-- not: an owner of another prefix, an update, a crash, or anything before the packet
 others_do_not : stays 1 0 (after_these (entered ++ Originate 3 1 ∷ Deliver 4 1 ∷ Crash 3 ∷ Hop 1 ∷ [])) ≡ true
 unfolding all
 others_do_not = refl

@@ -44,7 +44,7 @@ same_owns_at p node k past off u =
       | false ↦ refl
     ]
 
--- a fact that changes nothing of them leaves links and owners as they were
+-- a fact that changes no link and no owner leaves both
 pub same_terrain : (net : Net) (p : ℕ) (f : Fact) (past : Chronicle) → changes p f ≡ false → terrain_now net p (f ∷ past) ≡ terrain_now net p past
 unfolding up_links
 same_terrain net p (Log node k) past off =
@@ -53,23 +53,24 @@ same_terrain net p (Fail a b) past off = cc
 same_terrain net p (Restore a b) past off = cc
 same_terrain net p other past off = refl
 
--- since the packet left the tables nothing has changed, up to here and up to an earlier moment; and links and owners are as they were then
+-- since the packet left the tables nothing has changed, neither to now nor to an earlier moment; and links and owners
+-- are as they were then
 pub record Stayed (net : Net) (k p : ℕ) (past now : Chronicle) : Type 0 where
   pub same_standing : standing k now ≡ standing k past
   pub back : is_off (standing k past) ≡ true → stays k p now ≡ true → (stays k p past ≡ true) × (terrain_now net p now ≡ terrain_now net p past)
 
--- at first
+-- at the start
 stayed_now : (net : Net) (k p : ℕ) (past : Chronicle) → Stayed net k p past past
 stayed_now net k p past = record { same_standing = refl; back = λ off same. (same, refl) }
 
--- one fact more, after which the packet stands where it stood
+-- one more fact, after which the packet stands where it stood
 pub one_fact : (net : Net) (k p : ℕ) (f : Fact) (past : Chronicle) → is_off (standing k past) ≡ true → stays k p (f ∷ past) ≡ true
     → (stays k p past ≡ true) × (terrain_now net p (f ∷ past) ≡ terrain_now net p past)
 one_fact net k p f past off same =
     let both : (not (changes p f) && stays k p past) ≡ true = sym (ap (λ t. if t then not (changes p f) && stays k p past else true) off) ∙ same in
     (and_right (not (changes p f)) (stays k p past) both, same_terrain net p f past (not_true (changes p f) (and_left (not (changes p f)) (stays k p past) both)))
 
--- a fact that tells of no packet leaves it where it stands
+-- a fact that is not about a packet leaves it where it stands
 same_place : (k : ℕ) (f : Fact) (past : Chronicle) → (IsOfPacket f → ⊥) → standing k (f ∷ past) ≡ standing k past
 same_place k (Visit node packet) past tells = absurd (tells tt)
 same_place k other past tells = refl
@@ -83,7 +84,7 @@ stayed_more net k p f past now tells old = record {
       (earlier.0, one.1 ∙ earlier.1);
 }
 
--- an event that is of no packet
+-- an event without a packet
 pub stayed : (rules : Rules) (net : Net) (k p : ℕ) (past : Chronicle) (e : Event) → (IsOfPackets e → ⊥) → Stayed net k p past (after rules net past e)
 stayed rules net k p past e apart =
     after_where rules net (Stayed net k p past) ⊥

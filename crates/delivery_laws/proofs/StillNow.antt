@@ -1,4 +1,4 @@
--- What the network is like that does not move, as a run is now.
+-- The properties of the network that a run's present state gives.
 use Rattle.std.proofs.Common.{ℕ, Bool, true, false, not, ◌&&◌, ◌||◌, ◌==◌, Option, None, List, [], ◌∷◌, map, filter, ◌≡◌, ◌⊎◌, inl, inr, refl, sym, ◌∙◌, ap, subst}
 use Rattle.std.specs.Prelude.{if◌then◌else◌}
 use Rattle.std.specs.List.{list_any, AllByRecursion}
@@ -34,7 +34,7 @@ use Rattle.delivery_laws.proofs.Times.{order_is_whole}
 abbrev ends : Link → ℕ × ℕ
 ends l = (l.a, l.b)
 
--- one of a list that passes a test
+-- a member of a list that passes a test
 any_among : (test : Link → Bool) (ls : List Link) (l : Link) → Among l ls → test l ≡ true → list_any test ls ≡ true
 any_among test [] l among is = absurd among
 any_among test (m ∷ ls) l (inl same) is = or_first (test m) (list_any test ls) (ap test same ∙ is)
@@ -44,7 +44,7 @@ any_among test (m ∷ ls) l (inr later) is = or_second (test m) (list_any test l
 joins_ends : (l : Link) → joins l.a l.b l ≡ true
 joins_ends l = or_first (l.a == l.a && l.b == l.b) (l.a == l.b && l.b == l.a) (and_both (l.a == l.a) (l.b == l.b) (same_refl l.a) (same_refl l.b))
 
--- links that are left of those of the network are links of it
+-- filtered links of the network are links of it
 all_linked : (net : Net) (test : Link → Bool) (ls : List Link) → ((l : Link) → Among l ls → Among l net.links) → AllByRecursion (λ (k : ℕ × ℕ). linked net k.0 k.1 ≡ true) (map ends (filter test ls))
 all_linked net test [] inside = tt
 all_linked net test (l ∷ ls) inside =
@@ -54,7 +54,7 @@ all_linked net test (l ∷ ls) inside =
       | false ↦ rest
     ]
 
--- what is left of a list of nodes are nodes
+-- a filtered list of nodes has only nodes
 all_nodes : (net : Net) (test : ℕ → Bool) (ns : List ℕ) → ((u : ℕ) → has ns u ≡ true → has net.nodes u ≡ true) → AllByRecursion (λ n. has net.nodes n ≡ true) (filter test ns)
 all_nodes net test [] inside = tt
 all_nodes net test (u ∷ ns) inside =
@@ -70,7 +70,7 @@ module _ (rules : Rules) (net : Net) (valid : IsValid net) (past : Chronicle) (p
   all_orders [] = tt
   all_orders (u ∷ ns) = (order_is_whole net u (reads (log_of u past)) p rules valid, all_orders ns)
 
-  -- it is a network that does not move
+  -- it is a network that does not change
   pub is_still : IsStill net (still_now rules net past p)
   unfolding still_now
   is_still = record {
@@ -131,7 +131,7 @@ module _ (rules : Rules) (net : Net) (valid : IsValid net) (past : Chronicle) (p
 
   -- ---- what a node sees
 
-  -- alike tests leave alike lists
+  -- tests that agree filter alike
   alike : (f g : ℕ → Bool) (xs : List ℕ) → ((x : ℕ) → has xs x ≡ true → f x ≡ g x) → filter f xs ≡ filter g xs
   alike f g [] same = refl
   alike f g (x ∷ xs) same =
@@ -148,11 +148,11 @@ module _ (rules : Rules) (net : Net) (valid : IsValid net) (past : Chronicle) (p
         | false ↦ λ e more. beside_made f ns u more
       ]) refl there
 
-  -- a sight, part by part
+  -- a sight from its parts
   abbrev seen : ℕ → Bool → List ℕ → List ℕ → Option (List ℕ) → List (List ℕ) → Sight
   seen u own tried up stable backups = record { at = u; owns = own; order = tried; up = up; stable = stable; backups = backups }
 
-  -- a deflection asks for no table
+  -- a deflection does not use the table
   no_table : (packet : Packet) (u : ℕ) (own : Bool) (tried up : List ℕ) (stable : Option (List ℕ)) (backups : List (List ℕ))
       → hop_under scheme.Deflect net packet (seen u own tried up None []) ≡ hop_under scheme.Deflect net packet (seen u own tried up stable backups)
   unfolding hop_under deflected

@@ -16,7 +16,7 @@ use Rattle.path_vector.specs.Ranking.{put_choice, by_rank, order}
 use Rattle.path_vector.specs.Selection.{Choice, candidate, choice, choices, ranked}
 use Rattle.deflect_delivery.specs.Stills.{IsOrderOf}
 
--- how often a number is there
+-- how often a number occurs
 one : ℕ → ℕ → ℕ
 one x w = if x == w then 1 else 0
 
@@ -24,7 +24,7 @@ times : ℕ → List ℕ → ℕ
 times w [] = 0
 times w (x ∷ xs) = one x w + times w xs
 
--- it is there where it is so once or more
+-- it is a member if it occurs at least once
 has_times : (xs : List ℕ) (w : ℕ) → has xs w ≡ true → 1 ≤ times w xs
 unfolding one times
 has_times [] w is = cc
@@ -34,7 +34,7 @@ has_times (x ∷ xs) w is =
       | false ↦ λ e. let more = has_times xs w e in omega (arith, more)
     ]) is
 
--- and not where it never is
+-- and not if it never occurs
 has_never : (xs : List ℕ) (w : ℕ) → has xs w ≡ false → times w xs ≡ 0
 unfolding one times
 has_never [] w is = refl
@@ -44,7 +44,7 @@ has_never (x ∷ xs) w is =
       | false ↦ λ e. let more = has_never xs w e in omega (arith, more)
     ]) is
 
--- two lists with the same counts have the same numbers
+-- two lists with the same counts have the same members
 same_has : (xs ys : List ℕ) (w : ℕ) → times w xs ≡ times w ys → has xs w ≡ has ys w
 same_has xs ys w same = by (has xs w) (has ys w) refl refl
   where
@@ -54,7 +54,7 @@ same_has xs ys w same = by (has xs w) (has ys w) refl refl
     by false true is there = let none = has_never xs w is in let some = has_times ys w there in absurd (omega (arith, same, some, none))
     by false false is there = refl
 
--- in a list of different numbers each is there once at most
+-- in a list of different numbers each occurs at most once
 differ_once : (xs : List ℕ) → differ xs ≡ true → (w : ℕ) → times w xs ≤ 1
 unfolding one times
 differ_once [] apart w = omega arith
@@ -73,7 +73,7 @@ one_itself : (x : ℕ) → one x x ≡ 1
 unfolding one
 one_itself x = ap (λ t. if t then 1 else 0) (same_refl x)
 
--- and where that is so they differ
+-- a list in which each occurs at most once has different numbers
 once_differ : (xs : List ℕ) → ((w : ℕ) → times w xs ≤ 1) → differ xs ≡ true
 unfolding one times
 once_differ [] once = refl
@@ -99,7 +99,7 @@ times_append (x ∷ xs) ys w = let rest = times_append xs ys w in omega (arith, 
 abbrev nbrs : List Choice → List ℕ
 nbrs cs = map (λ (c : Choice). c.nbr) cs
 
--- one more is there after it is put in
+-- after one more is put in, it occurs once more
 times_put : (before : Ranked → Ranked → Bool) (c : Choice) (ds : List Choice) (w : ℕ) → times w (nbrs (put_choice before c ds)) ≡ one c.nbr w + times w (nbrs ds)
 unfolding times
 times_put before c [] w = refl
@@ -109,7 +109,7 @@ times_put before c (d ∷ ds) w =
       | false ↦ let rest = times_put before c ds w in omega (arith, rest)
     ]
 
--- all that are put in are there, beside what was there
+-- all that were put in are there, with those that were there before
 times_sorted : (before : Ranked → Ranked → Bool) (cs sorted : List Choice) (w : ℕ) → times w (nbrs (fold (λ ds c. put_choice before c ds) sorted cs)) ≡ times w (nbrs sorted) + times w (nbrs cs)
 unfolding times
 times_sorted before [] sorted w = omega arith

@@ -1,4 +1,4 @@
--- What holds of a packet that is deflected while links and owners stay.
+-- What holds of a deflected packet while links and owners stay the same.
 use Rattle.std.specs.Prelude.{ℕ, ◌≡◌, ◌≤◌, ◌*◌, ◌-◌, true, Some, ◌∷◌, length}
 use Rattle.topology.specs.declared.names.Scheme.TheVariants as scheme
 use Rattle.topology.specs.Net.{Net}
@@ -15,8 +15,9 @@ use Rattle.walk_laws.specs.Readings.{moves}
 use Rattle.deflect_delivery.specs.Terrain.{Connects}
 use Rattle.delivery_laws.specs.Unchanged.{stays, terrain_now}
 
--- packet k stands there, off the tables; since it left them no link failed or was restored, and no node became an owner of its
--- prefix or gave that up; it may make two moves for each of the other nodes; and links that are up lead from where it is to an owner
+-- packet k stands there, off the tables; since it left them no link failed or was restored, and no node became an owner
+-- of its prefix or gave that up; it may make two moves for each other node; and links that are up lead from where it is
+-- to an owner
 pub record MayArrive (net : Net) (past : Chronicle) (k : ℕ) (at : Standing) : Type 0 where
   pub stands : standing k past ≡ Some at
   pub off : at.packet.mode ≡ Transient
@@ -29,13 +30,13 @@ abbrev pub IdleOrDelivers : ℕ → Chronicle → Step → Type 0
 IdleOrDelivers k past (Idle reason) = Unit {0}
 IdleOrDelivers k past (Goes now) = now ≡ End k Delivered ∷ past
 
--- at most two moves off the tables for each of the other nodes; after that many the next hop that does something delivers the
--- packet; and where its walk has ended, it was delivered
+-- at most two moves off the tables for each other node; after that many, the next hop that does something delivers the
+-- packet; and if its walk has ended, it was delivered
 pub record Arrives (net : Net) (past : Chronicle) (k : ℕ) (hop : Step) : Type 0 where
   pub few : moves (walk k past) ≤ 2 * (length net.nodes - 1)
   pub last : moves (walk k past) ≡ 2 * (length net.nodes - 1) → IdleOrDelivers k past hop
   pub ended : (end : Ending) → ending k past ≡ Some end → end ≡ Delivered
 
--- so it is for each packet that is deflected
+-- this holds of each deflected packet
 pub record DeflectionDelivers (rules : Rules) (net : Net) (past : Chronicle) : Type 0 where
   pub arrives : net.scheme ≡ scheme.Deflect → (k : ℕ) (at : Standing) → MayArrive net past k at → Arrives net past k (step rules net past (Hop k))

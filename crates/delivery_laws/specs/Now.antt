@@ -1,4 +1,4 @@
--- A run as it is now, as a network that does not move.
+-- The present state of a run, as a network that does not change.
 use Rattle.std.specs.Prelude.{ℕ, List, map, filter}
 use Rattle.topology.specs.declared.links.Link.{Link}
 use Rattle.topology.specs.Lists.{ascending}
@@ -25,6 +25,6 @@ owners_of net past p = filter (λ u. owns (reads (log_of u past)) p) (ascending 
 abbrev pub orders_of : Rules → Net → Chronicle → ℕ → List (List ℕ)
 orders_of rules net past p = map (λ u. order rules net u (reads (log_of u past)) p) (ascending net.nodes)
 
--- the links that are up, the owners of p, and the order of each node; a node that is crashed is in it as any other is
+-- the links that are up, the owners of p, and the order of each node; crashed nodes are included like all others
 unfoldable pub still_now : Rules → Net → Chronicle → ℕ → Still
 still_now rules net past p = record { up = links_up net past; owners = owners_of net past p; orders = orders_of rules net past p }

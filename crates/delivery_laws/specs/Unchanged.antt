@@ -1,4 +1,4 @@
--- Whether links and owners stay as they were since a packet left the tables.
+-- Whether links and owners stayed the same since a packet left the tables.
 use Rattle.std.specs.Prelude.{ℕ, Bool, true, false, not, ◌&&◌, Option, Some, None, List, [], ◌∷◌, if◌then◌else◌}
 use Rattle.topology.specs.Lists.{has}
 use Rattle.topology.specs.Net.{Net}
@@ -13,13 +13,13 @@ use Rattle.chronicle.specs.Walks.{Standing, standing}
 use Rattle.walk_laws.specs.Readings.{is_transient}
 use Rattle.deflect_delivery.specs.Terrain.{Terrain}
 
--- a node becomes an owner by it, or is one no more
+-- the cause makes its node an owner, or ends that
 abbrev pub makes_owner : Cause → Bool
 makes_owner Originate = true
 makes_owner Withdraw = true
 makes_owner other = false
 
--- a link fails or is restored, or a node becomes an owner of p, or is one no more
+-- a link fails or is restored, or a node becomes an owner of p or gives that up
 abbrev pub changes : ℕ → Fact → Bool
 changes p (Log node entry) = concerns p entry.read.scope && makes_owner entry.read.cause
 changes p (Fail a b) = true
@@ -31,7 +31,7 @@ abbrev pub is_off : Option Standing → Bool
 is_off None = false
 is_off (Some at) = is_transient at.packet.mode
 
--- since packet k left the tables nothing of the kind was added; a packet that has not left them has nothing behind it
+-- since packet k left the tables no such fact was added; this holds of a packet that has not left them
 abbrev pub stays : ℕ → ℕ → Chronicle → Bool
 stays k p [] = true
 stays k p (f ∷ past) = if is_off (standing k past) then not (changes p f) && stays k p past else true

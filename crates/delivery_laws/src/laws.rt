@@ -1,4 +1,4 @@
-//! Laws of every run, about packets that are deflected. A call of a law brings what it says into the caller's proof.
+//! Laws of every run, about deflected packets. A call of a law gives the caller's proof what the law says.
 ghost use Rattle.std.specs.Prelude.{ℕ, ◌≡◌, List, true};
 ghost use Rattle.topology.specs.Lists.{has};
 ghost use Rattle.topology.specs.Net.{Net, IsValid};
@@ -15,24 +15,24 @@ ghost use Rattle.deflect_delivery.specs.Delivering.{WalkDelivers};
 ghost use Rattle.delivery_laws.specs.Deflected.{DeflectionDelivers};
 ghost use Rattle.delivery_laws.specs.Now.{still_now};
 
-/// A packet that is deflected is delivered, where three things hold: since it left the tables no link failed or was
-/// restored, and no node became an owner of its prefix or gave that up; the hop limit is at least two for each of the other
-/// nodes; and links that are up connect the node where it is with an owner. It makes at most two moves for each of the other
-/// nodes, after that many its next hop that does something delivers it, and where its walk has ended it was delivered.
+/// A deflected packet is delivered if three things hold. Since it left the tables no link failed or was restored, and
+/// no node became an owner of its prefix or gave that up. The hop limit is at least two for each other node. And links
+/// that are up connect the node where it is to an owner. Then it makes at most two moves for each other node; after
+/// that many, its next hop that does something delivers it; and if its walk has ended, it was delivered.
 pub fn deflection_delivers()
     ensures { (rules : Rules) (net : Net) (events : List Event) → IsValid net →
         DeflectionDelivers rules net (run rules net events) }
 {}
 
-/// What a run has come to is a network that does not move: links of the network are up, nodes of it are owners, and each node
+/// The present state of a run is a network that does not change: its links and owners are in the network, and each node
 /// has an order of all its neighbours.
 pub fn a_run_as_it_is_now_is_still()
     ensures { (rules : Rules) (net : Net) (past : Chronicle) (p : ℕ) → IsValid net →
         IsStill net (still_now rules net past p) }
 {}
 
-/// Over that network the walk from a node comes to its end, as delivered exactly where links that are up connect the node
-/// with an owner, else as stuck.
+/// Over that network the walk from a node ends. It is delivered exactly if links that are up connect the node to an
+/// owner, and stuck otherwise.
 pub fn a_walk_over_it_delivers()
     ensures { (rules : Rules) (net : Net) (past : Chronicle) (p u : ℕ) → IsValid net →
         has net.nodes u ≡ true → WalkDelivers net (still_now rules net past p) p u }

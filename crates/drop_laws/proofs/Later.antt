@@ -1,4 +1,4 @@
--- What entries behind an older part of a log send and hold back, for a trigger that only the part lists.
+-- What entries after an older part of a log send and hold back, for a trigger that only the part lists.
 use Rattle.std.proofs.Common.{ℕ, suc, ◌==◌, true, false, Option, Some, None, List, [], ◌∷◌, map, filter, ◌≡◌, ◌⊎◌, inl, inr, ⊎_elim, refl, sym, ◌∙◌, ap, subst, arith}
 use Rattle.std.specs.Prelude.{if◌then◌else◌}
 use Rattle.topology.specs.declared.names.Trigger.{Trigger}
@@ -33,7 +33,7 @@ use Rattle.drop_laws.proofs.Part.{older_on, older_split, older_short}
 
 -- ---- two parts of one log
 
--- one of them is a part of the other
+-- one part is a part of the other
 older_either : (log a b : List Entry) → Older log a → Older log b → Older a b ⊎ Older b a
 older_either log _ b whole o = inl o
 older_either log a b (less {k = k} p) o = by (older_either log (k ∷ a) b p o)
@@ -58,7 +58,7 @@ newer_lister log part (less {k = k} o) t (inr n) =
 abbrev pub HasAll : List Entry → List Entry → Trigger → Type 0
 HasAll part log t = (h : List Entry) (k : Entry) → Older log (k ∷ h) → Among t k.triggers → Older part (k ∷ h)
 
--- so no entry behind the part does
+-- so no entry after the part does
 pub none_newer : (log part h : List Entry) (t : Trigger) → HasAll part log t → Older log h → (o : Older h part) → NewerLists h part o t → ⊥
 none_newer log part h t all stands o n =
     let m = newer_lister h part o t n in
@@ -85,7 +85,7 @@ module _ (rules : Rules) (net : Net) (u w : ℕ) where
     pub known : has (places net) prefix ≡ true
     pub waits : WaitsFor rules net u w s h prefix t
 
-  -- it was so in an older part, where no newer entry lists t
+  -- it was so in an older part, if no newer entry lists t
   pub were_waiting : (log part : List Entry) (o : Older log part) (s : ℕ) (t : Trigger) → Fits log → (NewerLists log part o t → ⊥) → Waits log s t → Waits part s t
   were_waiting log part o s t f new x = record { prefix = x.prefix; known = x.known; waits = was_waiting rules net u w s log part o x.prefix t f new x.waits }
 
@@ -116,7 +116,7 @@ module _ (rules : Rules) (net : Net) (u w : ℕ) where
       at_once : (p : ℕ) × Among p (filter (changed rules net u (k.read ∷ reads h) w) (places net)) × (update_of (making rules net u h k) w p ≡ x) → Among t k.triggers
       at_once found = subst (λ (y : Update). Among t y.triggers) (sym found.2) b
 
-  -- an item of updates has the triggers of one of them, and their session
+  -- an item made from updates has the triggers of one of them, and their session
   pub from_sent : (s n : ℕ) (xs : List Update) (i : Sent) → Among i (sent_from w s n xs) → (x : Update) × Among x xs × (x.triggers ≡ i.triggers) × (s ≡ i.session)
   from_sent s n [] i a = absurd a
   from_sent s n (x ∷ xs) i (inl e) = (x, inl refl, ap (λ (j : Sent). j.triggers) e, ap (λ (j : Sent). j.session) e)
@@ -163,9 +163,9 @@ module _ (rules : Rules) (net : Net) (u w : ℕ) where
       (λ (x : Among i (close_sent (making rules net u h k) w (ready (reads h) w))). close_waits h k (ready (reads h) w) i t refl x b)
       (in_either i (updates_sent (making rules net u h k) w (held (k.read ∷ reads h) w)) (close_sent (making rules net u h k) w (ready (reads h) w)) a)
 
-  -- ---- behind a part
+  -- ---- after a part
 
-  -- an item that lists t is of an entry of the part that has all entries which list it, or was held back in the part
+  -- an item that lists t is of an entry in the part that has all entries listing it, or was held back in that part
   pub item_back : (log part : List Entry) (o : Older log part) (t : Trigger) → Fits log → HasAll part log t → (h : List Entry) (k : Entry) → Older log (k ∷ h) → (i : Sent) → Among i (sent_to rules net u h k w) → Among t i.triggers
       → Older part (k ∷ h) ⊎ Waits part i.session t
   item_back log part o t f all h k stands i a b = by (older_either log part (k ∷ h) o stands)
@@ -202,7 +202,7 @@ module _ (rules : Rules) (net : Net) (u w : ℕ) where
         },
       )
 
-  -- and the other way
+  -- and the converse
   waiting_row : (h : List Entry) (s : ℕ) (t : Trigger) → has (neighbours net u) w ≡ true → (x : Waits h s t) → Among (pending_row (pending rules net u h w) w s x.prefix) (pending_rows rules net u h)
   waiting_row h s t near x = held_rows rules net u h w s x.prefix near x.known x.waits.holds (some_member (pending rules net u h w x.prefix) t x.waits.listed)
 
@@ -217,7 +217,7 @@ module _ (rules : Rules) (net : Net) (u : ℕ) where
         subst (λ w. Among i (sent_to rules net u h k w)) (sym same) to.2,
       )
 
-  -- a row that lists t is of a neighbour, from whom an update is held back for t
+  -- a row that lists t is of a neighbour from which an update is held back for t
   pub of_pending_rows : (h : List Entry) (row : Pending) (t : Trigger) → Among row (pending_rows rules net u h) → Among t row.triggers → (has (neighbours net u) row.to ≡ true) × Waits rules net u row.to h row.session t
   unfolding pending_rows
   of_pending_rows h row t a b =

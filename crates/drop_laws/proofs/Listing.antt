@@ -1,4 +1,4 @@
--- All that is open from the report of a cut lists a trigger at least.
+-- Whatever is open from the report of a cut lists at least one trigger.
 use Rattle.std.proofs.Common.{ℕ, true, false, Option, Some, None, List, [], ◌∷◌, filter, ◌≡◌, ◌≢◌, ⊎_elim, refl, sym, ◌∙◌, ap, subst}
 use Rattle.std.specs.Prelude.{if◌then◌else◌}
 use Rattle.topology.specs.declared.names.Trigger.{Trigger}
@@ -35,7 +35,7 @@ has_some : (ts : List Trigger) → is_some_trigger ts ≡ true → ts ≢ []
 has_some [] e none = absurd (cc e)
 has_some (t ∷ ts) e none = cc none
 
--- who ends a session lists something
+-- an entry that ends a session lists a trigger
 close_some : (h : List Entry) (scope : Scope) (cause : Cause) (w s : ℕ) (ts : List Trigger) → CauseFits h scope cause → ListsFor scope ts → closes cause w s ≡ true → ts ≢ []
 close_some h (One p) cause w s ts f l q = l
 close_some h All cause w s ts f l q = l

@@ -10,19 +10,19 @@ last_at (x ∷ y ∷ rest) =
     let one : suc (suc (length rest)) - 1 ≡ suc (suc (length rest) - 1) = omega arith in
     ap (slice_get (x ∷ y ∷ rest)) one ∙ last_at (y ∷ rest)
 
--- before a node at the end stand all others
+-- all others stand before the node at the end
 but_last-end : (xs : List ℕ) (x : ℕ) → but_last (xs ++ x ∷ []) ≡ xs
 but_last-end [] x = refl
 but_last-end (y ∷ []) x = refl
 but_last-end (y ∷ z ∷ rest) x = ap (λ l. y ∷ l) (but_last-end (z ∷ rest) x)
 
--- what is left when the node at the end is taken off, if there is one
+-- the list without its last node, if there is one
 pub popped : (before after : List ℕ) (o : Option ℕ) → before ≡ after ++ option_to_list o → (0 < length before → IsSome o) → after ≡ but_last before
 popped before after (Some x) is some = sym (but_last-end after x) ∙ ap but_last (sym is)
 popped [] after None is some = sym (is ∙ append-nil after)
 popped (y ∷ before) after None is some = let one : IsSome {T = ℕ} None = some (omega arith) in cc
 
--- a list is all but its last one, then that
+-- a list is all but its last node, followed by that
 pub last_at_end : (xs : List ℕ) (w : ℕ) → last_of xs ≡ Some w → but_last xs ++ w ∷ [] ≡ xs
 last_at_end [] w is = cc
 last_at_end (x ∷ []) w is = let same : x ≡ w = cc in ap (λ n. n ∷ []) (sym same)

@@ -1,8 +1,8 @@
 //! Packets: what they carry, and how they follow the stable tables.
 //!
-//! A packet enters the network stamped with the newest epoch that its node published, and follows the
-//! tables of that epoch. Where it cannot, it turns: it leaves the tables for good, with a budget of
-//! moves. No call takes memory, but where a list of nodes grows.
+//! A packet enters the network stamped with the newest epoch that its node published, and follows the tables of that
+//! epoch. Where it cannot, it turns: it leaves the tables for good, and may make a limited number of moves. No call
+//! takes memory unless it makes a list of nodes longer.
 #![tactic(auto)]
 
 pub mod node_lists;

@@ -5,7 +5,7 @@ ghost use Rattle.epoch_packet.specs.NodeLists.{after_first, last_of, but_last};
 use std::marker::Model;
 use topology::{NoMemory, NodeId};
 
-/// A list of nodes, as they come.
+/// A list of nodes, in any order.
 #[derive(Debug, Drop)]
 pub struct NodeList {
     list: Vec<NodeId>,
@@ -20,7 +20,7 @@ impl Model for NodeList {
 }
 
 impl NodeList {
-    /// The list of these nodes. Takes no memory.
+    /// A node list from a list. Takes no memory.
     pub fn new(list: Vec<NodeId>) -> NodeList
         ensures { result ≡ list.items }
     {
@@ -47,14 +47,14 @@ impl NodeList {
         self.list.last().copied()
     }
 
-    /// Takes all nodes off. Takes no memory.
+    /// Removes all nodes. Takes no memory.
     pub fn clear(&mut self)
         ensures { self.new ≡ [] }
     {
         self.list.clear();
     }
 
-    /// Puts a node at the end.
+    /// Adds a node at the end.
     pub fn push(&mut self, node: NodeId) -> Result<(), NoMemory>
         ensures ok { OnOk result (self.new ≡ self.old ++ node ∷ []) }
         ensures err { OnErr result (self.new ≡ self.old) }
@@ -63,14 +63,14 @@ impl NodeList {
         Ok(())
     }
 
-    /// Takes the last node off. Takes no memory.
+    /// Removes the last node. Takes no memory.
     pub fn drop_last(&mut self)
         ensures { self.new ≡ but_last self.old }
     {
         let _ = self.list.pop();
     }
 
-    /// Takes the first node off. Takes no memory.
+    /// Removes the first node. Takes no memory.
     pub fn drop_first(&mut self)
         ensures { self.new ≡ after_first self.old }
     {
@@ -79,7 +79,7 @@ impl NodeList {
         }
     }
 
-    /// Puts these nodes in the place of all.
+    /// Replaces all nodes by these.
     pub fn replace(&mut self, nodes: &[NodeId]) -> Result<(), NoMemory>
         ensures ok { OnOk result (self.new ≡ nodes.now) }
         ensures err { OnErr result (self.new ≡ self.old) }

@@ -1,4 +1,4 @@
-//! Packets, and what a move or a turn makes of them.
+//! Packets, and how a move or a turn changes them.
 ghost use Rattle.std.specs.Prelude.{◌≡◌};
 
 use crate::visited::only_visited;
@@ -11,18 +11,18 @@ use topology::{Epoch, NodeId, PrefixId, Scheme, Topology};
 pub struct Packet {
     pub id: u32,
     pub prefix: PrefixId,
-    /// The epoch whose tables it follows or has left, 0 for none.
+    /// The epoch whose tables the packet follows or has left; 0 for none.
     pub epoch: Epoch,
     pub mode: Mode,
-    /// How many moves it may still make once it has left the tables.
+    /// How many moves it may still make off the tables.
     pub budget: u16,
-    /// It has been at the node of the detour since it left the tables.
+    /// Whether it has been at the node of the detour since it left the tables.
     pub reached: bool,
-    /// The nodes that count as visited: bit i stands for the i-th node, ascending, from 0.
+    /// The nodes that count as visited: bit i is set for the i-th node in ascending order, counted from 0.
     pub visited: u64,
-    /// The way back, the last node at the end.
+    /// The way back; the last node is the next one to go back to.
     pub trail: NodeList,
-    /// The nodes that are still to come of the route that it took.
+    /// The nodes still ahead on the route that it took.
     pub route: NodeList,
 }
 
@@ -37,7 +37,7 @@ impl Packet {
         Packet { visited, ..self }
     }
 
-    /// The packet that leaves the stable tables at a node. Takes no memory.
+    /// The packet after it left the stable tables at a node. Takes no memory.
     #[tactic(auto, unfolding(crate::specs::Packets::turned))]
     pub fn turned(mut self, topology: &Topology, at: NodeId) -> Packet
         ensures { result ≡ turned topology.now at self }
@@ -57,8 +57,8 @@ impl Packet {
 
 ghost use Rattle.epoch_packet.specs.Packets.{stamped};
 
-/// A packet that enters the network at a node, stamped with the newest epoch that the node published.
-/// Where it published none, the stamp is 0, and the packet is off the tables at once. Takes no memory.
+/// A packet that enters the network at a node, stamped with the newest epoch that the node published. If the node
+/// published none, the stamp is 0, and the packet is off the tables from the start. Takes no memory.
 #[tactic(auto, unfolding(crate::specs::Packets::stamped))]
 pub fn stamp(
     alloc: Global,

@@ -5,10 +5,10 @@ ghost use Rattle.epoch_packet.specs.StableHops.{stable_step, along};
 
 use topology::NodeId;
 
-/// What comes of one hop along the tables.
+/// The result of one hop along the tables.
 #[derive(Clone, Copy, Debug, PartialEq, Eq)]
 pub enum StableStep {
-    /// The packet has ended: the node is where the path leads.
+    /// The walk ends here: the path leads to this node.
     Arrived,
     /// It goes on to this neighbour.
     Next(NodeId),
@@ -16,7 +16,7 @@ pub enum StableStep {
     Turn,
 }
 
-// Along a path, from the present node on.
+// One hop along a path that begins at the present node.
 fn along(up: &[NodeId], path: &[NodeId]) -> StableStep
     ensures { result ≡ along up.now path.now }
 {
@@ -32,8 +32,8 @@ fn along(up: &[NodeId], path: &[NodeId]) -> StableStep
     }
 }
 
-/// What a packet does at a node: `path` is the node's path in the table of the packet's epoch, and `up`
-/// has the neighbours whose link is up. Takes no memory.
+/// What a packet does at a node. `path` is the node's path in the table of the packet's epoch, and `up` has the
+/// neighbours whose link is up. Takes no memory.
 pub fn stable_hop(path: Option<&[NodeId]>, up: &[NodeId]) -> StableStep
     ensures { result ≡ stable_step (option_copied path.entry) up.now }
 {

@@ -1,5 +1,5 @@
-//! The nodes that count as visited, as the bits of a number: bit i stands for the i-th node, ascending,
-//! from 0. A node that is none of the network has no bit: it never counts as visited.
+//! The nodes that count as visited, as the bits of a number: bit i is for the i-th node in ascending order, counted
+//! from 0. A node outside the network has no bit, and never counts as visited.
 ghost use Rattle.std.specs.Prelude.{◌≡◌, ◌<◌, ◌||◌, ◌==◌, ℕ, true, false, IfSome, IfNone};
 ghost use Rattle.topology.specs.Lists.{has};
 ghost use Rattle.epoch_packet.specs.Visited.{rank, bit, visits, with_visit};
@@ -13,12 +13,12 @@ fn place_of(topology: &Topology, node: NodeId) -> Option<usize>
     ensures small { IfSome result (λ place. place < 64) }
     ensures none { IfNone result (has topology.now.nodes node ≡ false) }
 {
-    // The network is valid: its nodes differ, and there are at most 64.
+    // brings in the invariant of the topology: its nodes differ, and there are at most 64
     let _nodes = topology.nodes();
     topology.rank_of(node)
 }
 
-/// The number with the bit of one node.
+/// The number with only the bit of this node.
 pub(crate) fn only_visited(topology: &Topology, node: NodeId) -> u64
     ensures { result ≡ bit topology.now node }
 {
@@ -38,7 +38,7 @@ pub fn has_visited(topology: &Topology, visited: u64, node: NodeId) -> bool
     }
 }
 
-/// The same nodes, and this one. Takes no memory.
+/// The same set with this node added. Takes no memory.
 pub fn with_visited(topology: &Topology, visited: u64, node: NodeId) -> u64
     ensures number { result ≡ with_visit topology.now visited node }
     ensures nodes { (x : ℕ) → has topology.now.nodes x ≡ true

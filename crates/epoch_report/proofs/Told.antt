@@ -1,4 +1,4 @@
--- What a log tells is the report of its entries, without those that it dropped.
+-- The report made from a log is the report of its entries, without those that were dropped.
 use Rattle.std.proofs.Common.{ℕ, zero, suc, drop, List, [], ◌∷◌, ◌++◌, ◌≡◌, refl, sym, ◌∙◌, ap, ap₂, Option, Some, None, length, map, flat_map, arith}
 use Rattle.std.specs.Prelude.{option_map}
 use Rattle.std.specs.List.{AllZip}
@@ -82,7 +82,7 @@ module _ (rules : Rules) (net : Net) (u : ℕ) where
       ∙ (ap (λ (c : Change). made step.entry.triggers c.scope shown.sent) s.read
       ∙ ap (λ (xs : List Sent). made step.entry.triggers step.entry.read.scope xs) s.sent)
 
-  -- what is told of the entries behind the first n is their rows
+  -- the rows made from the entries after the first n
   pub rows_are : (n : ℕ) (h : List Entry) (shown : List Shown) → AllZip (Shows rules net u) (drop n (all_entered h)) shown → map row_seen (map row_told shown) ≡ drop n (entry_rows rules net u h)
   rows_are n h shown z =
       map_map row_told row_seen shown
@@ -116,20 +116,20 @@ module _ (rules : Rules) (net : Net) (u : ℕ) where
         (sessions_near near rows z.1)
         ∙ sym (map_append first_down (map (session_row h w) (ever h w)) (flat_map (λ w. map (session_row h w) (ever h w)) near))))
 
-    -- what is told of all marks is the rows of the sessions
+    -- the rows made from all marks are the session rows
     pub sessions_are : (marks : List SessionMark) → AreAllMarks rules net u h marks → map session_seen (map session_told marks) ≡ map first_down (session_rows net u h)
     unfolding session_rows
     sessions_are marks all = ap (λ ms. map session_seen (map session_told ms)) all.2 ∙ sessions_near (neighbours net u) all.0 all.1
 
   -- ---- the report
 
-  -- the entries behind the first n, the marks, and what is held back, as they are shown
+  -- the entries after the first n, the marks, and what is held back, as they are shown
   pub record AreShown (n : ℕ) (h : List Entry) (shown : List Shown) (marks : List SessionMark) (held : List Pending) : Type 0 where
     pub entries : AllZip (Shows rules net u) (drop n (all_entered h)) shown
     pub sessions : AreAllMarks rules net u h marks
     pub pending : held ≡ pending_rows rules net u h
 
-  -- a report of these parts is that of the entries behind the first n
+  -- a report of these parts is the report without the first n entries
   pub report_is : (e n : ℕ) (h : List Entry) (shown : List Shown) (marks : List SessionMark) (held : List Pending) (report : TheReport)
       → report.node ≡ u → report.epoch ≡ e → report.rows ≡ map row_told shown → report.sessions ≡ map session_told marks → report.pending ≡ held
       → AreShown n h shown marks held → report_seen report ≡ first_downs (trimmed_report rules net u e (trimmed n h))
@@ -140,14 +140,14 @@ module _ (rules : Rules) (net : Net) (u : ℕ) where
       (ap (map session_seen) are_sessions ∙ sessions_are h marks are.sessions)
       ∙ ap (whole u e (drop n (entry_rows rules net u h)) (map first_down (session_rows net u h))) (are_held ∙ are.pending))
 
--- the first trigger is the list, where it has one alone
+-- the first trigger is the whole list, if that has just one
 pub one_listed : (list : Option (List Trigger)) → ((ts : List Trigger) → list ≡ Some ts → length ts ≡ 1) → first_of list ≡ list
 one_listed None one = refl
 one_listed (Some []) one = let none = one [] refl in absurd (omega arith)
 one_listed (Some (t ∷ [])) one = refl
 one_listed (Some (t ∷ s ∷ ts)) one = let many = one (t ∷ s ∷ ts) refl in absurd (omega arith)
 
--- where each Down lists one trigger, what is reported is the whole of it
+-- if each Down lists one trigger, the code's report is the full report
 module _ (h : List Entry) (one : DownsListOne h) where
   one_row : (w s : ℕ) → first_down (session_row h w s) ≡ session_row h w s
   unfolding told
@@ -168,7 +168,7 @@ module _ (h : List Entry) (one : DownsListOne h) where
   downs_told rules net u e n =
       ap (λ rows. whole u e (drop n (entry_rows rules net u h)) rows (pending_rows rules net u h)) (near_same (neighbours net u))
 
--- where nothing was dropped, what is reported has a row for each entry
+-- if nothing was dropped, the report has a row for each entry
 pub whole_report : (rules : Rules) (net : Net) (u e : ℕ) (h : List Entry) → trimmed_report rules net u e (trimmed 0 h) ≡ report_of rules net u e h
 unfolding trimmed_report report_of
 whole_report rules net u e h = refl

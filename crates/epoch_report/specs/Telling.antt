@@ -1,4 +1,4 @@
--- Entries and sessions as a log keeps them, told as rows of a report.
+-- Rows of a report, made from the entries and sessions that a log stores.
 use Rattle.trigger_log.specs.declared.entries.Entry.{Entry}
 use Rattle.trigger_log.specs.declared.sessions.SessionMark.{SessionMark}
 use Rattle.incomplete_closure.specs.declared.cut_rows.Row.{Row}

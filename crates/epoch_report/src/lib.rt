@@ -1,4 +1,5 @@
-//! What a node reports of its cut of an epoch: its entries, with what each sent, its sessions, and what it holds back.
+//! What a node reports of its cut of an epoch: its entries and the items that each sent, its sessions, and what it
+//! holds back.
 #![tactic(auto)]
 
 pub mod reporting;

@@ -15,12 +15,11 @@ use std::alloc::Global;
 use topology::{Epoch, NoMemory};
 use trigger_log::NodeLog;
 
-/// What the node of a log reports of an epoch, where its cut is the whole log: a row for each
-/// entry that the log keeps, the oldest first, with all items that the entry sent, `close` included; a row for
-/// each session that it ever held, by neighbour, ascending, then by session; and a row for each update that is held back.
-/// An entry that was dropped has no row, and each other entry's row is whole. The session row of a `Down` that lists several
-/// triggers tells the first of them. Takes time and memory in proportion to the entries that are kept, their items, the
-/// sessions and what is held back.
+/// The report of an epoch by the node of a log whose cut is the whole log. It has a row for each entry that the log
+/// keeps, the oldest first, with all items that the entry sent, `close` included; a row for each session ever held, by
+/// ascending neighbour, then by session; and a row for each update that is held back. A dropped entry has no row; all
+/// other rows are complete. If a `Down` lists several triggers, its session row has the first of them. Takes time and
+/// memory in proportion to the kept entries, their items, the sessions and what is held back.
 pub fn report_of<P: Policy + Copy>(
     alloc: Global,
     log: &NodeLog<P>,

@@ -1,4 +1,4 @@
-//! Entries and sessions of a log, and what it holds back, as rows of a report.
+//! Makes the rows of a report from the entries and sessions of a log and from what it holds back.
 ghost use Rattle.std.specs.Prelude.{◌≡◌, map, IfOk};
 ghost use Rattle.epoch_report.specs.Telling.{row_told, session_told};
 
@@ -17,7 +17,7 @@ fn row_of(entry: &Entry) -> Result<Row, NoMemory>
     })
 }
 
-/// A row for each entry, in their order.
+/// A row for each entry, in order.
 pub(crate) fn rows_of(alloc: Global, entries: &[Entry]) -> Result<Rows, NoMemory>
     ensures { IfOk result (λ rows. rows ≡ map row_told entries.now) }
 {
@@ -39,7 +39,7 @@ fn session_of(mark: &SessionMark) -> SessionRow
     }
 }
 
-/// A row for each mark, in their order.
+/// A row for each mark, in order.
 pub(crate) fn sessions_of(alloc: Global, marks: &[SessionMark]) -> Result<SessionRows, NoMemory>
     ensures { IfOk result (λ rows. rows ≡ map session_told marks.now) }
 {
@@ -50,7 +50,7 @@ pub(crate) fn sessions_of(alloc: Global, marks: &[SessionMark]) -> Result<Sessio
     Ok(SessionRows::new(rows))
 }
 
-/// The rows of what is held back, in their order.
+/// The rows of what is held back, in order.
 pub(crate) fn pending_of(alloc: Global, held: &[Pending]) -> Result<PendingRows, NoMemory>
     ensures { IfOk result (λ rows. rows ≡ held.now) }
 {

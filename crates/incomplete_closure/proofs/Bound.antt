@@ -45,7 +45,7 @@ one_at_most : (o : Option ℕ) → length (option_to_list o) ≤ 1
 one_at_most None = omega arith
 one_at_most (Some x) = omega arith
 
--- what a row leads to, and the stretch with it: its next row, or the stretch so far
+-- the rows that a row leads to and its new stretch together are at most two more than the stretch so far
 next_edges : (names ts : List Trigger) (t : Trigger) (scope : Scope) (later : List Row)
     → length (next_rows names scope later) + length (stretch_at names (t ∷ ts) scope (stretch names later)) ≤ length (stretch names later) + 2
 next_edges names ts t (One p) later =
@@ -79,7 +79,7 @@ reports_edges names graph (r ∷ rs) =
     let more = reports_edges names (wire_rows names graph r.rows) rs in
     omega arith
 
--- what is open adds an edge or a root
+-- each open trigger adds an edge or a root
 down_edges : (names : List Trigger) (graph : List (List ℕ)) (d : Option Trigger) (t : Trigger) → edges (wire_down names graph d t) + length (root_of names d t) ≤ edges graph + 1
 down_edges names graph None t = omega arith
 down_edges names graph (Some s) t = let one = linked_edges graph (number_of names s) (number_of names t) in omega arith

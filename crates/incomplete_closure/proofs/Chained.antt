@@ -1,4 +1,4 @@
--- Edges in one list, and the lists that they stand for.
+-- Edges in one list, and the adjacency lists that they stand for.
 use Rattle.std.proofs.Common.{ℕ, zero, suc, ◌+◌, ◌-◌, ◌<◌, ◌≤◌, Some, None, List, [], ◌∷◌, ◌++◌, length, get_or, set, map, replicate, slice_get, ◌≡◌, ◌⊎◌, inl, inr, refl, sym, ◌∙◌, ap, ap₂, subst, arith}
 use Rattle.std.specs.List.{AllByRecursion}
 use Rattle.std.proofs.lemmas.List.{map-set, get_or-map, length-append}
@@ -27,12 +27,12 @@ less at i n h k = omega arith
 under : (at i n : ℕ) → at ≤ i → suc i ≤ n → at ≤ n
 under at i n h k = omega arith
 
--- an edge, and what is behind it
+-- the first edge of a chain, and the rest
 chain_step : (es : List Edge) (n at : ℕ) (e : Edge) → slice_get es at ≡ Some e → chain es (suc n) (suc at) ≡ e.to ∷ chain es n e.next
 chain_step es n at e is =
     subst (λ o. ◌≡◌ {A = List ℕ} (elim o [ None ↦ [] | Some e ↦ e.to ∷ chain es n e.next ]) (e.to ∷ chain es n e.next)) (sym is) refl
 
--- a chain is as long as it is, and newer edges do not change it
+-- a bound beyond the length of a chain does not matter, and newer edges do not change it
 pub same_chain : (es more : List Edge) → GoDown es → (n m at : ℕ) → at ≤ n → at ≤ m → at ≤ length es → chain es n at ≡ chain (es ++ more) m at
 same_chain es more down zero zero zero h k l = refl
 same_chain es more down zero zero (suc at) h k l = absurd (omega arith)
@@ -91,7 +91,7 @@ step_on es at d down some up = chain_on es at (get_or es (at - 1) d) down some u
 pub step_below : (es : List Edge) (at : ℕ) (d : Edge) → GoDown es → 0 < at → at ≤ length es → (get_or es (at - 1) d).next < at
 step_below es at d down some up = next_below es at (get_or es (at - 1) d) down some (slice_get-get_or es (at - 1) d (below at (length es) some up))
 
--- a turn enters the next one
+-- a turn enters the next target
 pub chain_turn : (es : List Edge) (at : ℕ) (d : Edge) (before after : Trail) → GoDown es → 0 < at → at ≤ length es → after ≡ enter before (get_or es (at - 1) d).to
     → enter_all after (chained es (get_or es (at - 1) d).next) ≡ enter_all before (chained es at)
 chain_turn es at d before after down some up is =
@@ -108,7 +108,7 @@ turn_most es at d s t total down some up is all =
     let l = ap length (step_on es at d down some up) in
     omega arith
 
--- ---- a graph of no edges
+-- ---- a graph without edges
 
 pub blank_view : (n : ℕ) → map (chained []) (replicate n 0) ≡ replicate n []
 blank_view zero = refl
@@ -121,7 +121,7 @@ all_zero (suc n) = (no_less 0, all_zero n)
 pub blank_chained : (n : ℕ) → AreChained (replicate n 0) []
 blank_chained n = record { older = λ i e is. absurd (cc is); within = all_zero n }
 
--- ---- one edge more
+-- ---- one more edge
 
 more_view : (es more : List Edge) (ns : List ℕ) → GoDown es → AllByRecursion (λ at. at ≤ length es) ns → map (chained (es ++ more)) ns ≡ map (chained es) ns
 more_view es more [] down all = refl
@@ -218,7 +218,7 @@ module _ (ns : List ℕ) (es : List Edge) (from to next : ℕ) (are : AreChained
       ∙ ap₂ (λ zs z. set zs from z) (more_view es (new ∷ []) ns are.older are.within)
       (new_chain ∙ ap (λ z. to ∷ z) (ap (chained es) is ∙ sym (get_or-map (chained es) ns from next [] up)))
 
--- ---- a vertex that leads nowhere any more
+-- ---- a vertex loses its edges
 
 module _ (ns : List ℕ) (es : List Edge) (v newest : ℕ) (are : AreChained ns es) (up : v < length ns) (is : newest ≡ get_or ns v newest) where
   pub newest_within : newest ≤ length es
@@ -233,7 +233,7 @@ module _ (ns : List ℕ) (es : List Edge) (v newest : ℕ) (are : AreChained ns 
   pub empty_view : map (chained es) (set ns v 0) ≡ set (map (chained es) ns) v []
   empty_view = map-set (chained es) ns v 0 ∙ ap (λ z. set (map (chained es) ns) v z) (chain_none es (length es))
 
--- ---- as the code has them
+-- ---- in the form of the code
 
 further : (n : ℕ) → suc n + 1 ≡ suc (n + 1)
 further n = omega arith
@@ -242,7 +242,7 @@ replicate_more : (n z : ℕ) → replicate n z ++ z ∷ [] ≡ replicate (n + 1)
 replicate_more zero z = refl
 replicate_more (suc n) z = ap (λ zs. z ∷ zs) (replicate_more n z) ∙ sym (ap (λ k. replicate k z) (further n))
 
--- so many vertices and one more
+-- a graph with one vertex more than this number
 pub new_view : (es : List Edge) (ns more : List ℕ) (n : ℕ) → es ≡ [] → ns ≡ replicate n 0 → more ≡ ns ++ 0 ∷ [] → map (chained es) more ≡ replicate (n + 1) []
 new_view es ns more n none zeros one = ap₂ (λ z zs. map (chained z) zs) none (one ∙ (ap (λ zs. zs ++ 0 ∷ []) zeros ∙ replicate_more n 0)) ∙ blank_view (n + 1)
 

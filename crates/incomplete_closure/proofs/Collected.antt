@@ -1,4 +1,4 @@
--- What a set of triggers has after one was put in.
+-- The members of a set of triggers after one was added.
 use Rattle.std.proofs.Common.{ℕ, Bool, true, false, not, ◌&&◌, ◌||◌, ◌==◌, List, [], ◌∷◌, Ordering, nat_lt, nat_cmp, ◌≡◌, refl, ◌∙◌, ap, subst, arith, if◌then◌else◌}
 use Rattle.std.specs.Ordering.{is_eq, ordering_then, match_ordering}
 use Rattle.std.specs.Bool.{OnFalse}

@@ -1,4 +1,4 @@
--- What gathers open triggers: one more, and the look-up of a session.
+-- Gathering open triggers: one more item, and the look-up of a session.
 use Rattle.std.proofs.Common.{ℕ, Option, Some, None, List, [], ◌++◌, map, ◌≡◌, refl, sym, ◌∙◌, ap, append_assoc, true, false}
 use Rattle.std.specs.Prelude.{is_some, option_and_then}
 use Rattle.topology.specs.declared.items.Sent.{Sent}
@@ -21,14 +21,14 @@ none_is : {A : Type 0} (o : Option A) → is_some o ≡ false → o ≡ None
 none_is None e = refl
 none_is (Some x) e = absurd (cc e)
 
--- no report has the node
+-- no report of the node
 pub nowhere : (reports : List Report) (table : SessionTable) (v : ℕ) (item : Sent) → IsTableOf reports table → has_node table item.to ≡ false → open_item reports v item ≡ []
 nowhere reports table v item is e = ap (λ o. open_at o v item) (none_is (of_node reports item.to) (sym (is.nodes item.to) ∙ e))
 
 pub waits_nowhere : (reports : List Report) (table : SessionTable) (v : ℕ) (row : Pending) → IsTableOf reports table → has_node table row.to ≡ false → open_row reports v row ≡ []
 waits_nowhere reports table v row is e = ap (λ o. waiting_at o v row) (none_is (of_node reports row.to) (sym (is.nodes row.to) ∙ e))
 
--- one has
+-- a report of the node
 pub somewhere : (reports : List Report) (table : SessionTable) (v : ℕ) (item : Sent) → IsTableOf reports table → has_node table item.to ≡ true → open_item reports v item ≡ if_open (row_at table item.to v item.session) item
 somewhere reports table v item is e =
     rw (is.rows item.to v item.session)
@@ -46,6 +46,6 @@ waits_somewhere reports table v row is e =
       | Some g ↦ λ f. refl
     ]) (sym (is.nodes row.to) ∙ e))
 
--- what is gathered, and what is still to come
+-- what was gathered, and what is still to come
 pub one_more : {A : Type 0} (before now here later all : List A) → now ≡ before ++ here → before ++ (here ++ later) ≡ all → now ++ later ≡ all
 one_more before now here later all e f = ap (λ xs. xs ++ later) e ∙ append_assoc before here later ∙ f

@@ -1,4 +1,4 @@
--- What is reached in the graph of reports is the least set that is closed for what is open and for their rows.
+-- The reached part of the graph of reports is the least set that is closed under what is open and under the rows.
 use Rattle.std.proofs.Common.{ℕ, ◌+◌, ◌<◌, ◌≤◌, Bool, true, false, not, ◌||◌, ◌==◌, nat_lt, Option, Some, None, List, [], ◌∷◌, ◌++◌, length, slice_get, ◌≡◌, ◌⊎◌, inl, inr, refl, sym, ◌∙◌, ap, subst, arith, if◌then◌else◌}
 use Rattle.std.specs.List.{list_any, AllByRecursion}
 use Rattle.std.specs.Option.{option_to_list}
@@ -31,7 +31,7 @@ module _ (inside : ℕ → Bool) (names : List Trigger) where
   HeadIn [] = Unit {0}
   HeadIn (t ∷ ts) = inside (number_of names t) ≡ true
 
-  -- that of every row that shares a prefix is
+  -- the first trigger of every row that shares a prefix is in the set
   abbrev pub Sharing : Scope → List Row → Type 0
   Sharing scope [] = Unit {0}
   Sharing scope (row ∷ later) = (shares scope row.scope ≡ true → HeadIn row.triggers) × Sharing scope later
@@ -44,7 +44,7 @@ module _ (inside : ℕ → Bool) (names : List Trigger) where
   all_last [] y all = all.0
   all_last (x ∷ xs) y all = all_last xs y all.1
 
-  -- one that is in the set leads to others of it
+  -- a row in the set leads to others in it
   pub led_in : (from : ℕ) (tos : List ℕ) → inside from ≡ true → AllByRecursion (Leads inside from) tos → AllIn inside tos
   led_in from [] e all = tt
   led_in from (to ∷ tos) e all = (all.0 e, led_in from tos e all.1)
@@ -52,7 +52,7 @@ module _ (inside : ℕ → Bool) (names : List Trigger) where
   never : {P : Type 0} → false ≡ true → P
   never e = absurd (cc e)
 
-  -- of one row of the stretch, and what is behind it
+  -- the stretch of one row, and of the rows behind it
   one_of_stretch : (scope : Scope) (n : ℕ) (later : List Row) → AllIn inside (stretch_by scope n (stretch names later)) → AllByRecursion (Leads inside n) (next_rows names scope later)
       → (shares All scope ≡ true → inside n ≡ true) × AllIn inside (stretch names later)
   one_of_stretch (One q) n later all step = ((λ s. all_last (stretch names later) n all), all_front (stretch names later) (n ∷ []) all)
@@ -137,7 +137,7 @@ module _ (inside : ℕ → Bool) (names : List Trigger) where
   head_next [] next t w a h = absurd a
   head_next (s ∷ ts) next t w a h = led_in (number_of names s) next h w.1
 
--- ---- what is reached is closed
+-- ---- the reached set is closed
 
 not_above : (v n : ℕ) → v < n → nat_lt v n ≡ true
 not_above v n h = grind (arith, nat_tests)
@@ -161,7 +161,7 @@ module _ (reports : List Report) (opened : List OpenTrigger) (reached : Trail) (
   abbrev collection : List Trigger
   collection = collect_names (has_seen reached) 0 names []
 
-  -- reached, or no vertex
+  -- reached, or not a vertex
   abbrev inside : ℕ → Bool
   inside v = has_seen reached v || not (nat_lt v (length graph))
 
@@ -243,7 +243,7 @@ module _ (reports : List Report) (opened : List OpenTrigger) (reached : Trail) (
 
   -- ---- rows
 
-  -- all that these list has a name
+  -- all triggers that these list have a number
   abbrev Named : List Row → Type 0
   Named rows = (row : Row) (t : Trigger) → Among row rows → Among t row.triggers → Among t names
 
@@ -279,10 +279,10 @@ module _ (reports : List Report) (opened : List OpenTrigger) (reached : Trail) (
         (λ r a. rows_closed r.rows (each_at (λ (r : Report). RowsWired inside names r.rows) reports r wired.0 a) (λ row t b c. row_named reports opened r row t a b c));
   }
 
-  -- ---- and in every closed set
+  -- ---- the reached set is in every closed set
 
   module _ (good : Trigger → Bool) (closed : ClosedFor opened reports good) where
-    -- the trigger with the number is in the set
+    -- the trigger with this number is in the set
     good_at : Option Trigger → Bool
     good_at None = false
     good_at (Some t) = good t
@@ -435,7 +435,7 @@ module _ (reports : List Report) (opened : List OpenTrigger) (reached : Trail) (
   pub collection_least : IsLeast opened reports collection
   collection_least = record { ascending = collection_ascend (has_seen reached) 0 names [] tt; closed = collection_closed; least = λ good closed t a. collection_good good closed t a }
 
--- so where each part is as the code has it
+-- the same for the parts in the form of the code
 pub found_least : (reports : List Report) (opened : List OpenTrigger) (ns : List Trigger) (graph : List (List ℕ)) (roots : List ℕ) (reached : Trail) (collected : List Trigger)
     → ns ≡ names_of reports opened → graph ≡ wire_open ns (graph_of_rows ns reports) opened → roots ≡ roots_of ns opened → IsReached graph roots reached → collected ≡ collect_names (has_seen reached) 0 ns []
     → IsLeast opened reports collected

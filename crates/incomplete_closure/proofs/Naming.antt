@@ -1,4 +1,4 @@
--- Triggers and their places, and the collection of those whose places pass.
+-- Triggers and their numbers, and the collection of those whose numbers pass.
 use Rattle.std.proofs.Common.{ℕ, zero, suc, ◌+◌, ◌<◌, ◌≤◌, Bool, true, false, ◌||◌, Some, None, List, [], ◌∷◌, ◌++◌, length, get_or, drop, slice_get, nat_lt, ◌≡◌, ◌⊎◌, inl, inr, refl, sym, ◌∙◌, ap, subst, arith, if◌then◌else◌}
 use Rattle.std.specs.List.{list_any, position_or_len}
 use Rattle.std.proofs.lemmas.Bool.Decides.{nat_tests}
@@ -129,11 +129,11 @@ at_lists names i t e = among_lists names t (at names i e)
     at (s ∷ ts) zero e = let is : s ≡ t = cc e in inl is
     at (s ∷ ts) (suc i) e = inr (at ts i e)
 
--- each has one place
+-- each trigger has one place
 abbrev pub Distinct : List Trigger → Type 0
 Distinct names = (i j : ℕ) (t : Trigger) → slice_get names i ≡ Some t → slice_get names j ≡ Some t → i ≡ j
 
--- where one stands in a list with one more
+-- the place of a trigger in a list with one more
 at_more : (names : List Trigger) (s : Trigger) (i : ℕ) (t : Trigger) → slice_get (names ++ s ∷ []) i ≡ Some t → (slice_get names i ≡ Some t) ⊎ ((i ≡ length names) × (s ≡ t))
 at_more [] s zero t e = inr (refl, cc e)
 at_more [] s (suc i) t e = absurd (cc e)
@@ -185,7 +185,7 @@ distinct_open names (o ∷ os) one = distinct_open (with_name names o.trigger) o
 pub names_distinct : (rs : List Report) (os : List OpenTrigger) → Distinct (names_of rs os)
 names_distinct rs os = distinct_open (with_reports [] rs) os (distinct_reports [] rs (λ i j t e f. absurd (cc e)))
 
--- ---- all that is listed is there
+-- ---- all listed triggers have a number
 
 name_keeps : (names : List Trigger) (s t : Trigger) → Among t names → Among t (with_name names s)
 name_keeps names s t a =
@@ -257,7 +257,7 @@ found_below p (t ∷ ts) e =
     later true c e f = absurd (cc f)
     later false c e f = e
 
--- where the place is known, it stands there
+-- the trigger stands at its place
 pub place_stands : (names : List Trigger) (t : Trigger) (i : ℕ) → place_of names t ≡ Some i → slice_get names i ≡ Some t
 place_stands names t i e =
     let f = position-Some (same_trigger t) names i t e in
@@ -291,7 +291,7 @@ number_stands names t a =
     let found = place_found names t a in
     subst (λ n. slice_get names n ≡ Some t) (sym (ap (place_or (length names)) found.1)) found.2
 
--- and what stands somewhere has that number
+-- a trigger that stands at a place has that number
 pub number_at : (names : List Trigger) → Distinct names → (i : ℕ) (t : Trigger) → slice_get names i ≡ Some t → number_of names t ≡ i
 number_at names one i t e = ap (place_or (length names)) (place_at names one i t e)
 
@@ -299,7 +299,7 @@ nothing_past : (names : List Trigger) → slice_get names (length names) ≡ Non
 nothing_past [] = refl
 nothing_past (t ∷ names) = nothing_past names
 
--- at the number of a trigger stands that trigger, or nothing
+-- at the number of a trigger is that trigger, or nothing
 pub at_number : (names : List Trigger) (t : Trigger) → (slice_get names (number_of names t) ≡ Some t) ⊎ (slice_get names (number_of names t) ≡ None)
 at_number names t =
     (elim (place_of names t) as (λ o. place_of names t ≡ o → (slice_get names (place_or (length names) o) ≡ Some t) ⊎ (slice_get names (place_or (length names) o) ≡ None)) [

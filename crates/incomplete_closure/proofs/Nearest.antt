@@ -1,4 +1,4 @@
--- The nearest row of each prefix, after one more was put in.
+-- The nearest row of each prefix after one more row was added.
 use Rattle.std.proofs.Common.{ℕ, Bool, true, false, ◌==◌, Option, Some, List, [], ◌∷◌, Ordering, nat_cmp, ◌≡◌, refl, sym, ◌∙◌, ap, cond, arith, if◌then◌else◌}
 use Rattle.std.specs.Ordering.{is_eq}
 use Rattle.std.specs.Option.{option_or}

@@ -1,4 +1,4 @@
--- A set is closed for what is open and the rows of reports exactly where no step of them leaves it.
+-- A set is closed under what is open and the rows of reports exactly where no step of the reports leaves it.
 use Rattle.std.proofs.Common.{ℕ, Bool, true, false, ◌&&◌, ◌==◌, Option, Some, None, List, [], ◌∷◌, map, ◌≡◌, ◌⊎◌, inl, inr, refl, sym, ◌∙◌, ap, subst, cond, arith, find, option_map, Less, nat_lt, nat_cmp, if◌then◌else◌}
 use Rattle.std.specs.Prelude.{option_and_then}
 use Rattle.std.specs.List.{AllByRecursion}
@@ -26,7 +26,7 @@ use Rattle.incomplete_closure.proofs.Carried.{missing_open, pending_open, OneOf,
 use Rattle.incomplete_closure.proofs.Sorting.{found_passes}
 use Rattle.incomplete_closure.proofs.Least.{a_value, least_is_value}
 
--- ---- session rows as definitions see them
+-- ---- session rows as the definitions see them
 
 -- the test of a session row
 abbrev pub row_is : ℕ → ℕ → TheSessionRow → Bool
@@ -76,7 +76,7 @@ node_found (r ∷ rs) sorted g (inr a) =
     let below = each_at (λ y. nat_cmp r.node y ≡ Less) (nodes_of rs) g.node (sorted_head nat_cmp r.node (nodes_of rs) sorted) (in_map (λ (r : TheReport). r.node) rs g a) in
     rw (is_less r.node g.node below) (node_found rs (sorted_tail nat_cmp r.node (nodes_of rs) sorted) g a)
 
--- ---- what is open is found
+-- ---- open triggers and their carriers
 
 is_node : (a b : ℕ) → (a == b) ≡ true → a ≡ b
 is_node a b e = grind (arith, nat_tests)
@@ -84,7 +84,7 @@ is_node a b e = grind (arith, nat_tests)
 turned : (a b : ℕ) → (a == b) ≡ true → (b == a) ≡ true
 turned a b e = grind (arith, nat_tests)
 
--- an open trigger, with what the Down of the session lists
+-- an open trigger, with the triggers of the session's Down
 abbrev Found : List TheReport → Report → Report → Carrier → Trigger → Type 0
 Found rs from to carrier t = (o : OpenTrigger) × Among o (open_triggers rs) × (o.trigger ≡ t) × (option_map single o.down ≡ down to from.node carrier.session)
 
@@ -157,7 +157,7 @@ open_found rs sorted from to c m t ta =
     (λ oa. one_found rs sorted f.0 g.0 c f.1 g.1 (of_open (report_seen f.0) (report_seen g.0) c oa) t ta))
     m.is_open
 
--- ---- closed for them: no step leaves the set
+-- ---- a closed set: no step leaves it
 
 no_list : (d : Option Trigger) → option_map single d ≡ None → d ≡ None
 no_list None e = refl
@@ -203,7 +203,7 @@ orders_inside rs inside closed s t o i =
     subst (λ (z : Report). Precedes z.rows s t → inside t ≡ true) r.2
     (λ p. rows_step inside r.0.rows (each_at (λ (x : TheReport). ClosedRows inside x.rows) rs r.0 closed.rows r.1) s t p i) o.2
 
--- a row that lists one of the set lists no others but those of it
+-- all triggers of a row are in the set if one of them is
 together : (inside : Trigger → Bool) (rows : List TheRow) (row : Row) (s t : Trigger) → ClosedRows inside rows → Among row (map row_seen rows) → Among s row.triggers → Among t row.triggers → inside s ≡ true → inside t ≡ true
 together inside [] row s t closed a sa ta i = absurd a
 together inside (k ∷ rows) row s t closed (inl e) sa ta i =
@@ -228,10 +228,10 @@ closed_seen rs sorted inside closed = record {
   step = steps_inside rs sorted inside closed;
 }
 
--- ---- the other way
+-- ---- the other direction
 
 module _ (rs : List TheReport) (inside : Trigger → Bool) (closed : IsClosed (reports_seen rs) inside) where
-  -- what is open leads on where its Down is in the set
+  -- an open trigger is in the set if its Down is
   carrier_inside : (f g : TheReport) (c : Carrier) → Open (reports_seen rs) (report_seen f) (report_seen g) c → (t : Trigger) → Among t c.triggers
       → (d : Option Trigger) → down (report_seen g) f.node c.session ≡ option_map single d → is_due inside d ≡ true → inside t ≡ true
   carrier_inside f g c lacks t ta None e due = closed.start t (record { from = report_seen f; to = report_seen g; carrier = c; lacks = lacks; unclosed = e; lists = ta })
@@ -328,7 +328,7 @@ nodes_seen : (rs : List TheReport) → nodes_of rs ≡ map (λ (r : Report). r.n
 nodes_seen [] = refl
 nodes_seen (r ∷ rs) = ap (λ ns. r.node ∷ ns) (nodes_seen rs)
 
--- the least set that is closed for what is open and the rows is that of the value
+-- the least closed set is the set of incomplete triggers of the value
 pub least_told : (rs : List TheReport) → OfOneEpoch rs → (nodes : List ℕ) (collected : List Trigger) → nodes ≡ nodes_of rs → IsLeast (open_triggers rs) rs collected → IsValue (reports_seen rs) (a_value nodes collected)
 least_told rs one nodes collected same least =
     let sorted = sorted_from_strictly_increasing (nodes_of rs) one.nodes in

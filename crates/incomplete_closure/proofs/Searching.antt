@@ -1,4 +1,4 @@
--- What a search keeps: the vertices whose turn was lead to vertices that were seen.
+-- The invariant of a search: all targets of the vertices that had their turn were reached.
 use Rattle.std.proofs.Common.{ℕ, zero, suc, ◌+◌, ◌-◌, ◌<◌, ◌≤◌, ◌≢◌, Bool, true, false, List, [], ◌∷◌, ◌++◌, length, get_or, set, replicate, slice_get, Option, Some, None, ◌≡◌, ◌⊎◌, inl, inr, refl, sym, ◌∙◌, ap, subst, arith, if◌then◌else◌, ◌↔◌}
 use Rattle.std.proofs.lemmas.Bool.{cases_eq, cases_lt}
 use Rattle.std.proofs.lemmas.List.{get_or-set_same, get_or-set_other, length-set, length-append, length-replicate}
@@ -7,21 +7,21 @@ use Rattle.topology.specs.Lists.{Among}
 use Rattle.incomplete_closure.specs.Graphs.{led_from, edges, IsKept, Trail, has_seen, enter, enter_all, Differ, IsReached}
 use Rattle.incomplete_closure.proofs.Listing.{each_at, in_front, at_end, in_either}
 
--- ---- one vertex is entered
+-- ---- one vertex enters
 
 -- by parts
 abbrev pub seen_as : List Bool → List ℕ → Trail
 seen_as seen order = record { seen = seen; order = order }
 
--- a vertex below n was seen
+-- a vertex below n was reached
 abbrev pub SeenBelow : ℕ → Trail → ℕ → Type 0
 SeenBelow n reached w = w < n → has_seen reached w ≡ true
 
--- all below n of the list were
+-- all vertices below n of the list were
 abbrev pub AllSeen : ℕ → Trail → List ℕ → Type 0
 AllSeen n reached ws = (w : ℕ) → Among w ws → SeenBelow n reached w
 
--- the vertices that were seen and those that entered are the same, each entered once
+-- the reached vertices are those of the list, each once
 pub record Fits (n : ℕ) (reached : Trail) : Type 0 where
   pub all : length reached.seen ≡ n
   pub entered : (v : ℕ) → Among v reached.order ↔ (has_seen reached v ≡ true)
@@ -32,7 +32,7 @@ within [] v e = absurd (cc e)
 within (b ∷ seen) zero e = omega arith
 within (b ∷ seen) (suc v) e = let more = within seen v e in omega arith
 
--- not seen before
+-- not reached before
 fresh_is : (seen : List Bool) (v : ℕ) → get_or seen v true ≡ false → (v < length seen) × (get_or seen v false ≡ false)
 fresh_is [] v e = absurd (cc e)
 fresh_is (b ∷ seen) zero e = (omega arith, e)
@@ -43,7 +43,7 @@ seen_is [] v e up = absurd (omega arith)
 seen_is (b ∷ seen) zero e up = e
 seen_is (b ∷ seen) (suc v) e up = seen_is seen v e (omega arith)
 
--- setting one more keeps those that are seen
+-- marking one more keeps those that were reached
 seen_kept : (seen : List Bool) (v w : ℕ) → get_or seen w false ≡ true → get_or (set seen v true) w false ≡ true
 seen_kept [] v w e = e
 seen_kept (b ∷ seen) zero zero e = refl
@@ -67,7 +67,7 @@ seen_either (b ∷ seen) (suc v) (suc w) e = up (seen_either seen v w e)
     up (inl f) = inl (ap suc f)
     up (inr f) = inr f
 
--- one more at the end, where it was not there
+-- one more at the end, which was not there
 differ_more : (xs : List ℕ) (v : ℕ) → Differ xs → (Among v xs → ⊥) → Differ (xs ++ v ∷ [])
 differ_more [] v d new = ((λ a. a), tt)
 differ_more (x ∷ xs) v d new = (
@@ -83,7 +83,7 @@ differ_more (x ∷ xs) v d new = (
     either (inl a) = d.0 a
     either (inr a) = last a
 
--- what entering one does
+-- what entering one vertex does
 pub record Entered (n : ℕ) (before after : Trail) (vs : List ℕ) : Type 0 where
   pub fits : Fits n after
   pub kept : (w : ℕ) → has_seen before w ≡ true → has_seen after w ≡ true
@@ -212,11 +212,11 @@ entered_all n before (v ∷ vs) fits =
 
 -- ---- the search
 
--- all of the list are in the set
+-- all vertices of the list are in the set
 abbrev pub Holding : (ℕ → Bool) → List ℕ → Type 0
 Holding inside ws = (w : ℕ) → Among w ws → inside w ≡ true
 
--- after so many turns: what is left of the graph, and what was reached
+-- after this many turns: what is left of the graph, and what was reached
 pub record Going (graph : List (List ℕ)) (roots : List ℕ) (rest : List (List ℕ)) (reached : Trail) (turn : ℕ) : Type 0 where
   pub fits : Fits (length graph) reached
   pub same : length rest ≡ length graph
@@ -301,7 +301,7 @@ module _ (graph : List (List ℕ)) (roots : List ℕ) (rest : List (List ℕ)) (
   pub in_rest : v < length rest
   in_rest = subst (λ m. v < m) (g.fits.all ∙ sym g.same) (within reached.seen v here)
 
-  -- what the vertex leads to was seen now
+  -- all targets of the vertex are reached now
   all_here : AllSeen (length graph) after (led_from graph v)
   all_here = either (g.left v)
     where
@@ -388,16 +388,16 @@ going_last graph roots rest reached turn g none = record {
 
 -- ---- the bound
 
--- taking out one list leaves that many edges fewer
+-- removing one list leaves that many edges fewer
 pub edges_less : (graph : List (List ℕ)) (v : ℕ) → edges (set graph v []) + length (led_from graph v) ≡ edges graph
 unfolding edges
 edges_less [] v = refl
 edges_less (ws ∷ graph) zero = omega arith
 edges_less (ws ∷ graph) (suc v) = let more = edges_less graph v in omega arith
 
--- ---- one turn, as the code takes it
+-- ---- one turn, in the form of the code
 
--- what a turn leaves of the graph, and what it takes from the vertex
+-- what a turn removes from the graph
 pub record Turned (rest rest' : List (List ℕ)) (v : ℕ) (ws : List ℕ) : Type 0 where
   pub rest_is : rest' ≡ set rest v []
   pub targets_are : ws ≡ led_from rest v
@@ -409,14 +409,14 @@ turned_on graph roots rest rest' reached reached' turn v ws g at t e =
     (subst (λ z. Going graph roots (set rest v []) z (turn + 1)) (sym (e ∙ ap (enter_all reached) t.targets_are))
     (going_on graph roots rest reached turn v g at))
 
--- the list that is taken is that much less
+-- the removed list shrinks the graph by its length
 pub edges_taken : (rest rest' : List (List ℕ)) (v : ℕ) (ws : List ℕ) → Turned rest rest' v ws → edges rest' + length ws ≡ edges rest
 edges_taken rest rest' v ws t = ap (λ z. edges z + length ws) t.rest_is ∙ (ap (λ z. edges (set rest v []) + length z) t.targets_are ∙ edges_less rest v)
 
 measure_less : (a b l t m n : ℕ) → b ≤ a + l → m + l ≡ n → t < a → (b - (t + 1)) + m < (a - t) + n
 measure_less a b l t m n f e up = omega arith
 
--- the turns that are left and the edges become fewer
+-- the remaining turns and edges decrease
 pub turned_less : (graph : List (List ℕ)) (roots : List ℕ) (rest rest' : List (List ℕ)) (reached reached' : Trail) (turn v : ℕ) (ws : List ℕ) → Going graph roots rest reached turn → slice_get reached.order turn ≡ Some v → Turned rest rest' v ws
     → reached' ≡ enter_all reached ws → (length reached'.order - (turn + 1)) + edges rest' < (length reached.order - turn) + edges rest
 turned_less graph roots rest rest' reached reached' turn v ws g at t e =
@@ -424,7 +424,7 @@ turned_less graph roots rest rest' reached reached' turn v ws g at t e =
     (measure_less (length reached.order) (length (enter_all reached ws).order) (length ws) turn (edges rest') (edges rest)
     (entered_all (length graph) reached ws g.fits).longer (edges_taken rest rest' v ws t) (slice_get_within reached.order turn v at))
 
--- the steps that are taken, and the edges that are left
+-- the steps taken, and the edges left
 pub steps_on : (s t a b n m l : ℕ) → t ≤ s + l → b + l ≡ a → s + a ≤ n + m → t + b ≤ n + m
 steps_on s t a b n m l f e g = omega arith
 

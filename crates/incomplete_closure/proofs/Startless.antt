@@ -1,4 +1,4 @@
--- Where each receiver of what is open has closed the session, no trigger is incomplete.
+-- If each receiver of what is open has closed the session, no trigger is incomplete.
 use Rattle.std.proofs.Common.{true, false, Bool, Option, Some, None, List, [], ◌∷◌, ◌≡◌, refl, sym, ◌∙◌}
 use Rattle.std.specs.Prelude.{is_none}
 use Rattle.std.specs.List.{AllByRecursion, list_any}
@@ -11,7 +11,7 @@ use Rattle.incomplete_closure.specs.declared.opening.OpenTrigger.{OpenTrigger}
 use Rattle.incomplete_closure.specs.Opening.{is_start}
 use Rattle.incomplete_closure.specs.Closed.{is_due, ClosedAt, ClosedRows, IsLeast}
 
--- what is open to a receiver that has closed the session leads nowhere by itself
+-- an open trigger whose session is closed blocks nothing by itself
 open_closed : (opened : List OpenTrigger) → list_any is_start opened ≡ false → AllByRecursion (ClosedAt (lists [])) opened
 open_closed [] none = tt
 open_closed (o ∷ opened) none = (not_due o.down (or_left (is_start o) (list_any is_start opened) none), open_closed opened (or_right (is_start o) (list_any is_start opened) none))
@@ -20,7 +20,7 @@ open_closed (o ∷ opened) none = (not_due o.down (or_left (is_start o) (list_an
     not_due None off due = absurd (cc off)
     not_due (Some s) off due = absurd (cc due)
 
--- nor does a row of which nothing is blocked
+-- nor does a row without a blocked trigger
 none_listed : (ts : List Trigger) → list_any (lists []) ts ≡ false
 none_listed [] = refl
 none_listed (t ∷ ts) = none_listed ts
@@ -36,7 +36,7 @@ reports_closed : (reports : List Report) → AllByRecursion (λ (r : Report). Cl
 reports_closed [] = tt
 reports_closed (r ∷ reports) = (rows_closed r.rows, reports_closed reports)
 
--- so the least set is empty
+-- so the least closed set is empty
 pub none_least : (opened : List OpenTrigger) (reports : List Report) → list_any is_start opened ≡ false → IsLeast opened reports []
 none_least opened reports none = record {
   ascending = tt;

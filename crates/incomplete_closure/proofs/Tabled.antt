@@ -36,13 +36,13 @@ lookup_same p q same (e ∷ es) = rw (same e.0) (ap (λ o. cond (q e.0) (Some e.
 turned : (a b c d e f : ℕ) → (a == b && (c == d && e == f)) ≡ (b == a && (d == c && f == e))
 turned a b c d e f = grind (arith, nat_tests)
 
--- what is kept where the key was there
+-- what is stored if the key was there
 kept : (old : Option SessionRow) (same : Bool) (row : SessionRow) → (same ≡ true → is_some old ≡ true) → old ≡ option_or old (if same then Some row else None)
 kept (Some x) same row h = refl
 kept None true row h = absurd (cc (h refl))
 kept None false row h = refl
 
--- what is put in where it was not
+-- what is added if it was not
 added : (old : Option SessionRow) (same : Bool) (row : SessionRow) → (same ≡ true → old ≡ None) → cond same (Some row) old ≡ option_or old (if same then Some row else None)
 added (Some x) true row h = absurd (cc (h refl))
 added (Some x) false row h = refl
@@ -94,9 +94,9 @@ module _ (by : SessionKey → SessionKey → Ordering) (is : (j k : SessionKey) 
       flip : (a b c d e f : ℕ) → (a == b && (c == d && e == f)) ≡ (b == a && (c == d && e == f))
       flip a b c d e f = grind (arith, nat_tests)
 
--- ---- a report is filled in
+-- ---- a report is entered
 
--- a row goes from those to come into the table
+-- a row moves from those to come into the table
 pub row_moved : (a b : Option SessionRow) (here is : Bool) (x : SessionRow) (later : Option SessionRow) → b ≡ option_or a (if here && is then Some x else None)
     → option_or b (if here then later else None) ≡ option_or a (if here then cond is (Some x) later else None)
 row_moved (Some y) b here is x later e = rw e refl
@@ -124,7 +124,7 @@ same_node a b e = grind (arith, nat_tests)
 flipped : (a b : ℕ) → (a == b) ≡ (b == a)
 flipped a b = grind (arith, nat_tests)
 
--- a node that was there
+-- the node was there already
 there : (o : Option Report) (here : Bool) (r : Report) → (here ≡ true → is_some o ≡ true) → option_or o (if here then Some r else None) ≡ o
 there (Some x) here r h = refl
 there None true r h = absurd (cc (h refl))
@@ -187,7 +187,7 @@ module _ (by : ℕ → ℕ → Ordering) (is : (a b : ℕ) → by a b ≡ nat_cm
   cond_or true c = refl
   cond_or false c = refl
 
-  -- what a set has after a number was put in
+  -- the members of a set after a number was added
   pub put_has : (n : ℕ) (old new : List ℕ) → ((q : ℕ) → list_any (is_at (by q)) new ≡ cond (is_at (by n) q) true (list_any (is_at (by q)) old)) → (q : ℕ) → has new q ≡ (n == q || has old q)
   put_has n old new updates q =
       sym (contains_has q new) ∙ (updates q ∙ (rw (ap is_eq (is n q) ∙ equal_numbers n q, contains_has q old, flipped q n) (cond_or (n == q) (has old q))))

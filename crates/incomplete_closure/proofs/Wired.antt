@@ -1,4 +1,4 @@
--- What the graph of reports says: a set that no edge leaves is closed for the rows and for what is open.
+-- Edges of the graph of reports: a set that no edge leaves is closed under the rows and under what is open.
 use Rattle.std.proofs.Common.{ℕ, zero, suc, ◌+◌, ◌<◌, Bool, true, Option, Some, None, List, [], ◌∷◌, length, ◌≡◌, ◌⊎◌, inl, inr, refl, sym, ◌∙◌, ap, subst, arith, replicate}
 use Rattle.std.specs.List.{AllByRecursion}
 use Rattle.std.proofs.lemmas.List.{get_or-set_same, length-set, length-replicate}
@@ -56,7 +56,7 @@ length_graph names rs os = length_open names (graph_of_rows names rs) os ∙ len
 still_below : (v a b : ℕ) → b ≡ a → v < a → v < b
 still_below v a b e h = omega arith
 
--- ---- one edge more
+-- ---- one more edge
 
 led_linked : (graph : List (List ℕ)) (from to v : ℕ) → (led_from (linked graph from to) v ≡ led_from graph v) ⊎ ((v ≡ from) × (led_from (linked graph from to) v ≡ to ∷ led_from graph from))
 led_linked [] from to v = inl refl
@@ -78,7 +78,7 @@ AllIn inside ws = AllByRecursion (λ w. inside w ≡ true) ws
 abbrev pub Leads : (ℕ → Bool) → ℕ → ℕ → Type 0
 Leads inside from to = inside from ≡ true → inside to ≡ true
 
--- the one graph has edges more, which no set leaves for which this holds
+-- the second graph has more edges, and a set with this property keeps them inside
 pub record Adds (inside : ℕ → Bool) (graph more : List (List ℕ)) (holds : Type 0) : Type 0 where
   pub before : IsKept inside more → IsKept inside graph
   pub says : IsKept inside more → holds
@@ -121,11 +121,11 @@ module _ (inside : ℕ → Bool) where
 -- ---- rows, and what is open
 
 module _ (inside : ℕ → Bool) (names : List Trigger) where
-  -- each of the triggers and the first lead to each other
+  -- edges both ways between the first trigger and each of these
   abbrev pub TiedIn : ℕ → List Trigger → Type 0
   TiedIn first ts = AllByRecursion (λ t. Leads inside first (number_of names t) × Leads inside (number_of names t) first) ts
 
-  -- a row that lists these is tied, and leads to these
+  -- the row's triggers are tied, and lead to these rows
   abbrev pub RowWired : List Trigger → List ℕ → Type 0
   RowWired [] next = Unit {0}
   RowWired (t ∷ ts) next = TiedIn (number_of names t) ts × AllByRecursion (Leads inside (number_of names t)) next
@@ -137,7 +137,7 @@ module _ (inside : ℕ → Bool) (names : List Trigger) where
   abbrev pub ReportsWired : List Report → Type 0
   ReportsWired rs = AllByRecursion (λ (r : Report). RowsWired r.rows) rs
 
-  -- the Down leads to what is open
+  -- an edge from the Down to the open trigger
   abbrev pub DownWired : Option Trigger → Trigger → Type 0
   DownWired None t = Unit {0}
   DownWired (Some s) t = Leads inside (number_of names s) (number_of names t)
@@ -204,7 +204,7 @@ module _ (inside : ℕ → Bool) (names : List Trigger) where
   one_below : (a b : ℕ) → b ≡ a + 1 → a < b
   one_below a b e = omega arith
 
-  -- what the graph of reports and what is open adds to nothing
+  -- the edges that reports and open triggers add to the empty graph
   graph_more : (rs : List Report) (os : List OpenTrigger)
       → Adds inside (replicate (length names + 1) []) (wire_open names (graph_of_rows names rs) os) (ReportsWired rs × OpenWired os)
   unfolding graph_of_rows

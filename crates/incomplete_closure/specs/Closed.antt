@@ -1,4 +1,4 @@
--- Sets that are closed for what is open and for rows.
+-- Sets that are closed under what is open and under rows.
 use Rattle.std.specs.Prelude.{Bool, true, ◌≡◌, Option, Some, None, List, [], ◌∷◌}
 use Rattle.std.specs.List.{list_any, AllByRecursion}
 use Rattle.topology.specs.declared.names.Trigger.{Trigger}
@@ -14,29 +14,29 @@ abbrev pub is_due : (Trigger → Bool) → Option Trigger → Bool
 is_due inside None = true
 is_due inside (Some s) = inside s
 
--- the set is closed for a trigger that is open
+-- the set is closed under this open trigger
 abbrev pub ClosedAt : (Trigger → Bool) → OpenTrigger → Type 0
 ClosedAt inside o = is_due inside o.down ≡ true → inside o.trigger ≡ true
 
--- all of these are in the set
+-- all these triggers are in the set
 abbrev pub AllInside : (Trigger → Bool) → List Trigger → Type 0
 AllInside inside ts = AllByRecursion (λ t. inside t ≡ true) ts
 
--- a later row that shares a prefix is in the set, with all that it lists
+-- if the rows share a prefix, all triggers of the later one are in the set
 abbrev pub ClosedFrom : (Trigger → Bool) → Row → Row → Type 0
 ClosedFrom inside row next = shares row.scope next.scope ≡ true → AllInside inside next.triggers
 
--- what a row of the set leads to is in the set: all that it lists, and the later rows that share a prefix
+-- all triggers of the row, and those of later rows that share a prefix, are in the set
 pub record RowClosed (inside : Trigger → Bool) (row : Row) (later : List Row) : Type 0 where
   pub together : AllInside inside row.triggers
   pub order : AllByRecursion (ClosedFrom inside row) later
 
--- so for each row that lists a trigger of the set
+-- this holds for each row that lists a trigger of the set
 abbrev pub ClosedRows : (Trigger → Bool) → List Row → Type 0
 ClosedRows inside [] = Unit {0}
 ClosedRows inside (row ∷ later) = (list_any inside row.triggers ≡ true → RowClosed inside row later) × ClosedRows inside later
 
--- the set is closed for what is open and the rows of these reports
+-- the set is closed under what is open and under the rows of these reports
 pub record ClosedFor (opened : List OpenTrigger) (reports : List Report) (inside : Trigger → Bool) : Type 0 where
   pub items : AllByRecursion (ClosedAt inside) opened
   pub rows : AllByRecursion (λ (r : Report). ClosedRows inside r.rows) reports

@@ -1,5 +1,5 @@
--- What is open: the triggers of items that were sent to a node of the reports and not received there, and of updates that
--- are held back from one.
+-- Which triggers are open: those of items that were sent to a node with a report and not received there, and those of
+-- updates held back from such a node.
 use Rattle.std.specs.Prelude.{ℕ, Bool, is_none, ◌==◌, ◌&&◌, Option, Some, None, List, [], ◌++◌, nat_lt, find, map, flat_map, if◌then◌else◌}
 use Rattle.topology.specs.declared.names.Trigger.{Trigger}
 use Rattle.topology.specs.declared.items.Sent.{Sent}
@@ -9,25 +9,25 @@ use Rattle.incomplete_closure.specs.declared.session_rows.SessionRow.{SessionRow
 use Rattle.incomplete_closure.specs.declared.reports.Report.{Report}
 use Rattle.incomplete_closure.specs.declared.opening.OpenTrigger.{OpenTrigger}
 
--- the row of session s with v: the first, where rows repeat
+-- the row of session s with v; if rows repeat, the first
 abbrev pub row_of : Report → ℕ → ℕ → Option SessionRow
 row_of report v s = find (λ (row : SessionRow). row.nbr == v && row.session == s) report.sessions
 
--- how many updates were received, none where there is no row
+-- how many updates were received; 0 without a row
 abbrev pub received_of : Option SessionRow → ℕ
 received_of None = 0
 received_of (Some row) = row.received
 
--- the trigger of the Down, where there is a row and it has one
+-- the trigger of the Down, if there is a row with one
 abbrev pub down_of : Option SessionRow → Option Trigger
 down_of None = None
 down_of (Some row) = row.down
 
--- a trigger, with that of the Down
+-- a trigger together with that of the Down
 abbrev pub with_down : Option Trigger → Trigger → OpenTrigger
 with_down down t = record { trigger = t; down = down }
 
--- the triggers of an item, where its receiver has received fewer
+-- the triggers of an item, if its receiver has received fewer updates than its number
 abbrev pub if_open : Option SessionRow → Sent → List OpenTrigger
 if_open row item = if nat_lt (received_of row) item.seq then map (with_down (down_of row)) item.triggers else []
 
@@ -35,33 +35,33 @@ if_open row item = if nat_lt (received_of row) item.seq then map (with_down (dow
 abbrev pub of_node : List Report → ℕ → Option Report
 of_node reports v = find (λ (r : Report). r.node == v) reports
 
--- of an item that v sent, where its receiver has a report and lacks it
+-- the open triggers of an item that v sent, if its receiver has a report
 abbrev pub open_at : Option Report → ℕ → Sent → List OpenTrigger
 open_at None v item = []
 open_at (Some to) v item = if_open (row_of to v item.session) item
 
--- of an update that v holds back, where its receiver has a report
+-- the open triggers of an update that v holds back, if its receiver has a report
 abbrev pub waiting_at : Option Report → ℕ → Pending → List OpenTrigger
 waiting_at None v row = []
 waiting_at (Some to) v row = map (with_down (down_of (row_of to v row.session))) row.triggers
 
--- what is open of a row of v
+-- the open triggers of a row of v
 abbrev pub open_in_row : List Report → ℕ → Row → List OpenTrigger
 open_in_row reports v row = flat_map (λ (item : Sent). open_at (of_node reports item.to) v item) row.sent
 
--- of the rows of v
+-- the open triggers of rows of v
 abbrev pub open_in_rows : List Report → ℕ → List Row → List OpenTrigger
 open_in_rows reports v rows = flat_map (open_in_row reports v) rows
 
--- of what v holds back
+-- the open triggers of what v holds back
 abbrev pub waiting_in : List Report → ℕ → List Pending → List OpenTrigger
 waiting_in reports v rows = flat_map (λ (row : Pending). waiting_at (of_node reports row.to) v row) rows
 
--- of a report
+-- the open triggers of a report
 abbrev pub open_in_report : List Report → Report → List OpenTrigger
 open_in_report reports from = open_in_rows reports from.node from.rows ++ waiting_in reports from.node from.pending
 
--- all of it
+-- all open triggers
 abbrev pub open_triggers : List Report → List OpenTrigger
 open_triggers reports = flat_map (open_in_report reports) reports
 

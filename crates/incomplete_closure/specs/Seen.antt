@@ -1,4 +1,4 @@
--- Reports as definitions see them: a Down has a list of triggers.
+-- Reports of the code as the definitions see them, with a list of triggers for a Down.
 use Rattle.std.specs.Prelude.{List, [], ◌∷◌, map, option_map}
 use Rattle.topology.specs.declared.names.Trigger.{Trigger}
 use Rattle.incomplete_closure.specs.declared.cut_rows.Row.{Row as TheRow}

@@ -8,7 +8,7 @@ use Rattle.incomplete_closure.specs.declared.session_table.SessionTable.{Session
 use Rattle.incomplete_closure.specs.declared.reports.Report.{Report}
 use Rattle.incomplete_closure.specs.Opening.{row_of, of_node}
 
--- the table has rows of the node
+-- the table has the node
 abbrev pub has_node : SessionTable → ℕ → Bool
 has_node table node = has table.nodes.keys node
 
@@ -16,11 +16,11 @@ has_node table node = has table.nodes.keys node
 abbrev pub is_key : ℕ → ℕ → ℕ → SessionKey → Bool
 is_key node v s key = node == key.node && (v == key.nbr && s == key.session)
 
--- the row of session s of the node with v
+-- the row of the node's session s with v
 abbrev pub row_at : SessionTable → ℕ → ℕ → ℕ → Option SessionRow
 row_at table node v s = lookup (is_key node v s) table.rows.entries
 
--- the table has the first report of each node, and the first of its rows of each session
+-- the table has the first report of each node, and the first row of each of its sessions
 pub record IsTableOf (reports : List Report) (table : SessionTable) : Type 0 where
   pub nodes : (node : ℕ) → has_node table node ≡ is_some (of_node reports node)
   pub rows : (node v s : ℕ) → row_at table node v s ≡ option_and_then (λ (r : Report). row_of r v s) (of_node reports node)

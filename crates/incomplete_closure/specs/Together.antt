@@ -1,4 +1,4 @@
--- Reports that may be put together: of one epoch, one for each node.
+-- Reports that can be combined: all of one epoch, one for each node.
 use Rattle.std.specs.Prelude.{ℕ, ◌≡◌, List, map}
 use Rattle.std.specs.List.Sorted.{IsStrictlyIncreasing}
 use Rattle.topology.specs.Lists.{Among}
@@ -8,7 +8,7 @@ use Rattle.incomplete_closure.specs.declared.reports.Report.{Report}
 abbrev pub nodes_of : List Report → List ℕ
 nodes_of reports = map (λ (r : Report). r.node) reports
 
--- the nodes ascend, without repeats, and all are of one epoch
+-- all reports are of one epoch, and their nodes ascend without repeats
 pub record OfOneEpoch (reports : List Report) : Type 0 where
   pub epoch : (a b : Report) → Among a reports → Among b reports → a.epoch ≡ b.epoch
   pub nodes : IsStrictlyIncreasing (nodes_of reports)

@@ -1,4 +1,4 @@
-//! The rows behind a row, and to which of them it leads.
+//! The later rows of a report, and which of them a row leads to.
 ghost use Rattle.std.specs.Prelude.{ℕ, ◌≡◌, ◌<◌, ◌==◌, ◌++◌, ◌∷◌, [], Some, None, length, OnOk, if◌then◌else◌};
 ghost use Rattle.std.specs.Option.{option_to_list};
 ghost use Rattle.incomplete_closure.specs.Wiring.{nearest_by, stretch_by, fanned};
@@ -9,19 +9,19 @@ use std::alloc::Global;
 use std::collections::BTreeMap;
 use topology::{NoMemory, PrefixId, Scope};
 
-/// The rows from some row of a report on, by their numbers, as far as a row before them leads to them.
+/// The rows of a report from some row on, by number. Only those are kept to which an earlier row can lead.
 #[derive(Drop)]
 pub(crate) struct Behind {
-    /// The first row of each prefix, as far as the first row of all prefixes.
+    /// The first row of each prefix, if it comes before the first row of all prefixes.
     nearest: BTreeMap<PrefixId, usize>,
     /// The first row of all prefixes.
     all: Option<usize>,
-    /// Every row up to that one, and that one.
+    /// All rows up to the first row of all prefixes, and that row.
     stretch: Vec<usize>,
     alloc: Global,
 }
 
-// The vertex leads to each of these.
+// Adds an edge from the vertex to each target.
 fn fan_out(graph: &mut Graph, from: usize, targets: &[usize]) -> Result<(), NoMemory>
     requires { from < length graph.old }
     ensures graph { OnOk result (graph.new ≡ fanned graph.old from targets.now) }
@@ -47,7 +47,7 @@ impl Behind {
         }
     }
 
-    // The first row of this prefix, or of all.
+    // The first row of this prefix or of all prefixes.
     fn next(&self, prefix: PrefixId) -> Option<usize>
         ensures { result ≡ next_of self.now prefix }
     {
@@ -75,7 +75,7 @@ impl Behind {
         Ok(())
     }
 
-    /// Puts a row in front of the others.
+    /// Adds a row in front of the others.
     pub(crate) fn put(&mut self, number: usize, scope: &Scope) -> Result<(), NoMemory>
         ensures nearest { OnOk result ((p : ℕ) →
             next_of self.new p ≡ nearest_by scope.now number p (next_of self.old p)) }
@@ -99,7 +99,8 @@ impl Behind {
         }
     }
 
-    /// A row in front of them leads to the next row that shares its prefix, or to every row up to the next row of all.
+    /// Adds the edges of an earlier row. A row of one prefix leads to the next row that shares the prefix; a row of all
+    /// prefixes leads to every row up to the next row of all prefixes.
     pub(crate) fn lead(
         &self,
         graph: &mut Graph,

@@ -39,7 +39,8 @@ fn collect(alloc: Global, names: &Names, reached: &Reached) -> Result<Collection
     Ok(collection)
 }
 
-// Whether one is open to a receiver that has not closed the session. Every chain of blocked triggers begins at such a one.
+// Whether some trigger is open to a receiver that has not closed the session. Every chain of blocked triggers begins
+// with such a trigger.
 fn has_start(opened: &[OpenTrigger]) -> bool
     ensures { result ≡ list_any is_start opened.now }
 {
@@ -51,7 +52,7 @@ fn has_start(opened: &[OpenTrigger]) -> bool
     false
 }
 
-// The incomplete triggers, where these are open.
+// The incomplete triggers, if these are open.
 fn lead_on<L: Ledger>(
     alloc: Global,
     reports: &[Rc<Report>],
@@ -71,7 +72,7 @@ fn lead_on<L: Ledger>(
     Ok(collection)
 }
 
-// The incomplete triggers. Where no chain of blocked triggers begins there is none, and no graph is made.
+// The incomplete triggers. If no chain of blocked triggers can begin, there are none, and no graph is built.
 fn incomplete<L: Ledger>(
     alloc: Global,
     reports: &[Rc<Report>],
@@ -99,8 +100,9 @@ fn responding(alloc: Global, reports: &[Rc<Report>]) -> Result<Vec<NodeId>, NoMe
     Ok(nodes)
 }
 
-/// The value of the reports of one epoch: their nodes, and the incomplete triggers. The steps that it takes are counted:
-/// each row, item and pending row is taken at least once.
+/// The value of the reports of one epoch: their nodes, and the incomplete triggers. `steps` counts the work: each row,
+/// item and pending row is taken at least once, and there are at most six steps for each element of the reports
+/// (`size_of`).
 pub fn closure<L: Ledger>(
     alloc: Global,
     reports: &[Rc<Report>],
@@ -120,7 +122,7 @@ pub fn closure<L: Ledger>(
     })
 }
 
-// The same, where the steps are counted by a ledger of its own.
+// As `closure`, with a ledger of its own for the steps.
 fn closure_by<L: Ledger>(
     alloc: Global,
     reports: &[Rc<Report>],
@@ -138,7 +140,7 @@ fn closure_by<L: Ledger>(
     Ok(value)
 }
 
-/// The same, for a caller that counts nothing.
+/// As `closure`, for a caller that counts nothing.
 pub fn uncounted_closure(alloc: Global, reports: &[Rc<Report>]) -> Result<Value, NoMemory>
     requires { OfOneEpoch (map rc_value reports.now) }
     ensures told { IfOk result (λ value. IsValue (reports_seen (map rc_value reports.now)) value) }

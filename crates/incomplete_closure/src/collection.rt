@@ -1,4 +1,4 @@
-//! The triggers that are collected so far.
+//! The triggers that were collected so far.
 ghost use Rattle.std.specs.Prelude.{◌≡◌, [], OnOk, IfOk};
 ghost use Rattle.incomplete_closure.specs.Collection.{collect_if};
 
@@ -31,7 +31,7 @@ impl Collection {
         }
     }
 
-    /// Puts the trigger in, where there is cause for it.
+    /// Adds the trigger to the set, if `due`.
     pub(crate) fn collect_if(&mut self, due: bool, trigger: Trigger) -> Result<(), NoMemory>
         ensures { OnOk result (self.new ≡ collect_if due trigger self.old) }
     {

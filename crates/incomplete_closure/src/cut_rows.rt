@@ -1,10 +1,10 @@
-//! The entries of a cut, as a report tells them.
+//! The entries of a cut, as rows of a report.
 ghost use Rattle.std.specs.Prelude.{◌≡◌};
 
 use std::marker::Model;
 use topology::{Scope, SentItems, Triggers};
 
-/// An entry of the cut: the triggers that it lists, what it concerns, and the items that it sent.
+/// The row of an entry of the cut: the triggers that it lists, its scope, and the items that it sent.
 #[derive(Debug, Drop)]
 pub struct Row {
     pub triggers: Triggers,
@@ -28,7 +28,7 @@ impl Model for Rows {
 }
 
 impl Rows {
-    /// These rows. Takes no memory.
+    /// A report's rows from a list. Takes no memory.
     pub fn new(list: Vec<Row>) -> Rows
         ensures { result ≡ list.items }
     {

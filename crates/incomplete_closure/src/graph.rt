@@ -1,4 +1,4 @@
-//! Graphs: a vertex is a number, from 0, and leads to others.
+//! Graphs: vertices are numbers from 0, with edges to other vertices.
 ghost use Rattle.std.specs.Prelude.{◌≡◌, ◌≤◌, ◌<◌, ◌+◌, [], OnOk, IfOk, length, replicate, set};
 ghost use Rattle.incomplete_closure.specs.Chains.{chained, GoDown};
 ghost use Rattle.incomplete_closure.specs.Graphs.{led_from, linked, enter_all};
@@ -10,18 +10,18 @@ use std::marker::Model;
 use std::sync::ledger::Ledger;
 use topology::NoMemory;
 
-/// That a vertex leads to another. The edges of a vertex are a chain: each tells the place of an older one.
+/// An edge of the graph. The edges from a vertex form a chain: each has the place of an older one.
 #[derive(Clone, Copy, Debug)]
 pub(crate) struct Edge {
     to: usize,
-    // One more than the place of the next one in the chain; 0 where this is the last.
+    // One more than the place of the next edge in the chain; 0 in the last edge.
     next: usize,
 }
 
-/// To which vertices each vertex leads. All edges stand in one list, as they came.
+/// The edges of each vertex. All edges stand in one list, in the order in which they were added.
 #[derive(Drop)]
 pub(crate) struct Graph {
-    // One more than the place of the newest edge of each vertex; 0 where it has none.
+    // One more than the place of the newest edge of each vertex; 0 if it has none.
     newest: Vec<usize>,
     edges: Vec<Edge>,
 }
@@ -37,7 +37,7 @@ impl Model for Graph {
     ghost invariant = { λ g. AreChained g.newest.items g.edges.items };
 }
 
-// Enters all to which a chain leads.
+// Enters all targets of the edges in a chain.
 fn enter_chain<L: Ledger>(
     edges: &[Edge],
     newest: usize,
@@ -61,7 +61,7 @@ fn enter_chain<L: Ledger>(
 }
 
 impl Graph {
-    /// So many vertices and one more, which lead nowhere.
+    /// A graph of `vertices + 1` vertices, without edges.
     pub(crate) fn new(alloc: Global, vertices: usize) -> Result<Graph, NoMemory>
         ensures { IfOk result (λ graph. graph ≡ replicate (vertices + 1) []) }
     {
@@ -80,7 +80,7 @@ impl Graph {
         self.newest.len()
     }
 
-    /// A vertex leads to one more.
+    /// Adds an edge.
     pub(crate) fn link(&mut self, from: usize, to: usize) -> Result<(), NoMemory>
         requires { from < length self.old }
         ensures graph { OnOk result (self.new ≡ linked self.old from to) }
@@ -92,7 +92,7 @@ impl Graph {
         Ok(())
     }
 
-    /// Enters all to which a vertex leads; then it leads nowhere.
+    /// Enters all targets of a vertex, and removes its edges.
     pub(crate) fn follow<L: Ledger>(
         &mut self,
         vertex: usize,

@@ -1,4 +1,4 @@
-//! Which triggers are incomplete: reports of cuts, what is open between them, and the value agreed on.
+//! Which triggers are incomplete: reports of cuts, what is open between two reports, and the value that is agreed on.
 #![tactic(auto)]
 
 mod behind;

@@ -1,4 +1,4 @@
-//! Triggers by number.
+//! Numbers for triggers.
 ghost use Rattle.std.specs.Prelude.{◌≡◌, ◌+◌, ◌≤◌, [], length, map, slice_get, OnOk, IfOk};
 ghost use Rattle.std.specs.Rc.{rc_value};
 ghost use Rattle.incomplete_closure.specs.Names.{with_name, with_names, with_rows, with_reports, with_open, names_of, number_of};
@@ -14,7 +14,7 @@ use std::rc::Rc;
 use std::sync::ledger::Ledger;
 use topology::{NoMemory, Trigger};
 
-/// Triggers in the order in which they were added, each once. Its place there is its number.
+/// Different triggers, in the order in which they were added. The place of a trigger is its number.
 #[derive(Drop)]
 pub(crate) struct Names {
     set: IndexSet<Trigger>,
@@ -45,7 +45,7 @@ impl Names {
         self.set.len()
     }
 
-    // Puts the trigger at the end, unless it is there.
+    // Adds the trigger at the end, unless it is there.
     fn add(&mut self, trigger: Trigger) -> Result<(), NoMemory>
         ensures { OnOk result (self.new ≡ with_name self.old trigger) }
     {
@@ -53,7 +53,7 @@ impl Names {
         Ok(())
     }
 
-    // Each trigger of the list.
+    // Adds each trigger of the list.
     fn add_all<L: Ledger>(
         &mut self,
         triggers: &[Trigger],
@@ -70,7 +70,7 @@ impl Names {
         Ok(())
     }
 
-    // Each that rows list.
+    // Adds each trigger that the rows list.
     fn add_rows<L: Ledger>(&mut self, rows: &[Row], steps: &mut Steps<L>) -> Result<(), NoMemory>
         ensures names { OnOk result (self.new ≡ with_rows self.old rows.now) }
         ensures most { steps.new ≤ steps.old + (length rows.now + triggers_in rows.now) }
@@ -83,7 +83,7 @@ impl Names {
         Ok(())
     }
 
-    // Each that rows of reports list.
+    // Adds each trigger that the rows of the reports list.
     fn add_reports<L: Ledger>(
         &mut self,
         reports: &[Rc<Report>],
@@ -100,7 +100,7 @@ impl Names {
         Ok(())
     }
 
-    // Each that is open.
+    // Adds each trigger that is open.
     fn add_open<L: Ledger>(
         &mut self,
         opened: &[OpenTrigger],
@@ -117,7 +117,7 @@ impl Names {
         Ok(())
     }
 
-    /// All that reports and what is open between them list.
+    /// All triggers that reports, and what is open between them, list.
     pub(crate) fn of<L: Ledger>(
         alloc: Global,
         reports: &[Rc<Report>],
@@ -135,7 +135,7 @@ impl Names {
         Ok(names)
     }
 
-    /// The number of the trigger, or how many there are where it is none of them.
+    /// The number of the trigger. A trigger without one gets the count of all numbers.
     pub(crate) fn number(&self, trigger: &Trigger) -> usize
         ensures number { result ≡ number_of self.now trigger.now }
         ensures within { result ≤ length self.now }

@@ -1,5 +1,5 @@
-//! What is open: the triggers of items that were sent to a node of the reports and not received there, and of updates
-//! that are held back from one.
+//! Which triggers are open: those of items that were sent to a node with a report and not received there, and those of
+//! updates that are held back from such a node.
 ghost use Rattle.std.specs.Prelude.{◌≡◌, ◌++◌, ◌+◌, ◌≤◌, List, map, length, OnOk, IfOk};
 ghost use Rattle.std.specs.Rc.{rc_value};
 ghost use Rattle.incomplete_closure.specs.declared.reports.Report.{Report as AnyReport};
@@ -16,15 +16,15 @@ use std::rc::Rc;
 use std::sync::ledger::Ledger;
 use topology::{NoMemory, NodeId, Pending, Sent, Trigger, Triggers};
 
-/// A trigger that is listed by an item which its receiver has not received, or by an update that is held back: with the
-/// trigger of the `Down` of that session at the receiver, if there is one.
+/// A trigger that an item lists which its receiver has not received, or that a held-back update lists. `down` is the
+/// trigger of the receiver's `Down` of that session, if there is one.
 #[derive(Clone, Copy, Debug)]
 pub(crate) struct OpenTrigger {
     pub(crate) trigger: Trigger,
     pub(crate) down: Option<Trigger>,
 }
 
-// The trigger of the `Down` that the row tells of.
+// The trigger of the `Down` in the row, if there is one.
 fn down_of(row: &Option<SessionRow>) -> Option<Trigger>
     ensures { result ≡ down_of row.now }
 {
@@ -34,7 +34,7 @@ fn down_of(row: &Option<SessionRow>) -> Option<Trigger>
     }
 }
 
-// Puts each trigger at the end.
+// Adds each trigger at the end.
 fn push_all<L: Ledger>(
     opened: &mut Vec<OpenTrigger>,
     triggers: &Triggers,
@@ -55,7 +55,7 @@ fn push_all<L: Ledger>(
     Ok(())
 }
 
-// Puts the triggers of the item at the end, where the receiver's row tells of fewer.
+// Adds the triggers of the item at the end, if the receiver's row shows that it has not received the item.
 fn push_open<L: Ledger>(
     opened: &mut Vec<OpenTrigger>,
     row: &Option<SessionRow>,
@@ -72,7 +72,7 @@ fn push_open<L: Ledger>(
     Ok(())
 }
 
-// The same of an item of node `from`, where its receiver has a report.
+// As `push_open`, for an item of node `from`, if its receiver has a report.
 fn gather_item<L: Ledger>(
     opened: &mut Vec<OpenTrigger>,
     table: &SessionTable,
@@ -111,7 +111,7 @@ fn gather_row<L: Ledger>(
     Ok(())
 }
 
-// Those of rows.
+// The open triggers of rows.
 fn gather_rows<L: Ledger>(
     opened: &mut Vec<OpenTrigger>,
     table: &SessionTable,
@@ -131,7 +131,7 @@ fn gather_rows<L: Ledger>(
     Ok(())
 }
 
-// Those of an update that node `from` holds back, where its receiver has a report.
+// The open triggers of an update that node `from` holds back, if its receiver has a report.
 fn gather_pending<L: Ledger>(
     opened: &mut Vec<OpenTrigger>,
     table: &SessionTable,
@@ -155,7 +155,7 @@ fn gather_pending<L: Ledger>(
     )
 }
 
-// Those of all that it holds back.
+// The open triggers of all that the node holds back.
 fn gather_waiting<L: Ledger>(
     opened: &mut Vec<OpenTrigger>,
     table: &SessionTable,
@@ -175,7 +175,7 @@ fn gather_waiting<L: Ledger>(
     Ok(())
 }
 
-// Those of a report.
+// The open triggers of a report.
 fn gather_report<L: Ledger>(
     opened: &mut Vec<OpenTrigger>,
     table: &SessionTable,
@@ -194,7 +194,7 @@ fn gather_report<L: Ledger>(
     gather_waiting(opened, table, report.node, report.pending.as_slice(), steps)
 }
 
-/// What is open between the reports.
+/// The triggers that are open between the reports.
 pub(crate) fn open_triggers<L: Ledger>(
     alloc: Global,
     reports: &[Rc<Report>],

@@ -1,10 +1,10 @@
-//! What a node holds back at the end of a cut, as a report tells it.
+//! What a node holds back at the end of a cut, as rows of a report.
 ghost use Rattle.std.specs.Prelude.{◌≡◌};
 
 use std::marker::Model;
 use topology::Pending;
 
-/// The pending rows of a report: one for each neighbour and prefix whose update is held back.
+/// The pending rows of a report: one for each neighbour and prefix of which an update is held back.
 #[derive(Debug, Drop)]
 pub struct PendingRows {
     list: Vec<Pending>,
@@ -20,7 +20,7 @@ impl Model for PendingRows {
 }
 
 impl PendingRows {
-    /// These rows. Takes no memory.
+    /// A report's pending rows from a list. Takes no memory.
     pub fn new(list: Vec<Pending>) -> PendingRows
         ensures { result ≡ list.items }
     {

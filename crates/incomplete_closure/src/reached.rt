@@ -8,7 +8,7 @@ use std::marker::Model;
 use std::sync::ledger::Ledger;
 use topology::NoMemory;
 
-/// The vertices that were reached so far, in the order in which they were. Each is there once.
+/// The vertices that were reached so far, each once, in the order of their discovery.
 #[derive(Drop)]
 pub(crate) struct Reached {
     seen: Vec<bool>,
@@ -24,7 +24,7 @@ impl Model for Reached {
 }
 
 impl Reached {
-    /// None of so many.
+    /// No vertex of so many is reached yet.
     pub(crate) fn new(alloc: Global, vertices: usize) -> Result<Reached, NoMemory>
         ensures { IfOk result (λ r. r ≡ record { seen = replicate vertices false; order = [] }) }
     {
@@ -34,7 +34,7 @@ impl Reached {
         })
     }
 
-    /// Whether the vertex is one of them.
+    /// Whether the vertex was reached.
     pub(crate) fn has(&self, vertex: usize) -> bool
         ensures { result ≡ has_seen self.now vertex }
     {
@@ -52,7 +52,7 @@ impl Reached {
         self.order.get(turn).copied()
     }
 
-    /// Puts the vertex in, unless it is there.
+    /// Enters the vertex, unless it was reached before.
     pub(crate) fn enter(&mut self, vertex: usize) -> Result<(), NoMemory>
         ensures { OnOk result (self.new ≡ enter self.old vertex) }
     {
@@ -67,7 +67,7 @@ impl Reached {
         Ok(())
     }
 
-    /// Each vertex of the list.
+    /// Enters each vertex of the list.
     pub(crate) fn enter_all<L: Ledger>(
         &mut self,
         vertices: &[usize],

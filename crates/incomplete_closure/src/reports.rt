@@ -1,4 +1,4 @@
-//! Reports of cuts, and what is missing between two of them.
+//! Reports of cuts, and items that are missing between two of them.
 ghost use Rattle.std.specs.Prelude.{◌≡◌, ◌==◌, ◌&&◌, find};
 ghost use Rattle.incomplete_closure.specs.Reports.{missing as is_missing};
 ghost use Rattle.incomplete_closure.specs.Seen.{report_seen};
@@ -7,7 +7,7 @@ ghost use Rattle.incomplete_closure.specs.Opening.{row_of, received_of};
 use crate::{PendingRows, Rows, SessionRow, SessionRows};
 use topology::{Epoch, NodeId, Sent, Session};
 
-/// What a node tells of its cut of an epoch: its entries, its sessions, and what it holds back.
+/// A node's report of its cut of an epoch: its entries, its sessions, and what it holds back.
 #[derive(Debug, Drop)]
 pub struct Report {
     pub node: NodeId,
@@ -17,7 +17,7 @@ pub struct Report {
     pub pending: PendingRows,
 }
 
-// The row of the session with the neighbour: the first, where rows repeat.
+// The row of the session with the neighbour. If rows repeat, the first counts.
 pub(crate) fn session_of(report: &Report, nbr: NodeId, session: Session) -> Option<SessionRow>
     ensures { result ≡ row_of report.now nbr session }
 {
@@ -29,7 +29,7 @@ pub(crate) fn session_of(report: &Report, nbr: NodeId, session: Session) -> Opti
     None
 }
 
-// How many updates the row tells of.
+// How many updates were received, by this row; 0 without a row.
 pub(crate) fn received_of(row: &Option<SessionRow>) -> u32
     ensures { result ≡ received_of row.now }
 {
@@ -39,8 +39,8 @@ pub(crate) fn received_of(row: &Option<SessionRow>) -> u32
     }
 }
 
-/// Whether the item goes to the node of the other report, and that one has received fewer items of
-/// its session. Takes no memory.
+/// Whether the item goes to the node of the other report, which has received fewer updates in the session than the
+/// item's number. Takes no memory.
 pub fn missing(from: &Report, to: &Report, item: &Sent) -> bool
     ensures { result ≡ is_missing (report_seen from.now) (report_seen to.now) item.now }
 {

@@ -1,4 +1,4 @@
-//! The vertices of a graph to which its roots lead.
+//! A search of a graph from its roots.
 ghost use Rattle.std.specs.Prelude.{◌≡◌, ◌≤◌, ◌+◌, length, IfOk};
 ghost use Rattle.incomplete_closure.specs.Graphs.{edges, IsReached};
 
@@ -9,8 +9,8 @@ use std::alloc::Global;
 use std::sync::ledger::Ledger;
 use topology::NoMemory;
 
-/// The roots, and all to which they lead. A vertex enters the list once, and is handled when its turn
-/// comes: then its edges are taken out of the graph.
+/// The roots and all vertices that can be reached from them. A vertex enters the list once; at its turn its edges are
+/// removed from the graph, and their targets enter the list.
 pub(crate) fn search<L: Ledger>(
     alloc: Global,
     graph: &mut Graph,

@@ -1,4 +1,4 @@
-//! The sessions of a node, as a report tells them.
+//! The sessions of a node, as rows of a report.
 ghost use Rattle.std.specs.Prelude.{◌≡◌};
 
 use std::marker::Model;
@@ -14,7 +14,7 @@ pub struct SessionRow {
     pub down: Option<Trigger>,
 }
 
-/// The session rows of a report. Where rows of a neighbour and session repeat, the first counts.
+/// The session rows of a report. If a neighbour and session repeat, the first row counts.
 #[derive(Debug, Drop)]
 pub struct SessionRows {
     list: Vec<SessionRow>,
@@ -30,7 +30,7 @@ impl Model for SessionRows {
 }
 
 impl SessionRows {
-    /// These rows. Takes no memory.
+    /// A report's session rows from a list. Takes no memory.
     pub fn new(list: Vec<SessionRow>) -> SessionRows
         ensures { result ≡ list.items }
     {

@@ -31,7 +31,7 @@ pub(crate) struct SessionTable {
 }
 
 impl SessionTable {
-    /// The table of these reports: the first of each node counts, and the first row of each session.
+    /// The table of these reports. The first report of each node counts, and its first row of each session.
     pub(crate) fn of<L: Ledger>(
         alloc: Global,
         reports: &[Rc<Report>],
@@ -79,7 +79,7 @@ impl SessionTable {
         Ok(())
     }
 
-    // Puts the row in, where the table has none of its session.
+    // Adds the row, unless the table has one of its session.
     fn put(&mut self, node: NodeId, row: &SessionRow) -> Result<(), NoMemory>
         ensures nodes { OnOk result (self.new.nodes.keys ≡ self.old.nodes.keys) }
         ensures rows { OnOk result ((n v s : ℕ) → row_at self.new n v s ≡

@@ -1,11 +1,11 @@
-//! How much work a call did.
+//! A count of the work that a call did.
 ghost use Rattle.std.specs.Prelude.{ℕ, ◌≡◌, ◌+◌, ◌<◌};
 
 use std::marker::Model;
 use std::sync::ledger::{Blank, Book, Ledger, Share};
 
-/// How many rows, sent items, session rows, pending rows and listed triggers were taken from lists. It takes no bytes, and
-/// has no value when a program runs.
+/// How many rows, sent items, session rows, pending rows and listed triggers were taken from lists. The count exists
+/// only in proofs: it takes no bytes, and costs nothing when the program runs.
 #[derive(Drop)]
 pub struct Steps<L: Ledger> {
     book: Book<L>,
@@ -23,7 +23,7 @@ impl<L: Ledger> Model for Steps<L> {
 }
 
 impl<L: Ledger> Steps<L> {
-    /// None yet.
+    /// No steps yet.
     pub fn new(blank: Blank) -> Steps<L>
         requires name { blank.name ≡ L.name }
         requires parts { blank.parts ≡ L.parts }
@@ -34,7 +34,7 @@ impl<L: Ledger> Steps<L> {
         Steps { book, share }
     }
 
-    /// One more. When a program runs it does nothing.
+    /// Counts one step. In the running program this does nothing.
     pub(crate) fn take(&mut self)
         ensures { self.new ≡ self.old + 1 }
     {

@@ -1,10 +1,10 @@
-//! What is agreed on for an epoch.
+//! The value that is agreed on for an epoch.
 ghost use Rattle.std.specs.Prelude.{◌≡◌, IfOk};
 
 use std::marker::Model;
 use topology::{NoMemory, NodeId, Triggers};
 
-/// Nodes, ascending in a value.
+/// The nodes that responded. In a value they ascend.
 #[derive(Debug, Drop)]
 pub struct RespondingNodes {
     list: Vec<NodeId>,
@@ -19,7 +19,7 @@ impl Model for RespondingNodes {
 }
 
 impl RespondingNodes {
-    /// These nodes. Takes no memory.
+    /// The list as responding nodes. Takes no memory.
     pub fn new(list: Vec<NodeId>) -> RespondingNodes
         ensures { result ≡ list.items }
     {
@@ -41,7 +41,7 @@ impl RespondingNodes {
     }
 }
 
-/// The nodes that responded, ascending, and the incomplete triggers.
+/// The value of an epoch: the nodes that responded, ascending, and the incomplete triggers.
 #[derive(Debug, Drop)]
 pub struct Value {
     pub responding: RespondingNodes,
@@ -49,7 +49,7 @@ pub struct Value {
 }
 
 impl Value {
-    /// An equal value.
+    /// An equal copy.
     pub fn copy(&self) -> Result<Value, NoMemory>
         ensures { IfOk result (λ value. value ≡ self.now) }
     {

@@ -1,4 +1,4 @@
-//! The graph of reports: where a trigger is blocked, so are those to which it leads.
+//! The graph of reports: if a trigger is blocked, so is each trigger that can be reached from it.
 ghost use Rattle.std.specs.Prelude.{◌≡◌, ◌≤◌, ◌<◌, ◌+◌, ◌++◌, ◌∷◌, List, length, map, OnOk, IfOk};
 ghost use Rattle.std.specs.Rc.{rc_value};
 ghost use Rattle.incomplete_closure.specs.declared.cut_rows.Row.{Row as AnyRow};
@@ -18,7 +18,7 @@ use std::rc::Rc;
 use std::sync::ledger::Ledger;
 use topology::{NoMemory, Trigger};
 
-// The first trigger of a row and each of the others lead to each other.
+// Adds edges both ways between the first trigger of a row and each of the others.
 fn tie<L: Ledger>(
     graph: &mut Graph,
     names: &Names,
@@ -42,7 +42,7 @@ fn tie<L: Ledger>(
     Ok(())
 }
 
-// A row leads to its triggers and to later rows.
+// Adds edges from a row to its triggers and to later rows.
 fn wire_row<L: Ledger>(
     graph: &mut Graph,
     names: &Names,
@@ -69,7 +69,7 @@ fn wire_row<L: Ledger>(
     behind.put(number, &row.scope)
 }
 
-// So do the rows of a report, the last first.
+// Adds the edges of all rows of a report, the last row first.
 fn wire_rows<L: Ledger>(
     alloc: Global,
     graph: &mut Graph,
@@ -91,7 +91,7 @@ fn wire_rows<L: Ledger>(
     Ok(())
 }
 
-// And those of all reports.
+// Adds the edges of all reports.
 fn wire_reports<L: Ledger>(
     alloc: Global,
     graph: &mut Graph,
@@ -112,7 +112,7 @@ fn wire_reports<L: Ledger>(
     Ok(())
 }
 
-// The trigger of the `Down` leads to that of the item; where there is no `Down`, that one is a root.
+// Adds an edge from the trigger of the `Down` to the open trigger. If there is no `Down`, the open trigger is a root.
 fn wire_one(
     graph: &mut Graph,
     roots: &mut Vec<usize>,
@@ -132,7 +132,7 @@ fn wire_one(
     }
 }
 
-/// All that is open, in the graph; the roots of the search.
+/// Adds the edges of all that is open, and returns the roots of the search.
 pub(crate) fn wire_open<L: Ledger>(
     alloc: Global,
     graph: &mut Graph,
@@ -154,7 +154,7 @@ pub(crate) fn wire_open<L: Ledger>(
     Ok(roots)
 }
 
-/// The graph of the rows of reports, over the triggers with names.
+/// The graph of the rows of reports, over the numbered triggers.
 #[tactic(auto, unfolding(crate::specs::Wiring::graph_of_rows))]
 pub(crate) fn graph_of_rows<L: Ledger>(
     alloc: Global,

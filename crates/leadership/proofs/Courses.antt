@@ -1,4 +1,4 @@
--- Where directives lead, one after the other.
+-- The courses of directives, one after another.
 use Rattle.std.proofs.Common.{◌≡◌, ℕ, zero, suc, ◌+◌, ◌-◌, ◌<◌, Option, Some, None, List, [], ◌∷◌, ◌++◌, length, drop, get_or, refl, sym, ap, ◌∙◌, add-one, append_assoc, arith, Result, IsErr, IsErrAnd, IfErr}
 use Rattle.std.proofs.Math.Seq.{drop-cons}
 use Rattle.std.specs.Prelude.{flat_map}
@@ -16,13 +16,13 @@ use Rattle.leadership.specs.Limits.{limit_of, StopsAt}
 use Rattle.leadership.specs.Text.{Course, Leads, Stops, unless, then_on, controlled, text, text_by, said, course, stop as stop_of, stop_by}
 use Rattle.leadership.specs.Running.{StopsIn, lines_by, limit_by}
 
--- an error that a `?` hands on
+-- an error that `?` passes on
 pub handed_on : {T E : Type 0} (r : Result T E) (Q P : E → Type 0) → IsErr r × IsErrAnd r Q → ((e : E) → Q e → P e) → IfErr r P
 handed_on r Q P h step =
     let e = err_from_is_err_and r h.1 in
     rw e.1 (step e.0 e.2)
 
--- what is left begins with the directive at hand
+-- the rest begins with the present directive
 pub next_of : (lines : List Numbered) (i : ℕ) (d : Numbered) → i < length lines → d ≡ get_or lines i d → drop i lines ≡ d ∷ drop (i + 1) lines
 next_of lines i d inside at = drop-cons lines i d inside ∙ ap (λ (e : Numbered). e ∷ drop (suc i) lines) (sym at) ∙ ap (λ n. d ∷ drop n lines) (sym (add-one i))
 
@@ -66,7 +66,7 @@ module _ (members : List ℕ) (events : List LeadEvent) (lines : List Numbered) 
       ∙ (ap (λ (ds : List Numbered). written ++ text members events ds) (sym (next_of lines i d inside at))
       ∙ so_far)
 
-  -- the text so far, and that of what is left, are the text of all
+  -- the text so far and the text of the rest are the whole text
   pub text_step : (now : List LeadEvent) (all written : List ℕ) → led ≡ Leads now → written ++ text members events (drop i lines) ≡ all
       → (written ++ words_here) ++ text members now (drop (i + 1) lines) ≡ all
   text_step now all written goes so_far =
@@ -74,13 +74,13 @@ module _ (members : List ℕ) (events : List LeadEvent) (lines : List Numbered) 
       ∙ (ap (λ bytes. written ++ (words_here ++ bytes)) (sym (rest_goes led (λ later. text members later (drop (i + 1) lines)) now goes))
       ∙ text_here all written so_far)
 
-  -- what stops what is left stops all
+  -- what stops the rest stops everything
   pub stop_step : (now : List LeadEvent) (reached : Option (LimitKind × ℕ)) → led ≡ Leads now → stop_of members events (drop i lines) ≡ reached → stop_of members now (drop (i + 1) lines) ≡ reached
   stop_step now reached goes so_far =
       sym (stop_goes led (λ later. stop_of members later (drop (i + 1) lines)) now goes)
       ∙ (ap (stop_of members events) (sym (next_of lines i d inside at)) ∙ so_far)
 
-  -- the directive at hand is stopped: no text is left, and all is stopped there
+  -- the present directive is stopped: no text is left, and everything is stopped there
   pub stops_here : (reached : Option (LimitKind × ℕ)) → stop_of members events (drop i lines) ≡ reached → (one : LimitKind × ℕ) → limit_by led ≡ Some one → (rest_here ≡ []) × (reached ≡ Some one)
   stops_here reached so_far one stops = (
     rest_none led (λ later. text members later (drop (i + 1) lines)) one stops,
@@ -119,7 +119,7 @@ module _ (members : List ℕ) (events : List LeadEvent) (n : ℕ) where
       → controlled members (suc n) events ≡ then_on (unless (limit_of members events (Control number)) (events ++ Control number ∷ [])) (controlled members n)
   control_on number e = control_by ∙ ap after_mail e
 
-  -- one message more
+  -- one more message
   pub control_goes : (number : ℕ) → next_mail members events ≡ Some number → limit_of members events (Control number) ≡ None
       → controlled members (suc n) events ≡ controlled members n (events ++ Control number ∷ [])
   control_goes number e within = control_on number e ∙ ap (λ (o : Option (LimitKind × ℕ)). then_on (unless o (events ++ Control number ∷ [])) (controlled members n)) within

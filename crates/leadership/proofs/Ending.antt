@@ -1,4 +1,4 @@
--- What each end of a script gives of the promise.
+-- What each end of a script gives for the promise.
 use Rattle.std.proofs.Common.{◌≡◌, ℕ, zero, suc, ◌++◌, ◌<◌, ◌≤◌, inl, inr, Option, Some, None, IfSome, List, [], ◌∷◌, length, Result, Ok, Err, true, false, not, true≢false, nat_lt, nat_le, refl, sym, ap, ◌∙◌, subst, arith}
 use Rattle.std.specs.Prelude.{MatchBool, if◌then◌else◌}
 use Rattle.std.specs.Io.KnownBytes.{IsAtEnd}
@@ -27,7 +27,7 @@ use Rattle.leadership.specs.Scripts.{directives_of, first_bad}
 use Rattle.leadership.specs.Text.{Course, Leads, Stops, controlled, course, events_of, stop, stop_by, text, then_on, unless}
 use Rattle.leadership.proofs.Running.{one_chosen}
 
--- what a told source gave is what it told
+-- what a source that tells its bytes gave
 pub known : (told : Option (List ℕ)) (items : List ℕ) → IfSome told (λ bytes. items ≡ bytes) → (bytes : List ℕ) → told ≡ Some bytes → items ≡ bytes
 known None items h bytes e = absurd (cc e)
 known (Some b) items h bytes e = let same : b ≡ bytes = cc in h ∙ same
@@ -59,7 +59,7 @@ module _ (source source' : SourceView) (bytes : List ℕ) (read : (told : List �
   never_long : {P : Type 0} (told : List ℕ) → source.left ≡ Some told → MOST_BYTES < length told → P
   never_long told t long = absurd (let same = ap length (read told t) in omega arith)
 
-  -- the script is refused by a line
+  -- the script is refused, and a line is named
   pub ends_bad : (sink : SinkView) (line : ℕ) (kind : BadKind) → first_bad bytes ≡ Some (line, kind) → Led source source' sink sink (BadSchedule line kind)
   ends_bad sink line kind bad =
       let told_bad : (told : List ℕ) → source.left ≡ Some told → first_bad told ≡ Some (line, kind) = λ told t. subst (λ b. first_bad b ≡ Some (line, kind)) (read told t) bad in
@@ -83,7 +83,7 @@ module _ (source source' : SourceView) (bytes : List ℕ) (read : (told : List �
         same_room = refl;
       }
 
--- the script was run, and so it ended
+-- the script was run, and ended like this
 abbrev pub status_of : Result (Unit {0}) RunEnd → Status
 status_of (Ok _) = Done
 status_of (Err end.NoMemory) = NoMemory

@@ -1,4 +1,4 @@
--- The greatest ballots of each epoch tell what was promised.
+-- The greatest ballots of each epoch give what was promised.
 use Rattle.std.proofs.Common.{ℕ, zero, suc, ◌<◌, Bool, true, false, nat_le, ◌≡◌, Option, Some, None, Result, Ok, Err, OnOk, List, [], ◌∷◌, length, get_or, set, refl, sym, ◌∙◌, ap, ap₂, subst, arith, if◌then◌else◌}
 use Rattle.topology.specs.Ballots.{below}
 use Rattle.topology.specs.declared.ballots.Ballot.{Ballot}
@@ -10,7 +10,7 @@ use Rattle.leadership.specs.declared.floors.Span.TheVariants.{All, From, UpTo, O
 use Rattle.leadership.specs.Facts.{PrepareFrom}
 use Rattle.leadership.specs.Floors.{Floor, AddsMessage, Raises, covers, floor_at, greatest_in, with_floor}
 
--- ---- the greater one of ballots
+-- ---- the greater of ballots
 
 -- the greater one of two
 abbrev of_two : Ballot → Ballot → Option Ballot
@@ -26,7 +26,7 @@ two a b =
       ]) refl
     ] refl
 
--- the order in which ballots come means nothing
+-- the order of the ballots does not matter
 swap : (a b : Ballot) (x : Option Ballot) → greater a (greater b x) ≡ greater b (greater a x)
 swap a b None = two a b
 swap a b (Some c) =
@@ -47,7 +47,7 @@ swap a b (Some c) =
       ]) refl
     ] refl
 
--- a ballot that is below a later one means nothing
+-- a ballot below a later one does not matter
 over : (f b : Ballot) (x : Option Ballot) → below f b ≡ true → greater b (greater f x) ≡ greater b x
 over f b None up = rw up refl
 over f b (Some c) up =
@@ -71,7 +71,7 @@ under f b (Some c) is =
       | false ↦ λ at_most. let all : below c b ≡ false = at_most_trans b f c is at_most in rw all refl
     ] refl
 
--- ---- one ballot more
+-- ---- one more ballot
 
 -- a ballot before all floors may come behind them
 behind : (span : Span) (floors : List Floor) (b : Ballot) (before : Option Ballot) → greatest_in span floors (greater b before) ≡ greater b (greatest_in span floors before)
@@ -103,7 +103,7 @@ raised_there (g ∷ floors) (suc place) e b f lt here is up = λ span before.
     let less : place < length floors = omega (arith, lt) in
     raised_there floors place e b f less here is up span (with_floor span before g)
 
--- or is not below it already
+-- or the floor is not below it already
 pub raised_before : (floors : List Floor) (place e : ℕ) (b : Ballot) (f : Floor) → place < length floors → get_or floors place f ≡ f → f.epoch ≡ e → below f.ballot b ≡ false → Raises e b floors floors
 raised_before [] place e b f lt here is up = absurd (omega (arith, lt))
 raised_before (g ∷ floors) zero e b f lt here is up = λ span before.
@@ -116,7 +116,7 @@ raised_before (g ∷ floors) (suc place) e b f lt here is up = λ span before.
     let less : place < length floors = omega (arith, lt) in
     raised_before floors place e b f less here is up span (with_floor span before g)
 
--- ---- one message more
+-- ---- one more message
 
 -- what follows where a call ends well
 pub where_ok : {V E P Q : Type 0} (result : Result V E) → (P → Q) → OnOk result P → OnOk result Q

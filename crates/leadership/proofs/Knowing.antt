@@ -1,4 +1,4 @@
--- Messages go from member to member.
+-- Messages go from members to members.
 use Rattle.std.proofs.Common.{ℕ, suc, ◌+◌, Bool, true, false, not, ◌&&◌, ◌||◌, ◌==◌, ◌≡◌, ◌⊎◌, Option, Some, None, List, [], ◌∷◌, length, find, fold, refl, sym, ◌∙◌, ap, ap₂, subst, arith, inl, inr, ⊎_elim, if◌then◌else◌}
 use Rattle.std.specs.Prelude.{slice_get}
 use Rattle.std.specs.List.{list_all, range_with_len}
@@ -32,7 +32,7 @@ use Rattle.leadership.proofs.Running.{letter_sent, mail_of}
 pub Known : List ℕ → Chronicle → Type 0
 Known members past = (from to : ℕ) (m : Message) → Among (Mail from to m) past → Among from members × Among to members
 
--- what stands there was sent before, or is one of these
+-- a message was sent before, or is one of these
 posted_from : (u : ℕ) (ms : List (ℕ × Message)) (past : Chronicle) (from to : ℕ) (m : Message) → Among (Mail from to m) (posted u ms past) → Among (Mail from to m) past ⊎ ((u ≡ from) × Among (to, m) ms)
 posted_from u [] past from to m h = inl h
 posted_from u (n ∷ ms) past from to m h =
@@ -133,7 +133,7 @@ known_from members (e ∷ events) past fit k =
     known_from members events (after members past e) (and_right (fits members e) (list_all (fits members) events) fit)
     (known_after e members past (and_left (fits members e) (list_all (fits members) events) fit) k)
 
--- so in every run of events of members
+-- so in every run of the members' events
 pub run_known : (members : List ℕ) (events : List LeadEvent) → list_all (fits members) events ≡ true → Known members (run members events)
 unfolding run Known
 run_known members events fit = known_from members events [] fit (λ from to m h. absurd h)

@@ -1,4 +1,4 @@
--- What was sent stays, and what an event sends stands behind it.
+-- Sent messages stay, and an event adds its messages at the end.
 use Rattle.std.proofs.Common.{ℕ, Bool, true, false, ◌≡◌, Option, Some, None, List, [], ◌∷◌, ◌++◌, if◌then◌else◌}
 use Rattle.leadership.specs.declared.events.LeadEvent.{LeadEvent}
 use Rattle.leadership.specs.declared.events.LeadEvent.TheVariants as event
@@ -13,7 +13,7 @@ use Rattle.leadership.specs.Run.{delivered as comes}
 use Rattle.leadership.proofs.Changing.{mailed_posted}
 use Rattle.leadership.proofs.Hearing.{append_none}
 
--- the messages of the first are the first ones of the second
+-- the messages of the first chronicle are the first of the second
 abbrev pub GoOn : (past now : Chronicle) → Type 0
 GoOn past now = (more : List Letter) × (mailed now ≡ mailed past ++ more)
 

@@ -1,4 +1,4 @@
--- What is kept of offers is told by the messages.
+-- The stored offers are those of the messages.
 use Rattle.std.proofs.Common.{ℕ, ◌≡◌, Bool, false, ◌==◌, ◌&&◌, ◌||◌, List, [], ◌∷◌, ◌++◌, nat_cmp, true, refl, sym, ◌∙◌, ap₂, arith}
 use Rattle.std.specs.BTreeSet.{BTreeSet, contains}
 use Rattle.std.specs.Ordering.{is_eq, ordering_then}
@@ -23,7 +23,7 @@ told (PrepareFrom d c) from u e b = never (from == u)
 told (PromiseFrom d c named) from u e b = never (from == u)
 told (Accepted d c) from u e b = never (from == u)
 
--- one message more
+-- one more message
 pub offers_more : (offers now : BTreeSet Offer) (letters : List Letter) (l : Letter) → AreOffers offers letters → ((o : Offer) → contains by_parts now o ≡ (is_offer (offer_of l) o || contains by_parts offers o)) → AreOffers now (letters ++ l ∷ [])
 offers_more offers now letters l are added u e b =
     added (record { from = u; epoch = e; ballot = b })

@@ -1,4 +1,4 @@
--- A search that begins behind what does not wait.
+-- A search may begin after messages that do not wait.
 use Rattle.std.proofs.Common.{ℕ, zero, suc, ◌+◌, ◌<◌, ◌≤◌, ◌≡◌, Bool, true, false, not, ◌&&◌, ◌||◌, ◌==◌, Some, List, [], ◌∷◌, ◌++◌, length, get_or, set, refl, sym, ◌∙◌, ap, subst, arith, drop, if◌then◌else◌}
 use Rattle.std.specs.Prelude.{slice_get}
 use Rattle.std.specs.BTreeSet.{BTreeSet, contains}
@@ -34,7 +34,7 @@ waiting_behind sites numbers (suc n) k (m ∷ ms) h =
     subst (λ z. waits sites numbers z o ≡ false) at (h (suc j) o less is))
     ∙ rw here refl)
 
--- so a search may begin behind them
+-- so a search may begin after them
 pub waiting_on : (sites : List Site) (numbers : BTreeSet ℕ) (n : ℕ) (ms : List Letter) → NoneWaits sites numbers ms n → first_waiting sites numbers (suc n) (drop n ms) ≡ first_waiting sites numbers 1 ms
 waiting_on sites numbers n ms h =
     let begins : suc n ≡ 1 + n = omega arith in
@@ -43,7 +43,7 @@ waiting_on sites numbers n ms h =
 
 -- ---- fronts
 
--- the front of each, also of one that has none
+-- the front of each member; 0 for a node without one
 pub front_is : (fronts : List Front) (numbers : BTreeSet ℕ) (letters : List Letter) (u : ℕ) → AreFronts fronts numbers letters → IsFront u numbers letters (front_of u fronts)
 front_is [] numbers letters u are = record { within = omega arith; passed = λ k m lt is. absurd (omega (arith, lt)) }
 front_is (f ∷ fronts) numbers letters u are =
@@ -52,7 +52,7 @@ front_is (f ∷ fronts) numbers letters u are =
       | false ↦ λ off. front_is fronts numbers letters u are.1
     ] refl
 
--- none of the first messages waits, where the fronts of all that run go so far
+-- none of the first messages waits, if the fronts of all running members reach that far
 pub none_waits : (fronts : List Front) (sites : List Site) (numbers : BTreeSet ℕ) (letters : List Letter) (n low : ℕ) → AreFronts fronts numbers letters → IsLow fronts sites n low → NoneWaits sites numbers letters low
 none_waits fronts sites numbers letters n low are is k m lt at =
     elim (runs_in sites m.to) as (λ t. runs_in sites m.to ≡ t → (not (contains nat_cmp numbers (suc k)) && t) ≡ false) [
@@ -90,7 +90,7 @@ front_set [] place f numbers letters are one = tt
 front_set (g ∷ fronts) zero f numbers letters are one = (one, are.1)
 front_set (g ∷ fronts) (suc place) f numbers letters are one = (are.0, front_set fronts place f numbers letters are.1 one)
 
--- ---- more messages, and more that were delivered
+-- ---- more messages, and more deliveries
 
 get_before : (letters more : List Letter) (k : ℕ) → k < length letters → slice_get (letters ++ more) k ≡ slice_get letters k
 get_before [] more k lt = absurd (omega (arith, lt))
@@ -135,7 +135,7 @@ pub or_true : (a b : Bool) → b ≡ true → (a || b) ≡ true
 or_true true b h = refl
 or_true false b h = h
 
--- one message further
+-- one more message
 pub front_on : (u i : ℕ) (numbers : BTreeSet ℕ) (letters : List Letter) (m : Letter) → IsFront u numbers letters i → m ≡ get_or letters i m → i < length letters → passes numbers u (i + 1) m ≡ true → IsFront u numbers letters (i + 1)
 front_on u i numbers letters m is at lt passed =
     let got : slice_get letters i ≡ Some m = slice_get_read letters (length letters) i m refl lt at in

@@ -1,4 +1,4 @@
--- Lines of a script, read one after the other.
+-- The lines of a script, read one after another.
 use Rattle.std.proofs.Common.{◌≡◌, ◌≢◌, ℕ, suc, ◌<◌, Bool, true, false, ◌||◌, ◌==◌, Option, Some, None, Result, Ok, Err, List, [], ◌∷◌, ◌++◌, map, get_or, append_assoc, refl, sym, ap, ◌∙◌, subst, arith}
 use Rattle.std.specs.Prelude.{OnOk, option_map, slice_range, find, bytes_eq}
 use Rattle.std.specs.Option.{option_or}
@@ -54,7 +54,7 @@ no_words words [] h none = refl
 no_words words (w ∷ ws) h none = absurd (omega (arith, h.counted, none))
 
 module _ (words : Words) (all : List (List ℕ)) (begun : Bool) (h : Holds words all) (some : 0 < words.count) where
-  -- the first word is no keyword
+  -- the first word is not a keyword
   pub other_first : keyword_in words.first.now ≡ None → word_fault begun all ≡ Some UnknownWord
   other_first none =
       let f = has_first words all h some in
@@ -99,7 +99,7 @@ known_more members u (Event e) h = fits_more members u e h
 known_more members u (Deliveries times) h = refl
 known_more members u ShowChosen h = refl
 
--- what names members names members of a longer list
+-- a directive that names only members names only members of a longer list
 pub all_known_more : (members : List ℕ) (u : ℕ) (directives : List Numbered) → AllKnown members directives → AllKnown (members ++ u ∷ []) directives
 all_known_more members u directives h = λ i d lt. known_more members u (get_or directives i d).directive (h i d lt)
 
@@ -130,7 +130,7 @@ bad_step old new number words left rest whole is takes fine so_far =
     ∙ (sym (ap (λ o. bad_or number o (first_bad_from (suc number) (with_line (line_of words) old) rest)) fine)
     ∙ (ap (first_bad_from number old) (sym is) ∙ so_far))
 
--- or is the first bad one
+-- or it is the first bad line
 pub bad_here : (old : Before) (number : ℕ) (words : List (List ℕ)) (left rest : List (List (List ℕ))) (whole : Option (ℕ × BadKind)) (kind : BadKind) → left ≡ words ∷ rest → fault old words ≡ Some kind
     → first_bad_from number old left ≡ whole → whole ≡ Some (number, kind)
 bad_here old number words left rest whole kind is bad so_far =

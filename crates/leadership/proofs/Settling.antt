@@ -1,4 +1,4 @@
--- The values that a world keeps stay those that are chosen.
+-- The stored values remain those that are chosen.
 use Rattle.std.proofs.Common.{ℕ, Bool, true, false, ◌&&◌, ◌||◌, ◌==◌, ◌≡◌, ◌⊎◌, Option, Some, None, List, [], ◌∷◌, ◌++◌, refl, sym, ◌∙◌, ap, subst, inl, inr, ⊎_elim, if◌then◌else◌}
 use Rattle.topology.specs.Lists.{Among}
 use Rattle.topology.specs.Paths.{differ}
@@ -22,7 +22,7 @@ use Rattle.leadership.specs.Votes.{won_in}
 use Rattle.leadership.proofs.Choosing.{a_vote, asked, chosen_computed, chosen_is, chosen_won, heard_accept, heard_voted, voted_heard, won_chosen, won_in_is}
 use Rattle.leadership.proofs.Stepping.{run_more}
 
--- ---- one vote more, at most
+-- ---- at most one more vote
 
 -- each member voted as before, or for this vote, and then it did
 pub Grows : Option Vote → (past now : Chronicle) → Type 0
@@ -80,7 +80,7 @@ grows_letter members past (Some m) =
     (grows_unless (vote_in m.message) past now (refusal members past m.to m.from m.message)
     (grows_heard m.message past m.to m.from (answers members past m.to m.from m.message)))
 
--- an event adds its vote at most
+-- an event adds at most its vote
 pub grows_after : (e : LeadEvent) (members : List ℕ) (past : Chronicle) → Grows (vote_of (mailed past) e) past (after members past e)
 unfolding after step starts
 grows_after (event.Lead u e) members past =
@@ -97,14 +97,14 @@ grows_after (event.Restart u) members past =
       | false ↦ stays None past
     ]
 
--- and none where it does nothing
+-- and none if it does nothing
 told : (did : Step) (past : Chronicle) (o : Option Vote) (why : Option LeadReason) → why ≡ reason_of did → Grows o past (chronicle_of past did) → Grows (vote_where why o) past (chronicle_of past did)
 told (Idle reason) past o why h g = stays (vote_where why o) past
 told (Goes now) past o why h g = subst (λ q. Grows (vote_where q o) past now) (sym h) g
 
 -- ---- what is chosen then
 
--- who voted for a value still does
+-- a member that voted for a value still did
 moves : (members : List ℕ) (past now : Chronicle) (e x : ℕ) (w : Chosen members past e x) → ((a : ℕ) → Among a w.who → voted past a (a_vote e w.ballot x) ≡ true → voted now a (a_vote e w.ballot x) ≡ true) → Chosen members now e x
 unfolding a_vote
 moves members past now e x w sub = record {
@@ -131,7 +131,7 @@ all_or P Q (x ∷ xs) h =
     (λ q. inr q)
     (h x)
 
--- what is newly chosen is the vote
+-- a newly chosen value is that of the vote
 newly : (o : Option Vote) (members : List ℕ) (past now : Chronicle) (e x : ℕ) → Grows o past now → (w : Chosen members now e x) → Chosen members past e x ⊎ (o ≡ Some (a_vote e w.ballot x))
 unfolding Grows
 newly o members past now e x h w =
@@ -141,7 +141,7 @@ newly o members past now e x h w =
     (all_or (λ a. voted now a (a_vote e w.ballot x) ≡ voted past a (a_vote e w.ballot x)) (o ≡ Some (a_vote e w.ballot x)) w.who
     (λ a. ⊎_elim (λ is. inl is) (λ (did : (o ≡ Some (a_vote e w.ballot x)) × (voted now a (a_vote e w.ballot x) ≡ true)). inr did.0) (h a (a_vote e w.ballot x))))
 
--- ---- what is kept of it
+-- ---- the stored choices
 
 abbrev a_choice : ℕ → ℕ → Choice
 a_choice e x = record { epoch = e; value = x }
@@ -171,7 +171,7 @@ with_new sites v choices is won =
     (subst (λ t. value_of v.epoch (if t then choices ++ a_choice v.epoch v.value ∷ [] else choices) ≡ Some v.value) (sym won)
     (value_last v.epoch choices (a_choice v.epoch v.value) is ∙ ap (λ t. if t then Some v.value else None) (same_refl v.epoch)))
 
--- nothing is added for e, unless the vote is of e and won
+-- nothing is added for e, unless the vote is for e and is won
 won_none : (sites : List Site) (v : Vote) (q : Option ℕ) (choices : List Choice) (e : ℕ) → value_of e choices ≡ None → (won_in sites v ≡ true → v.epoch ≡ e → ⊥) → value_of e (with_won sites v q choices) ≡ None
 won_none sites v (Some y) choices e is never = is
 won_none sites v None choices e is never =
@@ -219,7 +219,7 @@ module _ (sites : List Site) (members : List ℕ) (before now : List LeadEvent) 
         ]) refl
       ]) refl
 
--- one event more
+-- one more event
 pub settled : (old new : Network) (events : List LeadEvent) (event : LeadEvent) (why : Option LeadReason) (choices : List Choice) → Stands (run old.members.items events) old → Stands (run new.members.items (events ++ event ∷ [])) new
     → why ≡ reason_of (step old.members.items (run old.members.items events) event) → new.members.items ≡ old.members.items → AreChosen choices old.members.items events
     → AreChosen (with_vote new.sites.items (vote_where why (vote_of old.mails event)) choices) new.members.items (events ++ event ∷ [])

@@ -1,4 +1,4 @@
--- One event more.
+-- One more event.
 use Rattle.std.proofs.Common.{suc, zero, get_or, ℕ, ◌≤◌, Bool, true, false, ◌&&◌, ◌||◌, nat_le, nat_lt, ◌≡◌, Option, Some, None, List, [], ◌∷◌, ◌++◌, length, fold, refl, sym, ◌∙◌, ap, ap₂, subst, arith, if◌then◌else◌, ◌<◌, ◌==◌, inl, inr}
 use Rattle.std.specs.BTreeSet.{BTreeSet, contains}
 use Rattle.std.specs.Ordering.{nat_cmp}
@@ -29,7 +29,7 @@ use Rattle.leadership.proofs.Sited.{round_is}
 use Rattle.leadership.specs.Network.{AreSites, AreToMembers, HaveRounds, Stands, ComesTo, HappensIn, StopsBy}
 use Rattle.leadership.specs.Run.{Step, Idle, Goes, at_place, mailed, step, chronicle_of, after, run}
 
--- the run of one event more
+-- the run of one more event
 pub run_more : (members : List ℕ) (events : List LeadEvent) (event : LeadEvent) → run members (events ++ event ∷ []) ≡ chronicle_of (run members events) (step members (run members events) event)
 unfolding run after
 run_more members events event = fold-append (after members) [] events (event ∷ [])
@@ -49,7 +49,7 @@ delivered_more : (members : List ℕ) (k : ℕ) (events : List LeadEvent) (event
 unfolding delivered run
 delivered_more members k events event = delivered_on members k [] events event
 
--- what a step comes to is its chronicle, with its reason
+-- the result of a step is its chronicle, with its reason
 comes : (did : Step) (past : Chronicle) (why : Option LeadReason) (net : Network) → ComesTo did past why net → Stands (chronicle_of past did) net × (why ≡ reason_of did)
 comes (Idle reason) past why net h = (h.1, h.0)
 comes (Goes now) past why net h = (h.1, h.0)
@@ -80,7 +80,7 @@ step_holds old new before now events event why h fit marked members few goes =
       both.1,
     )
 
--- the limit on messages, where there are so many
+-- the limit of messages, if there are so many
 abbrev limit_at : ℕ → Option (LimitKind × ℕ)
 limit_at n = let at : LimitKind × ℕ = (Control, MOST_CONTROL) in if nat_lt MOST_CONTROL n then Some at else None
 
@@ -107,7 +107,7 @@ pub holds_nothing : (net : Network) (numbers : BTreeSet ℕ) → Stands [] net �
 unfolding run delivered
 holds_nothing net numbers h silent empty = record { stands = h; fit = refl; few = (let size = ap length silent in omega (arith, size)); marks = empty }
 
--- a step that is made takes no count above its number
+-- a step that is made takes no count above its limit
 pub step_within : (old new : Network) (before now : BTreeSet ℕ) (events : List LeadEvent) (event : LeadEvent) → nat_le MOST_EVENTS (length events) ≡ false → new.members.items ≡ old.members.items
     → Holds new now (events ++ event ∷ []) → limit_of old.members.items events event ≡ None
 unfolding limit_of after
@@ -138,7 +138,7 @@ rounds_left net numbers events h room i d lt =
     site_there past (s ∷ ss) zero x l g = g.0
     site_there past (s ∷ ss) (suc k) x l g = let smaller : k < length ss = omega (arith, l) in site_there past ss k x smaller g.1
 
--- who is one of the list is found in it
+-- a member of the list is found in it
 there : (n : ℕ) (ns : List ℕ) → Among n ns → has ns n ≡ true
 there n [] h = absurd h
 there n (m ∷ ns) (inl e) = let same : (m == n) ≡ true = grind (arith, nat_tests) in rw same refl

@@ -1,4 +1,4 @@
--- Words that spell a value, and words that are compared.
+-- Words that spell a value, and comparisons of words.
 use Rattle.std.proofs.Common.{◌≡◌, ◌≢◌, ℕ, ◌<◌, ◌≤◌, ◌^◌, ◌&&◌, true, false, List, refl, sym, ap, ◌∙◌, inl, inr, arith}
 use Rattle.std.specs.Prelude.{nat_le, bytes_eq}
 use Rattle.std.specs.Fmt.{decimal}

@@ -26,11 +26,11 @@ voters_from e u b [] vs these h = h
 voters_from e u b (g ∷ heard) vs these h =
     voters_from e u b heard (if votes_in e b g.message then g.from ∷ vs else vs) (with_acceptance g.from (accepted_in b g.message) these) (voter_more g.message e u g.from b vs these h)
 
--- who accepted b for e is told by them
+-- they tell who accepted b for e
 pub voters_told : (e u : ℕ) (b : Ballot) (heard : List Hearing) → has (voters_heard e b heard) u ≡ has_acceptance e u (acceptances b heard)
 voters_told e u b heard = voters_from e u b heard [] [] refl
 
--- so where the ballot is watched
+-- the same if the ballot is watched
 pub voters_kept : (watched : Option Ballot) (who : List ℕ) (these : List Acceptance) (heard : List Hearing) (of : Ballot) (e u : ℕ) → AreCounted watched who these heard → is_watched watched of ≡ true → has_acceptance e u these ≡ has (voters_heard e of heard) u
 voters_kept None who these heard of e u h k = absurd (true≢false (sym k))
 voters_kept (Some b) who these heard of e u h k =

@@ -21,7 +21,7 @@ use Rattle.topology.specs.Lists.{ascending}
 line : List ℕ → List ℕ
 line words = words ++ 10 ∷ []
 
--- a leader that is promised by all, with one value for each of two epochs
+-- a leader that all promise, with one value for each of two epochs
 two_epochs : List ℕ
 unfolding line
 two_epochs =
@@ -37,7 +37,7 @@ two_epochs_say : text (members two_epochs) [] (directives_of two_epochs) ≡ lin
 unfolding two_epochs line members_of directives_of left_of words_of ascending next_mail delivered chosen_for limit_of step run after starts offers hears answers carried refusal digits
 two_epochs_say = refl
 
--- a second leader of the later epochs, which has to go on with a value that the first one gave
+-- a second leader of the later epochs, which must go on with a value that the first one gave
 two_leaders : List ℕ
 unfolding line
 two_leaders =

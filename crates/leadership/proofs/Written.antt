@@ -1,4 +1,4 @@
--- How a run of directives ends, and what it has written.
+-- How a run of directives ends, and what it wrote.
 use Rattle.std.proofs.Common.{◌≡◌, ◌≢◌, ℕ, ◌≤◌, true, false, Result, Ok, Err, OnOk, OnErr, IsErr, IsErrAnd, is_err, Option, Some, None, List, [], ◌++◌, take, drop, refl, sym, ap, ◌∙◌, subst, append_assoc}
 use Rattle.std.specs.Io.KnownBytes.{Appends}
 use Rattle.std.proofs.lemmas.List.{append-nil, take-append-drop}
@@ -39,11 +39,11 @@ runs_whole sink sink' all written rest stopped wrote so_far none no_stop stays r
       cause = stays_quiet sink.faults sink'.faults (λ e. cc e) quiet;
     }
 
--- the answer is of no account in a failure
+-- the answer does not matter after a failure
 pub as_err : {T U : Type 0} (why other : RunEnd) → ◌≡◌ {A = Result U RunEnd} (Err why) (Err other) → ◌≡◌ {A = Result T RunEnd} (Err why) (Err other)
 as_err why other e = let same : why ≡ other = cc in rw same refl
 
--- a piece behind what was written ended the run
+-- a piece after what was written ended the run
 pub runs_err : {T U : Type 0} (sink mid sink' : SinkView) (all written piece rest : List ℕ) (here stopped : Option (LimitKind × ℕ)) (why : RunEnd) → Appends sink.held mid.held written → written ++ (piece ++ rest) ≡ all
     → ((one : LimitKind × ℕ) → here ≡ Some one → (rest ≡ []) × (stopped ≡ Some one))
     → Runs {T = T} mid sink' piece here (Err why) → StaysTold sink.held mid.held → mid.room ≡ sink.room → mid.faults ≡ sink.faults
@@ -91,7 +91,7 @@ runs_none {T = T} sink text stopped why no_fault stops = record {
 pub runs_short : {T : Type 0} (sink : SinkView) (text : List ℕ) (stopped : Option (LimitKind × ℕ)) (why : RunEnd) → why ≡ NoMemory → Runs {T = T} sink sink text stopped (Err why)
 runs_short {T = T} sink text stopped why is = runs_none {T = T} sink text stopped why (λ e. cc (is, e)) (λ kind number e. absurd (cc (is, e)))
 
--- a run that ends with what a `?` hands on
+-- a run that ends with an error that `?` passes on
 pub handed_runs : {T : Type 0} (r : Result T RunEnd) (Q : RunEnd → Type 0) (sink sink' : SinkView) (text : List ℕ) (stopped : Option (LimitKind × ℕ)) → IsErr r × IsErrAnd r Q
     → ((e : RunEnd) → Q e → Runs {T = T} sink sink' text stopped (Err e)) → Runs sink sink' text stopped r
 handed_runs r Q sink sink' text stopped h step =
@@ -124,7 +124,7 @@ module _ {T : Type 0} (sink sink' : SinkView) (words : List ℕ) (led : Course) 
     cause = stays_quiet sink.faults sink'.faults (λ e. cc e) quiet;
   })
 
-  -- or they were not
+  -- or they were not written
   pub runs_cut : AppendsFront sink.held sink'.held words → sink.faults ≤ sink'.faults → Rose sink.faults sink'.faults → Runs {T = T} sink sink' (lines_by words led) (limit_by led) (Err WriteFault)
   runs_cut cut later rose = on_led (Err WriteFault) (record {
     whole = tt;

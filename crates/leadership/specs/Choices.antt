@@ -1,4 +1,4 @@
--- Which values are chosen, as a world keeps them.
+-- The chosen values, as a world stores them.
 use Rattle.std.specs.Prelude.{ℕ, ◌≡◌, ◌==◌, Option, Some, None, List, [], ◌∷◌, ◌++◌, if◌then◌else◌}
 pub use Rattle.leadership.specs.declared.choices.Choice.{Choice}
 use Rattle.leadership.specs.declared.events.LeadEvent.{LeadEvent}
@@ -10,12 +10,12 @@ use Rattle.leadership.specs.Facts.{Message, Accept}
 use Rattle.leadership.specs.Run.{Letter, at_place, run}
 use Rattle.leadership.specs.Votes.{won_in}
 
--- the value that is kept for e
+-- the stored value of e
 abbrev pub value_of : ℕ → List Choice → Option ℕ
 value_of e [] = None
 value_of e (c ∷ choices) = if c.epoch == e then Some c.value else value_of e choices
 
--- the choices are the values that are chosen, and no others
+-- the stored choices are exactly the chosen values
 abbrev pub AreChosen : List Choice → (members : List ℕ) → List LeadEvent → Type 0
 AreChosen choices members events = (e : ℕ) → value_of e choices ≡ chosen_for members (run members events) e
 
@@ -28,17 +28,17 @@ abbrev pub vote_by : Option Letter → Option Vote
 vote_by None = None
 vote_by (Some m) = vote_in m.message
 
--- the vote that the event may add to, where these messages were sent
+-- the vote that the event may add to, if these messages were sent
 abbrev pub vote_of : List Letter → LeadEvent → Option Vote
 vote_of letters (Control number) = vote_by (at_place number letters)
 vote_of letters other = None
 
--- the vote, where the event did something
+-- the vote, if the event did something
 abbrev pub vote_where : Option LeadReason → Option Vote → Option Vote
 vote_where None o = o
 vote_where (Some why) o = None
 
--- one choice more, where there is none for the epoch and the vote is won
+-- one more choice, if the epoch has none and the vote is won
 abbrev pub with_won : List Site → Vote → Option ℕ → List Choice → List Choice
 with_won sites v None choices =
     if won_in sites v then choices ++ record { epoch = v.epoch; value = v.value } ∷ [] else choices

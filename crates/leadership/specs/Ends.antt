@@ -1,4 +1,4 @@
--- The end of a run that a world stops.
+-- The end of a run for each stop of a world.
 use Rattle.leadership.specs.declared.stops.LeadStop.{LeadStop}
 use Rattle.leadership.specs.declared.stops.LeadStop.TheVariants as stop
 use Rattle.leadership.specs.declared.ends.RunEnd.{RunEnd}

@@ -1,4 +1,4 @@
--- What a user is promised of a script of members that is run.
+-- What a user is promised about a script that is run.
 use Rattle.std.specs.Prelude.{ℕ, Bool, true, false, not, MatchBool, ◌≡◌, ◌≤◌, ◌<◌, ◌⊎◌, Option, Some, None, List, [], length}
 use Rattle.std.specs.Io.KnownBytes.{Appends, IsAtEnd}
 use Rattle.topology.specs.Lists.{ascending, Begins}
@@ -18,8 +18,8 @@ use Rattle.leadership.specs.Text.{events_of, stop, text}
 abbrev pub members : List ℕ → List ℕ
 members bytes = ascending (members_of bytes)
 
--- no line of the bytes is bad, and this is the text of their run, up to the directive that a limit stops, and that
--- limit, where one does
+-- no line of the bytes is bad, and this is the text of their run, up to the directive at which a limit stops it, and
+-- that limit, if there is one
 pub record ScriptRun (bytes : List ℕ) : Type 0 where
   pub good : first_bad bytes ≡ None
   pub written : List ℕ
@@ -27,12 +27,12 @@ pub record ScriptRun (bytes : List ℕ) : Type 0 where
   pub text : text (members bytes) [] (directives_of bytes) ≡ written
   pub stop : stop (members bytes) [] (directives_of bytes) ≡ stopped
 
--- nothing was written, or a front of the text of the script
+-- nothing was written, or the first part of the script's text
 abbrev pub WroteFront : List ℕ → Option (List ℕ) → Option (List ℕ) → Type 0
 WroteFront bytes held held' =
     (held' ≡ held) ⊎ ((run : ScriptRun bytes) × (some : List ℕ) × Begins some run.written × Appends held held' some)
 
--- a limit of the run, and not of the script
+-- the limit is one of the run, and not of the script
 abbrev pub is_of_run : LimitKind → Bool
 is_of_run Bytes = false
 is_of_run Events = true
@@ -46,7 +46,7 @@ is_of_run Frames = true
 is_of_run Marks = true
 is_of_run Journal = true
 
--- the counts of a script and of its run that have a limit
+-- a count of the script or of its run that has a limit
 abbrev pub is_counted : LimitKind → Bool
 is_counted Bytes = true
 is_counted Events = true
@@ -77,7 +77,7 @@ ends_lead (BadJournal offset fault) = false
 ends_lead (BadTables line) = false
 ends_lead (Inconsistent line kind) = false
 
--- the statuses before which nothing is run
+-- the statuses at which nothing was run
 abbrev pub ends_early : Status → Bool
 ends_early Done = false
 ends_early Usage = true
@@ -94,7 +94,7 @@ ends_early (BadJournal offset fault) = true
 ends_early (BadTables line) = true
 ends_early (Inconsistent line kind) = true
 
--- the statuses before which the script was read to its end
+-- the statuses at which the script was read to its end
 abbrev pub ends_read : Status → Bool
 ends_read Done = true
 ends_read Usage = false
@@ -111,53 +111,53 @@ ends_read (BadJournal offset fault) = false
 ends_read (BadTables line) = false
 ends_read (Inconsistent line kind) = false
 
--- the run would take that count above its number, and the text of the directives before was written
+-- the run would exceed this limit, and the text of the directives before was written
 abbrev pub StopsRun : List ℕ → LimitKind × ℕ → Option (List ℕ) → Option (List ℕ) → Type 0
 StopsRun bytes limit held held' = (run : ScriptRun bytes) × (run.stopped ≡ Some limit) × Appends held held' run.written
 
--- why a limit is named: the script is too long, or it stops the run
+-- why a limit is named: the script is too long, or the limit stops the run
 abbrev pub IsLimit : List ℕ → LimitKind → ℕ → Option (List ℕ) → Option (List ℕ) → Type 0
 IsLimit bytes kind number held held' =
     MatchBool (is_of_run kind) (StopsRun bytes (kind, number) held held')
     ((number ≡ MOST_BYTES) × (MOST_BYTES < length bytes))
 
--- how it ends, on a source and a sink as they were and as they are then
+-- how it ends, given the source and the sink before and after
 pub record Led (source source' : SourceView) (sink sink' : SinkView) (status : Status) : Type 0 where
-  -- never Usage, and nothing of a link, a frame or a network
+  -- never Usage, and no status of a link, a frame or a network
   pub formed : ends_lead status ≡ true
   -- Done: no limit stopped the run, and its whole text was written
   pub done : status ≡ Done → (bytes : List ℕ) → source.left ≡ Some bytes
       → (run : ScriptRun bytes) × (run.stopped ≡ None) × Appends sink.held sink'.held run.written
-  -- in the run behind the text two values that are chosen for an epoch are one
+  -- in the run of that text any two chosen values of an epoch are equal
   pub agreed : ends_read status ≡ true → (bytes : List ℕ) → source.left ≡ Some bytes
       → (run : ScriptRun bytes) → IsAgreed (members bytes) (events_of (members bytes) [] (directives_of bytes))
-  -- BadSchedule: the line is the first bad one, and this is what is wrong with it
+  -- BadSchedule: this line is the first bad one, with this fault
   pub bad_script : (line : ℕ) (kind : BadKind) → status ≡ BadSchedule line kind
       → (bytes : List ℕ) → source.left ≡ Some bytes → first_bad bytes ≡ Some (line, kind)
-  -- Limit: the count would pass its number
+  -- Limit: the count would exceed its limit
   pub limit : (kind : LimitKind) (number : ℕ) → status ≡ Limit kind number
       → (bytes : List ℕ) → source.left ≡ Some bytes → IsLimit bytes kind number sink.held sink'.held
-  -- ReadFault, WriteFault: a call of that side failed; after every other answer none has
+  -- ReadFault, WriteFault: a call of that side failed; at every other status none did
   pub read_fault : RoseIf (status ≡ ReadFault) source.faults source'.faults
   pub write_fault : RoseIf (status ≡ WriteFault) sink.faults sink'.faults
-  -- a write fault cuts the text off
+  -- at a write fault the text is cut off
   pub cut_off : status ≡ WriteFault → (bytes : List ℕ) → source.left ≡ Some bytes
       → (run : ScriptRun bytes) × AppendsFront sink.held sink'.held run.written
-  -- whatever the end, what was written is a front of the text
+  -- at every status, what was written is the first part of the text
   pub front : (bytes : List ℕ) → source.left ≡ Some bytes → WroteFront bytes sink.held sink'.held
-  -- and nothing was written where nothing was run
+  -- nothing was written if nothing was run
   pub silent : ends_early status ≡ true → sink'.held ≡ sink.held
-  -- nothing is left of the script once it was parsed
+  -- nothing is left of the script once it was read
   pub read : ends_read status ≡ true → IsAtEnd source'.left
-  -- a script of the grammar is run to its end, or up to the limit that stops it, unless a side fails or memory runs out
+  -- a script of the grammar is run to its end, or to the limit that stops it, unless a side fails or memory runs out
   pub complete : (bytes : List ℕ) → source.left ≡ Some bytes → length bytes ≤ MOST_BYTES → (run : ScriptRun bytes)
       → (run.stopped ≡ None → (status ≡ Done) ⊎ ((status ≡ NoMemory) ⊎ ((status ≡ ReadFault) ⊎ (status ≡ WriteFault))))
       × ((kind : LimitKind) (number : ℕ) → run.stopped ≡ Some (kind, number)
       → (status ≡ Limit kind number) ⊎ ((status ≡ NoMemory) ⊎ ((status ≡ ReadFault) ⊎ (status ≡ WriteFault))))
-  -- one outside the grammar is refused by its first bad line, unless a read fails or memory runs out
+  -- a script outside the grammar is refused, and its first bad line named, unless a read fails or memory runs out
   pub refused : (bytes : List ℕ) → source.left ≡ Some bytes → length bytes ≤ MOST_BYTES → (line : ℕ) (kind : BadKind)
       → first_bad bytes ≡ Some (line, kind) → (status ≡ BadSchedule line kind) ⊎ ((status ≡ NoMemory) ⊎ (status ≡ ReadFault))
-  -- so is one that is too long, by its length
+  -- so is a script that is too long
   pub too_long : (bytes : List ℕ) → source.left ≡ Some bytes → MOST_BYTES < length bytes
       → (status ≡ Limit Bytes MOST_BYTES) ⊎ ((status ≡ NoMemory) ⊎ (status ≡ ReadFault))
   -- no call changes how much the sink can hold

@@ -13,28 +13,28 @@ use Rattle.leadership.specs.Run.{Letter, Step, Idle, Goes, at_place, step, chron
 use Rattle.leadership.specs.Sites.{IsSite, next_round, nodes_of}
 use Rattle.leadership.specs.Mails.{StopsAbove}
 
--- each keeps what its member does
+-- each site has the state of its member
 abbrev pub AreSites : Chronicle → List Site → Type 0
 AreSites past [] = Unit {0}
 AreSites past (s ∷ sites) = IsSite past s × AreSites past sites
 
--- the members keep what they do, and the messages are those that were sent
+-- the members have their states, and the messages are those that were sent
 pub record Stands (past : Chronicle) (net : Network) : Type 0 where
   pub members : nodes_of net.sites.items ≡ net.members.items
   pub apart : differ net.members.items ≡ true
   pub sites : AreSites past net.sites.items
   pub mails : net.mails ≡ mailed past
 
--- what the step comes to: the reason that was told, or none, and the network as it leaves it
+-- the result of the step: the reason that was returned, if any, and the network after it
 abbrev pub ComesTo : Step → Chronicle → Option LeadReason → Network → Type 0
 ComesTo (Idle reason) past why net = (why ≡ Some reason) × Stands past net
 ComesTo (Goes now) past why net = (why ≡ None) × Stands now net
 
--- the network goes on as the event does
+-- the network changes as the event does
 abbrev pub HappensIn : LeadEvent → (old new : Network) → Option LeadReason → Type 0
 HappensIn event old new why = (past : Chronicle) → Stands past old → ComesTo (step old.members.items past event) past why new
 
--- it stops where there was no memory, or where the event sends too many messages
+-- it stops if memory ran out, or if the event sends too many messages
 abbrev pub StopsBy : LeadEvent → Network → LeadStop → Type 0
 StopsBy event old stop =
     (past : Chronicle) → Stands past old → StopsAbove (length (mailed (chronicle_of past (step old.members.items past event)))) stop
@@ -43,7 +43,7 @@ StopsBy event old stop =
 abbrev pub Hears : (u from : ℕ) → Message → (old new : Network) → Type 0
 Hears u from m old new = (past : Chronicle) → Stands past old → Stands (hears old.members.items past u from m) new
 
--- there was no memory, or its answers are too many
+-- memory ran out, or there are too many answers
 abbrev pub HearStops : (u from : ℕ) → Message → Network → LeadStop → Type 0
 HearStops u from m old stop =
     (past : Chronicle) → Stands past old → StopsAbove (length (mailed (hears old.members.items past u from m))) stop

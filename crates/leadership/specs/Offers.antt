@@ -1,4 +1,4 @@
--- Who gave which epoch a value, as it is kept beside the messages.
+-- The offers, as they are stored beside the messages.
 use Rattle.std.specs.Prelude.{ℕ, ◌≡◌, Bool, false, Option, Some, None, List}
 use Rattle.std.specs.BTreeSet.{BTreeSet, contains}
 use Rattle.std.specs.Ordering.{is_eq, nat_cmp, ordering_then}
@@ -17,7 +17,7 @@ by_ballot a b = ordering_then (nat_cmp a.round b.round) (nat_cmp a.node b.node)
 abbrev pub by_parts : Offer → Offer → Ordering
 by_parts a b = ordering_then (nat_cmp a.from b.from) (ordering_then (nat_cmp a.epoch b.epoch) (by_ballot a.ballot b.ballot))
 
--- what a message of u gives, where it gives an epoch a value
+-- the offer of a message of u, if it gives an epoch a value
 abbrev pub offer_in : (u : ℕ) → Message → Option Offer
 offer_in u (Accept e b x) = Some (record { from = u; epoch = e; ballot = b })
 offer_in u other = None
@@ -30,7 +30,7 @@ abbrev pub is_offer : Option Offer → Offer → Bool
 is_offer None o = false
 is_offer (Some p) o = is_eq (by_parts p o)
 
--- they are the offers of these messages
+-- the set has the offers of these messages
 abbrev pub AreOffers : BTreeSet Offer → List Letter → Type 0
 AreOffers offers letters =
     (u e : ℕ) (b : Ballot) → contains by_parts offers (record { from = u; epoch = e; ballot = b }) ≡ offered_in u e b letters

@@ -11,12 +11,12 @@ use Rattle.leadership.specs.declared.scripts.Line.{Line}
 use Rattle.leadership.specs.declared.scripts.Numbered.{Numbered}
 use Rattle.leadership.specs.Scripts.{Before, asked, fields, first_bad, first_fault, form_fault, is_known, line_by, with_line}
 
--- an answer of the reader: the line of a keyword and the words behind it, or their first fault
+-- the reader returns the line of a keyword and the words after it, or their first fault
 abbrev pub ReadsAs : Keyword → List (List ℕ) → Result Line BadKind → Type 0
 ReadsAs keyword words (Ok said) = (said ≡ line_by keyword words) × (first_fault (fields keyword words) words ≡ None)
 ReadsAs keyword words (Err kind) = first_fault (fields keyword words) words ≡ Some kind
 
--- an answer of the check of a line's form: nothing is wrong with it, or its first fault
+-- the check of a line's form returns no fault, or the first one
 abbrev pub HasForm : {T : Type 0} → (begun : Bool) → Keyword → List (List ℕ) → Result T BadKind → Type 0
 HasForm begun keyword words (Ok done) = form_fault begun keyword words ≡ None
 HasForm begun keyword words (Err kind) = form_fault begun keyword words ≡ Some kind
@@ -25,18 +25,18 @@ HasForm begun keyword words (Err kind) = form_fault begun keyword words ≡ Some
 abbrev pub before_of : Draft → Before
 before_of draft = record { members = draft.members.nodes; begun = draft.begun }
 
--- each directive names members alone
+-- each directive names only members
 abbrev pub AllKnown : (members : List ℕ) → List Numbered → Type 0
 AllKnown members directives = All (λ (d : Numbered). IsTrue (is_known members d.directive)) directives
 
--- the draft goes on by the line with this number
+-- the draft after the line with this number
 pub record Takes (old : Draft) (number : ℕ) (said : Option Line) (new : Draft) : Type 0 where
   pub before : before_of new ≡ with_line said (before_of old)
   pub directives : new.directives.items ≡ old.directives.items ++ asked number said
   pub apart : differ old.members.nodes ≡ true → differ new.members.nodes ≡ true
   pub known : AllKnown old.members.nodes old.directives.items → AllKnown new.members.nodes new.directives.items
 
--- a line is named where it is the first bad one, with what is wrong; want of memory may come at any time
+-- a named line is the first bad one, with its fault; want of memory may come at any time
 abbrev pub SaysWhy : List ℕ → ScriptEnd → Type 0
 SaysWhy bytes NoMemory = Unit {0}
 SaysWhy bytes (Bad number kind) = first_bad bytes ≡ Some (number, kind)

@@ -1,4 +1,4 @@
--- What a run of directives asks and leaves.
+-- What a run of directives needs, and what it leaves.
 use Rattle.std.specs.Prelude.{ℕ, ◌≡◌, Option, Some, None, List, [], Result, OnOk, IsErrOf}
 use Rattle.std.specs.Io.KnownBytes.{Appends}
 use Rattle.route_io.specs.Causes.{RoseIf, AppendsFront, StaysTold}
@@ -12,7 +12,7 @@ use Rattle.leadership.specs.declared.stops.LeadStop.TheVariants as stop
 use Rattle.leadership.specs.Text.{Course, Leads, Stops}
 use Rattle.leadership.specs.View.{LeadView}
 
--- the world has the same members, and its events are those to which the course leads
+-- the world has the same members, and its events are those of the course
 pub record Advances (old new : LeadView) (led : Course) : Type 0 where
   pub same_members : new.members ≡ old.members
   pub leads : led ≡ Leads new.events
@@ -22,18 +22,18 @@ abbrev pub StopsIn : Course → LeadStop → Type 0
 StopsIn led stop.NoMemory = Unit {0}
 StopsIn led (stop.Limit kind number) = led ≡ Stops kind number
 
--- the lines that are written on the way: none where a limit stops it
+-- the lines that are written on the way; none if a limit stops it
 abbrev pub lines_by : List ℕ → Course → List ℕ
 lines_by words (Leads events) = words
 lines_by words (Stops kind number) = []
 
--- the limit that stops it
+-- the limit that stops it, if any
 abbrev pub limit_by : Course → Option (LimitKind × ℕ)
 limit_by (Leads events) = None
 limit_by (Stops kind number) = Some (kind, number)
 
--- what came of the run of a text that this limit stops, where one does: it was written whole, or
--- else a front of it, which is not the whole where the sink failed
+-- the result of running a text, which this limit stops, if any: the text was written whole, or only its first part,
+-- which is not all of it if the sink failed
 pub record Runs {T : Type 0} (sink sink' : SinkView) (text : List ℕ) (stopped : Option (LimitKind × ℕ)) (result : Result T RunEnd) : Type 0 where
   pub whole : OnOk result (Appends sink.held sink'.held text × (stopped ≡ None))
   pub limit : (kind : LimitKind) (number : ℕ) → IsErrOf result (Limit kind number)

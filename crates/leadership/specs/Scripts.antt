@@ -1,4 +1,4 @@
--- Which lines make a script, and what is wrong with the first that does not.
+-- Which lines make a script, and the fault of the first line that does not fit.
 use Rattle.std.specs.Prelude.{ℕ, suc, ◌==◌, ◌||◌, nat_le, Bool, true, false, not, Option, Some, None, List, [], ◌∷◌, ◌++◌, length, find, codes, bytes_eq, option_map, if◌then◌else◌}
 use Rattle.std.specs.Option.{option_or}
 use Rattle.topology.specs.Lists.{has}
@@ -19,7 +19,7 @@ use Rattle.leadership.specs.Fits.{fits}
 
 -- ---- words
 
--- the word that a line begins with
+-- the first word of a line of this kind
 abbrev pub keyword_text : Keyword → List ℕ
 keyword_text Member = codes "member"
 keyword_text Begin = codes "begin"
@@ -36,7 +36,7 @@ keywords = Member ∷ Begin ∷ Lead ∷ Offer ∷ Control ∷ Crash ∷ Restart
 abbrev pub keyword_in : List ℕ → Option Keyword
 keyword_in word = find (λ (k : Keyword). bytes_eq word (keyword_text k)) keywords
 
--- the line stands behind begin
+-- lines of this kind stand after begin
 abbrev pub directs : Keyword → Bool
 directs Member = false
 directs Begin = false
@@ -47,7 +47,7 @@ directs Crash = true
 directs Restart = true
 directs Show = true
 
--- the line may have so many words, the first one counted
+-- such a line may have n words, the first one included
 abbrev pub may_have : Keyword → ℕ → Bool
 may_have Member n = n == 2
 may_have Begin n = n == 1
@@ -58,7 +58,7 @@ may_have Crash n = n == 2
 may_have Restart n = n == 2
 may_have Show n = n == 2 || n == 3
 
--- what a word behind the first may be: a number in a range, or this word
+-- what a word after the first can be: a number in a range, or this word
 pub data Field : Type 0 where
   Number : (low high : ℕ) → Field
   Word : (word : List ℕ) → Field
@@ -69,7 +69,7 @@ node_number = Number 1 HIGHEST_NODE
 abbrev pub epoch_number : Field
 epoch_number = Number 1 HIGHEST_EPOCH
 
--- what is to stand behind the first word, where these words do
+-- the fields after the first word, for these words
 abbrev pub fields : Keyword → List (List ℕ) → List Field
 fields Member words = node_number ∷ []
 fields Begin words = []
@@ -81,17 +81,17 @@ fields Crash words = node_number ∷ []
 fields Restart words = node_number ∷ []
 fields Show words = Word (codes "chosen") ∷ []
 
--- the word is one that may stand there
+-- the word may stand in this field
 abbrev pub spells : Field → List ℕ → Bool
 spells (Number low high) word = spells_number low high word
 spells (Word one) word = bytes_eq word one
 
--- what is wrong with another word
+-- the fault of any other word in the field
 abbrev pub fault_of : Field → BadKind
 fault_of (Number low high) = BadNumber
 fault_of (Word one) = UnknownWord
 
--- the first fault from the left; words that are missing or left over are the wrong number of words
+-- the first fault from the left; missing or additional words are a wrong number of words
 abbrev pub first_fault : List Field → List (List ℕ) → Option BadKind
 first_fault [] [] = None
 first_fault [] (word ∷ words) = Some WrongCount
@@ -101,7 +101,7 @@ first_fault (field ∷ fields) (word ∷ words) =
 
 -- ---- lines
 
--- what a line says, where nothing is wrong with its words
+-- the meaning of a line, if its words have no fault
 abbrev pub line_by : Keyword → List (List ℕ) → Line
 line_by Member words = line.Member (number_at 0 words)
 line_by Begin words = line.Begin
@@ -113,7 +113,7 @@ line_by Crash words = line.Directs (Event (event.Crash (number_at 0 words)))
 line_by Restart words = line.Directs (Event (event.Restart (number_at 0 words)))
 line_by Show words = line.Directs ShowChosen
 
--- a line without words says nothing
+-- the meaning of these words; a line without words has none
 abbrev pub line_of : List (List ℕ) → Option Line
 line_of [] = None
 line_of (word ∷ words) = option_map (λ (k : Keyword). line_by k words) (keyword_in word)
@@ -130,14 +130,14 @@ nothing = record { members = []; begun = false }
 abbrev pub is_here : (begun : Bool) → Keyword → Bool
 is_here begun keyword = if directs keyword then begun else not begun
 
--- it stands on the other side of begin, or has too few or too many words
+-- the line stands on the wrong side of begin, or has too few or too many words
 abbrev pub form_fault : (begun : Bool) → Keyword → List (List ℕ) → Option BadKind
 form_fault begun keyword words =
     if not (is_here begun keyword) then Some NotHere
     else if not (may_have keyword (suc (length words))) then Some WrongCount
     else None
 
--- the first fault of a line that begins with a keyword, or with another word
+-- the first fault of a line that begins with this keyword, or with no keyword
 abbrev pub fault_by : (begun : Bool) → Option Keyword → List (List ℕ) → Option BadKind
 fault_by begun None words = Some UnknownWord
 fault_by begun (Some keyword) words = option_or (form_fault begun keyword words) (first_fault (fields keyword words) words)
@@ -147,20 +147,20 @@ abbrev pub word_fault : (begun : Bool) → List (List ℕ) → Option BadKind
 word_fault begun [] = None
 word_fault begun (word ∷ words) = fault_by begun (keyword_in word) words
 
--- a member that is declared is new, and one of seven at most
+-- a declared member must be new, and at most the seventh
 abbrev pub member_fault : (members : List ℕ) → ℕ → Option BadKind
 member_fault members u =
     if has members u then Some DuplicateNode
     else if nat_le MOST_MEMBERS (length members) then Some TooMany
     else None
 
--- the directive names declared members alone
+-- the directive names only declared members
 abbrev pub is_known : (members : List ℕ) → Directive → Bool
 is_known members (Event e) = fits members e
 is_known members (Deliveries times) = true
 is_known members ShowChosen = true
 
--- what is wrong with the names of a line
+-- the fault of the names of a line
 abbrev pub name_fault : (members : List ℕ) → Line → Option BadKind
 name_fault members (line.Member u) = member_fault members u
 name_fault members line.Begin = None
@@ -170,7 +170,7 @@ abbrev pub names_fault : (members : List ℕ) → Option Line → Option BadKind
 names_fault members None = None
 names_fault members (Some said) = name_fault members said
 
--- what is wrong with a line of these words: the first fault of its words, or else of its names
+-- the fault of a line of these words: the first fault of the words, or else of the names
 abbrev pub fault : Before → List (List ℕ) → Option BadKind
 fault before words = option_or (word_fault before.begun words) (names_fault before.members (line_of words))
 
@@ -188,7 +188,7 @@ abbrev pub declared : Before → List (List (List ℕ)) → Before
 declared before [] = before
 declared before (words ∷ lines) = declared (with_line (line_of words) before) lines
 
--- what is to be done for a line with this number, where it asks for something
+-- the directive of a line with this number, if it has one
 abbrev pub asked : (number : ℕ) → Option Line → List Numbered
 asked number None = []
 asked number (Some (line.Member u)) = []
@@ -200,24 +200,24 @@ abbrev pub directives_from : (number : ℕ) → List (List (List ℕ)) → List 
 directives_from number [] = []
 directives_from number (words ∷ lines) = asked number (line_of words) ++ directives_from (suc number) lines
 
--- the members of the script of a text, as they were declared, and its directives, where no line is bad
+-- the members of a text's script, in the order of declaration, and its directives, if no line is bad
 unfoldable pub members_of : List ℕ → List ℕ
 members_of bytes = (declared nothing (words_by_line bytes)).members
 
 unfoldable pub directives_of : List ℕ → List Numbered
 directives_of bytes = directives_from 1 (words_by_line bytes)
 
--- this line where it is bad, else a later one
+-- this line if it is bad, else a later one
 abbrev pub bad_or : (number : ℕ) → Option BadKind → Option (ℕ × BadKind) → Option (ℕ × BadKind)
 bad_or number None later = later
 bad_or number (Some kind) later = Some (number, kind)
 
--- the first bad one of these lines, of which the first has this number, after what was declared before
+-- the first bad one of these lines, after what was declared before; the first line has this number
 abbrev pub first_bad_from : (number : ℕ) → Before → List (List (List ℕ)) → Option (ℕ × BadKind)
 first_bad_from number before [] = None
 first_bad_from number before (words ∷ lines) =
     bad_or number (fault before words) (first_bad_from (suc number) (with_line (line_of words) before) lines)
 
--- the first bad line of a text, and what is wrong with it
+-- the first bad line of a text, and its fault
 unfoldable pub first_bad : List ℕ → Option (ℕ × BadKind)
 first_bad bytes = first_bad_from 1 nothing (words_by_line bytes)

@@ -1,4 +1,4 @@
--- The text of the run of a script: for each directive its lines, read on the run at its turn.
+-- The text of a script's run: the lines of each directive, read from the run at that point.
 use Rattle.std.specs.Prelude.{ℕ, zero, suc, Option, Some, None, List, [], ◌∷◌, ◌++◌, flat_map, codes}
 use Rattle.std.specs.List.{range_with_len}
 use Rattle.std.specs.Fmt.{decimal}
@@ -37,7 +37,7 @@ reason_words Offered = codes "offered"
 abbrev pub idle_line : ℕ → LeadReason → List ℕ
 idle_line line reason = decimal line ++ (codes ": idle " ++ (reason_words reason ++ 10 ∷ []))
 
--- what is written for an event: its line where it did nothing; one that did something is not shown
+-- what is written for an event: its line if it did nothing, and nothing otherwise
 abbrev pub step_text : ℕ → Step → List ℕ
 step_text line (Idle reason) = idle_line line reason
 step_text line (Goes now) = []
@@ -47,7 +47,7 @@ abbrev pub chosen_text : ℕ → Option ℕ → List ℕ
 chosen_text e None = []
 chosen_text e (Some x) = codes "chosen " ++ (decimal e ++ (codes ": " ++ (decimal x ++ 10 ∷ [])))
 
--- those of all epochs that a script may name, ascending
+-- the lines of all epochs that a script may name, ascending
 abbrev pub all_chosen : (members : List ℕ) → List LeadEvent → List ℕ
 all_chosen members events =
     flat_map (λ e. chosen_text e (chosen_for members (run members events) e)) (range_with_len 1 HIGHEST_EPOCH)
@@ -61,16 +61,16 @@ abbrev pub unless : Option (LimitKind × ℕ) → List LeadEvent → Course
 unless None events = Leads events
 unless (Some limit) events = Stops limit.0 limit.1
 
--- one more event, where no limit stops it
+-- one more event, unless a limit stops it
 abbrev pub with_event : (members : List ℕ) → List LeadEvent → LeadEvent → Course
 with_event members events e = unless (limit_of members events e) (events ++ e ∷ [])
 
--- on from there, where no limit stopped it
+-- the course goes on from there, unless a limit stopped it
 abbrev pub then_on : Course → (List LeadEvent → Course) → Course
 then_on (Leads events) next = next events
 then_on (Stops kind number) next = Stops kind number
 
--- at most n messages are delivered, each the next one when its turn comes
+-- at most n messages are delivered, each of them the next one at that point
 abbrev pub controlled : (members : List ℕ) → ℕ → List LeadEvent → Course
 controlled members zero events = Leads events
 controlled members (suc n) events =
@@ -85,7 +85,7 @@ course members events (Event e) = with_event members events e
 course members events (Deliveries times) = controlled members times events
 course members events ShowChosen = Leads events
 
--- what is written for it at this line; deliveries by the number write nothing
+-- what is written for the directive at this line; `ctl all` writes nothing
 abbrev pub said_for : (members : List ℕ) → List LeadEvent → ℕ → Directive → List ℕ
 said_for members events line (Event e) = step_text line (step members (run members events) e)
 said_for members events line (Deliveries times) = []
@@ -94,18 +94,18 @@ said_for members events line ShowChosen = all_chosen members events
 abbrev pub said : (members : List ℕ) → List LeadEvent → Numbered → List ℕ
 said members events d = said_for members events d.line d.directive
 
--- what is said, and then the text of the rest, where no limit stopped it
+-- these lines, followed by the text of the rest, unless a limit stopped it
 abbrev pub text_by : List ℕ → Course → (List LeadEvent → List ℕ) → List ℕ
 text_by said (Leads events) rest = said ++ rest events
 text_by said (Stops kind number) rest = []
 
--- the text of the directives, one after the other, up to the one that a limit stops
+-- the text of the directives, up to the one at which a limit stops
 abbrev pub text : (members : List ℕ) → List LeadEvent → List Numbered → List ℕ
 text members events [] = []
 text members events (d ∷ ds) =
     text_by (said members events d) (course members events d.directive) (λ later. text members later ds)
 
--- the limit that stops them, where one does
+-- the limit that stops them, if any
 abbrev pub stop_by : Course → (List LeadEvent → Option (LimitKind × ℕ)) → Option (LimitKind × ℕ)
 stop_by (Leads events) rest = rest events
 stop_by (Stops kind number) rest = Some (kind, number)
@@ -114,7 +114,7 @@ abbrev pub stop : (members : List ℕ) → List LeadEvent → List Numbered → 
 stop members events [] = None
 stop members events (d ∷ ds) = stop_by (course members events d.directive) (λ later. stop members later ds)
 
--- the events that the directives come to, up to the one that a limit stops
+-- the events of the directives, up to the one at which a limit stops
 abbrev pub events_by : Course → List LeadEvent → (List LeadEvent → List LeadEvent) → List LeadEvent
 events_by (Leads events) before rest = rest events
 events_by (Stops kind number) before rest = before

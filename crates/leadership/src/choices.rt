@@ -1,4 +1,4 @@
-//! Which values are chosen, as a world keeps them.
+//! The chosen values, as a world stores them.
 ghost use Rattle.std.specs.Prelude.{◌≡◌, OnOk};
 ghost use Rattle.leadership.specs.Choices.{value_of, vote_in, vote_of, vote_where, with_vote};
 
@@ -10,14 +10,14 @@ use crate::sites::Site;
 use crate::votes::{Vote, has_won};
 use topology::{Epoch, NoMemory};
 
-/// The value that is chosen for an epoch.
+/// The chosen value of an epoch.
 #[derive(Clone, Copy, Debug)]
 pub struct Choice {
     pub epoch: Epoch,
     pub value: u32,
 }
 
-/// The value that is chosen for the epoch. Takes no memory.
+/// The chosen value of the epoch. Takes no memory.
 pub(crate) fn value_of(choices: &[Choice], epoch: Epoch) -> Option<u32>
     ensures { result ≡ value_of epoch choices.now }
 {
@@ -29,7 +29,7 @@ pub(crate) fn value_of(choices: &[Choice], epoch: Epoch) -> Option<u32>
     None
 }
 
-// The vote that the message asks for.
+// The vote that the message asks for, if any.
 fn vote_in(message: &Message) -> Option<Vote>
     ensures { result ≡ vote_in message.now }
 {
@@ -47,7 +47,7 @@ fn vote_in(message: &Message) -> Option<Vote>
     }
 }
 
-/// The vote that the event may add to.
+/// The vote that the event may add to, if any.
 pub(crate) fn vote_of(mails: &[Letter], event: &LeadEvent) -> Option<Vote>
     ensures { result ≡ vote_of mails.now event.now }
 {
@@ -62,7 +62,7 @@ pub(crate) fn vote_of(mails: &[Letter], event: &LeadEvent) -> Option<Vote>
     }
 }
 
-/// The vote, where the event did something.
+/// The vote, if the event did something.
 pub(crate) fn vote_where(reason: &Option<LeadReason>, vote: Option<Vote>) -> Option<Vote>
     ensures { result ≡ vote_where reason.now vote }
 {
@@ -72,7 +72,7 @@ pub(crate) fn vote_where(reason: &Option<LeadReason>, vote: Option<Vote>) -> Opt
     }
 }
 
-/// Adds the value of the vote, where it is won and nothing is chosen for its epoch yet.
+/// Adds the value of the vote, if it is won and nothing is chosen for its epoch yet.
 pub(crate) fn decide(
     choices: &mut Vec<Choice>,
     sites: &[Site],

@@ -16,7 +16,7 @@ use crate::world::LeadWorld;
 use route_io::{Sink, write_all};
 use std::alloc::Global;
 
-// The world after an event. Its line is added where it did nothing.
+// The world after an event. If the event did nothing, its line is added.
 fn act(
     world: LeadWorld,
     line: u32,
@@ -36,7 +36,7 @@ fn act(
     Ok(world)
 }
 
-// The world after at most so many deliveries, each of the message that is next when its turn comes.
+// The world after at most this many deliveries, each of the message that is then the next one.
 fn deliver_all(world: LeadWorld, times: u32) -> Result<LeadWorld, LeadStop>
     ensures world { IfOk result (λ next. Advances world next (controlled world.members times world.events)) }
     ensures stopped { IfErr result (StopsIn (controlled world.members times world.events)) }
@@ -52,7 +52,7 @@ fn deliver_all(world: LeadWorld, times: u32) -> Result<LeadWorld, LeadStop>
     Ok(world)
 }
 
-// The world after the directive, whose lines are added.
+// The world after the directive, with the directive's lines added.
 fn perform(world: LeadWorld, numbered: &Numbered, out: &mut String) -> Result<LeadWorld, LeadStop>
     requires { IsTrue (is_known world.members numbered.now.directive) }
     ensures world { IfOk result (λ next. Advances world next (course world.members world.events numbered.now.directive)) }
@@ -71,7 +71,7 @@ fn perform(world: LeadWorld, numbered: &Numbered, out: &mut String) -> Result<Le
     }
 }
 
-/// The world after the directive, whose lines are written.
+/// The world after the directive, with the directive's lines written.
 pub(crate) fn advance<O: Sink>(
     alloc: Global,
     world: LeadWorld,

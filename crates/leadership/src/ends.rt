@@ -5,12 +5,12 @@ ghost use Rattle.leadership.specs.Ends.{end_of};
 use crate::stops::LeadStop;
 use topology::LimitKind;
 
-/// Why a run ended before its end.
+/// Why a run ended early.
 #[derive(Clone, Copy, Debug, PartialEq, Eq)]
 pub enum RunEnd {
     NoMemory,
     WriteFault,
-    /// The next event would take this count above its number.
+    /// The next event would take this count above its limit.
     Limit(LimitKind, u32),
 }
 

@@ -1,4 +1,4 @@
-//! What happens to members.
+//! The events of a run.
 use topology::{Epoch, NodeId};
 
 /// An event: one atomic step of one member.
@@ -9,21 +9,21 @@ pub enum LeadEvent {
         node: NodeId,
         epoch: Epoch,
     },
-    /// A member that leads is to get this value chosen for the epoch.
+    /// A member that leads should get this value chosen for the epoch.
     Offer {
         node: NodeId,
         epoch: Epoch,
         value: u32,
     },
-    /// The message with this number comes to its addressee.
+    /// The message with this number arrives at its addressee.
     Control {
         number: u32,
     },
-    /// A member stops.
+    /// A member crashes.
     Crash {
         node: NodeId,
     },
-    /// A member that had stopped comes back.
+    /// A crashed member comes back.
     Restart {
         node: NodeId,
     },

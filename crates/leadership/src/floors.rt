@@ -1,4 +1,4 @@
-//! The greatest ballots that a member was asked to promise, and to accept, for each epoch.
+//! The greatest ballots that a member was asked to promise or to accept, by epoch.
 ghost use Rattle.std.specs.Prelude.{ℕ, ◌≡◌, ◌<◌, Option, length, slice_index_or, IfSome, IfNone, OnOk, OnErr};
 ghost use Rattle.topology.specs.Ballots.{below};
 ghost use Rattle.paxos_core.specs.Readings.{greater};
@@ -8,14 +8,14 @@ use crate::messages::Message;
 use std::alloc::Global;
 use topology::{Ballot, Epoch, NoMemory};
 
-/// The greatest ballot of some messages of one epoch.
+/// The greatest ballot among some messages of one epoch.
 #[derive(Clone, Copy, Debug)]
 pub struct Floor {
     pub epoch: Epoch,
     pub ballot: Ballot,
 }
 
-/// Which epochs are asked for.
+/// A set of epochs.
 #[derive(Clone, Copy, Debug)]
 pub enum Span {
     All,
@@ -24,8 +24,8 @@ pub enum Span {
     Only(Epoch),
 }
 
-/// For each epoch from which on a ballot was prepared the greatest one, and for each epoch for which
-/// a ballot was to be accepted the greatest one.
+/// For each epoch from which on a ballot was prepared, the greatest such ballot; for each epoch for which a value was
+/// to be accepted, the greatest ballot of these.
 #[derive(Drop)]
 pub struct Floors {
     pub prepared: Vec<Floor>,
@@ -58,7 +58,7 @@ fn is_below(ballot: &Ballot, other: &Ballot) -> bool
     *ballot < *other
 }
 
-// The greatest ballot of those of these epochs, and of the one before.
+// The greatest ballot among the floors of these epochs and `before`.
 fn greatest_in(span: &Span, floors: &[Floor], before: Option<Ballot>) -> Option<Ballot>
     ensures { result ≡ greatest_in span.now floors.now before }
 {
@@ -71,7 +71,7 @@ fn greatest_in(span: &Span, floors: &[Floor], before: Option<Ballot>) -> Option<
     best
 }
 
-// The place of the floor of an epoch.
+// The place of an epoch's floor.
 fn place_of(floors: &[Floor], epoch: Epoch) -> Option<usize>
     ensures some { IfSome result (HasFloor floors.now epoch) }
 {
@@ -83,7 +83,7 @@ fn place_of(floors: &[Floor], epoch: Epoch) -> Option<usize>
     None
 }
 
-// One more ballot of an epoch.
+// Adds one more ballot of an epoch.
 fn raise(floors: &mut Vec<Floor>, epoch: Epoch, ballot: Ballot) -> Result<(), NoMemory>
     ensures ok { OnOk result (Raises epoch ballot floors.old.items floors.new.items) }
     ensures err { OnErr result (floors.new.items ≡ floors.old.items) }
@@ -99,7 +99,7 @@ fn raise(floors: &mut Vec<Floor>, epoch: Epoch, ballot: Ballot) -> Result<(), No
 }
 
 impl Floors {
-    /// Those of no message. Takes no memory.
+    /// The floors without any message. Takes no memory.
     pub(crate) fn new(alloc: Global) -> Floors
         ensures { AreEmptyFloors result }
     {
@@ -109,7 +109,7 @@ impl Floors {
         }
     }
 
-    /// One more message.
+    /// Adds one more message.
     pub(crate) fn hear(&mut self, message: &Message) -> Result<(), NoMemory>
         ensures ok { OnOk result (AddsMessage message.now self.old self.new) }
         ensures err { OnErr result (AreSameFloors self.old self.new) }
@@ -125,7 +125,7 @@ impl Floors {
         }
     }
 
-    /// The greatest ballot promised for an epoch from this one on.
+    /// The greatest ballot promised for any epoch from this one on.
     pub(crate) fn from_on(&self, first: Epoch) -> Option<Ballot>
         ensures { result ≡ floor_from first self.now }
     {

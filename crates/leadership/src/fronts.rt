@@ -1,4 +1,4 @@
-//! Up to which number all messages to a member were delivered.
+//! For each member, up to which number all messages to it were delivered.
 ghost use Rattle.std.specs.Prelude.{ℕ, ◌≡◌, ◌≤◌, List, length, IfOk};
 ghost use Rattle.std.specs.BTreeSet.{BTreeSet as AnySet};
 ghost use Rattle.topology.specs.declared.limits.TheConstants.{MOST_CONTROL};
@@ -11,7 +11,7 @@ use std::alloc::Global;
 use std::collections::BTreeSet;
 use topology::{NoMemory, NodeId};
 
-/// Of the first so many messages all that are for the member were delivered.
+/// Of the first `count` messages, all those to the member were delivered.
 #[derive(Clone, Copy, Debug)]
 pub struct Front {
     pub node: NodeId,
@@ -25,7 +25,7 @@ fn passes(numbers: &BTreeSet<u32>, node: NodeId, number: u32, letter: &Letter) -
     letter.to != node || numbers.contains(&number)
 }
 
-// How far the front of a member goes, which goes so far at least.
+// How far the front of a member reaches, at least as far as `known`.
 fn front_from(numbers: &BTreeSet<u32>, letters: &[Letter], node: NodeId, known: usize) -> usize
     requires few { length letters.now ≤ MOST_CONTROL }
     requires known { IsFront node numbers.now letters.now known }
@@ -40,7 +40,7 @@ fn front_from(numbers: &BTreeSet<u32>, letters: &[Letter], node: NodeId, known: 
     letters.len()
 }
 
-/// No message to any of these was delivered.
+/// The fronts of these members before any delivery.
 pub(crate) fn fronts_of(alloc: Global, members: &[NodeId]) -> Result<Vec<Front>, NoMemory>
     ensures { IfOk result (λ fronts. (numbers : AnySet ℕ) (letters : List AnyLetter) → AreFronts fronts.items numbers letters) }
 {
@@ -54,7 +54,7 @@ pub(crate) fn fronts_of(alloc: Global, members: &[NodeId]) -> Result<Vec<Front>,
     Ok(fronts)
 }
 
-/// Each front goes as far as it may.
+/// Moves each front as far as it may go.
 pub(crate) fn advance(fronts: &mut Vec<Front>, numbers: &BTreeSet<u32>, letters: &[Letter])
     requires few { length letters.now ≤ MOST_CONTROL }
     requires known { AreFronts fronts.old.items numbers.now letters.now }
@@ -67,7 +67,7 @@ pub(crate) fn advance(fronts: &mut Vec<Front>, numbers: &BTreeSet<u32>, letters:
     }
 }
 
-// How far the front of the member goes.
+// How far the front of the member reaches.
 fn front_of(fronts: &[Front], node: NodeId) -> usize
     ensures { result ≡ front_of node fronts.now }
 {
@@ -79,7 +79,7 @@ fn front_of(fronts: &[Front], node: NodeId) -> usize
     0
 }
 
-/// How far the fronts of all members go that run. So many at most.
+/// How far the fronts of all running members reach, at most `count`.
 pub(crate) fn lowest(fronts: &[Front], sites: &[Site], count: usize) -> usize
     ensures { IsLow fronts.now sites.now count result }
 {

@@ -1,4 +1,4 @@
-//! All that a member heard.
+//! The messages that a member heard.
 ghost use Rattle.std.specs.Prelude.{ℕ, ◌≡◌, ◌++◌, ◌∷◌, [], length, OnOk, OnErr};
 ghost use Rattle.topology.specs.Lists.{has};
 ghost use Rattle.leadership.specs.Counted.{accepts, counts, has_acceptance, is_watched};
@@ -15,8 +15,8 @@ use std::alloc::Global;
 use std::marker::Model;
 use topology::{Ballot, Epoch, NoMemory, NodeId};
 
-/// All messages that a member heard, the oldest first. Beside them stand the ballots that it promised,
-/// and who promised and who accepted one ballot, so that they need not be gone through for it.
+/// All messages that a member heard, the oldest first. Beside them stand the ballots that it promised, and the members
+/// that promised or accepted one ballot. So these questions need no walk over the messages.
 #[derive(Drop)]
 pub struct HeardList {
     list: Vec<Hearing>,
@@ -49,7 +49,7 @@ fn is_watched(watched: &Option<Ballot>, ballot: &Ballot) -> bool
     }
 }
 
-// Whether the message promises the ballot that is watched.
+// Whether the message promises the watched ballot.
 fn counts(watched: &Option<Ballot>, message: &Message) -> bool
     ensures { result ≡ counts watched.now message.now }
 {
@@ -59,7 +59,7 @@ fn counts(watched: &Option<Ballot>, message: &Message) -> bool
     }
 }
 
-// The epoch for which the message accepts the ballot that is watched.
+// The epoch for which the message accepts the watched ballot.
 fn accepts(watched: &Option<Ballot>, message: &Message) -> Option<Epoch>
     ensures { result ≡ accepts watched.now message.now }
 {
@@ -81,7 +81,7 @@ fn has_acceptance(these: &[Acceptance], epoch: Epoch, from: NodeId) -> bool
 }
 
 impl HeardList {
-    /// Nothing. Takes no memory.
+    /// No messages. Takes no memory.
     pub(crate) fn new(alloc: Global) -> HeardList
         ensures { result ≡ [] }
     {
@@ -100,7 +100,7 @@ impl HeardList {
         &self.list
     }
 
-    /// One message more.
+    /// Adds one more message.
     pub(crate) fn hear(&mut self, from: NodeId, message: Message) -> Result<(), NoMemory>
         ensures ok { OnOk result (self.new ≡ self.old ++ record { from = from; message = message } ∷ []) }
         ensures err { OnErr result (self.new ≡ self.old) }
@@ -125,8 +125,7 @@ impl HeardList {
         Ok(())
     }
 
-    /// Who promises and accepts this ballot stands beside the messages from now on, where there is
-    /// memory for it.
+    /// From now on stores who promises and who accepts this ballot, if there is memory for it.
     pub(crate) fn watch(&mut self, ballot: Ballot)
         ensures { self.new ≡ self.old }
     {
@@ -143,7 +142,7 @@ impl HeardList {
         self.watched = Some(ballot);
     }
 
-    /// The greatest ballot promised for an epoch from this one on.
+    /// The greatest ballot promised for any epoch from this one on.
     pub(crate) fn promised_from(&self, from_on: Epoch) -> Option<Ballot>
         ensures { result ≡ promised_heard from_on self.now }
     {

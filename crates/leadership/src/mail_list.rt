@@ -11,7 +11,7 @@ use std::collections::BTreeSet;
 use std::marker::Model;
 use topology::{Ballot, Epoch, NoMemory, NodeId};
 
-/// Who gave which epoch a value, and in which ballot.
+/// An offer: a member gave an epoch a value in a ballot.
 #[derive(Clone, Copy, Debug, PartialEq, Eq, PartialOrd, Ord)]
 pub struct Offer {
     pub from: NodeId,
@@ -19,8 +19,8 @@ pub struct Offer {
     pub ballot: Ballot,
 }
 
-/// All messages that were sent, the oldest first. Beside them stands who gave which epoch a value, so
-/// that they need not be gone through for it.
+/// All messages that were sent, the oldest first. Beside them stand the offers, so that looking for one needs no walk
+/// over the messages.
 #[derive(Drop)]
 pub struct MailList {
     list: Vec<Letter>,
@@ -39,7 +39,7 @@ impl Model for MailList {
     ghost invariant = { λ m. AreOffers m.offers m.list.items };
 }
 
-// What the message gives, where it gives an epoch a value.
+// The offer of the message, if it gives an epoch a value.
 fn offer_of(letter: &Letter) -> Option<Offer>
     ensures { result ≡ offer_of letter.now }
 {
@@ -57,7 +57,7 @@ fn offer_of(letter: &Letter) -> Option<Offer>
     }
 }
 
-// Adds the offer, where there is one.
+// Adds the offer, if there is one.
 fn add(offers: &mut BTreeSet<Offer>, offer: Option<Offer>) -> Result<(), NoMemory>
     ensures added { OnOk result ((o : Offer) → contains by_parts offers.new o
         ≡ (is_offer offer o || contains by_parts offers.old o)) }
@@ -70,7 +70,7 @@ fn add(offers: &mut BTreeSet<Offer>, offer: Option<Offer>) -> Result<(), NoMemor
 }
 
 impl MailList {
-    /// Nothing. Takes no memory.
+    /// No messages. Takes no memory.
     pub(crate) fn new(alloc: Global) -> MailList
         ensures { result ≡ [] }
     {
@@ -86,19 +86,19 @@ impl MailList {
         &self.list
     }
 
-    /// How many there are.
+    /// How many messages there are.
     pub(crate) fn len(&self) -> usize
         ensures { result ≡ length self.now }
     {
         self.list.len()
     }
 
-    /// Where they are kept.
+    /// The allocator of the lists.
     pub(crate) fn allocator(&self) -> Global {
         *self.list.allocator()
     }
 
-    /// One message more.
+    /// Adds one more message.
     pub(crate) fn push(&mut self, letter: Letter) -> Result<(), NoMemory>
         ensures ok { OnOk result (self.new ≡ self.old ++ letter ∷ []) }
         ensures err { OnErr result (self.new ≡ self.old) }

@@ -8,7 +8,7 @@ use crate::events::LeadEvent;
 use std::collections::BTreeSet;
 use topology::NoMemory;
 
-/// Marks the message that the event delivers, where one of so many has the number.
+/// Marks the message that the event delivers, if there is one with its number.
 pub(crate) fn mark(
     numbers: BTreeSet<u32>,
     count: usize,

@@ -20,7 +20,7 @@ use crate::stops::LeadStop;
 use std::alloc::Global;
 use topology::{Ballot, Epoch, NoMemory, NodeId};
 
-/// The members with what each keeps, and all messages that were sent, the oldest first.
+/// The members with the state of each, and all messages that were sent, the oldest first.
 #[derive(Drop)]
 pub struct Network {
     pub members: Vec<NodeId>,
@@ -47,7 +47,7 @@ fn is_below(epoch: Epoch, other: Epoch) -> bool
     epoch < other
 }
 
-// How many there are.
+// How many nodes there are.
 fn count(nodes: &[NodeId]) -> usize
     ensures { result ≡ length nodes.now }
 {
@@ -55,7 +55,7 @@ fn count(nodes: &[NodeId]) -> usize
 }
 
 impl Network {
-    /// These members, to which nothing has happened.
+    /// These members before any event.
     pub(crate) fn new(alloc: Global, members: &[NodeId]) -> Result<Network, NoMemory>
         requires { differ members.now ≡ true }
         ensures members { IfOk result (λ net. net.members.items ≡ members.now) }
@@ -81,8 +81,7 @@ impl Network {
         self.mails.len()
     }
 
-    /// A member starts a ballot for every epoch from this one on. After an `Err` the network is of no
-    /// use.
+    /// A member starts a ballot for every epoch from this one on. After an `Err` the network must not be used again.
     pub(crate) fn lead(
         &mut self,
         node: NodeId,
@@ -112,7 +111,7 @@ impl Network {
         }
     }
 
-    /// A member that leads gives the epoch this value. After an `Err` the network is of no use.
+    /// A member that leads gives the epoch this value. After an `Err` the network must not be used again.
     pub(crate) fn offer(
         &mut self,
         node: NodeId,
@@ -181,7 +180,7 @@ impl Network {
         Ok(None)
     }
 
-    /// The message with this number comes to its addressee. After an `Err` the network is of no use.
+    /// Delivers the message with this number to its addressee. After an `Err` the network must not be used again.
     pub(crate) fn deliver(&mut self, number: u32) -> Result<Option<LeadReason>, LeadStop>
         requires addressees { AreToMembers self.old }
         ensures members { OnOk result (self.new.members.items ≡ self.old.members.items) }
@@ -210,7 +209,8 @@ impl Network {
         }
     }
 
-    /// One more event, and why it does nothing. After an `Err` the network is of no use.
+    /// Runs one more event, and returns why it does nothing, if it does nothing. After an `Err` the network must not be
+    /// used again.
     pub(crate) fn happen(&mut self, event: &LeadEvent) -> Result<Option<LeadReason>, LeadStop>
         requires member { fits (nodes_of self.old.sites.items) event.now ≡ true }
         requires addressees { AreToMembers self.old }
@@ -229,7 +229,7 @@ impl Network {
         }
     }
 
-    // The member that stands at the place hears the message, and answers it.
+    // The member at this place hears the message, and answers it.
     fn hear(
         &mut self,
         place: usize,

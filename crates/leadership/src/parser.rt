@@ -18,15 +18,15 @@ use text_lines::{Line as Span, Lines};
 use topology::limits::MOST_MEMBERS;
 use topology::{BadKind, NodeId, NodeSet};
 
-/// Why the bytes are no script.
+/// Why the bytes are not a script.
 #[derive(Clone, Copy, Debug, PartialEq, Eq)]
 pub enum ScriptEnd {
     NoMemory,
-    /// The first bad line, from 1, and what is wrong with it.
+    /// The first bad line, counted from 1, and its fault.
     Bad { line: u32, kind: BadKind },
 }
 
-// A script as far as it was read.
+// The part of a script that was read so far.
 #[derive(Drop)]
 struct Draft {
     members: NodeSet,
@@ -34,7 +34,7 @@ struct Draft {
     directives: Vec<Numbered>,
 }
 
-// Whether the node of the event, where it has one, is a member.
+// Whether the node of the event, if it has one, is a member.
 fn fits(members: &NodeSet, event: &LeadEvent) -> bool
     ensures { result ≡ fits members.now.nodes event.now }
 {
@@ -51,7 +51,7 @@ fn fits(members: &NodeSet, event: &LeadEvent) -> bool
     }
 }
 
-// Whether the directive names members alone.
+// Whether the directive names only members.
 fn is_known(members: &NodeSet, directive: &Directive) -> bool
     ensures { result ≡ is_known members.now.nodes directive.now }
 {
@@ -63,7 +63,7 @@ fn is_known(members: &NodeSet, directive: &Directive) -> bool
 }
 
 impl Draft {
-    // Takes a member more.
+    // Takes one more member.
     fn declare(&mut self, node: NodeId) -> Result<(), Refusal>
         ensures ok { OnOk result ((number : ℕ) → Takes self.old number (Some (said.Member node)) self.new) }
         ensures fine { OnOk result (member_fault self.old.members.nodes node ≡ None) }
@@ -82,7 +82,7 @@ impl Draft {
         Ok(())
     }
 
-    // Takes a directive more.
+    // Takes one more directive.
     fn direct(&mut self, line: u32, directive: &Directive) -> Result<(), Refusal>
         ensures ok { OnOk result (Takes self.old line (Some (said.Directs directive.now)) self.new) }
         ensures fine { OnOk result (is_known self.old.members.nodes directive.now ≡ true) }
@@ -101,7 +101,7 @@ impl Draft {
         Ok(())
     }
 
-    // Takes one line that may stand here.
+    // Takes one line, if it may stand here.
     fn take(&mut self, number: u32, line: &Line) -> Result<(), Refusal>
         ensures ok { OnOk result (Takes self.old number (Some line.now) self.new) }
         ensures fine { OnOk result (name_fault self.old.members.nodes line.now ≡ None) }
@@ -140,16 +140,15 @@ impl Draft {
     }
 }
 
-/// The script that the bytes spell, else the first bad line and what is wrong with it. Linear in
-/// the bytes.
+/// The script that the bytes spell, or else the first bad line and its fault. Takes time linear in the bytes.
 pub fn parse(alloc: Global, text: &[u8]) -> Result<Script, ScriptEnd>
     requires { length text.now < 2 ^ 32 - 1 }
     ensures members { IfOk result (λ script. script.members.nodes ≡ members_of text.now) }
     ensures directives { IfOk result (λ script. script.directives.items ≡ directives_of text.now) }
     ensures good { OnOk result (first_bad text.now ≡ None) }
-    // No member is declared twice.
+    // no member is declared twice
     ensures apart { IfOk result (λ script. differ script.members.nodes ≡ true) }
-    // What is to be done names members alone.
+    // the directives name only members
     ensures known { IfOk result (λ script. AllKnown script.members.nodes script.directives.items) }
     ensures err { IfErr result (SaysWhy text.now) }
 {

@@ -1,4 +1,4 @@
-//! Reads one line of a script by its words.
+//! Reads one line of a script from its words.
 ghost use Rattle.std.specs.Prelude.{ℕ, ◌≡◌, ◌≢◌, true, false, suc, List, [], ◌∷◌, length, IfOk, IfErr, IfSome, IfNone, OnOk, OnErr, None, Some};
 ghost use Rattle.topology.specs.declared.status.BadKind.TheVariants.{BadNumber, UnknownWord};
 ghost use Rattle.schedule_file.specs.Standing.{Holds};
@@ -34,7 +34,7 @@ fn keyword_named(word: &[u8]) -> Option<Keyword>
     }
 }
 
-// The same, or what is wrong with the word.
+// The kind of line that the word begins, or the fault of the word.
 fn keyword_of(word: &[u8]) -> Result<Keyword, BadKind>
     ensures ok { IfOk result (λ keyword. keyword_in word.now ≡ Some keyword) }
     ensures err { OnErr result (keyword_in word.now ≡ None) }
@@ -46,7 +46,7 @@ fn keyword_of(word: &[u8]) -> Result<Keyword, BadKind>
     }
 }
 
-// Whether lines of the keyword stand behind `begin`.
+// Whether lines of the keyword stand after `begin`.
 fn directs(keyword: Keyword) -> bool
     ensures { result ≡ directs keyword }
 {
@@ -74,7 +74,7 @@ fn may_have(keyword: Keyword, count: usize) -> bool
     }
 }
 
-// The line stands on its side of `begin`, and has as many words as it may have.
+// Checks that the line stands on its side of `begin` and has a permitted number of words.
 fn check_form(keyword: Keyword, words: &Words<'_>, begun: bool) -> Result<(), BadKind>
     ensures count { OnOk result (may_have keyword words.now.count ≡ true) }
     ensures form { (word : List ℕ) (rest : List (List ℕ)) → Holds words.now (word ∷ rest)
@@ -103,7 +103,7 @@ fn value_of(word: &[u8]) -> Result<u32, BadKind>
     }
 }
 
-// The word behind `member`.
+// The line `member` from the word after it.
 fn member_line(node: &[u8]) -> Result<Line, BadKind>
     ensures { ReadsAs keyword.Member (node.now ∷ []) result }
 {
@@ -111,7 +111,7 @@ fn member_line(node: &[u8]) -> Result<Line, BadKind>
     Ok(Line::Member(node))
 }
 
-// The words behind `lead`.
+// The line `lead` from the words after it.
 fn lead_line(node: &[u8], epoch: &[u8]) -> Result<Line, BadKind>
     ensures { ReadsAs keyword.Lead (node.now ∷ epoch.now ∷ []) result }
 {
@@ -120,7 +120,7 @@ fn lead_line(node: &[u8], epoch: &[u8]) -> Result<Line, BadKind>
     Ok(Line::Directs(Directive::Event(LeadEvent::Lead { node, epoch })))
 }
 
-// The words behind `offer`.
+// The line `offer` from the words after it.
 fn offer_line(node: &[u8], epoch: &[u8], value: &[u8]) -> Result<Line, BadKind>
     ensures { ReadsAs keyword.Offer (node.now ∷ epoch.now ∷ value.now ∷ []) result }
 {
@@ -130,7 +130,7 @@ fn offer_line(node: &[u8], epoch: &[u8], value: &[u8]) -> Result<Line, BadKind>
     Ok(Line::Directs(Directive::Event(LeadEvent::Offer { node, epoch, value })))
 }
 
-// The word behind `ctl`, where there is one.
+// The line `ctl` with one more word.
 fn control_line(number: &[u8]) -> Result<Line, BadKind>
     ensures { ReadsAs keyword.Control (number.now ∷ []) result }
 {
@@ -138,7 +138,7 @@ fn control_line(number: &[u8]) -> Result<Line, BadKind>
     Ok(Line::Directs(Directive::Event(LeadEvent::Control { number })))
 }
 
-// The words behind `ctl`, where there are two.
+// The line `ctl` with two more words.
 fn deliveries_line(all: &[u8], times: &[u8]) -> Result<Line, BadKind>
     ensures { ReadsAs keyword.Control (all.now ∷ times.now ∷ []) result }
 {
@@ -149,7 +149,7 @@ fn deliveries_line(all: &[u8], times: &[u8]) -> Result<Line, BadKind>
     Ok(Line::Directs(Directive::Deliveries(times)))
 }
 
-// The word behind `crash`.
+// The line `crash` from the word after it.
 fn crash_line(node: &[u8]) -> Result<Line, BadKind>
     ensures { ReadsAs keyword.Crash (node.now ∷ []) result }
 {
@@ -157,7 +157,7 @@ fn crash_line(node: &[u8]) -> Result<Line, BadKind>
     Ok(Line::Directs(Directive::Event(LeadEvent::Crash { node })))
 }
 
-// The word behind `restart`.
+// The line `restart` from the word after it.
 fn restart_line(node: &[u8]) -> Result<Line, BadKind>
     ensures { ReadsAs keyword.Restart (node.now ∷ []) result }
 {
@@ -165,7 +165,7 @@ fn restart_line(node: &[u8]) -> Result<Line, BadKind>
     Ok(Line::Directs(Directive::Event(LeadEvent::Restart { node })))
 }
 
-// The word behind `show`, where there is one.
+// The line `show` with one more word.
 fn show_line(view: &[u8]) -> Result<Line, BadKind>
     ensures { ReadsAs keyword.Show (view.now ∷ []) result }
 {
@@ -175,7 +175,7 @@ fn show_line(view: &[u8]) -> Result<Line, BadKind>
     Ok(Line::Directs(Directive::ShowChosen))
 }
 
-// The words behind `show`, where there are two: no view has a further word.
+// The line `show` with two more words. It has a fault: no view has a further word.
 fn long_show_line(view: &[u8], more: &[u8]) -> Result<Line, BadKind>
     ensures { ReadsAs keyword.Show (view.now ∷ more.now ∷ []) result }
 {
@@ -185,7 +185,7 @@ fn long_show_line(view: &[u8], more: &[u8]) -> Result<Line, BadKind>
     Err(BadKind::WrongCount)
 }
 
-// The line of a keyword and as many words as it may have.
+// The line of a keyword, whose number of words was checked.
 fn line_of(keyword: Keyword, words: &Words<'_>) -> Result<Line, BadKind>
     requires { may_have keyword words.now.count ≡ true }
     ensures { (word : List ℕ) (rest : List (List ℕ)) → Holds words.now (word ∷ rest)
@@ -205,8 +205,8 @@ fn line_of(keyword: Keyword, words: &Words<'_>) -> Result<Line, BadKind>
     }
 }
 
-/// What the words say on their side of `begin`, nothing where there is none; else the first fault of
-/// the words. Members are not looked up.
+/// The line that the words spell on their side of `begin`, or `None` without words; otherwise the first fault of the
+/// words. Members are not looked up.
 pub(crate) fn read_line(words: &Words<'_>, begun: bool) -> Result<Option<Line>, BadKind>
     ensures ok { IfOk result (λ line. (all : List (List ℕ)) → Holds words.now all → line ≡ line_of all) }
     ensures fine { OnOk result ((all : List (List ℕ)) → Holds words.now all → word_fault begun all ≡ None) }

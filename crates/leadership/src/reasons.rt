@@ -6,20 +6,20 @@ use topology::Ballot;
 pub enum LeadReason {
     /// The member is crashed.
     Crashed,
-    /// It is to come back, and is not crashed.
+    /// The member should come back, and is not crashed.
     NotCrashed,
     /// No message has this number.
     NoSuchMessage,
-    /// The member has promised this ballot.
+    /// The member has promised this ballot, and the message's ballot is too low beside it.
     Promised(Ballot),
-    /// The ballot is not the one that the member prepares, or leads.
+    /// The member neither prepares nor leads this ballot.
     StaleBallot,
     /// The sender was counted before, or the ballot is accepted already.
     Duplicate,
-    /// The member leads nothing.
+    /// The member does not lead.
     NotLeader,
-    /// The epoch is below those that the member leads.
+    /// The epoch is below those for which the member's ballot was started.
     Below,
-    /// The member has given this epoch a value in its ballot.
+    /// The member has already given this epoch a value in its ballot.
     Offered,
 }

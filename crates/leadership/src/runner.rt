@@ -18,7 +18,7 @@ use std::alloc::Global;
 use topology::limits::MOST_BYTES;
 use topology::{LimitKind, Status};
 
-// Runs the directives, and writes the lines of each before the next is taken.
+// Runs the directives, and writes the lines of each before the next one runs.
 fn run_lines<O: Sink>(
     alloc: Global,
     world: LeadWorld,
@@ -50,8 +50,8 @@ fn run_script<O: Sink>(alloc: Global, script: &Script, sink: &mut O) -> Result<(
     run_lines(alloc, world, &script.directives, sink)
 }
 
-/// Reads a script from the source, runs it, and writes its text to the sink. What a user may rely on
-/// stands in `specs/Led.antt`.
+/// Reads a script from the source, runs it, and writes its text to the sink. `specs/Led.antt` says what a user may rely
+/// on.
 pub fn lead<I: Source, O: Sink>(alloc: Global, source: &mut I, sink: &mut O) -> Status
     ensures { Led (I.seen source.old) (I.seen source.new) (O.seen sink.old) (O.seen sink.new) result }
 {

@@ -1,8 +1,8 @@
-//! Scripts: which members there are, and what is to happen.
+//! Scripts: the members, and the directives of a run.
 use crate::events::LeadEvent;
 use topology::{NodeId, NodeSet};
 
-/// What a line begins with.
+/// The kinds of lines, by first word.
 #[derive(Clone, Copy, Debug, PartialEq, Eq)]
 pub enum Keyword {
     Member,
@@ -15,18 +15,18 @@ pub enum Keyword {
     Show,
 }
 
-/// What a line asks for.
+/// What a line orders.
 #[derive(Clone, Copy, Debug, PartialEq, Eq)]
 pub enum Directive {
-    /// One event. A line is written where it does nothing.
+    /// One event. A line is written if it does nothing.
     Event(LeadEvent),
-    /// At most so many deliveries, each of the message that is next when its turn comes.
+    /// At most this many deliveries, each of the message that is then the next one.
     Deliveries(u32),
     /// A line for each epoch with a chosen value.
     ShowChosen,
 }
 
-/// What a line says.
+/// The meaning of a line.
 #[derive(Clone, Copy, Debug, PartialEq, Eq)]
 pub enum Line {
     Member(NodeId),
@@ -41,7 +41,7 @@ pub struct Numbered {
     pub directive: Directive,
 }
 
-/// A script: its members, and what is to be done, in order.
+/// A script: its members, and its directives in order.
 #[derive(Drop)]
 pub struct Script {
     pub members: NodeSet,

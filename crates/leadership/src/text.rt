@@ -59,7 +59,7 @@ fn idle_line(out: &mut String, line: u32, reason: &LeadReason) -> Result<(), All
     out.push('\n')
 }
 
-/// Adds what is written for an event: its line, where it did nothing.
+/// Adds what is written for an event: its line if it did nothing.
 pub(crate) fn event_line(
     out: &mut String,
     line: u32,
@@ -74,7 +74,7 @@ pub(crate) fn event_line(
     }
 }
 
-// Adds the line of an epoch, where a value is chosen for it.
+// Adds the line of an epoch, if it has a chosen value.
 fn chosen_line(out: &mut String, epoch: u32, chosen: Option<u32>) -> Result<(), AllocError>
     ensures { OnOk result (string_bytes out.new ≡ string_bytes out.old ++ chosen_text epoch chosen) }
 {

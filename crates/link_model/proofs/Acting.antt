@@ -37,7 +37,7 @@ restores_number : (t : Bool) (link : LinkState) → number_of link ≤ number_of
 restores_number true link = restored_number link
 restores_number false link = omega arith
 
--- the sessions of a link rise
+-- the session number of a link never falls
 pub rising : (a b : ℕ) (newer acts : LinkActs) → number_of (state a b acts) ≤ number_of (state a b (newer ++ acts))
 rising a b [] acts = omega arith
 rising a b (Push from to session item ∷ newer) acts = rising a b newer acts

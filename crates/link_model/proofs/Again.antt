@@ -1,4 +1,4 @@
--- A write of what stands there already changes nothing.
+-- Writing the value that is already there changes nothing.
 use Rattle.std.proofs.Common.{ℕ, ◌<◌, Vec, ◌≡◌, List, Some, refl, sym, ◌∙◌, ap, subst, length, set, get_or, slice_get}
 use Rattle.std.proofs.Math.Nat.{ℕ_set}
 use Rattle.std.specs.Vec.{with_item}
@@ -17,7 +17,7 @@ module _ {X Z : Type 0} (v : Vec X Z) where
   pub with_again : (i : ℕ) (x : X) → slice_get v.items i ≡ Some x → with_item v i x ≡ v
   with_again i x e = same_list (set v.items i x) _ (sym (set_again v.items i x e))
 
--- the links with one channel as it was
+-- the links with one channel unchanged
 pub channels_again : {Z : Type 0} (channels : Vec OneWay Z) (way : ℕ) (kept left : OneWay) → way < length channels.items → kept ≡ get_or channels.items way kept → left ≡ kept
     → with_item channels way left ≡ channels
 channels_again channels way kept left inside lies same =

@@ -11,7 +11,7 @@ use Rattle.std.proofs.lemmas.Nat.Bits.{bit_at-zero, bit_at-lt, bit_at_and, bit_a
 abbrev pub is_set : List ℕ → ℕ → Bool
 is_set words number = bit_at (get_or words (number / 64) 0) (number % 64) == 1
 
--- what stands inside a list is the same whatever stands for what is missing
+-- an element inside a list does not depend on the default value
 pub same_read : (xs : List ℕ) (i a b : ℕ) → i < length xs → get_or xs i a ≡ get_or xs i b
 same_read [] i a b l = absurd (omega (arith, l))
 same_read (x ∷ xs) zero a b l = refl
@@ -22,7 +22,7 @@ past_read [] i a l = refl
 past_read (x ∷ xs) zero a l = absurd (omega (arith, l))
 past_read (x ∷ xs) (suc i) a l = past_read xs i a (omega (arith, l))
 
--- one word anew
+-- one new word
 module _ (words : List ℕ) (number new : ℕ) (inside : number / 64 < length words) where
   word_changes : (wanted : Bool) → (bit_at new (number % 64) == 1) ≡ wanted
       → ((i : ℕ) → i < 64 → i ≢ number % 64 → bit_at new i ≡ bit_at (get_or words (number / 64) 0) i)
@@ -63,7 +63,7 @@ bit_cleared words number w inside is other =
 
 -- ---- the lowest one in two sets
 
--- the words that have what both have
+-- the words of the common bits
 abbrev pub common : List ℕ → List ℕ → ℕ → ℕ
 common words others place = bit_and (get_or words place 0) (get_or others place 0)
 
@@ -76,19 +76,19 @@ least_bit (suc zero) (suc zero) l m = refl
 least_bit (suc zero) (suc (suc b)) l m = absurd (omega (arith, m))
 least_bit (suc (suc a)) b l m = absurd (omega (arith, l))
 
--- a bit of both is one of the common word
+-- a bit is in both words exactly where it is in the common word
 pub in_common : (words others : List ℕ) (number : ℕ) → (is_set words number && is_set others number) ≡ (bit_at (common words others (number / 64)) (number % 64) == 1)
 in_common words others number =
     let a = get_or words (number / 64) 0 in
     let b = get_or others (number / 64) 0 in
     sym (ap (λ n. n == 1) (bit_at_and a b (number % 64)) ∙ least_bit (bit_at a (number % 64)) (bit_at b (number % 64)) (bit_at-lt a (number % 64)) (bit_at-lt b (number % 64)))
 
--- what is read of both at a place
+-- the common word at a place
 pub common_read : (words others : List ℕ) (place w o : ℕ) → length words ≡ 64 → length others ≡ 64 → place < 64 → w ≡ get_or words place w → o ≡ get_or others place o → common words others place ≡ bit_and w o
 common_read words others place w o full full_too inside is is_too =
     sym (ap₂ bit_and (is ∙ same_read words place w 0 (omega (arith, full, inside))) (is_too ∙ same_read others place o 0 (omega (arith, full_too, inside))))
 
--- none of the numbers whose bits stand in the first words
+-- none of the numbers in the first words is common
 abbrev pub IsClearBelow : (ℕ → Bool) → ℕ → Type 0
 IsClearBelow numbers place = (lower : ℕ) → lower < place * 64 → numbers lower ≡ false
 

@@ -1,4 +1,4 @@
--- Links that keep given ways, and what a change of one way leaves.
+-- Links that hold given ways, and the change of one way.
 use Rattle.std.proofs.Common.{ℕ, ◌<◌, true, false, ◌==◌, ◌&&◌, Some, ◌≡◌, ◌≢◌, ⊎_elim, refl, sym, ◌∙◌, ap, arith, length, get_or, set, slice_get}
 use Rattle.std.proofs.lemmas.Bool.{cases_eq}
 use Rattle.std.proofs.lemmas.Bool.Decides.{nat_tests}
@@ -12,7 +12,7 @@ use Rattle.link_model.specs.Keeping.{Ways, Keeps, IsPlaced, replaced}
 use Rattle.link_model.proofs.Numbers.{link_placed}
 use Rattle.link_model.proofs.Places.{same_some, get_set_same, get_set_other}
 
--- where a way has no number, the two have no link
+-- if a way has no number, the two nodes have no link
 pub no_way : (net : Net) (links : Links) (ways : Ways) (from to : ℕ) → ((way : ℕ) → slice_get links.table way ≡ Some (ends from to) → ⊥) → Keeps net links ways → linked net from to ≡ false
 no_way net links ways from to none keeps =
     (elim (linked net from to) as (λ t. linked net from to ≡ t → t ≡ false) [
@@ -23,7 +23,7 @@ no_way net links ways from to none keeps =
 pub way_inside : (links : Links) (from to way : ℕ) → IsPlaced links from to way → way < length links.table
 way_inside links from to way at = slice_get_within links.table way (ends from to) at.here
 
--- the channel that is read at the number of a way is what is kept of it
+-- the channel at the number of a way is what is stored of it
 pub way_at : (net : Net) (links : Links) (ways : Ways) (from to way : ℕ) (kept : OneWay) → length links.channels.items ≡ length links.table → Keeps net links ways → IsPlaced links from to way
     → kept ≡ get_or links.channels.items way kept → kept ≡ ways from to
 way_at net links ways from to way kept sized keeps at read =
@@ -64,7 +64,7 @@ keeps_with net old new ways from to way kept sized at table channels keeps = rec
           | false ↦ λ h. refl
         ]) refl
 
--- another channel leaves the numbers
+-- a changed channel leaves the numbers
 pub placed_with : (old new : Links) (from to way : ℕ) → new.table ≡ old.table → IsPlaced old from to way → IsPlaced new from to way
 placed_with old new from to way table at = record {
   here = ap (λ l. slice_get l way) table ∙ at.here;

@@ -1,4 +1,4 @@
--- The ways on which there is something are marked.
+-- The set `busy` has the ways on which something is.
 use Rattle.std.proofs.Common.{ℕ, zero, suc, ◌<◌, ◌≤◌, Bool, true, false, not, ◌==◌, Some, List, [], ◌∷◌, ◌≡◌, ◌≢◌, ⊎_elim, refl, sym, ◌∙◌, ap, arith, length, get_or, set, slice_get, if◌then◌else◌}
 use Rattle.std.proofs.lemmas.Bool.{cases_eq}
 use Rattle.std.proofs.lemmas.Bool.Decides.{nat_tests}
@@ -15,7 +15,7 @@ use Rattle.link_model.specs.Standing.{StandsFor}
 use Rattle.link_model.proofs.Keeping.{way_inside}
 use Rattle.link_model.proofs.Places.{get_set_same, get_set_other}
 
--- of each number, whether there is something on the way that has it
+-- for each number, whether something is on its way
 abbrev pub AreMarked : (ℕ → Bool) → List OneWay → Type 0
 AreMarked marks ways = (number : ℕ) → marks number ≡ holds_some (slice_get ways number)
 
@@ -25,7 +25,7 @@ none_past [] number past = refl
 none_past (way ∷ ways) zero past = absurd (omega (arith, past))
 none_past (way ∷ ways) (suc number) past = none_past ways number (omega (arith, past))
 
--- one way has changed, and its mark
+-- one way and its mark changed
 pub marked_with : (ways : List OneWay) (way : ℕ) (left : OneWay) (old new : ℕ → Bool) (is : Bool) → way < length ways → is ≡ has_items left.items → AreMarked old ways
     → ((number : ℕ) → new number ≡ (if number == way then is else old number)) → AreMarked new (set ways way left)
 marked_with ways way left old new is inside holds were marks number = ⊎_elim
@@ -46,13 +46,13 @@ not_not : (b : Bool) → not (not b) ≡ b
 not_not true = refl
 not_not false = refl
 
--- whether something is left on the way that has changed
+-- whether something is left on the changed way
 pub left_on : (ways : List OneWay) (way : ℕ) (left read : OneWay) (empty : Bool) → way < length ways → read ≡ get_or (set ways way left) way read → empty ≡ not (has_items read.items)
     → not empty ≡ has_items left.items
 left_on ways way left read empty inside is answer =
     ap not answer ∙ (not_not (has_items read.items) ∙ ap (λ (k : OneWay). has_items k.items) (is ∙ get_or-set_same ways way left read inside))
 
--- what is marked of a way
+-- the mark of a way
 pub marked_at : (net : Net) (links : Links) (acts : LinkActs) (from to way : ℕ) → length links.channels.items ≡ length links.table → StandsFor net links acts → IsPlaced links from to way
     → holds_some (slice_get links.channels.items way) ≡ has_items (channel_after from to acts)
 marked_at net links acts from to way sized stands at =

@@ -1,4 +1,4 @@
--- The numbers of ways, and the tables that have them.
+-- The numbers of ways, and the tables that hold them.
 use Rattle.std.proofs.Common.{ℕ, zero, suc, ◌≤◌, ◌+◌, ◌*◌, Bool, true, false, cond, ◌==◌, Option, Some, None, List, [], ◌∷◌, ◌++◌, ◌≡◌, refl, sym, ◌∙◌, ap, subst, arith, length, length-append, slice_get, filter, map, flat_map, option_map}
 use Rattle.std.proofs.lemmas.Bool.Decides.{nat_tests}
 use Rattle.std.proofs.lemmas.Option.{slice_get-map}
@@ -23,7 +23,7 @@ pub get_behind : {A : Type 0} (xs ys : List A) (i : ℕ) → slice_get (xs ++ ys
 get_behind [] ys i = ap (slice_get ys) (omega arith)
 get_behind (z ∷ zs) ys i = let e : suc (length zs) + i ≡ suc (length zs + i) = omega arith in rw e (get_behind zs ys i)
 
--- the place is in the one list, or in the other
+-- the place is in the first list or in the second
 pub record IsBehind {A : Type 0} (xs ys : List A) (i : ℕ) (x : A) : Type 0 where
   pub rest : ℕ
   pub count : i ≡ length xs + rest
@@ -35,7 +35,7 @@ get_either (z ∷ zs) ys zero x C e front behind = front e
 get_either (z ∷ zs) ys (suc i) x C e front behind =
     get_either zs ys i x C e front (λ h. behind (record { rest = h.rest; count = omega (arith, h.count); there = h.there }))
 
--- a number that a list has stands at some place
+-- a number in a list stands at some place
 pub place_in : (xs : List ℕ) (n : ℕ) (C : Type 0) → has xs n ≡ true → ((i : ℕ) → slice_get xs i ≡ Some n → C) → C
 place_in [] n C e at = absurd (cc e)
 place_in (x ∷ xs) n C e at =
@@ -46,7 +46,7 @@ place_in (x ∷ xs) n C e at =
 
 -- ---- one row
 
--- the number is so many above the first one as the place of x in the list
+-- the number is above the first one by the place of x in the list
 pub record IsNumbered {A : Type 0} (xs : List A) (first : ℕ) (x : A) (way : ℕ) : Type 0 where
   pub place : ℕ
   pub count : way ≡ first + place
@@ -169,7 +169,7 @@ pub length-rows : (net : Net) (first : ℕ) (us : List ℕ) → length (rows_fro
 length-rows net first [] = refl
 length-rows net first (x ∷ us) = ap suc (length-rows net (first + length (neighbours net x)) us)
 
--- ---- there are few
+-- ---- there are not too many ways
 
 shorter : (p : ℕ → Bool) (xs : List ℕ) → length (filter p xs) ≤ length xs
 shorter p [] = omega arith

@@ -1,4 +1,4 @@
--- The places of nodes in lists that rise, and of ways in links.
+-- The places of nodes in ascending lists, and of ways in links.
 use Rattle.std.proofs.Common.{ℕ, zero, suc, ◌<◌, ◌≤◌, true, false, ◌==◌, Option, Some, None, IsNone, IfNone, Result, Ok, Err, nat_lt, List, [], ◌∷◌, ◌++◌, ◌≡◌, ◌≢◌, ◌⊎◌, inl, inr, ⊎_elim, refl, sym, ◌∙◌, ap, subst, arith, true≢false, length, get_or, set, slice_get, nat_cmp}
 use Rattle.std.specs.Result.{result_ok}
 use Rattle.std.specs.List.Sorted.{IsStrictlyIncreasing, IsBinarySearchResult}
@@ -25,20 +25,20 @@ get_set_other (y ∷ ys) zero (suc j) x ne = refl
 get_set_other (y ∷ ys) (suc i) zero x ne = refl
 get_set_other (y ∷ ys) (suc i) (suc j) x ne = get_set_other ys i j x (λ e. ne (ap suc e))
 
--- what stands there already
+-- writing what is there already
 pub set_again : {A : Type 0} (xs : List A) (i : ℕ) (x : A) → slice_get xs i ≡ Some x → set xs i x ≡ xs
 set_again [] i x e = refl
 set_again (y ∷ ys) zero x e = ap (λ z. z ∷ ys) (sym (same_some y x e))
 set_again (y ∷ ys) (suc i) x e = ap (λ zs. y ∷ zs) (set_again ys i x e)
 
--- a place of a list with one more at its end is one of the list, or the end
+-- a place of a list with one more element is a place of the list, or the end
 pub pushed_at : {A : Type 0} (xs : List A) (y : A) (i : ℕ) (x : A) → slice_get (xs ++ y ∷ []) i ≡ Some x → (slice_get xs i ≡ Some x) ⊎ ((i ≡ length xs) × (x ≡ y))
 pushed_at [] y zero x e = inr (refl, same_some x y (sym e))
 pushed_at [] y (suc i) x e = absurd (cc e)
 pushed_at (z ∷ zs) y zero x e = inl e
 pushed_at (z ∷ zs) y (suc i) x e = ⊎_elim (λ here. inl here) (λ (last : (i ≡ length zs) × (x ≡ y)). inr (ap suc last.0, last.1)) (pushed_at zs y i x e)
 
--- ---- lists that rise
+-- ---- ascending lists
 
 pub at_most : (xs : List ℕ) → IsStrictlyIncreasing xs → (i j : ℕ) → i ≤ j → j < length xs → get_or xs i 0 ≤ get_or xs j 0
 at_most xs rises i j h l = ⊎_elim
@@ -66,12 +66,12 @@ not_sought xs n (Err i) search none rises =
     let at = searched xs n (Err i) search (at_most xs rises) in
     or_from_places (λ l. has l n) (λ x. x == n) refl (λ _ _. refl) xs 0 (λ k l. beside xs n i k l at.1 at.2)
 
--- the same of the answer of a search
+-- the same for the answer of a search
 pub none_sought : (xs : List ℕ) (n : ℕ) (r : Result ℕ ℕ) (o : Option ℕ) → IsBinarySearchResult (λ y. nat_cmp y n) xs r → o ≡ result_ok r → IfNone o (IsStrictlyIncreasing xs → has xs n ≡ false)
 none_sought xs n r None search e = not_sought xs n r search (rw (sym e) refl)
 none_sought xs n r (Some i) search e = tt
 
--- at another place stands another number
+-- another place has another number
 pub other_place : (xs : List ℕ) (i j x y : ℕ) → IsStrictlyIncreasing xs → slice_get xs i ≡ Some x → slice_get xs j ≡ Some y → i ≢ j → (x == y) ≡ false
 other_place xs i j x y rises e f ne =
     let at_x = read_or xs i x e in
@@ -89,11 +89,11 @@ other_place xs i j x y rises e f ne =
           grind (arith, nat_tests)
     ]) refl
 
--- the number that is found where another list has it
+-- the number that is found, where the other list has it
 pub found_in : (xs ys : List ℕ) (n : ℕ) → xs ≡ ys → has xs n ≡ false → has ys n ≡ true → ⊥
 found_in xs ys n same none there = true≢false (sym there ∙ subst (λ l. has l n ≡ false) same none)
 
--- what a read of a list gives
+-- what a read of a list returns
 pub read_at : {A : Type 0} (xs read : List A) (i : ℕ) (x : A) → read ≡ xs → i < length read → x ≡ get_or read i x → slice_get xs i ≡ Some x
 read_at xs read i x same inside is = ap (λ l. slice_get l i) (sym same) ∙ slice_get_read read (length read) i x refl inside is
 

@@ -1,4 +1,4 @@
--- What links stand for after a push, and that something is on the way where the item was queued.
+-- The links after a push; if the item was queued, something is on the way.
 use Rattle.std.proofs.Common.{ℕ, Bool, true, List, [], ◌∷◌, ◌++◌, ◌≡◌, refl, sym, ◌∙◌, ap, length, get_or, set}
 use Rattle.topology.specs.declared.items.Item.{Item}
 use Rattle.topology.specs.LinkStates.{carries}

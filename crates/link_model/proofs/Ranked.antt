@@ -34,7 +34,7 @@ end_at : (table : List (Option ℕ)) (c : Option ℕ) → answer (table ++ c ∷
 end_at [] c = refl
 end_at (x ∷ xs) c = end_at xs c
 
--- a node stands at one place
+-- a node stands at one place only
 pub one_place : (nodes : List ℕ) (i j n : ℕ) → IsStrictlyIncreasing nodes → slice_get nodes i ≡ Some n → slice_get nodes j ≡ Some n → i ≡ j
 one_place nodes i j n rises e f = ⊎_elim
     (λ (same : i ≡ j). same)

@@ -1,4 +1,4 @@
--- Links that stand for acts keep what is read of them.
+-- Links that stand for acts hold what is read from them.
 use Rattle.std.proofs.Common.{ℕ, Bool, Result, Ok, Err, OnErr, true, false, ◌==◌, ◌&&◌, ◌||◌, List, [], ◌∷◌, ◌++◌, ◌≡◌, refl, sym, ◌∙◌, ap, arith, true≢false, if◌then◌else◌}
 use Rattle.std.proofs.lemmas.Bool.Decides.{nat_tests}
 use Rattle.topology.specs.declared.items.Item.{Item}
@@ -42,9 +42,9 @@ stands_of net links ways acts keeps same = record {
       record { state = ap (λ (k : OneWay). k.state) is; items = ap (λ (k : OneWay). k.items) is };
 }
 
--- ---- what each call leaves
+-- ---- the links after each call
 
--- nothing is said of nodes that have no link
+-- nothing is promised for nodes without a link
 pub not_linked : (net : Net) (links : Links) (acts : LinkActs) (a b : ℕ) (C : Type 0) → StandsFor net links acts → linked net a b ≡ true → ((net : Net) (ways : Ways) → Keeps net links ways → linked net a b ≡ false) → C
 not_linked net links acts a b C stands link none = absurd (true≢false (sym link ∙ none net (ways_after acts) (keeps_of net links acts stands)))
 
@@ -81,7 +81,7 @@ taken net links acts from to keeps = stands_of net links _ (Take from to ∷ act
       | false ↦ λ e. refl
     ]) refl)
 
--- a failure and a restoring: both ways are emptied, in one state
+-- a failure and a restore: both directions are emptied, with the same state
 twice_at : (there back : Bool) (d after link : LinkState) (items kept : List Item) → (there || back ≡ true → after ≡ d) → (there || back ≡ true → kept ≡ [])
     → (if back then emptied d else if there then emptied d else one_way link items) ≡ one_way (if there || back then after else link) (if there || back then kept else items)
 twice_at true true d after link items kept e f = rw (e refl, f refl) refl

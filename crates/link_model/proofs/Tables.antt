@@ -1,4 +1,4 @@
--- Steps of building tables.
+-- Steps of building the tables.
 use Rattle.std.proofs.Common.{ℕ, suc, zero, ◌<◌, ◌≤◌, Bool, true, false, cond, Option, Some, None, IfSome, IfNone, List, [], ◌∷◌, ◌++◌, ◌≡◌, refl, sym, ◌∙◌, ap, arith, length, get_or, filter, map, drop, append_assoc, if◌then◌else◌}
 use Rattle.std.proofs.lemmas.List.{append-nil, drop_all}
 use Rattle.topology.specs.Lists.{ascending}
@@ -34,7 +34,7 @@ ways_more near u v vs old new whole is all = one (near v) is all
     one true e f = ap (λ l. l ++ map (ends u) (filter near vs)) e ∙ (append_assoc old (ends u v ∷ []) (map (ends u) (filter near vs)) ∙ f)
     one false e f = ap (λ l. l ++ map (ends u) (filter near vs)) e ∙ f
 
--- nothing is left of the nodes
+-- no node is left
 pub ways_done : (net : Net) (u : ℕ) (nodes : List ℕ) (i : ℕ) (now before : List Way) → nodes ≡ ascending net.nodes → length nodes ≤ i
     → now ++ map (ends u) (filter (linked net u) (drop i nodes)) ≡ before ++ map (ends u) (filter (linked net u) nodes) → now ≡ before ++ map (ends u) (neighbours net u)
 unfolding neighbours

@@ -1,4 +1,4 @@
--- What a link is like, and what is on its way over it, after a list of acts.
+-- The state of a link, and what is on its way over it, after a list of acts.
 use Rattle.std.specs.Prelude.{ℕ, ◌==◌, ◌&&◌, List, [], ◌∷◌, ◌++◌, if◌then◌else◌}
 use Rattle.topology.specs.declared.items.Item.{Item}
 use Rattle.topology.specs.declared.links.LinkState.{LinkState}
@@ -6,14 +6,14 @@ use Rattle.topology.specs.declared.links.LinkState.TheVariants.{Up}
 use Rattle.topology.specs.LinkStates.{are_ends, failed, restored, carries}
 use Rattle.link_model.specs.Acts.{LinkAct, LinkActs, Push, Take, Fail, Restore}
 
--- a failure takes the link down, restoring it brings it up in the next session
+-- a failure takes the link down, and a restore brings it up in the next session
 abbrev pub state_by : ℕ → ℕ → LinkAct → LinkState → LinkState
 state_by a b (Push from to session item) before = before
 state_by a b (Take from to) before = before
 state_by a b (Fail c d) before = if are_ends a b c d then failed before else before
 state_by a b (Restore c d) before = if are_ends a b c d then restored before else before
 
--- the link of a and b: up in session 1 at the start
+-- the state of the link of a and b; at the start it is up in session 1
 abbrev pub state : ℕ → ℕ → LinkActs → LinkState
 state a b [] = Up 1
 state a b (act ∷ acts) = state_by a b act (state a b acts)
@@ -23,8 +23,8 @@ abbrev pub behind_front : List Item → List Item
 behind_front [] = []
 behind_front (x ∷ xs) = xs
 
--- an item that is pushed in the session that the link carries goes to the end, a take drops the front
--- one, and a failure empties both ways
+-- one step of `channel_after`: an item pushed in the session that the link carries goes to the end, a take removes the
+-- front item, and a failure empties both directions
 abbrev pub channel_after_by : ℕ → ℕ → LinkState → LinkAct → List Item → List Item
 channel_after_by a b link (Push from to session item) before =
     if (from == a && to == b) && carries link session then before ++ item ∷ [] else before
@@ -32,8 +32,8 @@ channel_after_by a b link (Take from to) before = if from == a && to == b then b
 channel_after_by a b link (Fail c d) before = if are_ends a b c d then [] else before
 channel_after_by a b link (Restore c d) before = before
 
--- the items on the way from a to b, the oldest first: those that were pushed in the session that the
--- link carries, and not taken
+-- the items on their way from a to b, the oldest first: those that were pushed in the session that the link carries,
+-- and not taken
 abbrev pub channel_after : ℕ → ℕ → LinkActs → List Item
 channel_after a b [] = []
 channel_after a b (act ∷ acts) = channel_after_by a b (state a b acts) act (channel_after a b acts)

@@ -1,4 +1,4 @@
--- When links stand for a list of acts: all that they keep is what is read of the list.
+-- When links stand for a list of acts: what they store is what is read from the list.
 use Rattle.std.specs.Prelude.{ℕ, ◌≡◌, Some, slice_get}
 use Rattle.topology.specs.Net.{Net, IsValid}
 use Rattle.topology.specs.declared.ways.Way.{Way}
@@ -8,7 +8,7 @@ use Rattle.link_model.specs.Tables.{ways_of}
 use Rattle.link_model.specs.Ways.{OneWay}
 use Rattle.link_model.specs.Readings.{state, channel_after}
 
--- what is kept of the way from u to w
+-- what is stored of the way from u to w
 pub record IsChannel (acts : LinkActs) (u w : ℕ) (kept : OneWay) : Type 0 where
   pub state : kept.state ≡ state u w acts
   pub items : kept.items ≡ channel_after u w acts

@@ -11,7 +11,7 @@ has_number ways number = bit_at (slice_index ways.words.items (number / 64)) (nu
 abbrev pub has_both : WaySet → WaySet → ℕ → Bool
 has_both a b number = has_number a number && has_number b number
 
--- the number is one of these, and none below it is
+-- the number is in the set, and no lower one is
 pub record IsLowest (numbers : ℕ → Bool) (number : ℕ) : Type 0 where
   pub has : numbers number ≡ true
   pub least : (lower : ℕ) → lower < number → numbers lower ≡ false

@@ -1,4 +1,4 @@
--- What is kept of the way from a node to a neighbour.
+-- What is stored of one way, from a node to a neighbour.
 use Rattle.std.specs.Prelude.{ℕ, Bool, true, false, Option, Some, None, List, [], ◌∷◌, ◌++◌, if◌then◌else◌}
 use Rattle.topology.specs.declared.items.Item.{Item}
 use Rattle.topology.specs.declared.links.LinkState.{LinkState}
@@ -10,20 +10,20 @@ pub record OneWay : Type 0 where
   pub state : LinkState
   pub items : List Item
 
--- nothing on its way over a link in this state
+-- a way of a link in this state, with nothing on it
 abbrev pub emptied : LinkState → OneWay
 emptied link = record { state = link; items = [] }
 
--- each way at the start
+-- a way at the start
 abbrev pub unused : OneWay
 unused = emptied (Up 1)
 
--- one item more at the end, where the link carries its session
+-- the way after a push: the item goes to the end, if the link carries its session
 abbrev pub after_push : ℕ → Item → OneWay → OneWay
 after_push session item way =
     if carries way.state session then record { state = way.state; items = way.items ++ item ∷ [] } else way
 
--- something is among these items
+-- there is at least one item
 abbrev pub has_items : List Item → Bool
 has_items [] = false
 has_items (item ∷ items) = true

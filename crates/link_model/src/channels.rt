@@ -1,4 +1,4 @@
-//! One way of a link.
+//! One direction of a link.
 ghost use Rattle.std.specs.Prelude.{◌≡◌, ◌<◌, [], ◌∷◌, not, IfOk, OnOk, OnErr, IfSome, IfNone};
 ghost use Rattle.std.specs.VecDeque.{deque_capacity, deque_len};
 ghost use Rattle.topology.specs.LinkStates.{carries};
@@ -10,7 +10,7 @@ use std::collections::VecDeque;
 use std::marker::Model;
 use topology::{Item, LinkState, NoMemory, Session};
 
-/// The way from a node to a neighbour: the state of their link, and the items on their way, the oldest
+/// One direction of a link, from a node to a neighbour: the state of the link, and the items on their way, the oldest
 /// first.
 #[derive(Drop)]
 pub struct Channel {
@@ -26,7 +26,7 @@ impl Model for Channel {
     ghost view = { λ c. record { state = c.state; items = c.items.items } };
 }
 
-// Room for one item more: mostly it is there.
+// Makes room for one more item. Mostly there is room already.
 #[inline(always)]
 fn make_room(items: &mut VecDeque<Item>) -> Result<(), NoMemory>
     ensures items { items.new.items ≡ items.old.items }
@@ -40,7 +40,7 @@ fn make_room(items: &mut VecDeque<Item>) -> Result<(), NoMemory>
 }
 
 impl Channel {
-    /// The link is up in its session 1, and nothing is on its way. Takes no memory.
+    /// A link that is up in session 1, with nothing on its way. Takes no memory.
     pub fn new(alloc: Global) -> Channel
         ensures { result ≡ unused }
     {
@@ -57,8 +57,8 @@ impl Channel {
         self.state
     }
 
-    /// Sends an item on its way in a session. True where it is queued; false where the link does not
-    /// carry that session: the item is lost then.
+    /// Sends an item in a session. Returns true if the item is queued, and false if the link does not carry that
+    /// session; then the item is lost.
     pub fn push(&mut self, session: Session, item: Item) -> Result<bool, NoMemory>
         ensures ok { IfOk result (λ queued. queued ≡ carries self.old.state session) }
         ensures new { IfOk result (λ queued. self.new ≡ after_push session item self.old) }
@@ -67,13 +67,13 @@ impl Channel {
         if self.state != LinkState::Up(session) {
             return Ok(false);
         }
-        // Room first: a push that may fail has to be ready to give the item back.
+        // Reserve first: a push that may fail would have to be ready to give the item back.
         make_room(&mut self.items)?;
         self.items.push_back_reserved(item);
         Ok(true)
     }
 
-    /// The link is in this state from now on, and what was on its way is lost. Takes no memory.
+    /// Sets the state of the link, and loses what was on its way. Takes no memory.
     pub fn restart(&mut self, state: LinkState)
         ensures { self.new ≡ emptied state }
     {
@@ -96,7 +96,7 @@ impl Channel {
         self.items.front()
     }
 
-    /// Takes the oldest item on its way. Takes no memory.
+    /// Removes and returns the oldest item on its way. Takes no memory.
     pub fn pop_front(&mut self) -> Option<Item>
         ensures some { IfSome result (λ item. self.old.items ≡ item ∷ self.new.items) }
         ensures state { self.new.state ≡ self.old.state }

@@ -16,21 +16,21 @@ use crate::way_table::WayTable;
 use std::alloc::Global;
 use topology::{Item, LinkState, NoMemory, NodeId, Session, Topology, Way};
 
-/// The links of a network: a channel for each way. Each call by two nodes speaks of two that have a
-/// link; of others nothing is promised.
+/// The links of a network, with a channel for each way. A call that names two nodes promises nothing unless they have a
+/// link.
 #[derive(Drop)]
 pub struct Links {
     table: WayTable,
-    // Each way at its number.
+    // The channel of each way, at the way's number.
     channels: Vec<Channel>,
-    // Those on which there is something.
+    // The ways on which something is.
     busy: WaySet,
     ghost sized: { length channels.items ≡ length table },
     ghost few: { length table ≤ MOST_WAYS },
     ghost marked: { (number : ℕ) → has_number busy number ≡ holds_some (slice_get channels.items number) },
 }
 
-// So many ways, each link up in its session 1, and nothing on its way.
+// So many channels, each of a link that is up in session 1, with nothing on its way.
 fn fresh_channels(alloc: Global, count: usize) -> Result<Vec<Channel>, NoMemory>
     ensures length { IfOk result (λ channels. length channels.items ≡ count) }
     ensures each { IfOk result (λ channels. (way : ℕ) (kept : OneWay) → slice_get channels.items way ≡ Some kept → kept ≡ unused) }
@@ -46,7 +46,7 @@ impl Links {
     ghost use Rattle.link_model.specs.Keeping.{Ways, Keeps, IsPlaced, replaced};
     ghost use Rattle.link_model.specs.Standing.{StandsFor, IsChannel};
 
-    /// The links of a network, each up in its session 1, with nothing on its way.
+    /// The links of a network, each up in session 1, with nothing on its way.
     pub fn new(alloc: Global, topology: &Topology) -> Result<Links, NoMemory>
         ensures { IfOk result (λ links. StandsFor topology.now links []) }
     {
@@ -60,8 +60,8 @@ impl Links {
         })
     }
 
-    /// The number of the way from one node to another: ways are numbered by sender, then receiver. None
-    /// where the two have no link. Takes no memory.
+    /// The number of the way from one node to another. Ways are numbered by sender, then by receiver. The answer is
+    /// `None` where the two have no link. Takes no memory.
     #[inline(always)]
     pub fn way_of(&self, from: NodeId, to: NodeId) -> Option<usize>
         ensures some { IfSome result (λ way. IsPlaced self.now from to way) }
@@ -72,14 +72,14 @@ impl Links {
         self.table.way_of(from, to)
     }
 
-    /// The way with this number. None exactly where none has it.
+    /// The way with this number. The answer is `None` exactly where no way has it.
     pub fn way(&self, number: usize) -> Option<Way>
         ensures { (net : Net) (acts : LinkActs) → StandsFor net self.now acts → result ≡ slice_get (ways_of net) number }
     {
         self.table.way(number)
     }
 
-    /// The way from one node to another: the state of the link, and what is on its way. None where the
+    /// The way from one node to another: the state of the link, and what is on its way. The answer is `None` where the
     /// two have no link. Takes no memory.
     pub fn channel(&self, from: NodeId, to: NodeId) -> Option<&Channel>
         ensures some { IfSome result (λ channel. (net : Net) (acts : LinkActs) → StandsFor net self.now acts →
@@ -111,7 +111,7 @@ impl Links {
         Ok(ways)
     }
 
-    /// The ways on which there is something. Takes no memory.
+    /// The ways on which something is. Takes no memory.
     pub fn busy(&self) -> &WaySet
         ensures placed { (net : Net) (acts : LinkActs) (from to way : ℕ) → StandsFor net self.now acts →
             IsPlaced self.now from to way → has_number result.now way ≡ has_items (channel_after from to acts) }
@@ -120,8 +120,8 @@ impl Links {
         &self.busy
     }
 
-    /// Sends an item on its way in a session. True where it is queued; false where the link does not
-    /// carry that session: the item is lost then.
+    /// Sends an item in a session. Returns true if the item is queued, and false if the link does not carry that
+    /// session; then the item is lost.
     #[inline(always)]
     pub fn push(
         &mut self,
@@ -145,7 +145,7 @@ impl Links {
         Ok(queued)
     }
 
-    // The way is over a link in this state from now on, and what was on it is lost.
+    // Sets the state of the way's link, and loses what was on the way.
     fn restart(&mut self, way: usize, state: LinkState)
         requires { way < length self.old.table }
         ensures restarted { (net : Net) (ways : Ways) (from to : ℕ) → Keeps net self.old ways →
@@ -156,8 +156,8 @@ impl Links {
         self.busy.put(way, false);
     }
 
-    /// The link fails: what is on its way over it, both ways, is lost. False exactly where it is down
-    /// already. Takes no memory.
+    /// Makes the link fail: what is on its way, in both directions, is lost. Returns false exactly where the link is
+    /// down already. Takes no memory.
     pub fn fail(&mut self, a: NodeId, b: NodeId) -> bool
         ensures failed { (net : Net) (acts : LinkActs) → StandsFor net self.old acts → linked net a b ≡ true →
             (result ≡ is_up (state a b acts)) × StandsFor net self.new (Fail a b ∷ acts) }
@@ -177,8 +177,8 @@ impl Links {
         true
     }
 
-    /// The link comes up with the next session. False exactly where it is up already, or where no
-    /// session has a higher number. Takes no memory.
+    /// Brings the link up with the next session. Returns false exactly where it is up already, or its last session has
+    /// the highest number. Takes no memory.
     pub fn restore(&mut self, a: NodeId, b: NodeId) -> bool
         ensures restored { (net : Net) (acts : LinkActs) → StandsFor net self.old acts → linked net a b ≡ true →
             number_of (state a b acts) < 2 ^ 32 - 1 →
@@ -216,7 +216,7 @@ impl Links {
         }
     }
 
-    /// The oldest item on its way from the one node to the other. Takes no memory.
+    /// The oldest item on its way from one node to the other. Takes no memory.
     pub fn front(&self, from: NodeId, to: NodeId) -> Option<&Item>
         ensures some { IfSome result (λ item. (net : Net) (acts : LinkActs) → StandsFor net self.now acts →
             linked net from to ≡ true → (rest : List Carried) × (channel_after from to acts ≡ item.now ∷ rest)) }
@@ -229,7 +229,7 @@ impl Links {
         channel.front()
     }
 
-    /// Takes the oldest item on its way from the one node to the other. Takes no memory.
+    /// Removes and returns the oldest item on its way from one node to the other. Takes no memory.
     pub fn pop_front(&mut self, from: NodeId, to: NodeId) -> Option<Item>
         ensures some { IfSome result (λ item. (net : Net) (acts : LinkActs) → StandsFor net self.old acts →
             linked net from to ≡ true → (rest : List Carried) × (channel_after from to acts ≡ item ∷ rest) ×
@@ -244,7 +244,7 @@ impl Links {
         self.pop_front_at(way)
     }
 
-    /// Takes the oldest item on the way with this number. Takes no memory.
+    /// Removes and returns the oldest item on the way with this number. Takes no memory.
     pub fn pop_front_at(&mut self, way: usize) -> Option<Item>
         requires { way < length self.old.table }
         ensures some { IfSome result (λ item. (net : Net) (acts : LinkActs) (from to : ℕ) → StandsFor net self.old acts →

@@ -1,4 +1,4 @@
-//! The places of nodes, found by their numbers.
+//! The places of nodes, looked up by number.
 ghost use Rattle.std.specs.Prelude.{ℕ, ◌≡◌, ◌<◌, ◌≤◌, ◌^◌, Some, Option, slice_get, IfOk, IfSome, IfNone, false};
 ghost use Rattle.std.specs.List.Sorted.{IsStrictlyIncreasing};
 ghost use Rattle.topology.specs.Lists.{has};
@@ -8,11 +8,11 @@ use std::alloc::Global;
 use std::marker::Model;
 use topology::{NoMemory, NodeId};
 
-/// Nodes in rising order, each with its place, from 0.
+/// Nodes in ascending order, each with its place, from 0.
 #[derive(Drop)]
 pub struct Ranks {
     nodes: Vec<NodeId>,
-    // The place of the node with each number, where there is one.
+    // The place of the node with each number, if there is one.
     places: Vec<Option<usize>>,
 }
 
@@ -27,7 +27,7 @@ impl Model for Ranks {
     ghost invariant = { λ r. IsRanked r.nodes.items r.places.items };
 }
 
-/// What stands at a place of a table: None beyond its end.
+/// The entry at a place of a table; `None` beyond its end.
 #[inline(always)]
 pub fn entry(table: &[Option<usize>], place: usize) -> Option<usize>
     ensures { result ≡ answer table.now place }
@@ -38,7 +38,7 @@ pub fn entry(table: &[Option<usize>], place: usize) -> Option<usize>
     table[place]
 }
 
-/// The place of a node in a list that rises.
+/// The place of a node in an ascending list.
 pub fn place_of(nodes: &[NodeId], node: NodeId) -> Option<usize>
     ensures some { IfSome result (λ place. slice_get nodes.now place ≡ Some node) }
     ensures none { IfNone result (IsStrictlyIncreasing nodes.now → has nodes.now node ≡ false) }
@@ -46,7 +46,7 @@ pub fn place_of(nodes: &[NodeId], node: NodeId) -> Option<usize>
     nodes.binary_search(&node).ok()
 }
 
-// A number above those of all nodes.
+// A number above the numbers of all nodes.
 fn bound_of(nodes: &[NodeId]) -> usize
     ensures above { IsStrictlyIncreasing nodes.now → (n r : ℕ) → slice_get nodes.now r ≡ Some n → n < result }
     ensures fits { result ≤ 2 ^ 16 }
@@ -73,7 +73,7 @@ impl Ranks {
         })
     }
 
-    /// The place of a node. None where it is none of them. Takes no memory.
+    /// The place of a node; `None` if it is not in the list. Takes no memory.
     #[inline(always)]
     pub fn rank(&self, node: NodeId) -> Option<usize>
         ensures some { IfSome result (λ rank. slice_get self.now rank ≡ Some node) }

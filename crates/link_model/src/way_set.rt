@@ -1,17 +1,17 @@
-//! Some of the ways of a network.
+//! Sets of ways.
 ghost use Rattle.std.specs.Prelude.{ℕ, ◌≡◌, ◌<◌, ◌==◌, false, length, IfOk, IfSome, IfNone, if◌then◌else◌};
 ghost use Rattle.link_model.specs.declared.way_set.TheConstants.{MOST_WAYS};
 
 use std::alloc::Global;
 use topology::NoMemory;
 
-/// More ways no network has: 64 nodes, with fewer than 64 neighbours each.
+/// No network has this many ways: it has at most 64 nodes, each with fewer than 64 neighbours.
 pub const MOST_WAYS: usize = 4_096;
 
-// As many words as have a bit for each way.
+// The number of words that together have a bit for each way.
 const WORDS: usize = 64;
 
-/// Some of the ways of a network: a bit for the number of each.
+/// A set of ways, with a bit for the number of each.
 #[derive(Drop)]
 pub struct WaySet {
     words: Vec<u64>,
@@ -21,7 +21,7 @@ pub struct WaySet {
 impl WaySet {
     ghost use Rattle.link_model.specs.WaySets.{has_number, has_both, IsLowest};
 
-    /// No way.
+    /// The empty set.
     pub fn new(alloc: Global) -> Result<WaySet, NoMemory>
         ensures { IfOk result (λ ways. (number : ℕ) → has_number ways number ≡ false) }
     {
@@ -30,7 +30,7 @@ impl WaySet {
         })
     }
 
-    /// Puts the way with this number in, or takes it out. Takes no memory.
+    /// Adds the way with this number, or removes it. Takes no memory.
     pub fn put(&mut self, number: usize, is: bool)
         requires { number < MOST_WAYS }
         ensures { (other : ℕ) → has_number self.new other ≡ (if other == number then is else has_number self.old other) }
@@ -44,7 +44,7 @@ impl WaySet {
         }
     }
 
-    /// Whether the way with this number is in. Takes no memory.
+    /// Whether the way with this number is in the set. Takes no memory.
     pub fn has(&self, number: usize) -> bool
         requires { number < MOST_WAYS }
         ensures { result ≡ has_number self.now number }
@@ -52,7 +52,7 @@ impl WaySet {
         self.words[number / 64] >> (number % 64) & 1 == 1
     }
 
-    /// The lowest number of a way that is in both. Takes no memory.
+    /// The lowest number that is in both sets. Takes no memory.
     pub fn first_common(&self, other: &WaySet) -> Option<usize>
         ensures some { IfSome result (IsLowest (has_both self.now other.now)) }
         ensures none { IfNone result ((number : ℕ) → has_both self.now other.now number ≡ false) }

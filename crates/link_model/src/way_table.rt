@@ -11,11 +11,11 @@ use std::alloc::Global;
 use std::marker::Model;
 use topology::{NoMemory, NodeId, Topology, Way};
 
-/// Different ways, each with a number, from 0.
+/// Different ways, numbered from 0.
 #[derive(Drop)]
 pub struct WayTable {
     ranks: Ranks,
-    // The number of each way: at the rank of its sender, then at that of its receiver.
+    // The number of each way, at the rank of its sender, then at the rank of its receiver.
     rows: Vec<Vec<Option<usize>>>,
     ways: Vec<Way>,
 }
@@ -32,14 +32,14 @@ impl Model for WayTable {
     ghost invariant = { λ t. IsTabled t.ranks (map (λ row. row.items) t.rows.items) t.ways.items };
 }
 
-// Whether a node is one of those in a list that rises.
+// Whether a node is in an ascending list.
 fn is_near(near: &[NodeId], node: NodeId) -> bool
     ensures { IsStrictlyIncreasing near.now → result ≡ has near.now node }
 {
     place_of(near, node).is_some()
 }
 
-// The number of the way between two nodes, where one of these is near the other: it is new.
+// The number of the way to a node, if the node is near: the next number, which is new.
 fn fresh_cell(
     near: &[NodeId],
     from: NodeId,
@@ -104,14 +104,14 @@ impl WayTable {
         self.ways.len()
     }
 
-    /// The way with this number. None exactly where none has it.
+    /// The way with this number. The answer is `None` exactly where no way has it.
     pub fn way(&self, number: usize) -> Option<Way>
         ensures { result ≡ slice_get self.now number }
     {
         self.ways.get(number).copied()
     }
 
-    /// The number of a way. None where it is none of them. Takes no memory.
+    /// The number of a way; `None` if it is not in the table. Takes no memory.
     #[inline(always)]
     pub fn way_of(&self, from: NodeId, to: NodeId) -> Option<usize>
         ensures some { IfSome result (λ way. slice_get self.now way ≡ Some (ends from to)) }

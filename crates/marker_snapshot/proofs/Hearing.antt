@@ -1,4 +1,4 @@
--- What an update leaves.
+-- The snapshots after an update.
 use Rattle.std.proofs.Common.{ℕ, ◌≡◌, ◌<◌, ◌^◌, Bool, true, false, List, ◌∷◌, map, refl, ◌∙◌, if◌then◌else◌}
 use Rattle.std.proofs.lemmas.List.Elements.{All-map, All-weaker}
 use Rattle.topology.specs.Net.{Net}
@@ -76,7 +76,7 @@ heard_nbr v s n row = elim (is_of v s row.nbr row.recording.session) as (λ b. (
   | false ↦ refl
 ]
 
--- the snapshots stand for one act more
+-- the snapshots stand for one more act
 pub update_stands : (net : Net) (u : ℕ) (kept : Kept) (acts : SnapshotActs) (v s n : ℕ) (rows : List Row) → StandsFor net u kept acts → Continues acts v s n → n < 2 ^ 32
     → rows ≡ map (heard v s n) kept.rows → StandsFor net u (record { epoch = kept.epoch; cuts = kept.cuts; rows = rows }) (Hears v s n ∷ acts)
 update_stands net u kept acts v s n rows stands continues small is = record {

@@ -1,4 +1,4 @@
--- Rows among rows.
+-- Finding rows.
 use Rattle.std.proofs.Common.{ℕ, ◌≡◌, ◌==◌, ◌&&◌, true, Some, None, List, map, refl, ◌∙◌, ap, arith}
 use Rattle.std.specs.List.{Contains}
 use Rattle.std.proofs.lemmas.List.{length-map, get_or-map}
@@ -17,7 +17,7 @@ both_same v s w t e = (grind (arith, nat_tests), grind (arith, nat_tests))
 contains_map : {X Y : Type 0} (f : X → Y) (xs : List X) (x : X) → Contains xs x → Contains (map f xs) (f x)
 contains_map f xs x in' = (in'.0, rw (length-map xs f) in'.1, get_or-map f xs in'.0 x (f x) in'.1 ∙ ap f in'.2)
 
--- what keeps epochs and neighbours keeps the rows that are there
+-- a change that keeps epochs and neighbours keeps which rows there are
 pub has_map : (f : Row → Row) → ((row : Row) → (f row).epoch ≡ row.epoch) → ((row : Row) → (f row).nbr ≡ row.nbr)
     → (rows : List Row) (e v : ℕ) → HasRow rows e v → HasRow (map f rows) e v
 has_map f epochs nbrs rows e v has = record {
@@ -27,7 +27,7 @@ has_map f epochs nbrs rows e v has = record {
   of_nbr = nbrs has.row ∙ has.of_nbr;
 }
 
--- where there is no row, no session was held
+-- if there is no row, no session was held
 pub not_recorded : (net : Net) (u : ℕ) (kept : Kept) (acts : SnapshotActs) (e v : ℕ) → StandsFor net u kept acts → has (neighbours net u) v ≡ true
     → ((row : Row) → Contains kept.rows row → row.epoch ≡ e → row.nbr ≡ v → ⊥) → recorded_session e v acts ≡ None
 not_recorded net u kept acts e v stands near none =

@@ -1,4 +1,4 @@
--- What a mark leaves.
+-- The snapshots after a mark.
 use Rattle.std.proofs.Common.{ℕ, ◌≡◌, ◌&&◌, true, false, List, ◌∷◌, map, refl, if◌then◌else◌}
 use Rattle.std.specs.Prelude.{nat_le}
 use Rattle.std.specs.List.Sorted.{IsPermutation}
@@ -41,7 +41,7 @@ has_moved rows moved same e v has = record {
   of_nbr = has.of_nbr;
 }
 
--- the snapshots stand for one act more
+-- the snapshots stand for one more act
 pub mark_stands : (net : Net) (u : ℕ) (kept : Kept) (acts : SnapshotActs) (v s d : ℕ) (rows : List Row) → StandsFor net u kept acts
     → IsPermutation (map (met v s d) kept.rows) rows → StandsFor net u (record { epoch = kept.epoch; cuts = kept.cuts; rows = rows }) (Meets v s d ∷ acts)
 mark_stands net u kept acts v s d rows stands same = record {

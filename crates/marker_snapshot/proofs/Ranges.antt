@@ -1,4 +1,4 @@
--- Numbers that follow each other.
+-- Consecutive numbers.
 use Rattle.std.proofs.Common.{ℕ, zero, suc, ◌≡◌, ◌<◌, ◌+◌, ◌-◌, ◌^◌, ◌==◌, false, List, [], ◌∷◌, ◌++◌, min, refl, sym, ◌∙◌, ap, arith, if◌then◌else◌}
 use Rattle.std.specs.List.{range_with_len}
 use Rattle.std.proofs.lemmas.Bool.Decides.{nat_tests}
@@ -11,13 +11,13 @@ range_more a (suc n) =
     let next : a + suc n ≡ (a + 1) + n = omega arith in
     rw (longer, next) (ap (λ xs. a ∷ xs) (range_more (a + 1) n))
 
--- the number behind a range is next
+-- the number after a range is next
 pub range_is_next : (first count n : ℕ) → first + count ≡ n → IsNext n (range_with_len first count)
 range_is_next first zero n e = tt
 range_is_next first (suc zero) n e = omega arith
 range_is_next first (suc (suc count)) n e = range_is_next (first + 1) (suc count) n (omega arith)
 
--- and no other one
+-- no other number is next
 pub next_of_range : (first count n : ℕ) → 0 < count → IsNext n (range_with_len first count) → first + count ≡ n
 next_of_range first zero n some next = absurd (omega arith)
 next_of_range first (suc zero) n some next = omega arith
@@ -35,7 +35,7 @@ extended first (suc count) n xs numbers none next some small =
     let fits : min (suc count + 1) (2 ^ 32 - 1) ≡ suc count + 1 = omega arith in
     rw (more, fits) (range_more first (suc count) ∙ (ap (λ xs. xs ++ (first + suc count) ∷ []) numbers ∙ ap (λ m. xs ++ m ∷ []) next_is))
 
--- a number was recorded, and there is a first one
+-- a number was recorded, so there is a first one
 pub extended_first : (first count n : ℕ) → (first == 0) ≡ (count == 0) → 0 < n
     → ((if count == 0 then n else first) == 0) ≡ (min (count + 1) (2 ^ 32 - 1) == 0)
 extended_first first zero n none some = grind (arith, nat_tests)

@@ -1,4 +1,4 @@
--- Rows that are done stay as they are, and stand first.
+-- Finished rows stay as they are, and stand in front.
 use Rattle.std.proofs.Common.{ℕ, zero, suc, ◌≡◌, ◌<◌, ◌≤◌, ◌+◌, ◌&&◌, Bool, true, false, List, [], ◌∷◌, ◌++◌, length, map, take, drop, get_or, refl, sym, ◌∙◌, ap, subst, arith, inl, inr, true≢false, if◌then◌else◌}
 use Rattle.std.specs.Prelude.{nat_le}
 use Rattle.std.specs.List.{AllWithin, SwappedAt}
@@ -49,7 +49,7 @@ map_settled f fix (suc n) (x ∷ xs) each =
     let others : map f (take n xs) ≡ take n xs = map_settled f fix n xs (λ k d low high. each (suc k) d (omega arith) (omega arith)) in
     cc
 
--- a pass over all rows may begin behind those that are done
+-- a pass over all rows may start after the finished ones
 pub begins_settled : (f : Row → Row) → Fixes f → (n : ℕ) (rows : List Row) → AreSettled n rows → rows ≡ map f (take n rows) ++ drop n rows
 begins_settled f fix n rows settled = rw (map_settled f fix n rows settled.each) (sym (take-append-drop n rows))
 
@@ -62,7 +62,7 @@ keeps_settled f fix n rows settled = record {
       rw (get_or-map f rows k d d inside) (subst IsDone (sym (fix (get_or rows k d) is)) is);
 }
 
--- one more that is done goes behind the first n
+-- one more finished row moves behind the first n
 pub settles : (rows ys : List Row) (n i : ℕ) → AreSettled n rows → n ≤ i → i < length rows → length ys ≡ length rows → SwappedAt rows ys n i
     → ((d : Row) → IsDone (get_or rows i d)) → AreSettled (n + 1) ys
 settles rows ys n i settled behind inside long swapped is = record {
@@ -73,7 +73,7 @@ settles rows ys n i settled behind inside long swapped is = record {
   ];
 }
 
--- a list that is written back whole
+-- a list that is written back completely
 pub written_back : (len : ℕ) (items now new : List Row) (f : Row → Row) → length items ≡ len → now ≡ items → new ≡ map f now → take len (new ++ drop (length new) items) ≡ map f items
 written_back len items now new f long is mapped =
     let same : new ≡ map f items = mapped ∙ ap (map f) is in

@@ -1,4 +1,4 @@
--- What a cut leaves.
+-- The snapshots after a cut.
 use Rattle.std.proofs.Common.{ℕ, ◌≡◌, ◌≢◌, ◌<◌, ◌==◌, true, false, Option, Some, None, List, [], ◌∷◌, ◌++◌, ◌+◌, length, take, get_or, refl, sym, ◌∙◌, ap, subst, arith, inl, inr, true≢false, if◌then◌else◌}
 use Rattle.std.specs.Prelude.{option_map, option_and_then}
 use Rattle.std.specs.List.{All, Contains, flat_map}
@@ -53,7 +53,7 @@ module _ (d : ℕ) (h : List Entry) (acts : SnapshotActs) where
   ]
 
   module _ (newest : (e : ℕ) → epoch_of acts < e → cut_of e acts ≡ None) (above : epoch_of acts < d) where
-    -- an epoch that has a cut is another one
+    -- an epoch that already has a cut is another one
     is_other : (e : ℕ) → cut_of e acts ≢ None → (d == e) ≡ false
     is_other e some = ne_eqb d e (λ same. some (subst (λ x. cut_of x acts ≡ None) same (newest d above)))
 
@@ -132,14 +132,14 @@ module _ (net : Net) (u : ℕ) (kept : Kept) (acts : SnapshotActs) (d : ℕ) (h 
     has_row = has_row_of;
   }
 
-  -- the snapshots stand for one act more
+  -- the snapshots stand for one more act
   pub cut_stands : (cuts : List Cut) (rows : List Row) → cuts ≡ kept.cuts ++ new_cut d h ∷ [] → rows ≡ kept.rows ++ flat_map (begun_with d h acts) (neighbours net u)
       → StandsFor net u (record { epoch = d; cuts = cuts; rows = rows }) (Takes d h ∷ acts)
   cut_stands cuts rows cuts_are rows_are =
       subst (λ rs. StandsFor net u (record { epoch = d; cuts = cuts; rows = rs }) (Takes d h ∷ acts)) (sym rows_are)
       (subst (λ cs. StandsFor net u (record { epoch = d; cuts = cs; rows = kept.rows ++ flat_map (begun_with d h acts) (neighbours net u) }) (Takes d h ∷ acts)) (sym cuts_are) whole)
 
--- one neighbour more
+-- one more neighbour
 pub one_more : (d : ℕ) (h : List Entry) (nodes : List ℕ) (i v : ℕ) (before rows after : List Row) (o : Option ℕ) → i < length nodes → v ≡ get_or nodes i v → o ≡ held (reads h) v
     → rows ≡ before ++ flat_map (λ v. begun_by d v (held (reads h) v)) (take i nodes) → after ≡ rows ++ begun_by d v o
     → after ≡ before ++ flat_map (λ v. begun_by d v (held (reads h) v)) (take (i + 1) nodes)

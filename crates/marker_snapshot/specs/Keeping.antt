@@ -1,4 +1,4 @@
--- What snapshots keep, as contracts see them.
+-- What snapshots store, as contracts see it.
 use Rattle.std.specs.Prelude.{ℕ, List}
 use Rattle.marker_snapshot.specs.declared.recording.Row.{Row}
 use Rattle.marker_snapshot.specs.declared.recording.Cut.{Cut}

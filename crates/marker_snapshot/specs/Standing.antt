@@ -1,4 +1,4 @@
--- When snapshots stand for a list of acts: all that they keep is what is read of the list.
+-- When snapshots stand for a list of acts: what they store is what is read from the list.
 use Rattle.std.specs.Prelude.{ℕ, ◌≡◌, ◌<◌, ◌==◌, true, Some, None, List, length, option_map}
 use Rattle.std.specs.List.{All, Contains, range_with_len}
 use Rattle.topology.specs.Lists.{has}
@@ -11,8 +11,8 @@ use Rattle.marker_snapshot.specs.Acts.{SnapshotActs}
 use Rattle.marker_snapshot.specs.Cuts.{epoch_of, cut_of, done, recorded, recorded_session}
 use Rattle.marker_snapshot.specs.Keeping.{Kept}
 
--- this is the recording of epoch e with v: the session that the cut holds, the numbers recorded, the first
--- of them or 0, and whether it is done
+-- this is the recording of epoch e with v: the session that the cut holds, the numbers recorded, the first of them or
+-- 0, and whether it is finished
 pub record Shows (acts : SnapshotActs) (e v : ℕ) (recording : Recording) : Type 0 where
   pub in_cut : recorded_session e v acts ≡ Some recording.session
   pub numbers : range_with_len recording.first recording.count ≡ recorded e v recording.session acts
@@ -23,7 +23,7 @@ pub record Shows (acts : SnapshotActs) (e v : ℕ) (recording : Recording) : Typ
 abbrev pub IsRow : SnapshotActs → Row → Type 0
 IsRow acts row = Shows acts row.epoch row.nbr row.recording
 
--- the cut of this epoch has as many entries
+-- the cut has the number of entries that the acts give
 abbrev pub IsCut : SnapshotActs → Cut → Type 0
 IsCut acts cut = option_map length (cut_of cut.epoch acts) ≡ Some cut.entries
 

@@ -1,22 +1,22 @@
-//! What is kept of a cut, and of each session that it holds.
+//! What is stored of a cut, and of each session that the cut holds.
 ghost use Rattle.std.specs.Prelude.{◌≡◌};
 ghost use Rattle.marker_snapshot.specs.Rows.{met, heard};
 
 use topology::{Epoch, NodeId, Session};
 
-/// What a node records of a session that its cut holds. The numbers of the updates follow each other.
+/// What a node records of a session that its cut holds. The recorded updates have consecutive numbers.
 #[derive(Clone, Copy, Debug, PartialEq, Eq)]
 pub struct Recording {
     pub session: Session,
     /// The number of the first update, 0 where there is none.
     pub first: u32,
-    /// How many updates.
+    /// The number of updates.
     pub count: u32,
-    /// A mark of the cut's epoch at least was met in the session.
+    /// Whether a mark of the cut's epoch or a later one arrived in the session.
     pub done: bool,
 }
 
-/// The recording of a session with a neighbour since the cut of an epoch.
+/// What was recorded of a session with a neighbour since the cut of an epoch.
 #[derive(Clone, Copy, Debug, PartialEq, Eq)]
 pub struct Row {
     pub epoch: Epoch,
@@ -32,8 +32,7 @@ pub struct Cut {
 }
 
 impl Row {
-    /// A mark came in a session: it ends the recording of that session, where it is of the cut's epoch
-    /// at least.
+    /// A mark arrived in a session. If it is of the cut's epoch or a later one, it ends the recording of that session.
     pub fn meet(&mut self, nbr: NodeId, session: Session, epoch: Epoch)
         ensures { self.new ≡ met nbr session epoch self.old }
     {
@@ -42,8 +41,7 @@ impl Row {
         }
     }
 
-    /// An update came in a session. A count that is at its end stays there: the numbers that follow
-    /// each other end before.
+    /// An update arrived in a session. A count at its maximum stays there, but the update numbers run out before that.
     pub fn hear(&mut self, nbr: NodeId, session: Session, seq: u32)
         ensures { self.new ≡ heard nbr session seq self.old }
     {

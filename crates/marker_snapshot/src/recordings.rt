@@ -10,8 +10,8 @@ use std::alloc::Global;
 use std::marker::Model;
 use topology::{Epoch, NoMemory, NodeId, Session};
 
-/// A row for each session that a cut holds, those that are done first. Only the others are looked at
-/// when something comes.
+/// A row for each session that a cut holds. The finished rows come first, and only the others are looked at when
+/// something arrives.
 #[derive(Drop)]
 pub struct Recordings {
     rows: Vec<Row>,
@@ -30,7 +30,7 @@ impl Model for Recordings {
     ghost invariant = { λ r. AreSettled r.settled r.rows.items };
 }
 
-// A mark came: each row may be ended by it. Those before `settled` are done.
+// A mark arrived: it may end the recording of each row. The rows before `settled` are finished.
 fn meet_each(rows: &mut [Row], settled: usize, nbr: NodeId, session: Session, epoch: Epoch)
     requires { AreSettled settled rows.old }
     ensures { rows.new ≡ map (met nbr session epoch) rows.old }
@@ -40,7 +40,7 @@ fn meet_each(rows: &mut [Row], settled: usize, nbr: NodeId, session: Session, ep
     }
 }
 
-// An update came: each row may record it. Those before `settled` are done.
+// An update arrived: each row may record it. The rows before `settled` are finished.
 fn hear_each(rows: &mut [Row], settled: usize, nbr: NodeId, session: Session, seq: u32)
     requires { AreSettled settled rows.old }
     ensures { rows.new ≡ map (heard nbr session seq) rows.old }
@@ -50,7 +50,8 @@ fn hear_each(rows: &mut [Row], settled: usize, nbr: NodeId, session: Session, se
     }
 }
 
-// Moves those that are done to the front. The first ones are known to be; answers how many are then.
+// Moves the finished rows to the front; the first `settled` rows are known to be finished. Returns how many finished
+// rows then stand in front.
 fn settle(rows: &mut [Row], settled: usize) -> usize
     requires { AreSettled settled rows.old }
     ensures settled { AreSettled result rows.new }
@@ -67,7 +68,7 @@ fn settle(rows: &mut [Row], settled: usize) -> usize
 }
 
 impl Recordings {
-    /// None. Takes no memory.
+    /// No rows. Takes no memory.
     pub fn new(alloc: Global) -> Recordings
         ensures { result ≡ [] }
     {
@@ -77,7 +78,7 @@ impl Recordings {
         }
     }
 
-    /// Begins a recording, where a session is held with the neighbour.
+    /// Begins a recording, if a session is held with the neighbour.
     pub fn begin(
         &mut self,
         epoch: Epoch,
@@ -102,7 +103,7 @@ impl Recordings {
         Ok(())
     }
 
-    /// A mark came in a session. Takes no memory.
+    /// A mark arrived in a session. Takes no memory.
     pub fn meet(&mut self, nbr: NodeId, session: Session, epoch: Epoch)
         ensures { IsPermutation (map (met nbr session epoch) self.old) self.new }
     {
@@ -110,7 +111,7 @@ impl Recordings {
         self.settled = settle(&mut self.rows, self.settled);
     }
 
-    /// An update came in a session. Takes no memory.
+    /// An update arrived in a session. Takes no memory.
     pub fn hear(&mut self, nbr: NodeId, session: Session, seq: u32)
         ensures { self.new ≡ map (heard nbr session seq) self.old }
     {

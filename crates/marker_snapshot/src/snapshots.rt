@@ -64,9 +64,9 @@ impl Snapshots {
         }
     }
 
-    /// Raises the epoch and takes its cut: the number of entries of the log. From now on each session
-    /// that is held is recorded. The epoch has to be above `epoch()`: of a lower one nothing is
-    /// promised. A mark that raises the epoch is met (`on_marker`) after this.
+    /// Raises the epoch and takes its cut, which is the number of entries of the log. From now on each held session is
+    /// recorded. The epoch has to be above `epoch()`; else nothing is promised. If a mark raised the epoch, `on_marker`
+    /// is called for it after this.
     pub fn take<P: Policy + Copy>(
         self,
         epoch: Epoch,
@@ -88,8 +88,8 @@ impl Snapshots {
         Ok(taken)
     }
 
-    /// A marker or hello of an epoch came in a session: it ends the recordings of that session of this
-    /// epoch and of those before. Takes no memory.
+    /// A marker or hello of an epoch arrived in a session. It ends the recordings of that session for this epoch and
+    /// for earlier ones. Takes no memory.
     pub fn on_marker(&mut self, nbr: NodeId, session: Session, epoch: Epoch)
         ensures { (net : Net) (u : ℕ) (acts : SnapshotActs) → StandsFor net u self.old acts →
             StandsFor net u self.new (Meets nbr session epoch ∷ acts) }
@@ -97,9 +97,9 @@ impl Snapshots {
         self.recordings.meet(nbr, session, epoch);
     }
 
-    /// The update with this number came in a session: each recording of that session that is not done
-    /// has it from now on. The number is from 1, and one above the last one of each of these recordings
-    /// that has one (`recorded` tells it): of another number nothing is promised. Takes no memory.
+    /// The update with this number arrived in a session. Each unfinished recording of that session now includes it. The
+    /// number has to be at least 1, and one above the last number in each of these recordings that is not empty (see
+    /// `recorded`); else nothing is promised. Takes no memory.
     pub fn on_update(&mut self, nbr: NodeId, session: Session, seq: u32)
         ensures { (net : Net) (u : ℕ) (acts : SnapshotActs) → StandsFor net u self.old acts →
             Continues acts nbr session seq → StandsFor net u self.new (Hears nbr session seq ∷ acts) }
@@ -115,7 +115,7 @@ impl Snapshots {
         self.epoch
     }
 
-    /// How many entries the cut of an epoch has. None exactly where there is no cut of it. Takes no
+    /// How many entries the cut of an epoch has. The answer is `None` exactly where there is no cut of it. Takes no
     /// memory.
     pub fn cut_of(&self, epoch: Epoch) -> Option<u32>
         ensures { (net : Net) (u : ℕ) (acts : SnapshotActs) → StandsFor net u self.now acts →
@@ -125,8 +125,9 @@ impl Snapshots {
         Some(cut.entries)
     }
 
-    /// What was recorded after the cut of an epoch of the session with a neighbour that was held in it.
-    /// None exactly where there is no cut of that epoch, or it holds no such session. Takes no memory.
+    /// What was recorded, after the cut of an epoch, of the session with a neighbour that the cut holds. The answer is
+    /// `None` exactly where there is no cut of that epoch, or the cut holds no session with the neighbour. Takes no
+    /// memory.
     pub fn recorded(&self, epoch: Epoch, nbr: NodeId) -> Option<Recording>
         ensures some { IfSome result (λ recording. (net : Net) (u : ℕ) (acts : SnapshotActs) →
             StandsFor net u self.now acts → Shows acts epoch nbr recording) }

@@ -1,5 +1,5 @@
-//! Calls of one node and of whole worlds, with what each has to answer: tests alone. What is expected was worked out
-//! from the rules by hand, never from the program.
+//! Tests of the calls of one node and of whole worlds. The expected answers were worked out by hand from the rules,
+//! never from the program.
 #![tactic(auto)]
 
 #[cfg(test)]

@@ -1,4 +1,4 @@
-//! Networks as files, and what is done in them as tables of lines.
+//! Networks as files, and what happens in them as tables of lines.
 mod networks;
 mod nodes;
 mod words;

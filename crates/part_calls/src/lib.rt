@@ -1,4 +1,5 @@
-//! Public calls of the lower libraries, each tried by itself: tests alone. What is expected was worked out by hand.
+//! Tests of the public calls of the lower libraries, each library by itself. The expected values were worked out by
+//! hand.
 #![tactic(auto)]
 
 #[cfg(test)]

@@ -1,4 +1,4 @@
-//! A file or a folder for each library. What it tests says the first line of each.
+//! A file or a folder for each library. Its first line says what it tests.
 mod backups;
 mod ballots;
 mod closures;

@@ -1,4 +1,4 @@
--- A write of what stands there already changes nothing.
+-- Writing the value that is already there changes nothing.
 use Rattle.std.proofs.Common.{ℕ, Vec, ◌≡◌, List, Result, Ok, Err, sym, ◌∙◌, ap, subst, length, set, get_or}
 use Rattle.std.proofs.Math.Nat.{ℕ_set}
 use Rattle.std.proofs.lemmas.List.{set-get_or}

@@ -1,4 +1,4 @@
--- What a routing state answers from what it keeps.
+-- What a routing state returns, computed from what it stores.
 use Rattle.std.proofs.Common.{◌≡◌, ℕ, ◌-◌, ◌<◌, Bool, true, false, cond, List, [], ◌∷◌, length, take, drop, sub-one, refl, sym, ap, ◌∙◌, subst, arith, Option, Some, None, option_map, fold, ⊎_elim}
 use Rattle.std.specs.Prelude.{if◌then◌else◌}
 use Rattle.std.specs.List.{AllByRecursion}
@@ -27,13 +27,13 @@ pub among_all : {X : Type 0} (P : X → Type 0) (xs : List X) (x : X) → AllByR
 among_all P [] x all a = absurd a
 among_all P (y ∷ ys) x all a = ⊎_elim (λ (e : y ≡ x). subst P e all.0) (λ (later : Among x ys). among_all P ys x all.1 later) a
 
--- a neighbour is kept
+-- a neighbour has an element in the list
 pub is_kept : (net : Net) (u : ℕ) (h : History) (ns : List Neighbour) (v : ℕ) → Keeps net u h ns → (Rises (ids ns) → has (ids ns) v ≡ false) → has (neighbours net u) v ≡ true → ⊥
 is_kept net u h ns v k off there =
     let none : has (neighbours net u) v ≡ false = subst (λ vs. has vs v ≡ false) k.same (off (keeps_rise net u h ns k)) in
     cc (sym there ∙ none)
 
--- what is kept of it is its candidate
+-- the stored candidate of a neighbour is its candidate
 pub kept_is : (net : Net) (u : ℕ) (h : History) (p : ℕ) (n : Neighbour) → Remembers net u h n → p < length net.prefixes → kept_path p n ≡ candidate u h p n.id
 kept_is net u h p n r below = rw (r.told p below) refl
 
@@ -45,11 +45,11 @@ begins u h p v path e = by_rest (beyond u h p v) e
     by_rest None e = absurd (cc e)
     by_rest (Some rest) e = (rest, cc e)
 
--- u before the nodes after the first one
+-- the path after the first node, with u in front
 pub shown_after : (u : ℕ) (nodes path : List ℕ) → nodes ≡ path → (rest : List ℕ) × (path ≡ u ∷ rest) → u ∷ take (length nodes - 1) (drop 1 nodes) ≡ path
 shown_after u nodes path same (rest, own) = rw (same, own, sub-one) (ap (λ xs. u ∷ xs) (take_all (length rest) rest (omega arith)))
 
--- the first that is kept is the first of the choices
+-- the first stored candidate is the first of the choices
 pub each_choice : (net : Net) (u : ℕ) (h : History) (p : ℕ) (n : Neighbour) → Remembers net u h n → p < length net.prefixes → kept_choice p n ≡ choice net u h p n.id
 each_choice net u h p n r below = rw (kept_is net u h p n r below, r.prefers) refl
 
@@ -64,7 +64,7 @@ pub first_is : (before : Ranked → Ranked → Bool) (net : Net) (u : ℕ) (h : 
     → first_kept before p ns ≡ first before (choice net u h p) (neighbours net u)
 first_is before net u h p ns k below = folds before net u h p None ns k.each below ∙ ap (first before (choice net u h p)) k.same
 
--- the best route, by whether it is the own one and by the first choice
+-- the best route, from ownership and the first choice
 pub own_best : (rules : Rules) (net : Net) (u : ℕ) (h : History) (p : ℕ) → owns h p ≡ true → best rules net u h p ≡ Home
 unfolding best
 own_best rules net u h p own = rw own refl

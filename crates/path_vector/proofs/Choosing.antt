@@ -1,4 +1,4 @@
--- The first of the candidates that are kept, and the place of a neighbour.
+-- The first of the stored candidates, and the place of a neighbour.
 use Rattle.std.proofs.Common.{◌≡◌, ◌≢◌, ℕ, suc, zero, ◌+◌, ◌<◌, ◌≤◌, Bool, true, false, ◌==◌, List, [], ◌∷◌, length, get_or, slice_get, take, add-one, refl, sym, ap, ◌∙◌, subst, arith, Option, Some, None, option_map, option_and_then, fold, Result, Ok, Err, IfSome, IfNone, inl, inr, ⊎_elim}
 use Rattle.std.specs.Borrow.{Bor}
 use Rattle.std.specs.List.{AllByRecursion, HoldsAt}
@@ -115,7 +115,7 @@ module _ (before : Ranked → Ranked → Bool) (p : ℕ) (ns : List Neighbour) (
       → IsFound ns p found (first_kept before p (take (place + 1) ns))
   found_other found rank is_rank test so_far = subst (IsFound ns p found) (sym more) (step_other before ns p rank found (first_kept before p (take place ns)) (kept_choice p n) is_rank test so_far)
 
--- what `get` reads at the place that was found
+-- what `get` returns at the place that was found
 pub read_found : (ns : List Neighbour) (p i : ℕ) (c : Option Choice) (r : Option (Bor Neighbour)) → IsGetResult ns i i r → option_and_then (kept_choice p) (slice_get ns i) ≡ c
     → option_and_then (λ (n : Bor Neighbour). kept_choice p n.now) r ≡ c
 read_found ns p i c None get e = rw (slice_get_past ns i get.3) at e
@@ -140,6 +140,6 @@ pub read_among : (ns : List Neighbour) (i : ℕ) (r : Option (Bor Neighbour)) �
 read_among ns i None get = tt
 read_among ns i (Some n) get = among_at ns i n.now (slice_get_read ns (length ns) i n.now refl get.3.0 (get.3.1 n.now))
 
--- what is read at the place of v is of v, and one of them
+-- the element at the place of v is that of v, and is in the list
 pub found_one : (ns : List Neighbour) (i v : ℕ) (n : Neighbour) → slice_get (ids ns) i ≡ Some v → n ≡ get_or ns i n → (n.id ≡ v) × Among n ns
 found_one ns i v n is read = ((old_at ns i v n is read).0, among_at ns i n (slice_get_read ns (length ns) i n refl (ids_within ns i v is) read))

@@ -1,4 +1,4 @@
--- What is put in one after another is in order.
+-- Inserting elements one after another gives a list in order.
 use Rattle.std.proofs.Common.{ℕ, ◌<◌, Bool, true, false, cond, not, Some, None, is_some, List, [], ◌∷◌, ◌++◌, ◌≡◌, ◌≢◌, refl, sym, ◌∙◌, ap, subst, arith, length, map, filter, filter_map, fold, option_map}
 use Rattle.std.specs.List.{AllByRecursion, cons_option}
 use Rattle.std.specs.List.Sorted.{IsPermutation}
@@ -22,7 +22,7 @@ use Rattle.path_vector.proofs.First.{choice_named}
 abbrev into : (Ranked → Ranked → Bool) → List Ranked → List Ranked → List Ranked
 into before sorted rs = fold (λ sorted r. put before r sorted) sorted rs
 
--- the same ones
+-- the same members
 
 put_same : (before : Ranked → Ranked → Bool) (r : Ranked) (rs : List Ranked) → IsPermutation (r ∷ rs) (put before r rs)
 put_same before r [] = IsPermutation-refl (r ∷ [])
@@ -86,7 +86,7 @@ behind_none : (rs : List Ranked) → Behind [] rs
 behind_none [] = tt
 behind_none (r ∷ rs) = (tt, behind_none rs)
 
--- the same with the whole candidates
+-- the same for candidates with their paths
 
 put_ranked : (before : Ranked → Ranked → Bool) (c : Choice) (ds : List Choice) → map ranked (put_choice before c ds) ≡ put before (ranked c) (map ranked ds)
 put_ranked before c [] = refl
@@ -127,7 +127,7 @@ module _ (net : Net) (u : ℕ) (h : History) (p : ℕ) where
         | Some c ↦ λ e. (subst (λ w. AllByRecursion (λ y. w < y) (nbrs (map ranked (filter_map (choice net u h p) vs)))) (sym (choice_named net u h p v c e)) (each_rank (λ y. v < y) vs up.0), ranks_rise vs up.1)
       ]) refl
 
-  -- what is kept is what is read
+  -- what is stored is what is read
   kept_into : (before : Ranked → Ranked → Bool) (sorted : List Ranked) (ns : List Neighbour) → AllByRecursion (Remembers net u h) ns → p < length net.prefixes
       → fold (λ rs n. put_some before rs (option_map ranked (kept_choice p n))) sorted ns ≡ into before sorted (ranks (ids ns))
   unfolding ranks

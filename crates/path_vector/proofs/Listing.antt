@@ -1,4 +1,4 @@
--- What an entry changes in what is kept of all neighbours.
+-- How an entry changes what is stored of all neighbours.
 use Rattle.std.proofs.Common.{◌≡◌, ℕ, suc, zero, ◌<◌, true, false, ◌||◌, ◌==◌, List, [], ◌∷◌, length, set, get_or, slice_get, refl, sym, ap, ◌∙◌, subst, arith, Some, option_map}
 use Rattle.std.specs.List.{AllByRecursion}
 use Rattle.std.proofs.lemmas.Bool.Decides.{nat_tests}
@@ -29,7 +29,7 @@ ids_at [] i = refl
 ids_at (n ∷ ns) zero = refl
 ids_at (n ∷ ns) (suc i) = ids_at ns i
 
--- the entry is about none of these
+-- the entry names none of these neighbours
 none_moved : (net : Net) (u : ℕ) (past : History) (scope : Scope) (cause : Cause) (ns : List Neighbour) → ((v : ℕ) → names cause ≡ Some v → has (ids ns) v ≡ false)
     → AllByRecursion (Remembers net u past) ns → AllByRecursion (Remembers net u (change scope cause ∷ past)) ns
 none_moved net u past scope cause [] off all = tt
@@ -39,7 +39,7 @@ none_moved net u past scope cause (n ∷ ns) off all =
       none_moved net u past scope cause ns (λ v e. or_right (n.id == v) (has (ids ns) v) (off v e)) all.1,
     )
 
--- the entry is about the one at this place
+-- the entry names the neighbour at this place
 one_moved : (net : Net) (u : ℕ) (past : History) (scope : Scope) (cause : Cause) (ns : List Neighbour) (i : ℕ) (new : Neighbour) (v : ℕ)
     → Rises (ids ns) → names cause ≡ Some v → slice_get (ids ns) i ≡ Some v → Remembers net u (change scope cause ∷ past) new
     → AllByRecursion (Remembers net u past) ns → AllByRecursion (Remembers net u (change scope cause ∷ past)) (set ns i new)
@@ -85,7 +85,7 @@ ids_within [] i v e = absurd (cc e)
 ids_within (n ∷ ns) zero v e = omega arith
 ids_within (n ∷ ns) (suc i) v e = let later = ids_within ns i v e in omega arith
 
--- what is kept at the place of v is of v
+-- the element at the place of v is that of v
 pub old_at : (ns : List Neighbour) (i v : ℕ) (n : Neighbour) → slice_get (ids ns) i ≡ Some v → n ≡ get_or ns i n
     → (n.id ≡ v) × ((net : Net) (u : ℕ) (past : History) → AllByRecursion (Remembers net u past) ns → Remembers net u past n)
 old_at ns i v n is read =

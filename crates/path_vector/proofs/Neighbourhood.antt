@@ -1,4 +1,4 @@
--- The neighbours of a node rise, and each has a relation.
+-- The neighbours of a node ascend, and each has a relation.
 use Rattle.std.proofs.Common.{◌≡◌, ℕ, suc, ◌<◌, ◌≤◌, Bool, true, false, ◌||◌, ◌==◌, List, [], ◌∷◌, length, filter, refl, ◌∙◌, subst, arith, None, is_some, cond, ◌≢◌}
 use Rattle.std.specs.Prelude.{slice_index_or}
 use Rattle.std.specs.List.{AllByRecursion, AllPairs}
@@ -27,11 +27,11 @@ rises_pairs [] below = tt
 rises_pairs (x ∷ xs) below =
     (below_each x xs (λ k d l. below 0 (suc k) d (omega arith) (omega arith)), rises_pairs xs (λ i j d l m. below (suc i) (suc j) d (omega arith) (omega arith)))
 
--- the neighbours of a node rise
+-- the neighbours of a node ascend
 pub neighbours_rise : (net : Net) (u : ℕ) → IsValid net → Rises (neighbours net u)
 neighbours_rise net u valid = rises_pairs (neighbours net u) (AllPairs-from_increasing (neighbours net u) (increasing_neighbours net u valid))
 
--- what rises has each number once
+-- an ascending list has each number once
 above : (x y : ℕ) (xs : List ℕ) → x ≤ y → AllByRecursion (λ z. y < z) xs → has xs x ≡ false
 above x y [] h a = refl
 above x y (z ∷ zs) h a = let other : (z == x) ≡ false = grind (arith, nat_tests, a.0) in rw (other, above x y zs h a.1) refl

@@ -1,4 +1,4 @@
--- What an entry changes in what is kept of a neighbour.
+-- How an entry changes what is stored of a neighbour.
 use Rattle.std.proofs.Common.{◌≡◌, ◌≢◌, ◌⊎◌, inl, inr, ℕ, suc, zero, ◌<◌, ◌≤◌, max, Bool, true, false, cond, ◌&&◌, ◌==◌, List, [], ◌∷◌, length, set, replicate, slice_get, refl, sym, ap, ◌∙◌, subst, arith, Option, Some, None, option_map, option_and_then}
 use Rattle.std.specs.Prelude.{if◌then◌else◌}
 use Rattle.std.proofs.lemmas.Bool.Decides.{nat_tests}
@@ -26,7 +26,7 @@ by_session : (u : ℕ) (old new : ℕ → Option (Option (List ℕ))) (session :
 by_session u old new None same = refl
 by_session u old new (Some s) same = rw (same s refl) refl
 
--- no session above the highest that was named has been heard of
+-- nothing has been heard in a session above the highest named one
 heard_more : (v s : ℕ) (cause : Cause) (before : Option (Option (List ℕ))) (top : ℕ) → highest_by cause v top < s → (top < s → before ≡ None) → heard_by cause v s before ≡ None
 heard_more v s Originate before top h old = old h
 heard_more v s Withdraw before top h old = old h
@@ -120,7 +120,7 @@ other_candidate u past scope cause p w n =
     (by_session u (heard past p w) (heard (change scope cause ∷ past) p w) (held past w) (λ s e.
     same_cond (concerns p scope) (heard_by cause w s (heard past p w s)) (heard past p w s) (other_heard cause w s (heard past p w s) n)))
 
--- what is kept of a neighbour stays where the entry is about another
+-- an entry about another neighbour leaves what is stored of this one
 pub unmoved : (net : Net) (u : ℕ) (past : History) (n : Neighbour) (scope : Scope) (cause : Cause) → names cause ≢ Some n.id
     → Remembers net u past n → Remembers net u (change scope cause ∷ past) n
 unmoved net u past n scope cause other r = record {
@@ -151,7 +151,7 @@ length-set' [] i x = refl
 length-set' (y ∷ ys) zero x = refl
 length-set' (y ∷ ys) (suc i) x = ap suc (length-set' ys i x)
 
--- the candidate of an update's path is that path after u
+-- the candidate by an update's path is the own node, then that path
 taken : (u : ℕ) (path : Option (List ℕ)) → option_map (λ path. u ∷ path) (option_and_then (usable u) path) ≡ option_and_then (λ nodes. if has nodes u then None else Some (u ∷ nodes)) path
 taken u None = refl
 taken u (Some nodes) = elim (has nodes u) as (λ b. option_map (λ path. u ∷ path) (cond b None (Some nodes)) ≡ cond b None (Some (u ∷ nodes))) [ true ↦ refl | false ↦ refl ]
@@ -173,7 +173,7 @@ heard_candidate u past p v s seq path (Some t) q =
       | false ↦ elim (t == s) as (λ b. candidate_by u (heard past q v) (Some t) ≡ cond b (candidate_by u (heard past q v) (Some t)) (candidate_by u (heard past q v) (Some t))) [ true ↦ refl | false ↦ refl ]
     ]
 
--- after an update the candidate of its neighbour is the one of its path, or as it was
+-- after an update the candidate of its neighbour is that of its path, or as before
 pub updated : (u : ℕ) (past : History) (p v s seq : ℕ) (path : Option (List ℕ))
     → (candidate u (change (One p) (Recv v s seq path) ∷ past) p v ≡ led_by u (Recv v s seq path)) ⊎ (candidate u (change (One p) (Recv v s seq path) ∷ past) p v ≡ candidate u past p v)
 updated u past p v s seq path =
@@ -202,7 +202,7 @@ row_length : (row : List (Option (List ℕ))) (p : ℕ) (held_now : Bool) (led :
 row_length row p true led = length-set' row p led
 row_length row p false led = refl
 
--- what is kept of neighbour v
+-- what is stored of neighbour v
 pub record KeptOf (net : Net) (u : ℕ) (h : History) (v : ℕ) (n : Neighbour) : Type 0 where
   pub relates : relation net u v ≡ Some n.relation
   pub holds : n.held ≡ held h v
@@ -239,19 +239,19 @@ candidate_none : (u : ℕ) (paths : ℕ → Option (Option (List ℕ))) (session
 candidate_none u paths None none = refl
 candidate_none u paths (Some s) none = rw (none s refl) refl
 
--- where a session begins, nothing has been heard in it
+-- nothing has been heard in a session that begins
 begun : (u : ℕ) (past : History) (q v s : ℕ) → highest past v < s → candidate u (change All (Up v s) ∷ past) q v ≡ None
 unfolding beyond
 begun u past q v s above =
     let self : (v == v) ≡ true = grind (arith, nat_tests) in
     rw self (candidate_none u (heard past q v) (Some s) (λ t e. let same : t ≡ s = cc in rw same (unheard past q v s above)))
 
--- where it ends, there is no candidate
+-- there is no candidate after a session ends
 ended : (u : ℕ) (past : History) (q v s : ℕ) → candidate u (change All (Down v s) ∷ past) q v ≡ None
 unfolding beyond
 ended u past q v s = let self : (v == v) ≡ true = grind (arith, nat_tests) in rw self refl
 
--- any other entry of its kind leaves the candidates
+-- any other entry for all prefixes leaves the candidates
 stays : (u : ℕ) (past : History) (q v : ℕ) (cause : Cause) → HasScope All cause → ends cause ≡ false → candidate u (change All cause ∷ past) q v ≡ candidate u past q v
 unfolding beyond
 stays u past q v Originate s e = absurd s
@@ -292,7 +292,7 @@ turns net u past old new cause r a e t =
           rw (t.told q inside, r.told q below, turned_candidate u past q old.id cause a e) (sym (either (ends cause) None (candidate u past q old.id)));
     })
 
--- the same, of a cause that is an update
+-- the same, for an update
 pub hears_as : (net : Net) (u : ℕ) (past : History) (old new : Neighbour) (p : ℕ) (cause : Cause) (v s seq : ℕ) (path led : Option (List ℕ)) → cause ≡ Recv v s seq path → Remembers net u past old
     → names cause ≡ Some old.id → led ≡ led_by u cause → Hears p s led old new → Remembers net u (change (One p) cause ∷ past) new
 hears_as net u past old new p cause v s seq path led is r n l h =
@@ -306,7 +306,7 @@ flushed_candidate : (u : ℕ) (past : History) (q v w : ℕ) → candidate u (ch
 unfolding beyond
 flushed_candidate u past q v w = refl
 
--- it leaves what is kept of each neighbour
+-- it leaves what is stored of each neighbour
 pub flushed : (net : Net) (u : ℕ) (past : History) (n : Neighbour) (cause : Cause) → HasScope Nothing cause → Remembers net u past n → Remembers net u (change Nothing cause ∷ past) n
 flushed net u past n Originate s r = absurd s
 flushed net u past n Withdraw s r = absurd s
@@ -324,7 +324,7 @@ flushed net u past n (Flush w) s r = record {
   told = λ p below. r.told p below ∙ ap (λ x. Some x) (sym (flushed_candidate u past p n.id w));
 }
 
--- nothing was entered
+-- before the first entry
 
 at_replicate : {A : Type 0} (n p : ℕ) (x : A) → p < n → slice_get (replicate n x) p ≡ Some x
 at_replicate zero p x h = absurd (omega arith)

@@ -1,4 +1,4 @@
--- An update of a neighbour that leaves the best route as it is.
+-- Updates that leave the best route as it is.
 use Rattle.std.proofs.Common.{ℕ, suc, ◌<◌, Bool, true, false, cond, not, ◌==◌, ◌||◌, Option, Some, None, List, [], ◌∷◌, ◌≡◌, ◌≢◌, ◌⊎◌, inl, inr, ⊎_elim, refl, sym, ◌∙◌, ap, subst, arith, length, filter_map, option_map}
 use Rattle.std.specs.List.{cons_option}
 use Rattle.std.specs.Prelude.{is_some}
@@ -52,14 +52,14 @@ among_to f (v ∷ vs) w d there is =
     behind None a = a
     behind (Some c) a = inr a
 
--- whoever is kept is among those that are kept
+-- a neighbour that passes the filter is in the filtered list
 among_ids : (ns : List Neighbour) (n : Neighbour) → Among n ns → has (ids ns) n.id ≡ true
 among_ids [] n a = absurd a
 among_ids (m ∷ ms) n a = ⊎_elim
     (λ (same : m ≡ n). let self : (n.id == n.id) ≡ true = grind (arith, nat_tests) in rw (ap (λ (x : Neighbour). x.id == n.id) same ∙ self) refl)
     (λ (more : Among n ms). let later = among_ids ms n more in elim (m.id == n.id) as (λ b. (b || has (ids ms) n.id) ≡ true) [ true ↦ refl | false ↦ later ]) a
 
--- the first of the candidates is c, and v neither is the first nor becomes it
+-- the first candidate is c, and v neither is nor becomes the first
 record Leads (before : Ranked → Ranked → Bool) (p v : ℕ) (path : Option (List ℕ)) (ns : List Neighbour) : Type 0 where
   leader : Choice
   is_first : first_kept before p ns ≡ Some leader
@@ -67,7 +67,7 @@ record Leads (before : Ranked → Ranked → Bool) (p v : ℕ) (path : Option (L
   later : (q : List ℕ) → path ≡ Some q → (n : Neighbour) × Among n ns × (n.id ≡ v)
       × (before (record { nbr = v; preference = n.preference; length = suc (length q) }) (ranked leader) ≡ false)
 
--- ---- one choice is another one, which is not before the first
+-- ---- one choice changes, and the new one is not before the first
 
 module _ (before : Ranked → Ranked → Bool) (ranking : IsRanking before) (f g : ℕ → Option Choice) (vs : List ℕ) (v : ℕ) (c : Choice)
     (named_f : (w : ℕ) (d : Choice) → f w ≡ Some d → d.nbr ≡ w) (named_g : (w : ℕ) (d : Choice) → g w ≡ Some d → d.nbr ≡ w)
@@ -114,7 +114,7 @@ module _ (before : Ranked → Ranked → Bool) (ranking : IsRanking before) (f g
         | Some d ↦ λ e. ap (λ x. Some x) (only d (first_is_first before ranking g vs d apart_g e))
       ]) refl
 
--- ---- what an update makes of the choice of its neighbour
+-- ---- how an update changes the choice of its neighbour
 
 module _ (net : Net) (u : ℕ) (h : History) (p v s seq : ℕ) (path : Option (List ℕ)) where
   abbrev now : History
@@ -154,7 +154,7 @@ module _ (net : Net) (u : ℕ) (h : History) (p v s seq : ℕ) (path : Option (L
   pub own_stays : (rules : Rules) → owns h p ≡ true → best rules net u now p ≡ best rules net u h p
   own_stays rules own = own_best rules net u now p (owns_still ∙ own) ∙ sym (own_best rules net u h p own)
 
-  -- the route by a neighbour that leads stays
+  -- a route by a neighbour that ranks first stays
   best_stays : (rules : Rules) → IsRanking rules.before → IsValid net → owns h p ≡ false → (ns : List Neighbour) → Keeps net u h ns → p < length net.prefixes → Leads rules.before p v path ns
       → best rules net u now p ≡ best rules net u h p
   unfolding best
@@ -175,7 +175,7 @@ module _ (net : Net) (u : ℕ) (h : History) (p v s seq : ℕ) (path : Option (L
           inr (ap (λ r. rules.before r (ranked leads.leader)) rank ∙ n.3))
           (choice_own d e)
 
-  -- whoever is outranked is not the first, and does not become the first
+  -- an outranked neighbour is not the first, and does not become the first
   leads_of : (rules : Rules) → IsRanking rules.before → IsValid net → (ns : List Neighbour) → Keeps net u h ns → p < length net.prefixes → IsOutranked rules.before p v path ns → Leads rules.before p v path ns
   leads_of rules ranking valid ns keeps below low =
       (elim (first_kept rules.before p ns) as (λ o. first_kept rules.before p ns ≡ o → Leads rules.before p v path ns) [
@@ -233,7 +233,7 @@ module _ (net : Net) (u : ℕ) (h : History) (p v s seq : ℕ) (path : Option (L
       → best rules net u now p ≡ best rules net u h p
   outranked_stays rules ranking valid own ns keeps below low = best_stays rules ranking valid own ns keeps below (leads_of rules ranking valid ns keeps below low)
 
-  -- a withdrawal of what was not told changes nothing
+  -- a withdrawal without a candidate changes nothing
   pub nothing_stays : (rules : Rules) → (ns : List Neighbour) → Keeps net u h ns → p < length net.prefixes → WithdrawsNothing p v path ns
       → best rules net u now p ≡ best rules net u h p
   unfolding best
@@ -257,7 +257,7 @@ module _ (net : Net) (u : ℕ) (h : History) (p v s seq : ℕ) (path : Option (L
       same : (w : ℕ) → choice net u now p w ≡ choice net u h p w
       same w = ⊎_elim (λ (e : w ≡ v). subst (λ x. choice net u now p x ≡ choice net u h p x) (sym e) own) (λ (n : w ≢ v). choice_other w n) (cases_eq w v)
 
--- ---- what is kept shows that a neighbour is outranked
+-- ---- the stored candidates show that a neighbour is outranked
 
 pub outranked_by : (before : Ranked → Ranked → Bool) (p v : ℕ) (path : Option (List ℕ)) (ns : List Neighbour) (teller : Neighbour) (rival : Rival) → (teller.id ≡ v) × Among teller ns
     → rival.nbr ≡ teller.id → rival.old ≡ option_map ranked (kept_choice p teller) → rival.new ≡ option_map (told_rank teller.id teller.preference) path
@@ -275,7 +275,7 @@ outranked_by before p v path ns teller rival is nbr old new found = record {
   outranks = found.2;
 }
 
--- ---- what is kept shows that nothing is withdrawn
+-- ---- the stored candidates show that a withdrawal withdraws nothing
 
 pub nothing_by : {A : Type 0} (p v : ℕ) (path : Option (List ℕ)) (ns : List Neighbour) (teller : Neighbour) (read : A → List ℕ) (found : Option A) (some none : Bool)
     → some ≡ is_some path → some ≡ false → (teller.id ≡ v) × Among teller ns → option_map read found ≡ kept_path p teller → is_some found ≡ not none → none ≡ true → WithdrawsNothing p v path ns

@@ -1,4 +1,4 @@
--- What the calls of a routing state answer, as the definitions have it.
+-- What the calls of a routing state return, in terms of the definitions.
 use Rattle.std.specs.Prelude.{ℕ, Bool, ◌≡◌, [], ◌∷◌, List, Option, Some, None}
 use Rattle.topology.specs.Net.{Net}
 use Rattle.path_vector.specs.declared.state.Best.{Best}
@@ -8,7 +8,7 @@ use Rattle.path_vector.specs.declared.policy.Ranked.{Ranked}
 use Rattle.path_vector.specs.Selection.{Route, Nowhere, Home, Via, Choice, IsFirst, path_of}
 use Rattle.path_vector.specs.Offers.{learned}
 
--- the answer is this route: for a candidate its neighbour, and its path after u
+-- the answer shows this route: for a candidate, its neighbour and its path after u
 abbrev pub Shows : ℕ → Best → Route → Type 0
 Shows u answer.None Nowhere = Unit {0}
 Shows u answer.Own Home = Unit {0}
@@ -20,12 +20,12 @@ Shows u answer.Own (Via choice) = ⊥
 Shows u (answer.Via nbr nodes) Nowhere = ⊥
 Shows u (answer.Via nbr nodes) Home = ⊥
 
--- the nodes behind u, where there are some
+-- the path without its first node u
 abbrev pub behind : ℕ → Option (List ℕ) → Option (List ℕ)
 behind u None = None
 behind u (Some nodes) = Some (u ∷ nodes)
 
--- a route by a candidate goes by the first of all candidates
+-- a route by a candidate goes by the candidate that no other is before
 abbrev pub GoesFirst : (Ranked → Ranked → Bool) → List Choice → Route → Type 0
 GoesFirst before cs Nowhere = cs ≡ []
 GoesFirst before cs Home = Unit {0}

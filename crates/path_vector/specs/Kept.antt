@@ -1,4 +1,4 @@
--- What a node keeps of its neighbours, as a list, and what an entry changes in it.
+-- What a node remembers of its neighbours, and how an entry changes it.
 use Rattle.std.specs.Prelude.{IfSome, ℕ, suc, ◌≢◌, Bool, true, false, ◌==◌, max, length, slice_set, ◌≡◌, ◌<◌, Option, Some, None, List, [], ◌∷◌, map, fold, slice_get, option_map, option_and_then, if◌then◌else◌}
 use Rattle.std.specs.List.{AllByRecursion}
 use Rattle.topology.specs.Lists.{has, Among}
@@ -13,7 +13,7 @@ use Rattle.path_vector.specs.History.{History, held_by, highest_by, preference_b
 use Rattle.path_vector.specs.Selection.{Choice, ranked, consider}
 use Rattle.path_vector.specs.Standing.{Remembers}
 
--- the neighbour that an entry is about
+-- the neighbour that an entry names
 abbrev pub names : Cause → Option ℕ
 names Originate = None
 names Withdraw = None
@@ -24,11 +24,11 @@ names (Ready v s) = Some v
 names (Prefer v x) = Some v
 names (Flush v) = Some v
 
--- the neighbour that an entry is about, if any, is one of u
+-- the neighbour that an entry names, if any, is a neighbour of u
 abbrev pub IsOfNeighbour : Net → ℕ → Cause → Type 0
 IsOfNeighbour net u cause = IfSome (names cause) (λ v. has (neighbours net u) v ≡ true)
 
--- u before the path of an update: none for a withdrawal, and where u is on the path
+-- u in front of the path of an update; none for a withdrawal, and where u is on the path
 abbrev pub led_by : ℕ → Cause → Option (List ℕ)
 led_by u Originate = None
 led_by u Withdraw = None
@@ -40,7 +40,7 @@ led_by u (Ready v s) = None
 led_by u (Prefer v x) = None
 led_by u (Flush v) = None
 
--- the same is kept of the same neighbour
+-- both remember the same of the same neighbour
 pub record IsCopy (old new : Neighbour) : Type 0 where
   pub id : new.id ≡ old.id
   pub relation : new.relation ≡ old.relation
@@ -54,7 +54,7 @@ abbrev pub is_held : Option ℕ → ℕ → Bool
 is_held None s = false
 is_held (Some t) s = t == s
 
--- an update of p in session s: its path counts where the session is held
+-- after an update of p in session s: the path counts if the session is held
 pub record Hears (p s : ℕ) (led : Option (List ℕ)) (old new : Neighbour) : Type 0 where
   pub id : new.id ≡ old.id
   pub relation : new.relation ≡ old.relation
@@ -64,7 +64,7 @@ pub record Hears (p s : ℕ) (led : Option (List ℕ)) (old new : Neighbour) : T
   pub told :
       new.told.items ≡ (if is_held old.held s then slice_set old.told.items p led else old.told.items)
 
--- a session begins or ends
+-- the cause begins or ends a session
 abbrev pub ends : Cause → Bool
 ends Originate = false
 ends Withdraw = false
@@ -75,7 +75,7 @@ ends (Ready v s) = false
 ends (Prefer v x) = false
 ends (Flush v) = false
 
--- an entry that concerns all prefixes: the row is empty where a session begins or ends
+-- after an entry that concerns all prefixes: the row is empty where a session begins or ends
 pub record Turns (cause : Cause) (old new : Neighbour) : Type 0 where
   pub id : new.id ≡ old.id
   pub relation : new.relation ≡ old.relation
@@ -90,39 +90,39 @@ pub record Turns (cause : Cause) (old new : Neighbour) : Type 0 where
 abbrev pub ids : List Neighbour → List ℕ
 ids ns = map (λ (n : Neighbour). n.id) ns
 
--- each number is below those after it
+-- each number is below all that follow it
 abbrev pub Rises : List ℕ → Type 0
 Rises [] = Unit {0}
 Rises (x ∷ xs) = AllByRecursion (λ y. x < y) xs × Rises xs
 
--- these are the neighbours of u, each as it is read of the list
+-- these are the neighbours of u, and each is remembered as the list says
 pub record Keeps (net : Net) (u : ℕ) (h : History) (ns : List Neighbour) : Type 0 where
   pub valid : IsValid net
   pub same : ids ns ≡ neighbours net u
   pub each : AllByRecursion (Remembers net u h) ns
 
--- what is kept of a neighbour for p
+-- the stored candidate of a neighbour for p
 abbrev pub kept_path : ℕ → Neighbour → Option (List ℕ)
 kept_path p n = option_and_then (λ path. path) (slice_get n.told.items p)
 
--- the same, as a candidate
+-- the stored candidate with its preference
 abbrev pub kept_choice : ℕ → Neighbour → Option Choice
 kept_choice p n =
     option_map (λ path. record { nbr = n.id; preference = n.preference; path = path }) (kept_path p n)
 
--- the first by rank of those candidates
+-- the stored candidate that ranks first
 abbrev pub first_kept : (Ranked → Ranked → Bool) → ℕ → List Neighbour → Option Choice
 first_kept before p ns = fold (λ found n. consider before found (kept_choice p n)) None ns
 
--- the rank of a candidate that v makes by telling this path
+-- the rank of the candidate that v has by telling this path
 abbrev pub told_rank : ℕ → ℕ → List ℕ → Ranked
 told_rank v preference path = record { nbr = v; preference = preference; length = suc (length path) }
 
--- the rank is before the other one, where there is one
+-- the rank is before the other, or there is no other
 abbrev pub IsAhead : (Ranked → Ranked → Bool) → Ranked → Option Ranked → Type 0
 IsAhead before rank other = IfSome other (λ r. before rank r ≡ true)
 
--- this neighbour, another one than the rival, has a candidate for p that is before both of the rival
+-- the neighbour is not the rival, and its candidate for p is before both of the rival's
 pub record Outranks (before : Ranked → Ranked → Bool) (p : ℕ) (rival : Rival) (n : Neighbour) : Type 0 where
   pub apart : n.id ≢ rival.nbr
   pub choice : Choice
@@ -130,7 +130,7 @@ pub record Outranks (before : Ranked → Ranked → Bool) (p : ℕ) (rival : Riv
   pub old : IsAhead before (ranked choice) rival.old
   pub new : IsAhead before (ranked choice) rival.new
 
--- another neighbour has a candidate for p before that of v, and before what v would have by this path
+-- another neighbour has a candidate for p before that of v, and before the one that v would have by this path
 pub record IsOutranked (before : Ranked → Ranked → Bool) (p v : ℕ) (path : Option (List ℕ)) (ns : List Neighbour) : Type 0 where
   pub teller : Neighbour
   pub is_one : Among teller ns
@@ -143,7 +143,7 @@ pub record IsOutranked (before : Ranked → Ranked → Bool) (p v : ℕ) (path :
   pub is_other : Among other ns
   pub outranks : Outranks before p rival other
 
--- an update of v is a withdrawal, and v has no candidate for p
+-- the update is a withdrawal, and its neighbour v has no candidate for p
 pub record WithdrawsNothing (p v : ℕ) (path : Option (List ℕ)) (ns : List Neighbour) : Type 0 where
   pub withdrawal : path ≡ None
   pub teller : Neighbour

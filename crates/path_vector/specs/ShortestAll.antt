@@ -6,13 +6,13 @@ use Rattle.path_vector.specs.declared.policy.Ranked.{Ranked}
 use Rattle.path_vector.specs.declared.policy.Learned.{Learned}
 use Rattle.path_vector.specs.Rules.{Rules, IsRanking}
 
--- fewer nodes, then the lower neighbour
+-- fewer nodes first, then the lower neighbour
 abbrev pub shorter : Ranked → Ranked → Bool
 shorter a b =
     if nat_lt a.length b.length then true
     else if a.length == b.length then nat_lt a.nbr b.nbr else false
 
--- every route goes everywhere
+-- every route is told to everybody
 abbrev pub everything : Learned → Relation → Bool
 everything learned to = true
 

@@ -1,4 +1,4 @@
--- When a routing state stands for a list of entries: all that it keeps is what is read of the list.
+-- When a routing state stands for a list of entries: what it stores is what the definitions read from the list.
 use Rattle.std.specs.Prelude.{ℕ, ◌≡◌, ◌<◌, [], ◌∷◌, Some, length, map, slice_get}
 use Rattle.std.specs.List.{AllByRecursion}
 use Rattle.topology.specs.Net.{Net, IsValid, neighbours, relation, file_preference}
@@ -7,7 +7,7 @@ use Rattle.path_vector.specs.declared.state.RouteState.{RouteState}
 use Rattle.path_vector.specs.History.{History, held, highest, owns, preference}
 use Rattle.path_vector.specs.Selection.{candidate}
 
--- what is kept of a neighbour is what is read of it
+-- what is stored of a neighbour is what is read from the list
 pub record Remembers (net : Net) (u : ℕ) (h : History) (n : Neighbour) : Type 0 where
   pub relates : relation net u n.id ≡ Some n.relation
   pub holds : n.held ≡ held h n.id

@@ -1,4 +1,4 @@
--- A route as a routing state finds it, before it is shown.
+-- A route as a routing state finds it.
 use Rattle.std.specs.Prelude.{ℕ, ◌≡◌, Option, Some, None, List, ◌∷◌}
 use Rattle.topology.specs.Net.{Net}
 use Rattle.path_vector.specs.declared.policy.Learned.{Learned}
@@ -12,7 +12,7 @@ nbr_of Nowhere = None
 nbr_of Home = None
 nbr_of (Via choice) = Some choice.nbr
 
--- the route goes by this neighbour, was learnt so, and has this path, which begins with u
+-- the route goes by this neighbour, was learnt like this, and has this path, which begins with u
 pub record Takes (net : Net) (u : ℕ) (via : Option ℕ) (learned_so : Learned) (path : List ℕ)
     (route : Route) : Type 0 where
   pub by : via ≡ nbr_of route
@@ -20,7 +20,7 @@ pub record Takes (net : Net) (u : ℕ) (via : Option ℕ) (learned_so : Learned)
   pub is : Some path ≡ path_of u route
   pub own : (rest : List ℕ) × (path ≡ u ∷ rest)
 
--- this is the route
+-- the route that was found is this one
 abbrev pub IsTaken : Net → ℕ → Option Taken → Route → Type 0
 IsTaken net u None route = route ≡ Nowhere
 IsTaken net u (Some taken) route = Takes net u taken.via taken.learned taken.path.now route

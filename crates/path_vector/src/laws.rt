@@ -1,4 +1,4 @@
-//! Laws of what is read of the entries of a node.
+//! Laws of what the definitions read from the entries of a node.
 ghost use Rattle.std.specs.Prelude.{ℕ, Bool, List, ◌<◌, ◌≡◌, ◌≢◌, [], ◌∷◌, ◌++◌, Some, None, true, false, IfSome};
 ghost use Rattle.topology.specs.declared.names.Scope.TheVariants.{All};
 ghost use Rattle.topology.specs.Lists.{has, Among};
@@ -14,7 +14,7 @@ ghost use Rattle.path_vector.specs.Order.{IsOrder};
 ghost use Rattle.path_vector.specs.Ranking.{by_rank, order};
 ghost use Rattle.path_vector.specs.Simple.{AreIn, BringsPaths, BringsPathsIn, IsPathFrom};
 
-/// What is read of a prefix depends only on the entries that concern it.
+/// What is read for a prefix depends only on the entries that concern it.
 #[tactic(auto, using(crate::proofs::Local::candidate_local, crate::proofs::Local::best_local, crate::proofs::Local::offer_local, crate::proofs::Local::ready_local))]
 pub fn prefixes_are_apart()
     ensures candidate { (u p v : ℕ) (h : History) → Scoped h →
@@ -26,7 +26,7 @@ pub fn prefixes_are_apart()
     ensures ready { (p w : ℕ) (h : History) → Scoped h → ready (concerning p h) w ≡ ready h w }
 {}
 
-/// An entry of another prefix changes no offer.
+/// An entry that does not concern a prefix changes no offer for it.
 #[tactic(auto, using(crate::proofs::Changes::other_prefix))]
 pub fn other_prefixes_change_nothing()
     ensures { (rules : Rules) (net : Net) (u : ℕ) (h : History) (k : Change) (w p : ℕ) →
@@ -34,7 +34,7 @@ pub fn other_prefixes_change_nothing()
         concerns p k.scope ≡ false → changed rules net u (k ∷ h) w p ≡ false }
 {}
 
-/// Opening a session, above all that were named and where none is held, changes no offer.
+/// Opening a session changes no offer, where no session is held and the new one is above all that were named.
 #[tactic(auto, using(crate::proofs::Opening::opening_changes_nothing))]
 pub fn opening_changes_nothing()
     ensures { (rules : Rules) (net : Net) (u : ℕ) (h : History) (w s x p : ℕ) → held h w ≡ None →
@@ -48,7 +48,7 @@ pub fn nothing_is_offered_at_the_start()
     ensures { (rules : Rules) (net : Net) (u p w : ℕ) → offer rules net u [] p w ≡ None }
 {}
 
-/// The paths of a best route and of an offer begin with the own node and repeat none.
+/// The paths of best routes and of offers begin with the own node, and repeat no node.
 #[tactic(auto, using(crate::proofs::Simple::best_path, crate::proofs::Simple::offer_path))]
 pub fn paths_begin_with_the_own_node()
     ensures best { (rules : Rules) (net : Net) (u : ℕ) (h : History) (p : ℕ) → BringsPaths h →
@@ -57,7 +57,7 @@ pub fn paths_begin_with_the_own_node()
         IfSome (offer rules net u h p w) (IsPathFrom u) }
 {}
 
-/// Any part of a log, in the order of the log, may be a log too.
+/// A part of a possible log, in the same order, is a possible log too.
 #[tactic(auto, using(crate::proofs::Parts::part_accepted))]
 pub fn a_part_of_a_log_is_accepted()
     ensures { (part whole : History) → IsPart part whole → Accepted whole → Accepted part }
@@ -70,7 +70,7 @@ pub fn a_closed_session_stays_closed()
         held (newer ++ change All (Down w s) ∷ past) w ≢ Some s }
 {}
 
-/// A node is ready to send in the held session alone, and is so once the other end has opened it.
+/// A node is ready to send only in the held session, and is ready there once the other end has opened it.
 #[tactic(auto, using(crate::proofs::Readiness::ready_is_held, crate::proofs::Readiness::opened_is_ready))]
 pub fn readiness_needs_the_held_session()
     ensures held { (h : History) (w s : ℕ) → ready h w ≡ Some s → held h w ≡ Some s }
@@ -78,7 +78,7 @@ pub fn readiness_needs_the_held_session()
         ready h w ≡ Some s }
 {}
 
-/// Where each received path has nodes of the network only, so have those of routes and offers.
+/// If all nodes of the received paths are in the network, so are those of best routes and offers.
 #[tactic(auto, using(crate::proofs::Simple::best_in, crate::proofs::Simple::offer_in))]
 pub fn paths_stay_in_the_network()
     ensures best { (rules : Rules) (net : Net) (u : ℕ) (h : History) (p : ℕ) →
@@ -89,7 +89,7 @@ pub fn paths_stay_in_the_network()
         IfSome (offer rules net u h p w) (AreIn net) }
 {}
 
-/// The order in which neighbours are tried is a list, and there is no other.
+/// The order in which neighbours are tried exists as a list, and only one list is that order.
 #[tactic(auto, using(crate::proofs::InOrder::ranking_is))]
 pub fn the_order_of_neighbours_is_one_list()
     ensures order { (rules : Rules) (net : Net) (u : ℕ) (h : History) (p : ℕ) → IsRanking rules.before →
@@ -98,7 +98,7 @@ pub fn the_order_of_neighbours_is_one_list()
         (xs ys : List ℕ) → IsRanking before → IsOrder before net u h p xs → IsOrder before net u h p ys → xs ≡ ys }
 {}
 
-/// Each candidate by rank is a candidate.
+/// Each candidate in the list by rank is a candidate.
 #[tactic(auto, using(crate::proofs::Ranking::by_rank_is))]
 pub fn candidates_by_rank_are_candidates()
     ensures { (rules : Rules) (net : Net) (u : ℕ) (h : History) (p : ℕ) (c : Choice) →

@@ -1,4 +1,4 @@
-//! The own node before the path of an update.
+//! Puts the own node in front of the path of an update.
 ghost use Rattle.std.specs.Prelude.{◌≡◌, ◌∷◌, Some, None, IfOk, IfSome, IsTrue, OnErr, if◌then◌else◌};
 ghost use Rattle.topology.specs.Lists.{has};
 ghost use Rattle.path_vector.specs.Kept.{led_by};
@@ -7,7 +7,8 @@ use crate::Cause;
 use crate::neighbours::Neighbour;
 use topology::{NoMemory, NodeId, Path};
 
-// Whether this is the node before the path. Two paths that differ mostly end at different origins.
+// Whether the first path is the node followed by the second path. The origins are compared first: two different paths
+// mostly differ there.
 fn leads(led: &Path, node: NodeId, path: &Path) -> bool
     ensures { IsTrue result → led.now ≡ node ∷ path.now }
 {
@@ -22,7 +23,7 @@ fn leads(led: &Path, node: NodeId, path: &Path) -> bool
     }
 }
 
-// The node before the path, where this is the path that the neighbour told last.
+// The last path that was made for this neighbour, if it is the node followed by this path.
 fn known<'a>(neighbour: &'a Neighbour, node: NodeId, path: &Path) -> Option<&'a Path>
     ensures { IfSome result (λ led. led.now ≡ node ∷ path.now) }
 {
@@ -34,8 +35,8 @@ fn known<'a>(neighbour: &'a Neighbour, node: NodeId, path: &Path) -> Option<&'a 
     }
 }
 
-// The node before a path that the neighbour told: None where the node is on it. A neighbour often tells one path for
-// many prefixes, or tells it again, so it is made once for all of them: its copies share its nodes.
+// The node followed by a path that the neighbour told; `None` where the node is on the path. A neighbour often tells
+// the same path for many prefixes, or tells it again. So the result is kept, and its copies share its nodes.
 fn lead_for(neighbour: &mut Neighbour, node: NodeId, path: &Path) -> Result<Option<Path>, NoMemory>
     ensures led { IfOk result (λ led. led ≡ (if has path.now node then None else Some (node ∷ path.now))) }
     ensures kept { neighbour.new ≡ record neighbour.old { last = neighbour.new.last } }
@@ -51,7 +52,7 @@ fn lead_for(neighbour: &mut Neighbour, node: NodeId, path: &Path) -> Result<Opti
     Ok(led)
 }
 
-// The own node before the path of an update of this neighbour.
+// The own node followed by the path of an update of this neighbour.
 pub(crate) fn lead(
     neighbour: &mut Neighbour,
     cause: &Cause,

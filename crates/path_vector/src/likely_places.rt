@@ -1,20 +1,19 @@
-//! Where the neighbours of a node most likely stand.
+//! Guesses at the places of a node's neighbours.
 ghost use Rattle.std.specs.Prelude.{◌<◌};
 
 use topology::NodeId;
 
-// How many guesses there are.
+// The number of guesses.
 const SLOTS: usize = 64;
 
-/// A guess for each number where its node stands in a list, by the number's low bits: right for all nodes of
-/// the list where no two of them have the same. Who asks has to look whether the guess is right, and to search
-/// where it is not.
+/// Guesses at the place of each node in a list, found by the low bits of the node's number. All guesses are right if no
+/// two nodes share these bits. The caller must check a guess, and search where it is wrong.
 #[derive(Clone, Copy, Debug)]
 pub struct LikelyPlaces {
     places: [u8; SLOTS],
 }
 
-// Which guess is that of a node.
+// The index of the guess for a node.
 fn slot_of(node: NodeId) -> usize
     ensures { result < 64 }
 {
@@ -31,7 +30,7 @@ impl LikelyPlaces {
         LikelyPlaces { places }
     }
 
-    /// Where the node stands, if it is in the list and no other has its place among the guesses.
+    /// The place of the node, if it is in the list and no other node has overwritten its guess.
     pub fn guess(&self, node: NodeId) -> usize
         ensures { result < 256 }
     {

@@ -1,4 +1,4 @@
-//! What a node keeps of its neighbours.
+//! What a node remembers of its neighbours.
 ghost use Rattle.std.specs.Prelude.{◌≡◌, ℕ, [], ◌∷◌, Some, None, IfOk, OnOk, OnErr, IfSome, IfNone, IsTrue, true, false, if◌then◌else◌, length, replicate, slice_get, option_map, option_and_then};
 ghost use Rattle.std.specs.List.{AllZip};
 ghost use Rattle.topology.specs.Lists.{Among, has};
@@ -13,7 +13,7 @@ use crate::{Cause, LikelyPlaces, Policy, Ranked, leading};
 use std::alloc::Global;
 use topology::{NoMemory, NodeId, Path, PrefixId, Relation, Scope, Session, Topology};
 
-/// What a node keeps of one neighbour. `told` has its candidate for each prefix by its place.
+/// What a node remembers of one neighbour. `told` has the neighbour's candidate for each prefix, at the prefix's place.
 #[derive(Drop)]
 pub struct Neighbour {
     pub id: NodeId,
@@ -22,18 +22,19 @@ pub struct Neighbour {
     pub highest: Session,
     pub preference: u32,
     pub told: Vec<Option<Path>>,
-    /// The own node before the path that it told last, which is often the next one too: nothing is promised of it.
+    /// The own node in front of the path that the neighbour told last, to be used again if it tells the same path. No
+    /// contract speaks of it.
     pub last: Option<Path>,
 }
 
-// A candidate: the place of its neighbour, and its rank.
+// A candidate: the place of its neighbour in the list, and its rank.
 #[derive(Clone, Copy)]
 struct Found {
     place: usize,
     rank: Ranked,
 }
 
-// A neighbour that tells something: its candidate, and what it would have then.
+// A neighbour that sends an update: the rank of its candidate before and after.
 #[derive(Clone, Copy)]
 struct Rival {
     nbr: NodeId,
@@ -42,7 +43,7 @@ struct Rival {
 }
 
 impl Neighbour {
-    // Its candidate for a prefix.
+    // The neighbour's candidate for a prefix.
     pub(crate) fn path(&self, prefix: PrefixId) -> Option<&Path>
         ensures { option_map (λ path. path.now) result ≡ kept_path prefix self.now }
     {
@@ -52,7 +53,7 @@ impl Neighbour {
         }
     }
 
-    // Its candidate as a policy sees it.
+    // The rank of the neighbour's candidate.
     pub(crate) fn rank(&self, prefix: PrefixId) -> Option<Ranked>
         ensures { result ≡ option_map ranked (kept_choice prefix self.now) }
     {
@@ -64,7 +65,7 @@ impl Neighbour {
         })
     }
 
-    // Its candidate, and what it would have by this path, as a policy sees them.
+    // The ranks of the neighbour's candidate before and after an update with this path.
     fn as_rival(&self, prefix: PrefixId, path: &Option<Path>) -> Rival
         ensures nbr { result.nbr ≡ self.now.id }
         ensures old { result.old ≡ option_map ranked (kept_choice prefix self.now) }
@@ -77,7 +78,7 @@ impl Neighbour {
         }
     }
 
-    // What it would have by this path, as a policy sees it.
+    // The rank of a candidate with this path.
     fn rank_by(&self, path: &Option<Path>) -> Option<Ranked>
         ensures { result ≡ option_map (told_rank self.now.id self.now.preference) path.now }
     {
@@ -91,7 +92,7 @@ impl Neighbour {
         }
     }
 
-    // An equal one.
+    // An equal copy.
     fn copy(&self) -> Result<Neighbour, NoMemory>
         ensures { IfOk result (λ copy. IsCopy self.now copy) }
     {
@@ -119,8 +120,8 @@ impl Neighbour {
         Ok(())
     }
 
-    // Takes an entry that names this neighbour. `led` is the own node before the path of an
-    // update: None for a withdrawal, and where the own node is on the path.
+    // Takes an entry that names this neighbour. `led` is the own node in front of the path of an update; it is `None`
+    // for a withdrawal, and where the own node is on the path.
     fn heed(&mut self, scope: Scope, cause: &Cause, led: Option<Path>)
         ensures remembers { (net : Net) (u : ℕ) (past : History) → Remembers net u past self.old →
             Accepts past scope cause.now → names cause.now ≡ Some self.old.id →
@@ -139,7 +140,7 @@ impl Neighbour {
         }
     }
 
-    // Takes an update, whose path counts where its session is held.
+    // Takes an update. Its path counts only if its session is held.
     fn hear(&mut self, prefix: PrefixId, session: Session, led: Option<Path>)
         ensures { Hears prefix session led self.old self.new }
     {
@@ -174,7 +175,7 @@ impl Neighbour {
     }
 }
 
-// Empties a row.
+// Empties a row of candidates.
 fn forget(told: &mut Vec<Option<Path>>)
     ensures { told.new.items ≡ replicate (length told.old.items) None }
 {
@@ -183,7 +184,7 @@ fn forget(told: &mut Vec<Option<Path>>)
     }
 }
 
-// A row of a neighbour that has told nothing.
+// The row of candidates of a neighbour that has told nothing.
 fn nothing_told(alloc: Global, prefixes: u16) -> Result<Vec<Option<Path>>, NoMemory>
     ensures { IfOk result (λ told. told.items ≡ replicate prefixes None) }
 {
@@ -213,7 +214,7 @@ fn copy_path(path: &Option<Path>) -> Result<Option<Path>, NoMemory>
     }
 }
 
-// Equal neighbours.
+// An equal copy of all neighbours.
 pub(crate) fn copy_of(neighbours: &Vec<Neighbour>) -> Result<Vec<Neighbour>, NoMemory>
     ensures { IfOk result (λ copies. AllZip IsCopy neighbours.now.items copies.items) }
 {
@@ -224,7 +225,7 @@ pub(crate) fn copy_of(neighbours: &Vec<Neighbour>) -> Result<Vec<Neighbour>, NoM
     Ok(copies)
 }
 
-// A neighbour of a node that has entered nothing: their first session is held.
+// A neighbour before the first entry: its first session is held.
 fn neighbour_of(
     alloc: Global,
     topology: &Topology,
@@ -249,7 +250,7 @@ fn neighbour_of(
     })
 }
 
-// The neighbours of a node that has entered nothing.
+// The neighbours of a node before its first entry.
 pub(crate) fn neighbours_of(
     alloc: Global,
     topology: &Topology,
@@ -257,7 +258,7 @@ pub(crate) fn neighbours_of(
 ) -> Result<Vec<Neighbour>, NoMemory>
     ensures { IfOk result (λ neighbours. Keeps topology.now node [] neighbours.items) }
 {
-    // what a topology keeps of its net is said of its nodes
+    // brings in the invariant of the topology, which speaks of its nodes
     let _nodes = topology.nodes();
     let others = topology.neighbours(node);
     let mut neighbours = Vec::with_capacity(alloc, others.len())?;
@@ -267,7 +268,7 @@ pub(crate) fn neighbours_of(
     Ok(neighbours)
 }
 
-// The neighbour that an entry is about.
+// The neighbour that an entry names.
 fn named(cause: &Cause) -> Option<NodeId>
     ensures { result ≡ names cause.now }
 {
@@ -283,7 +284,7 @@ fn named(cause: &Cause) -> Option<NodeId>
     }
 }
 
-// Whether the neighbour of this number stands at this place.
+// Whether the neighbour with this number stands at this place.
 fn is_at(neighbours: &[Neighbour], place: usize, id: NodeId) -> bool
     ensures { IsTrue result → slice_get (ids neighbours.now) place ≡ Some id }
 {
@@ -293,7 +294,7 @@ fn is_at(neighbours: &[Neighbour], place: usize, id: NodeId) -> bool
     }
 }
 
-// The place of a neighbour, which is mostly the likely one.
+// The place of a neighbour. The guess is tried first, and is mostly right.
 pub(crate) fn place_of(neighbours: &[Neighbour], likely: &LikelyPlaces, id: NodeId) -> Option<usize>
     ensures some { IfSome result (λ place. slice_get (ids neighbours.now) place ≡ Some id) }
     ensures none { Rises (ids neighbours.now) →
@@ -308,7 +309,7 @@ pub(crate) fn place_of(neighbours: &[Neighbour], likely: &LikelyPlaces, id: Node
         .ok()
 }
 
-// The neighbour of this number.
+// The neighbour with this number.
 pub(crate) fn find<'a>(
     neighbours: &'a [Neighbour],
     likely: &LikelyPlaces,
@@ -348,7 +349,7 @@ pub(crate) fn heed(
     Ok(())
 }
 
-// Whether nothing was found so far, or this is before it.
+// Whether nothing was found so far, or this rank is before what was found.
 fn goes_first<P: Policy>(policy: &P, found: &Option<Found>, rank: &Ranked) -> bool
     ensures { result ≡ is_sooner (P.rules policy.now).before found.now rank.now }
 {
@@ -358,7 +359,7 @@ fn goes_first<P: Policy>(policy: &P, found: &Option<Found>, rank: &Ranked) -> bo
     }
 }
 
-// The neighbour whose candidate is first by rank.
+// The neighbour whose candidate ranks first.
 pub(crate) fn first<'a, P: Policy>(
     policy: &P,
     neighbours: &'a [Neighbour],
@@ -382,7 +383,7 @@ pub(crate) fn first<'a, P: Policy>(
     }
 }
 
-// Whether an update is a withdrawal of a neighbour that has no candidate.
+// Whether an update is a withdrawal from a neighbour that has no candidate.
 pub(crate) fn withdraws_nothing(
     neighbours: &[Neighbour],
     likely: &LikelyPlaces,
@@ -401,7 +402,7 @@ pub(crate) fn withdraws_nothing(
     teller.path(prefix).is_none()
 }
 
-// Whether a rank is before another one, where there is one.
+// Whether the rank is before the other one. It is, where there is no other.
 fn is_ahead<P: Policy>(policy: &P, rank: &Ranked, other: &Option<Ranked>) -> bool
     ensures { IsTrue result → IsAhead (P.rules policy.now).before rank.now other.now }
 {
@@ -411,7 +412,7 @@ fn is_ahead<P: Policy>(policy: &P, rank: &Ranked, other: &Option<Ranked>) -> boo
     }
 }
 
-// Whether another neighbour has a candidate that is before both of the rival.
+// Whether the other neighbour has a candidate that ranks before both the old and the new one of the rival.
 fn outranks<P: Policy>(policy: &P, other: &Neighbour, prefix: PrefixId, rival: &Rival) -> bool
     ensures { IsTrue result → Outranks (P.rules policy.now).before prefix rival.now other.now }
 {
@@ -424,7 +425,7 @@ fn outranks<P: Policy>(policy: &P, other: &Neighbour, prefix: PrefixId, rival: &
     }
 }
 
-// Whether one of these neighbours does.
+// Whether one of these neighbours outranks the rival.
 fn some_outranks<P: Policy>(
     policy: &P,
     neighbours: &[Neighbour],
@@ -442,9 +443,9 @@ fn some_outranks<P: Policy>(
     false
 }
 
-// Whether another neighbour than this one has a candidate that is before what this one told, and
-// before what it would tell by this path: so the first candidate is of another one, and stays the
-// first. Mostly one of the first few shows it.
+// Whether some other neighbour has a candidate that ranks before this neighbour's candidate, and before the one that it
+// would have by this path. Then the first candidate is another neighbour's, and stays the first. Mostly one of the
+// first few neighbours decides it.
 pub(crate) fn is_outranked<P: Policy>(
     policy: &P,
     neighbours: &[Neighbour],

@@ -9,7 +9,7 @@ use crate::{Policy, Ranked};
 use std::alloc::Global;
 use topology::{NoMemory, NodeId, PrefixId};
 
-// The place of a rank among ranks in order: in front of the first that it is before.
+// Where a rank goes among ranks in order: in front of the first that it is before.
 fn place_for<P: Policy>(policy: &P, ranks: &[Ranked], rank: &Ranked) -> usize
     ensures within { result ≤ length ranks.now }
     ensures put { insert ranks.now result rank.now
@@ -23,7 +23,7 @@ fn place_for<P: Policy>(policy: &P, ranks: &[Ranked], rank: &Ranked) -> usize
     ranks.len()
 }
 
-// The candidates of a prefix, by rank.
+// The candidates for a prefix, by rank.
 fn by_rank<P: Policy>(
     alloc: Global,
     policy: &P,
@@ -43,7 +43,7 @@ fn by_rank<P: Policy>(
     Ok(ranks)
 }
 
-// The neighbours with a candidate by rank, then the others.
+// The neighbours with a candidate, by rank, then the others.
 pub(crate) fn order<P: Policy>(
     alloc: Global,
     policy: &P,

@@ -1,8 +1,8 @@
-//! Shortest paths, whatever the relations of the neighbours.
+//! Shortest paths, without regard to relations.
 use crate::{Learned, Policy, Ranked};
 use topology::Relation;
 
-/// Fewer nodes, then the lower neighbour, whatever the preference. Every route goes everywhere.
+/// Fewer nodes first, then the lower neighbour; preferences do not count. Every route is told to everybody.
 #[derive(Clone, Copy, Debug, PartialEq, Eq)]
 pub struct ShortestAll;
 

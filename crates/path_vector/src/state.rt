@@ -29,15 +29,15 @@ pub enum Best<'a> {
     Via(NodeId, &'a [NodeId]),
 }
 
-/// A copy of a best route, to be compared with a later one: its path from the own node on, and
-/// where it was learnt. None where there was no route.
+/// A copy of a best route, to be compared with a later one: its path, which begins with the own node, and where the
+/// route was learnt. The path is `None` where there was no route.
 #[derive(Drop)]
 pub struct Chosen {
     pub path: Option<Path>,
     pub learned: Option<Learned>,
 }
 
-// A route: the neighbour that it goes by, where it was learnt, and its path from the own node on.
+// A route: the neighbour that it goes by, where it was learnt, and its path, which begins with the own node.
 #[derive(Clone, Copy)]
 struct Taken<'a> {
     via: Option<NodeId>,
@@ -45,8 +45,8 @@ struct Taken<'a> {
     path: &'a Path,
 }
 
-/// What a node knows of its routes after the entries of its log: less than the log, and enough
-/// for selection. A prefix is found by its place, a neighbour by its number.
+/// What selection needs to know after the entries of a log; it is less than the log. Prefixes are found by place,
+/// neighbours by number.
 #[derive(Drop)]
 pub struct RouteState<P: Policy + Copy> {
     alloc: Global,
@@ -58,7 +58,7 @@ pub struct RouteState<P: Policy + Copy> {
 }
 
 impl<P: Policy + Copy> RouteState<P> {
-    /// The state of a node that has entered nothing.
+    /// The state of a node without entries.
     pub fn new(
         alloc: Global,
         topology: &Topology,
@@ -67,7 +67,7 @@ impl<P: Policy + Copy> RouteState<P> {
     ) -> Result<RouteState<P>, NoMemory>
         ensures { IfOk result (λ state. StandsFor policy topology.now node state []) }
     {
-        // what a topology keeps of its net is said of its nodes
+        // brings in the invariant of the topology, which speaks of its nodes
         let _nodes = topology.nodes();
         Ok(RouteState {
             alloc,
@@ -96,8 +96,8 @@ impl<P: Policy + Copy> RouteState<P> {
         neighbours::find(&self.neighbours, &self.likely, nbr)?.held
     }
 
-    /// Whether an entry about a neighbour, or about none, may follow the entries so far: it has the
-    /// scope of its cause, and opens no session that was named before.
+    /// Whether an entry may follow the entries so far: it has the scope that its cause requires, and an `Up` opens a
+    /// session above all that were named before. If the entry names a node, that must be a neighbour.
     pub fn accepts(&self, scope: Scope, cause: &Cause) -> bool
         ensures { (policy : P) (net : Net) (u : ℕ) (past : History) →
             StandsFor policy net u self.now past →
@@ -119,8 +119,7 @@ impl<P: Policy + Copy> RouteState<P> {
         }
     }
 
-    /// Takes one more entry of the log. An entry that does not fit the entries before it leaves
-    /// a state of which nothing is promised.
+    /// Takes one more entry of the log. If the entry may not follow those before it, nothing is promised of the state.
     pub fn apply(&mut self, scope: Scope, cause: &Cause) -> Result<(), NoMemory>
         ensures ok { OnOk result ((policy : P) (net : Net) (u : ℕ) (past : History) →
             StandsFor policy net u self.old past → Accepts past scope cause.now →
@@ -133,7 +132,7 @@ impl<P: Policy + Copy> RouteState<P> {
         Ok(())
     }
 
-    /// An equal state.
+    /// An equal copy.
     pub fn copy(&self) -> Result<RouteState<P>, NoMemory>
         ensures { IfOk result (λ copy. (policy : P) (net : Net) (u : ℕ) (h : History) →
             StandsFor policy net u self.now h → StandsFor policy net u copy h) }
@@ -157,7 +156,7 @@ impl<P: Policy + Copy> RouteState<P> {
         self.owned.get(prefix.place() as usize) == Some(&true)
     }
 
-    /// The candidate of a neighbour, from the own node on.
+    /// The candidate of a neighbour, with the own node in front.
     pub fn candidate_path(&self, prefix: PrefixId, nbr: NodeId) -> Option<&Path>
         ensures { (policy : P) (net : Net) (u : ℕ) (h : History) →
             StandsFor policy net u self.now h →
@@ -178,7 +177,7 @@ impl<P: Policy + Copy> RouteState<P> {
         Some(&path.nodes()[1..])
     }
 
-    /// The best route of a prefix: the own one, else the first candidate by the policy's rank.
+    /// The best route for a prefix: the own one, otherwise the candidate that ranks first.
     pub fn best(&self, prefix: PrefixId) -> Best<'_>
         ensures best { (policy : P) (net : Net) (u : ℕ) (h : History) →
             StandsFor policy net u self.now h →
@@ -194,8 +193,7 @@ impl<P: Policy + Copy> RouteState<P> {
         shown(taken.via, taken.path)
     }
 
-    /// The neighbours: those with a candidate for the prefix by the policy's rank, then the
-    /// others, ascending.
+    /// The neighbours: first those with a candidate for the prefix, by rank, then the others, ascending.
     pub fn order(&self, prefix: PrefixId) -> Result<Vec<NodeId>, NoMemory>
         ensures { IfOk result (λ order. (policy : P) (net : Net) (u : ℕ) (h : History) →
             StandsFor policy net u self.now h → prefix < length net.prefixes →
@@ -204,7 +202,7 @@ impl<P: Policy + Copy> RouteState<P> {
         Ok(order::order(self.alloc, &self.policy, &self.neighbours, prefix)?)
     }
 
-    /// The path of the best route, from the own node on.
+    /// The path of the best route, with the own node in front.
     pub fn best_path(&self, prefix: PrefixId) -> Option<&Path>
         ensures { (policy : P) (net : Net) (u : ℕ) (h : History) →
             StandsFor policy net u self.now h →
@@ -237,9 +235,9 @@ impl<P: Policy + Copy> RouteState<P> {
         })
     }
 
-    /// Whether an update of a neighbour leaves the best route of its prefix as it is: the node
-    /// originates the prefix, or this neighbour withdraws what it did not tell, or the route goes by another
-    /// neighbour and no path of this one is before it. Where it answers no, the route may change or not.
+    /// Whether an update is sure to leave the best route of its prefix as it is. It is where the node originates the
+    /// prefix, where the neighbour withdraws without having a candidate, and where another neighbour's candidate ranks
+    /// before both the old and the new one. After the answer no, the route may change or not.
     pub fn stays(&self, prefix: PrefixId, from: NodeId, path: &Option<Path>) -> bool
         ensures { (policy : P) (net : Net) (u session seq : ℕ) (h : History) → StandsFor policy net u self.now h →
             prefix < length net.prefixes → IsTrue result →
@@ -270,7 +268,7 @@ impl<P: Policy + Copy> RouteState<P> {
         )
     }
 
-    /// What the node offers a neighbour: its best route where export allows it, else none.
+    /// What the node offers a neighbour: its best route if export allows it, otherwise none.
     pub fn offer_to(&self, topology: &Topology, prefix: PrefixId, nbr: NodeId) -> Best<'_>
         ensures { (policy : P) (u : ℕ) (h : History) → StandsFor policy topology.now u self.now h →
             prefix < length topology.now.prefixes →
@@ -285,7 +283,7 @@ impl<P: Policy + Copy> RouteState<P> {
         shown(taken.via, taken.path)
     }
 
-    /// The path that the node offers a neighbour, from the own node on.
+    /// The path that the node offers a neighbour, with the own node in front.
     pub fn offer_path(&self, prefix: PrefixId, nbr: NodeId) -> Option<&Path>
         ensures { (policy : P) (net : Net) (u : ℕ) (h : History) →
             StandsFor policy net u self.now h →
@@ -302,7 +300,7 @@ impl<P: Policy + Copy> RouteState<P> {
         Some(taken.path)
     }
 
-    /// The path that the node offered a neighbour while this was its best route.
+    /// The path that the node offered a neighbour while `chosen` was its best route.
     #[inline(always)]
     pub fn offered_path<'a>(&self, chosen: &'a Chosen, nbr: NodeId) -> Option<&'a Path>
         ensures { (policy : P) (net : Net) (u : ℕ) (h : History) (route : Route) →
@@ -335,7 +333,7 @@ impl<P: Policy + Copy> RouteState<P> {
         Some(neighbours::find(&self.neighbours, &self.likely, nbr)?.relation)
     }
 
-    // The best route of a prefix.
+    // The best route for a prefix.
     #[inline(always)]
     fn taken(&self, prefix: PrefixId) -> Option<Taken<'_>>
         ensures { (policy : P) (net : Net) (u : ℕ) (h : History) →
@@ -359,7 +357,7 @@ impl<P: Policy + Copy> RouteState<P> {
         })
     }
 
-    // Whether what was learned so is told to a neighbour of this relation.
+    // Whether a route learnt like this is told to a neighbour with this relation.
     #[inline(always)]
     fn tells(&self, learned: Learned, to: Option<Relation>) -> bool
         ensures { result ≡ may_tell (P.rules self.now.policy) (Some learned) to }
@@ -371,7 +369,7 @@ impl<P: Policy + Copy> RouteState<P> {
     }
 }
 
-// A route as callers see it, by the neighbour that it goes by and its path.
+// A route as callers see it, from its neighbour and its path.
 fn shown<'a>(via: Option<NodeId>, path: &'a Path) -> Best<'a>
     ensures { (net : Net) (u : ℕ) (learned : Learned) (route : Route) →
         Takes net u via learned path.now route → Shows u result route }
@@ -382,7 +380,7 @@ fn shown<'a>(via: Option<NodeId>, path: &'a Path) -> Best<'a>
     }
 }
 
-// Whether an entry has the scope of its cause.
+// Whether an entry has the scope that its cause requires.
 fn has_scope(scope: Scope, cause: &Cause) -> bool
     ensures { IsTrue result ↔ HasScope scope cause.now }
 {
@@ -407,7 +405,7 @@ fn has_scope(scope: Scope, cause: &Cause) -> bool
     }
 }
 
-// An origin entry sets whether the node originates its prefix, where the network has that prefix.
+// Sets whether the node originates a prefix, if the cause is `Originate` or `Withdraw` and the network has the prefix.
 fn mark(owned: &mut Vec<bool>, scope: &Scope, cause: &Cause)
     ensures places { length owned.new.items ≡ length owned.old.items }
     ensures owns { (past : History) (p : ℕ) → Accepts past scope.now cause.now →

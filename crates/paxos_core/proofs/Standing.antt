@@ -1,4 +1,4 @@
--- For each chronicle that obeys there is a proposer that stands for it.
+-- For each chronicle that obeys the rules some proposer stands for it.
 use Rattle.std.proofs.Common.{ℕ, suc, ◌<◌, true, false, ◌==◌, ◌≡◌, ◌≢◌, Option, Some, None, List, [], ◌∷◌, length, refl, sym, ◌∙◌, ap, subst, arith, inr, ⊎_elim, option_map, if◌then◌else◌}
 use Rattle.topology.specs.Lists.{Among, has}
 use Rattle.topology.specs.declared.ballots.Ballot.{Ballot}
@@ -20,7 +20,7 @@ use Rattle.paxos_core.specs.declared.proposer.Phase.TheVariants.{Gathering, Idle
 abbrev pub Stood : {V : Type 0} → List ℕ → Chronicle V → ℕ → Type 0
 Stood {V} members past u = (kept : Tallying V) × StandsFor (length members) kept past u
 
--- what a new proposer keeps
+-- what a new proposer stores
 abbrev fresh : {V : Type 0} → ℕ → Tallying V
 fresh u = record { node = u; last_round = 0; phase = Idle; counted = []; best = None; won = false }
 
@@ -42,7 +42,7 @@ gathers_phase past u n kept b (Gathering c) h p =
 gathers_phase {V = V} past u n kept b (Preparing c) h p =
     let same : b ≡ c = some_is b c (sym p.0 ∙ h.prepares.0) in absurd (h.prepares.1 p.1 (subst (λ z. Proposed past u z p.1) same p.2))
 
--- who was not heard is not among those that are kept
+-- a sender that was not heard is not counted
 not_kept : {V : Type 0} (past : Chronicle V) (u n : ℕ) (kept : Tallying V) (b : Ballot) (from : ℕ) (phase : Phase) → CountsIn phase n kept past u → prepares phase b ≡ true → (Among from (promisers past u b) → ⊥) → has kept.counted from ≡ false
 not_kept past u n kept b from Idle h on out = absurd (cc on)
 not_kept {V = V} past u n kept b from (Preparing c) h on out =
@@ -77,7 +77,7 @@ vote_stood {V = V} members past u from b s p out =
       | false ↦ λ t. let r = vote_counted past u from n s.0 b s.1 on none t in (_, r.stands)
     ]) refl
 
--- the ballot whose Promise u heard last is the one that is open, if one is
+-- the ballot of the last Promise that u heard is the open one, if any
 promised_open : {V : Type 0} (members : List ℕ) (past : Chronicle V) (u from : ℕ) (b c : Ballot) (named : Option (Pair V)) → Obeys members past → last_act past u ≡ Some (Heard u from (Promise b named)) → open_ballot past u ≡ Some c → c ≡ b
 promised_open members [] u from b c named o e k = absurd (cc e)
 promised_open members (Start w d ∷ past) u from b c named o e k =
@@ -161,7 +161,7 @@ sent_stood members past u to (Promise b named) o s may = (s.0, proposer_unread (
 sent_stood members past u to (Accepted b) o s may = (s.0, proposer_unread (length members) s.0 past u (Mail u to (Accepted b)) tt s.1)
 sent_stood members past u to (Decision v) o s may = (s.0, proposer_unread (length members) s.0 past u (Mail u to (Decision v)) tt s.1)
 
--- w is another node, so that its facts are not read
+-- w is another node, so its facts are not read
 pub heard_aside : {V : Type 0} (m : Message V) (u w : ℕ) → w ≢ u → PassesBy u w m
 heard_aside (Prepare b) u w h = tt
 heard_aside (Accept b v) u w h = tt
@@ -169,7 +169,7 @@ heard_aside (Promise b n) u w h = h
 heard_aside (Accepted b) u w h = h
 heard_aside (Decision v) u w h = h
 
--- nor is what it sends
+-- nor is what w sends
 pub sent_aside : {V : Type 0} (m : Message V) (u w : ℕ) → w ≢ u → Leaves u w m
 sent_aside (Prepare b) u w h = tt
 sent_aside (Accept b v) u w h = h
@@ -180,7 +180,7 @@ sent_aside (Decision v) u w h = tt
 aside : {V : Type 0} (members : List ℕ) (past : Chronicle V) (u : ℕ) (f : Fact V) → Unread u f → Stood members past u → Stood members (f ∷ past) u
 aside members past u f h s = (s.0, proposer_unread (length members) s.0 past u f h s.1)
 
--- a fact of w: it is u's, or not read
+-- a fact of w is u's own, or is not read
 by_node : {P : Type 0} (w u : ℕ) → (w ≢ u → P) → (w ≡ u → P) → P
 by_node {P = P} w u off on = elim (w == u) as (λ t. (w == u) ≡ t → P) [ true ↦ λ t. on (eq_of_true w u t) | false ↦ λ t. off (λ e. not_eq w u t e) ] refl
 

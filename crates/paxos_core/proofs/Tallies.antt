@@ -1,4 +1,4 @@
--- What each call of a proposer keeps.
+-- The state of a proposer after each call.
 use Rattle.std.proofs.Common.{ℕ, suc, ◌*◌, ◌<◌, Bool, true, false, ◌==◌, ◌≡◌, ◌⊎◌, Option, Some, None, List, [], ◌∷◌, ◌++◌, length, length-append, map, option_map, refl, sym, ◌∙◌, ap, subst, arith, inl, inr, ⊎_elim, true≢false, nat_lt, if◌then◌else◌}
 use Rattle.std.proofs.lemmas.Bool.Decides.{nat_tests}
 use Rattle.topology.specs.Lists.{Among, has}
@@ -43,7 +43,7 @@ open_round past u n kept b h e = sym (h.last_round ∙ ap round_of (open_started
 nobody : (xs ys : List ℕ) → xs ≡ [] → ys ≡ [] → SameMembers xs ys
 nobody xs ys d e = rw (d, e) (record { length = refl; into = λ x h. h; back = λ x h. h })
 
--- lists with one more element at the end, and at the front
+-- a list with one more element at the end, and at the front
 in_push : (xs : List ℕ) (v x : ℕ) → Among x (xs ++ v ∷ []) → Among x (v ∷ xs)
 in_push [] v x h = h
 in_push (y ∷ ys) v x (inl e) = inr (inl e)
@@ -62,7 +62,7 @@ one_more xs ys v h = record {
   back = λ x k. push_in xs v x (⊎_elim (λ e. inl e) (λ j. inr (h.back x j)) k);
 }
 
--- nothing comes of nothing
+-- if the readings of b stay, there is still nothing of b
 still_nothing : {V : Type 0} (f : Fact V) (past : Chronicle V) (u : ℕ) (b : Ballot) → promises (f ∷ past) u b ≡ promises past u b → voters (f ∷ past) u b ≡ voters past u b
     → ((v : V) → Proposed (f ∷ past) u b v → Proposed past u b v) → NothingOf past u b → NothingOf (f ∷ past) u b
 still_nothing f past u b p v q h = record { promises = p ∙ h.promises; voters = v ∙ h.voters; proposed = λ x s. h.proposed x (q x s) }
@@ -100,7 +100,7 @@ decided_stands {V = V} past u from n v kept h = record {
   later = λ c k. still_nothing (Heard u from (Decision v)) past u c (rw (eq_self u) refl) (rw (eq_self u) refl) (λ x s. ⊎_elim (λ e. absurd (cc e)) (λ j. (s.0, j)) s.1) (h.later c k);
 }
 
--- a promise of one ballot is none of another
+-- a promise of one ballot is not a promise of another
 other_promises : {V : Type 0} (past : Chronicle V) (u from : ℕ) (b c : Ballot) (named : Option (Pair V)) → b.round < c.round → promises (Heard u from (Promise b named) ∷ past) u c ≡ promises past u c
 other_promises past u from b c named lt = rw (eq_self u) (
     elim (same_ballot b c) as (λ t. same_ballot b c ≡ t → (if t then (from, named) ∷ promises past u c else promises past u c) ≡ promises past u c) [
@@ -115,7 +115,7 @@ other_voters past u from b c lt = rw (eq_self u) (
       | false ↦ λ e. refl
     ] refl)
 
--- the phase that is kept is what is read
+-- the stored phase is what is read
 prepared_ballot : (phase : Phase) (b : Ballot) → prepares phase b ≡ true → phase ≡ Preparing b
 prepared_ballot Idle b e = absurd (true≢false (sym e))
 prepared_ballot (Preparing c) b e = ap (λ z. Preparing z) (same_ballot_true c b e)
@@ -228,7 +228,7 @@ promise_counted {V = V} past u from n kept b named h on fresh few =
       sends = λ ms nodes v e. rw (e, few_read) refl;
     }
 
--- an Accept of a ballot that is prepared may go out
+-- an Accept of the prepared ballot may go out
 may_accept : {V : Type 0} (past : Chronicle V) (u from : ℕ) (b : Ballot) (named : Option (Pair V)) (fresh : V) (ms : List ℕ) (to : ℕ) → Prepares past u b
     → just_majority (length ms) (suc (length (promises past u b))) ≡ true → Among to ms
     → MaySend ms (Heard u from (Promise b named) ∷ past) u to (Accept b (or_fresh (named_value ((from, named) ∷ promises past u b)) fresh))

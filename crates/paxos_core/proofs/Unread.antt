@@ -1,4 +1,4 @@
--- What is not read changes nothing that is kept.
+-- Facts that are not read leave what is stored.
 use Rattle.std.proofs.Common.{ℕ, ◌==◌, ◌≡◌, ◌≢◌, true, false, Option, List, [], ◌∷◌, refl, sym, ◌∙◌, ap, inr, ⊎_elim, if◌then◌else◌, arith}
 use Rattle.std.proofs.lemmas.Bool.Decides.{nat_tests}
 use Rattle.std.specs.List.{AllByRecursion}
@@ -42,7 +42,7 @@ acceptor_unread kept past u (Mail w to m) h s = record { promised = s.promised; 
 acceptor_unread kept past u (Crash w) h s = record { promised = s.promised; accepted = s.accepted }
 acceptor_unread kept past u Other h s = record { promised = s.promised; accepted = s.accepted }
 
--- a proposer: what it reads stayed as it was
+-- a proposer, if all that it reads stayed the same
 pub record SameTally {V : Type 0} (now past : Chronicle V) (u : ℕ) : Type 0 where
   pub started : started now u ≡ started past u
   pub open_ballot : open_ballot now u ≡ open_ballot past u
@@ -96,7 +96,7 @@ same_voters (Promise c n) w u from b p h = rw (eq_false w u h) refl
 same_voters (Accepted c) w u from b p h = rw (eq_false w u h) refl
 same_voters (Decision v) w u from b p h = rw (eq_false w u h) refl
 
--- a message that is no Accept of u is no proposal of it
+-- a message that is no Accept of u is not a proposal of u
 not_proposal : {V : Type 0} (m : Message V) (w u to x : ℕ) (b : Ballot) (v : V) → LeavesTally u w m → Mail w to m ≡ Mail u x (Accept b v) → ⊥
 not_proposal (Accept c y) w u to x b v h e = h (cc e)
 not_proposal (Prepare c) w u to x b v h e = absurd (cc e)
@@ -149,7 +149,7 @@ unread_same {V = V} past u Other h = record {
 pub proposer_unread : {V : Type 0} (n : ℕ) (kept : Tallying V) (past : Chronicle V) (u : ℕ) (f : Fact V) → UnreadTally u f → StandsTally n kept past u → StandsTally n kept (f ∷ past) u
 proposer_unread n kept past u f h s = same_stands n kept (f ∷ past) past u (unread_same past u f h) s
 
--- what is sent, one message after the other
+-- messages sent one after another
 pub acceptor_posted : {V : Type 0} (kept : Accepting V) (past : Chronicle V) (u w : ℕ) (ms : List (ℕ × Message V)) → StandsFor kept past u → StandsFor kept (posted w ms past) u
 acceptor_posted kept past u w ms s = record { promised = s.promised ∙ sym (posted_promised w u ms past); accepted = s.accepted ∙ sym (posted_accepted w u ms past) }
 

@@ -1,4 +1,4 @@
-//! What a member promises and accepts.
+//! Acceptors: what a member promises and accepts.
 ghost use Rattle.std.specs.Prelude.{ℕ, [], ◌≡◌, Some, None, Option, option_map};
 ghost use Rattle.paxos_core.specs.Facts.{Chronicle, Prepare, Accept, delivery};
 ghost use Rattle.paxos_core.specs.Readings.{greater};
@@ -9,8 +9,8 @@ ghost use Rattle.paxos_core.specs.AcceptorCalls.{SaysPrepared, SaysTook, Answers
 use std::marker::Model;
 use topology::Ballot;
 
-/// A member's part in the choice of a value: the ballot below which it accepts nothing, and what
-/// it accepted last. Both outlive a crash of its node. No call takes memory.
+/// A member's part in the choice of a value: the ballot that it promised, below which it accepts nothing, and what it
+/// accepted last. Both outlive a crash of its node. No call takes memory.
 #[derive(Drop)]
 pub struct Acceptor<V> {
     promised: Option<Ballot>,
@@ -28,7 +28,7 @@ impl<V> Model for Acceptor<V> {
 /// The answer to a Prepare.
 #[derive(Clone, Copy, Debug, PartialEq, Eq)]
 pub enum Prepared {
-    /// The ballot is promised now.
+    /// The ballot is now promised.
     Promise,
     /// This ballot is promised already, and the new one is not above it.
     Refused(Ballot),
@@ -37,7 +37,7 @@ pub enum Prepared {
 /// The answer to an Accept.
 #[derive(Clone, Copy, Debug, PartialEq, Eq)]
 pub enum Took {
-    /// The ballot is promised and its value accepted now.
+    /// The ballot is now promised, and its value accepted.
     Accepted,
     /// This ballot is promised, and the new one is below it.
     Refused(Ballot),
@@ -74,8 +74,8 @@ impl<V: Drop> Acceptor<V> {
         }
     }
 
-    /// Promises the ballot, where it is above the promised one. A Promise that goes back names what
-    /// was accepted.
+    /// Promises the ballot, if it is above the promised one. The Promise that is sent back should name what was
+    /// accepted (`accepted`).
     #[tactic(auto, unfolding(crate::specs::Answers::refusal))]
     pub fn on_prepare(&mut self, ballot: Ballot) -> Prepared
         ensures answer { SaysPrepared result (refuses_prepare self.old.promised ballot) }
@@ -94,8 +94,7 @@ impl<V: Drop> Acceptor<V> {
         }
     }
 
-    /// Promises the ballot and accepts its value, where no higher one is promised and this one was
-    /// not accepted before.
+    /// Promises the ballot and accepts its value, unless a higher ballot is promised or this one was accepted before.
     #[tactic(auto, unfolding(crate::specs::Answers::refusal))]
     pub fn on_accept(&mut self, ballot: Ballot, value: V) -> Took
         ensures answer { SaysTook result

@@ -1,5 +1,5 @@
-//! What holds of every chronicle in which nodes follow the rules. A law takes nothing and does
-//! nothing; whoever calls it knows what it says from then on.
+//! Laws of every chronicle in which nodes follow the rules. A law takes nothing and does nothing; a call of it gives
+//! the caller's proof what the law says.
 ghost use Rattle.std.specs.Prelude.{ℕ, length, List, [], ◌∷◌, ◌≡◌, ◌≢◌, ◌↔◌, Some, None};
 ghost use Rattle.std.specs.List.{AllByRecursion};
 ghost use Rattle.topology.specs.declared.ballots.Ballot.{Ballot};
@@ -12,44 +12,44 @@ ghost use Rattle.paxos_core.specs.Accepting.{Accepting, StandsFor, Unread};
 ghost use Rattle.paxos_core.specs.Tallying.{Tallying};
 ghost use Rattle.paxos_core.specs.Tallying.{Leaves, StandsFor as StandsTally, Unread as UnreadTally};
 
-/// At most one value is chosen. Here values are numbers.
+/// At most one value is chosen, where values are numbers.
 pub fn agreement()
     ensures { (members : List ℕ) (chronicle : Chronicle ℕ) (v w : ℕ) → Obeys members chronicle →
         Chosen members chronicle v → Chosen members chronicle w → v ≡ w }
 {}
 
-/// At most one value is chosen, whatever values are.
+/// At most one value is chosen, for any type of values.
 pub fn agreement_of<V>()
     ensures { (members : List ℕ) (chronicle : Chronicle V) (v w : V) → Obeys members chronicle →
         Chosen members chronicle v → Chosen members chronicle w → v ≡ w }
 {}
 
-/// A decision that a node heard is chosen.
+/// If a node heard a decision, its value is chosen.
 pub fn decision_is_chosen<V>()
     ensures { (members : List ℕ) (chronicle : Chronicle V) (u from : ℕ) (v : V) →
         Obeys members chronicle → Has chronicle (Heard u from (Decision v)) → Chosen members chronicle v }
 {}
 
-/// A node refuses a message exactly where the rules do not let it hear the message.
+/// A node refuses a message exactly where the rules do not let the node hear it.
 pub fn refusals<V>()
     ensures { (past : Chronicle V) (u from : ℕ) (m : Message V) →
         (refusal past u from m ≡ None) ↔ MayHear past u from m }
 {}
 
-/// A ballot that a node starts, and its Prepare to each member, follow the rules.
+/// A ballot that a node starts, and the Prepare that it sends to each member, follow the rules.
 pub fn starts_follow<V>()
     ensures { (members : List ℕ) (past : Chronicle V) (u : ℕ) →
         Obeys members past → Obeys members (opened members past u) }
 {}
 
-/// What a node does with a message that was sent to it, and all that it answers, follows the rules.
+/// What a node does with a message that was sent to it, and everything that it answers, follow the rules.
 pub fn answers_follow<V>()
     ensures { (members nodes : List ℕ) (fresh : V) (past : Chronicle V) (u from : ℕ)
         (m : Message V) → Obeys members past → Has past (Mail from u m) →
         Obeys members (received (ballot_setup members nodes fresh) past u from m) }
 {}
 
-/// A fact that an acceptor does not read leaves it as it is; it reads nothing that is sent.
+/// A fact that an acceptor does not read leaves the acceptor as it is. An acceptor reads nothing that is sent.
 pub fn acceptor_unread<V>()
     ensures fact { (kept : Accepting V) (past : Chronicle V) (u : ℕ) (f : Fact V) →
         Unread u f → StandsFor kept past u → StandsFor kept (f ∷ past) u }
@@ -57,8 +57,8 @@ pub fn acceptor_unread<V>()
         StandsFor kept past u → StandsFor kept (posted w ms past) u }
 {}
 
-/// A fact that a proposer does not read leaves it as it is; of what is sent it reads its own Accepts
-/// alone.
+/// A fact that a proposer does not read leaves the proposer as it is. Of what is sent, a proposer reads only its own
+/// Accepts.
 pub fn proposer_unread<V>()
     ensures fact { (n : ℕ) (kept : Tallying V) (past : Chronicle V) (u : ℕ) (f : Fact V) →
         UnreadTally u f → StandsTally n kept past u → StandsTally n kept (f ∷ past) u }
@@ -67,15 +67,15 @@ pub fn proposer_unread<V>()
         StandsTally n kept past u → StandsTally n kept (posted w ms past) u }
 {}
 
-/// For each chronicle that obeys the rules there are an acceptor and a proposer of each node that
-/// stand for it, so what the calls say of such chronicles is not said of none.
+/// For each chronicle that obeys the rules, each node has an acceptor and a proposer that stand for it. So the
+/// contracts of the calls are not empty.
 pub fn each_is_stood_for<V>()
     ensures acceptor { (past : Chronicle V) (u : ℕ) → (kept : Accepting V) × StandsFor kept past u }
     ensures proposer { (members : List ℕ) (past : Chronicle V) (u : ℕ) → Obeys members past →
         (kept : Tallying V) × StandsTally (length members) kept past u }
 {}
 
-/// Once a node sent an Accept to someone, its value is the proposed one.
+/// Once a node has sent an Accept to somebody, the value of that Accept is its proposed value.
 pub fn proposal<V>()
     ensures { (past : Chronicle V) (u to : ℕ) (tos : List ℕ) (b : Ballot) (v : V) →
         proposed (posted u (to_each (to ∷ tos) (Accept b v)) past) u b ≡ Some v }

@@ -1,4 +1,4 @@
-//! What a node counts of the ballot that it started.
+//! Proposers: how a node counts the answers to its ballot.
 ghost use Rattle.std.specs.Prelude.{ℕ, suc, length, List, [], ◌∷◌, ◌+◌, ◌<◌, ◌≡◌, Some, None, true, false, Option, IfOk, OnErr, max, if◌then◌else◌, option_map};
 ghost use Rattle.topology.specs.Lists.{has};
 ghost use Rattle.paxos_core.specs.declared.proposer.Phase.{Phase};
@@ -14,10 +14,10 @@ use std::alloc::Global;
 use std::marker::Model;
 use topology::{Ballot, NoMemory, NodeId};
 
-/// What the proposer does with the ballot that it started last.
+/// What the proposer is doing with its latest ballot.
 #[derive(Clone, Copy, Debug)]
 pub enum Phase {
-    /// Nothing: it has started none, or has dropped its tally.
+    /// Nothing: it started none, or dropped its tally.
     Idle,
     /// It counts the members that promise the ballot.
     Preparing(Ballot),
@@ -25,9 +25,8 @@ pub enum Phase {
     Gathering(Ballot),
 }
 
-/// A node's part in getting a value chosen: the ballot that it started last, and the tally of it.
-/// The round outlives a crash of the node, the tally does not. Only `on_promise` and `on_accepted`
-/// take memory.
+/// A node's part in getting a value chosen: its latest ballot, and the tally of the answers. The round outlives a crash
+/// of the node; the tally does not. Only `on_promise` and `on_accepted` take memory.
 #[derive(Drop)]
 pub struct Proposer<V> {
     node: NodeId,
@@ -58,11 +57,11 @@ impl<V> Model for Proposer<V> {
 pub enum Tally<V> {
     /// The sender is counted.
     Counted,
-    /// The sender is counted, and with it the counted members are a majority now. For a Promise the
-    /// value is that of the highest ballot named, of two with one ballot the one that was counted
-    /// first; None where none is named. For an Accepted it is None.
+    /// The sender is counted, and makes the counted members a majority. After a Promise this has the value of the
+    /// highest ballot that was named; if two pairs name the same ballot, the one counted first; `None` if no promise
+    /// named any. After an Accepted it has `None`.
     Majority(Option<V>),
-    /// The ballot is not the one that is prepared, or gathered.
+    /// The ballot is not the one that is being prepared or gathered.
     Stale,
     /// The sender was counted before.
     Duplicate,
@@ -85,16 +84,15 @@ impl<V: Drop> Proposer<V> {
         }
     }
 
-    /// The round of the ballot that was started last, 0 before the first.
+    /// The round of the latest ballot; 0 before the first.
     pub fn last_round(&self) -> u32
         ensures { result ≡ self.now.last_round }
     {
         self.last_round
     }
 
-    /// Starts a ballot. Its round is one above the greater of the last one and of `floor`, which is
-    /// the round of the ballot that the node's acceptor promised, 0 where it promised none. There is
-    /// no round above 4,294,967,295.
+    /// Starts a ballot. Its round is one above the greater of the last round and `floor`. `floor` is the round of the
+    /// ballot that the node's own acceptor promised, or 0 if it promised none. No round is above 4,294,967,295.
     pub fn start(&mut self, floor: u32) -> Ballot
         requires floor { floor < 4294967295 }
         requires last { self.old.last_round < 4294967295 }
@@ -121,7 +119,7 @@ impl<V: Drop> Proposer<V> {
         Ballot { round, node }
     }
 
-    /// Drops the tally and keeps the round: the node crashed, or it learnt a decision.
+    /// Drops the tally and keeps the round. It is called when the node crashed, or learnt a decision.
     pub fn forget(&mut self)
         ensures kept { self.new ≡ forgotten self.old }
         ensures crash { (n : ℕ) (past : Chronicle V) (u : ℕ) → StandsFor n self.old past u →
@@ -133,8 +131,8 @@ impl<V: Drop> Proposer<V> {
         self.clear(Phase::Idle);
     }
 
-    /// Counts the sender of a Promise. With a majority it answers the value that an Accept must
-    /// carry. `members` is the number of all members, the same in all calls.
+    /// Counts the sender of a Promise. When a majority is reached, the answer has the value that the Accept must carry.
+    /// `members` is the number of all members, the same in all calls.
     pub fn on_promise(
         &mut self,
         from: NodeId,
@@ -168,7 +166,7 @@ impl<V: Drop> Proposer<V> {
         }
     }
 
-    /// Goes from preparing to gathering: an Accept of the ballot was sent to the members.
+    /// Goes from preparing to gathering, once an Accept of the ballot was sent to the members.
     pub fn propose(&mut self)
         requires preparing { IsPreparing self.old.phase }
         requires majority { self.old.won ≡ true }
@@ -186,7 +184,7 @@ impl<V: Drop> Proposer<V> {
         self.best = None;
     }
 
-    /// Counts the sender of an Accepted. With a majority the value is chosen.
+    /// Counts the sender of an Accepted. When a majority is reached, the value is chosen.
     pub fn on_accepted(
         &mut self,
         from: NodeId,
@@ -221,14 +219,14 @@ impl<V: Drop> Proposer<V> {
         self.counted.contains(&from)
     }
 
-    /// Whether with one more sender the counted ones are a majority, and without it they are not.
+    /// Whether one more sender makes a majority that was not one before.
     fn makes_majority(&self, members: u32) -> bool
         ensures { result ≡ just_majority members (suc (length self.now.counted)) }
     {
         self.counted.len() == members as usize / 2
     }
 
-    /// Drops the tally and goes on in this phase.
+    /// Drops the tally, and sets the phase.
     fn clear(&mut self, phase: Phase)
         ensures { self.new ≡ record self.old {
           phase = phase;
@@ -244,7 +242,7 @@ impl<V: Drop> Proposer<V> {
     }
 }
 
-/// The pair of the higher ballot, the second where both name one ballot.
+/// The pair with the higher ballot; the second pair if the ballots are equal.
 fn higher_of<V: Drop>(
     first: Option<(Ballot, V)>,
     second: Option<(Ballot, V)>,

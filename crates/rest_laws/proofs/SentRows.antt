@@ -1,4 +1,5 @@
--- From reports to logs: each item that a log sent stands in a row of its report, and rows stand in the order of entries.
+-- From reports to logs: each item that a log sent is in a row of its report, and the rows are in the order of the
+-- entries.
 use Rattle.std.proofs.Common.{ℕ, suc, ◌+◌, Bool, true, false, cond, ◌==◌, ◌&&◌, Option, Some, None, List, [], ◌∷◌, ◌++◌, length, ◌≡◌, ◌≢◌, inl, inr, refl, sym, ◌∙◌, ap, subst, arith, filter, append_assoc}
 use Rattle.std.proofs.lemmas.List.{append-nil}
 use Rattle.topology.specs.declared.names.Trigger.{Trigger}
@@ -32,7 +33,7 @@ SendsRow rows i = (r : Row) × Among r rows × Among i r.sent
 abbrev pub item : ℕ → ℕ → ℕ → List Trigger → Sent
 item w s n triggers = record { to = w; session = s; seq = n; triggers = triggers }
 
--- an item of an older part stands in a row of the whole
+-- an item of an older part is in a row of the whole log
 row_later : (rows more : List Row) (i : Sent) → SendsRow rows i → SendsRow (rows ++ more) i
 row_later rows more i r = (r.0, in_front r.0 rows more r.1, r.2)
 
@@ -56,11 +57,11 @@ sent_here : (rows : List Row) (r : Row) (w s n : ℕ) (xs : List Update) → Amo
 sent_here rows r w s n [] a each = tt
 sent_here rows r w s n (x ∷ xs) a each = ((r, a, each (item w s n x.triggers) (inl refl)), sent_here rows r w s (suc n) xs a (λ i b. each i (inr b)))
 
--- a number of a list is among its members
+-- a number in a list is one of its members
 pub has_among : (ws : List ℕ) (w : ℕ) → has ws w ≡ true → Among w ws
 has_among ws w m = let one = some_passes (λ x. x == w) ws m in subst (λ x. Among x ws) (same_is one.0 w one.2) one.1
 
--- what passes is one of those that pass
+-- an element that passes is in the filtered list
 pub in_filtered : {A : Type 0} (test : A → Bool) (xs : List A) (n : A) → Among n xs → test n ≡ true → Among n (filter test xs)
 in_filtered test [] n a e = absurd a
 in_filtered test (x ∷ xs) n (inl q) e = rw (subst (λ z. test z ≡ true) (sym q) e) (inl q)
@@ -83,7 +84,7 @@ module _ (rules : Rules) (net : Net) (u : ℕ) where
   unfolding entry_rows
   newest_row h k = at_end (entry_row rules net u h k) (entry_rows rules net u h) (entry_row rules net u h k ∷ []) (inl refl)
 
-  -- what an entry lists for a neighbour stands in its row
+  -- what an entry lists for a neighbour is in its row
   in_row : (h : List Entry) (k : Entry) (w : ℕ) (i : Sent) → has (neighbours net u) w ≡ true → Among i (sent_to rules net u h k w) → Among i (entry_row rules net u h k).sent
   unfolding sent_by
   in_row h k w i near a = in_flat (sent_to rules net u h k) (neighbours net u) w i (has_among (neighbours net u) w near) a
@@ -96,7 +97,7 @@ module _ (rules : Rules) (net : Net) (u : ℕ) where
       (in_front i (updates_sent (making rules net u h k) w (held (k.read ∷ reads h) w)) (close_sent (making rules net u h k) w (ready (reads h) w))
       (subst (λ z. Among i (updates_sent (making rules net u h k) w z)) (sym holds) a))
 
-  -- each update that a log sent stands in a row with its number and its triggers
+  -- each update that a log sent is in a row, with its number and its triggers
   pub outbox_rows : (h : List Entry) (w s : ℕ) → has (neighbours net u) w ≡ true → AllSent (entry_rows rules net u h) w s 1 (outbox rules net u h w s)
   unfolding outbox entry_rows
   outbox_rows [] w s near = tt
@@ -115,7 +116,7 @@ module _ (rules : Rules) (net : Net) (u : ℕ) where
 
   -- ---- closes
 
-  -- once a session has a close, nothing is added to its updates
+  -- once a session has a close, it gets no more updates
   outbox_stays : (k : Entry) (h : List Entry) (w s : ℕ) (triggers : List Trigger) → Fits (k ∷ h) → close rules net u (k ∷ h) w s ≡ Some triggers → outbox rules net u (k ∷ h) w s ≡ outbox rules net u h w s
   outbox_stays k h w s triggers f c = outbox_other rules net u k h w s (by (closing (k ∷ h) w s) refl)
     where
@@ -131,7 +132,7 @@ module _ (rules : Rules) (net : Net) (u : ℕ) where
       let here : Among i (close_sent (making rules net u h k) w (ready (reads h) w)) = rw (r, c) (inl refl) in
       (entry_row rules net u h k, newest_row h k, in_row h k w i near (at_end i (updates_sent (making rules net u h k) w (held (k.read ∷ reads h) w)) (close_sent (making rules net u h k) w (ready (reads h) w)) here))
 
-  -- the close of a session stands in a row, with the number after its updates
+  -- the close of a session is in a row, with the number after the updates
   pub close_rows : (h : List Entry) (w s : ℕ) (triggers : List Trigger) → Fits h → has (neighbours net u) w ≡ true → close rules net u h w s ≡ Some triggers
       → SendsRow (entry_rows rules net u h) (item w s (next_number rules net u h w s) triggers)
   unfolding entry_rows
@@ -150,7 +151,7 @@ module _ (rules : Rules) (net : Net) (u : ℕ) where
 
   -- ---- what is held back
 
-  -- what is held back from w for a prefix of the network stands in its row, in the session that is held
+  -- what is held back from w for a prefix of the network has a row, in the held session
   pub held_rows : (h : List Entry) (w s p : ℕ) → has (neighbours net u) w ≡ true → has (places net) p ≡ true → held (reads h) w ≡ Some s → is_pending rules net u h w p ≡ true
       → Among (pending_row (pending rules net u h w) w s p) (pending_rows rules net u h)
   unfolding pending_rows

@@ -1,4 +1,4 @@
--- The incomplete triggers of a value of reports of a family are a set that no step leaves.
+-- No step leaves the set of incomplete triggers in the value of a family's reports.
 use Rattle.std.proofs.Common.{ℕ, suc, ◌<◌, ◌≤◌, Bool, true, false, Some, List, [], ◌∷◌, length, map, filter, ◌≡◌, inl, inr, ⊎_elim, cond, refl, sym, ◌∙◌, subst, arith}
 use Rattle.std.proofs.lemmas.Bool.Decides.{nat_tests}
 use Rattle.std.proofs.lemmas.List.{length-append}
@@ -44,7 +44,7 @@ pending_open from to row a e =
     at_end (of_pending row) (map of_item (filter (missing from to) (items_of from))) (map of_pending (filter (waits_for to) from.pending))
     (in_map of_pending (filter (waits_for to) from.pending) row (in_filtered (waits_for to) from.pending row a e))
 
--- what passes is one of those that are tried
+-- an element that passes is among those that were tried
 pub of_filter : {A : Type 0} (test : A → Bool) (xs : List A) (x : A) → Among x (filter test xs) → Among x xs × (test x ≡ true)
 of_filter test [] x a = absurd a
 of_filter test (y ∷ ys) x a =
@@ -55,7 +55,7 @@ of_filter test (y ∷ ys) x a =
       | false ↦ λ e m. let found = of_filter test ys x m in (inr found.0, found.1)
     ]) refl a
 
--- what is open is one of the two
+-- an open carrier is one of the two
 pub data OneOf (from to : Report) (c : Carrier) : Type 0 where
   ByItem : (i : Sent) → Among i (items_of from) → missing from to i ≡ true → of_item i ≡ c → OneOf from to c
   ByRow : (row : Pending) → Among row from.pending → waits_for to row ≡ true → of_pending row ≡ c → OneOf from to c
@@ -76,7 +76,7 @@ of_open from to c a =
 
 module _ (rules : Rules) (net : Net) (e : ℕ) (reports : List Report) (blocked : Trigger → Bool) (inside : IsClosed reports blocked) (u v : ℕ) (a b : List Entry) (fits : Fits a) (near : has (neighbours net u) v ≡ true)
     (receiver : Among (report_of rules net u e a) reports) (sender : Among (report_of rules net v e b) reports) where
-  -- what is open lists triggers of the set, where its session is still held
+  -- an open carrier lists triggers of the set, if its session is still held
   open_in : (c : Carrier) → Among c (open_to (report_of rules net v e b) (report_of rules net u e a)) → StillHolds blocked a v c.session → AllIn blocked c.triggers
   unfolding report_of
   open_in c is holds = all_from_each (λ t. blocked t ≡ true) c.triggers (λ t among. by holds t among)
@@ -93,7 +93,7 @@ module _ (rules : Rules) (net : Net) (e : ℕ) (reports : List Report) (blocked 
           (inr (inr (record { from = report_of rules net v e b; to = report_of rules net u e a; carrier = c; lacks = lacks; lists = among; closed = triggers; closes = down_is rules net u e a v c.session fits near ∙ d; names = one.1 })))
           one.2
 
-  -- an item with a number above all that were received is missing
+  -- an item is missing if its number is above all that were received
   is_missing : (s n : ℕ) (triggers : List Trigger) → length (inbox a v s) < n → missing (report_of rules net v e b) (report_of rules net u e a) (item u s n triggers) ≡ true
   unfolding report_of
   is_missing s n triggers above =
@@ -124,7 +124,7 @@ module _ (rules : Rules) (net : Net) (e : ℕ) (reports : List Report) (blocked 
 
 -- ---- the set is closed
 
--- what begins a list is not longer
+-- a prefix of a list is no longer than the list
 begins_short : (xs ys : List Update) → Begins xs ys → length xs ≤ length ys
 begins_short xs ys begins = let both = length-append xs begins.0 in subst (λ (z : List Update). length xs ≤ length z) begins.1 (omega arith)
 
@@ -134,14 +134,14 @@ unfolding report_of
 rows_are rules net u e h = refl
 
 module _ (rules : Rules) (net : Net) (e : ℕ) (reports : List Report) (blocked : Trigger → Bool) (inside : IsClosed reports blocked) (u : ℕ) (log : List Entry) (told : Among (report_of rules net u e log) reports) where
-  -- an entry after one of the set that shares a prefix is of the set
+  -- an entry after one in the set that shares a prefix is in the set
   order_in : (h : List Entry) (j k : Entry) → Older log (k ∷ h) → Among j h → shares j.read.scope k.read.scope ≡ true → some_in blocked j.triggers ≡ true → AllIn blocked k.triggers
   order_in h j k o a near some =
       let s = some_passes blocked j.triggers some in
       all_from_each (λ t. blocked t ≡ true) k.triggers
       (λ t x. inside.step s.0 t (inl (report_of rules net u e log, told, rw (rows_are rules net u e log) (rows_stand rules net u log h j k s.0 t o a near s.1 x))) s.2)
 
-  -- an entry that lists one trigger of the set lists no other
+  -- an entry that lists one trigger of the set lists no other triggers
   together_in : (h : List Entry) (k : Entry) → Older log (k ∷ h) → some_in blocked k.triggers ≡ true → AllIn blocked k.triggers
   together_in h k o some =
       let s = some_passes blocked k.triggers some in
@@ -152,7 +152,7 @@ module _ (rules : Rules) (net : Net) (e : ℕ) (reports : List Report) (blocked 
 abbrev pub HaveReports : Rules → Net → ℕ → List ℕ → (ℕ → List Entry) → List Report → Type 0
 HaveReports rules net e nodes log reports = (u : ℕ) → Among u nodes → Among (report_of rules net u e (log u)) reports
 
--- a set that has each start and that no step of the reports of a family leaves is closed
+-- a set that has each start, and that no step of a family's reports leaves, is closed
 pub closed_over : (rules : Rules) (net : Net) (nodes : List ℕ) (log : ℕ → List Entry) (e : ℕ) (reports : List Report) (blocked : Trigger → Bool) → IsValid net → Family rules net nodes log
     → HaveReports rules net e nodes log reports → IsClosed reports blocked → Closed rules net nodes log blocked
 closed_over rules net nodes log e reports blocked valid family told inside = record {

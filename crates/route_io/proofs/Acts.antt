@@ -1,11 +1,11 @@
--- Acts of a link, one behind the other.
+-- Acts of a link, one after another.
 use Rattle.std.proofs.Common.{ℕ, ◌+◌, ◌≡◌, ◌<◌, List, [], ◌∷◌, ◌++◌, length, take, drop, Option, Some, None, Result, Ok, Err, IsErr, refl, sym, ap, ◌∙◌, subst, append_assoc, option_map}
 use Rattle.std.proofs.lemmas.List.{append-nil, take-append-drop}
 use Rattle.std.proofs.Math.Seq.{take-add}
 use Rattle.route_io.specs.Acts.{came, written, writes, AreWrites, ActsOnce, AddsWrites, whole_by, WritesOnce, IsPieceOf, ArePiecesOf, AddsPieces}
 use Rattle.route_io.specs.Views.{StreamAct, Read, Write, LinkView, SinkView}
 
--- ---- readings of acts behind others
+-- ---- readings of acts after others
 
 -- writes bring nothing
 pub came_behind : (more acts : List StreamAct) → AreWrites more → came (more ++ acts) ≡ came acts
@@ -76,14 +76,14 @@ pub adds_no_more :
 adds_no_more old mid new xs rest before once =
     rw (sym (append-nil xs)) (adds_more old mid new xs [] before (adds_failed mid new rest once))
 
--- what a call that failed has taken
+-- what a failed call took
 pub whole_after : {T E : Type 0} (r : Result T E) (old new : LinkView) (piece : List ℕ) → IsErr r → ActsOnce old new (Write piece None) → ActsOnce old new (Write piece (whole_by r piece))
 whole_after (Ok x) old new piece failed once = absurd (cc failed)
 whole_after (Err e) old new piece failed once = once
 
 -- ---- pieces of a text
 
--- a longer text has the same piece
+-- a piece of a text is a piece of a longer text
 piece_of_more : (text more taken piece : List ℕ) → IsPieceOf text taken piece → IsPieceOf (text ++ more) taken piece
 piece_of_more text more taken piece is = record {
   some = is.some;
@@ -91,7 +91,7 @@ piece_of_more text more taken piece is = record {
   stands = sym (append_assoc (taken ++ piece) is.rest more) ∙ ap (λ (l : List ℕ). l ++ more) is.stands;
 }
 
--- and so has one that is behind another
+-- and of a text that follows another
 piece_of_behind : (front text taken piece : List ℕ) → IsPieceOf text taken piece → IsPieceOf (front ++ text) (front ++ taken) piece
 piece_of_behind front text taken piece is = record {
   some = is.some;
@@ -104,7 +104,7 @@ pieces_of_more text more [] are = tt
 pieces_of_more text more (Read bytes ∷ before) are = absurd are
 pieces_of_more text more (Write piece took ∷ before) are = (piece_of_more text more (written before) piece are.0, pieces_of_more text more before are.1)
 
--- pieces of one text, and then of one behind it
+-- pieces of one text, and then of the text after it
 pub pieces_on : (front text : List ℕ) (later acts : List StreamAct) → ArePiecesOf front acts → written acts ≡ front → ArePiecesOf text later → ArePiecesOf (front ++ text) (later ++ acts)
 pieces_on front text [] acts first whole second = pieces_of_more front text acts first
 pieces_on front text (Read bytes ∷ later) acts first whole second = absurd second
@@ -117,7 +117,7 @@ pieces_on front text (Write piece took ∷ later) acts first whole second = (
 pub adds_no_piece : (sink : SinkView) (text : List ℕ) → AddsPieces sink sink text []
 adds_no_piece sink text = record { more = []; pieces = tt; took = refl; behind = acts_none sink.writes }
 
--- the writes of a text, and then those of one behind it
+-- the writes of a text, and then those of the text after it
 pub adds_pieces_on : (old mid new : SinkView) (front text taken : List ℕ) → AddsPieces old mid front front → AddsPieces mid new text taken → AddsPieces old new (front ++ text) (front ++ taken)
 adds_pieces_on old mid new front text taken first second = record {
   more = second.more ++ first.more;
@@ -126,7 +126,7 @@ adds_pieces_on old mid new front text taken first second = record {
   behind = second.behind ∙ (ap (option_map (λ before. second.more ++ before)) first.behind ∙ acts_both old.writes second.more first.more);
 }
 
--- the text is the front of a longer one
+-- the text is a prefix of a longer one
 pub adds_pieces_of : (old new : SinkView) (text more taken : List ℕ) → AddsPieces old new text taken → AddsPieces old new (text ++ more) taken
 adds_pieces_of old new text more taken adds = record {
   more = adds.more;

@@ -1,11 +1,11 @@
--- What a fault over a plain sink says.
+-- What a fault of a plain sink means.
 use Rattle.std.proofs.Common.{ℕ, ◌+◌, ◌≡◌, List, length, take, Some, ap, ◌∙◌, arith, length-append}
 use Rattle.std.proofs.lemmas.List.{length-take-le}
 use Rattle.route_io.specs.Causes.{AppendsFront, Rose}
 use Rattle.route_io.specs.Shelf.{ExceedsRoom, free}
 use Rattle.route_io.specs.declared.plain.PlainSink.{PlainSink}
 
--- a fault comes only where the bytes to be written are more than the room
+-- a fault comes only if the bytes to be written exceed the room
 pub exceeds_room :
     (old new : PlainSink) (piece : List ℕ) →
     AppendsFront (Some old.room.held) (Some new.room.held) piece →

@@ -1,4 +1,4 @@
--- Writes of a link, one after the other.
+-- Writes of a link, one after another.
 use Rattle.std.proofs.Common.{ℕ, ◌+◌, ◌-◌, ◌<◌, ◌≤◌, ◌≡◌, ◌⊎◌, inl, inr, min, List, length, take, drop, Option, Some, None, refl, sym, ap, subst, ◌∙◌, arith, length-append, IfSome}
 use Rattle.std.proofs.lemmas.List.{length-take-le}
 use Rattle.std.specs.Io.KnownBytes.{Appends}
@@ -12,13 +12,13 @@ pub record AtFirst (was now : LinkView) (done : ℕ) : Type 0 where
   pub none_done : done ≡ 0
   pub same : now ≡ was
 
--- something was taken; where the piece had room, that was the whole, by one write
+-- something was taken; if there was room for the piece, all of it, by one write
 pub record IsOnward (was now : LinkView) (piece : List ℕ) (done : ℕ) : Type 0 where
   pub some : 0 < done
   pub whole : HasRoom was piece → done ≡ length piece
   pub once : HasRoom was piece → ActsOnce was now (Write piece (Some (length piece)))
 
--- what a write takes where the room is told
+-- what a write takes if the room is told
 fill_at : (o : Option ℕ) (size n left : ℕ) → o ≡ Some left → IfSome o (λ l. n ≡ min size l) → n ≡ min size left
 fill_at o size n left told fills = rw told at fills
 
@@ -53,7 +53,7 @@ onward was now next piece rest done n (inr further) inside is size some within f
       once = λ h. absurd (omega (arith, further.whole h, inside));
     }
 
--- the first write failed, where the piece had room
+-- the first write failed, although there was room for the piece
 pub failed_once :
     (was now next : LinkView) (piece rest : List ℕ) (done : ℕ) →
     AtFirst was now done ⊎ IsOnward was now piece done → done < length piece →
@@ -65,7 +65,7 @@ failed_once was now next piece rest done (inl first) inside is once h =
 failed_once was now next piece rest done (inr further) inside is once h =
     absurd (omega (arith, further.whole h, inside))
 
--- how much was left of a room, where so much is left of it behind more bytes
+-- how much room there was, if so much is left after more bytes
 pub room_before :
     (room : Option ℕ) (old now : Option (List ℕ)) (bytes : List ℕ) (left : ℕ) →
     StaysTold old now → Appends old now bytes → room_behind room now ≡ Some left →
@@ -77,7 +77,7 @@ room_before (Some size) (Some old) (Some now) bytes left told more is =
     let same : size - length now ≡ left = cc is in
     (size - length old, refl, omega (arith, same, ap length more, length-append old bytes))
 
--- a write of what is left of the piece found nothing left: the piece is longer than the room was
+-- a write of the rest of the piece found no room: the piece is longer than the room was
 pub lacks_room :
     (was now : LinkView) (piece rest : List ℕ) (done : ℕ) → done < length piece →
     StaysTold was.outgoing now.outgoing → Appends was.outgoing now.outgoing (take done piece) →
@@ -91,7 +91,7 @@ lacks_room was now piece rest done inside told more others none =
     let within = before.2 in
     (before.0, before.1, omega (arith, within, size, inside))
 
--- what changes by two writes
+-- what two writes change
 pub only_writes_on : (a b c : LinkView) → OnlyWrites a b → OnlyWrites b c → OnlyWrites a c
 only_writes_on a b c h k =
     k ∙ ap (λ (v : LinkView). record v { outgoing = c.outgoing; acts = c.acts; faults = c.faults }) h

@@ -1,4 +1,4 @@
--- Bytes that come over a link and are put behind others.
+-- Bytes that are received over a link and added after others.
 use Rattle.std.proofs.Common.{ℕ, ◌+◌, ◌<◌, ◌≤◌, ◌≡◌, List, [], ◌++◌, length, take, drop, Option, Some, None, Result, Ok, Err, IfOk, IfSome, ◌↔◌, refl, ap, subst, ◌∙◌, length-append, length-drop, arith}
 use Rattle.std.specs.Result.{result_unwrap_or}
 use Rattle.std.proofs.Math.Seq.{take-add, take-append_seam}
@@ -9,7 +9,7 @@ use Rattle.route_io.specs.Acts.{ActsOnce, brought_by}
 use Rattle.route_io.specs.Links.{ReadsBehind}
 use Rattle.route_io.specs.Views.{LinkView, Read}
 
--- a buffer that was made longer, lent whole, read into from its old end on, and cut again
+-- a buffer is made longer, lent, read into from its old end on, and cut again
 pub read_behind_is :
     {E : Type 0} (r : Result ℕ E) (old longer shown filled new : List ℕ) (len k : ℕ) (was now : LinkView) →
     len ≡ length old → k ≡ result_unwrap_or r 0 → take (length old) longer ≡ old → shown ≡ longer →
@@ -35,7 +35,7 @@ read_behind_is (Ok n) old longer shown filled new len k was now at count front l
       acted = acted;
     }
 
--- where something came, it was not the end
+-- if something came, it was not the end
 pub came_before_end :
     {P : Type 0} (was now : Option (List ℕ)) (more : List ℕ) → ¬ P → Consumes was now more → StaysTold was now →
     0 < length more → IfSome was (λ bytes. P ↔ (bytes ≡ []))
@@ -44,7 +44,7 @@ came_before_end (Some x) None more never came told some = absurd told
 came_before_end (Some x) (Some y) more never came told some =
     (λ p. absurd (never p), λ e. absurd (omega (arith, some, ap length came, ap length e, length-append more y)))
 
--- where a read has failed, the same is still to come
+-- if a read failed, the same bytes are still to come
 pub kept_told : (was now : Option (List ℕ)) → StaysTold was now → Keeps was now → now ≡ was
 kept_told None None told same = refl
 kept_told None (Some y) told same = absurd told

@@ -1,4 +1,4 @@
--- Room in memory, of which a front is taken.
+-- A buffer in memory whose front is used.
 use Rattle.std.specs.Prelude.{ℕ, ◌≡◌, ◌<◌, ◌+◌, ◌-◌, List, length, IfSome}
 use Rattle.route_io.specs.Views.{SinkView}
 
@@ -11,11 +11,11 @@ pub record Shelf : Type 0 where
 abbrev pub free : Shelf → ℕ
 free shelf = shelf.size - length shelf.held
 
--- the piece is not empty, and nothing is free
+-- the piece is not empty, and there is no room
 abbrev pub FindsNoRoom : Shelf → List ℕ → Type 0
 FindsNoRoom shelf piece = (0 < length piece) × (free shelf ≡ 0)
 
--- where both are told, what the sink holds and the piece are more than its room
+-- if both are told, what the sink holds and the piece together exceed its room
 abbrev pub ExceedsRoom : SinkView → List ℕ → Type 0
 ExceedsRoom sink piece =
     IfSome sink.room (λ size. IfSome sink.held (λ xs. size < length xs + length piece))

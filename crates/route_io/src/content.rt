@@ -1,9 +1,9 @@
-//! Bytes in memory that are given out in order.
+//! Bytes in memory that are read in order.
 ghost use Rattle.std.specs.Prelude.{◌≡◌, min, length, take, ◌++◌};
 
 use std::marker::Model;
 
-/// Bytes of which those before `place` are given already.
+/// Bytes of which those before `place` have been read.
 #[derive(Drop)]
 pub struct Content {
     bytes: Vec<u8>,
@@ -21,14 +21,14 @@ impl Model for Content {
 }
 
 impl Content {
-    /// All the bytes are still to be given.
+    /// The content before the first read.
     pub fn new(bytes: Vec<u8>) -> Content
         ensures { result ≡ bytes.items }
     {
         Content { bytes, place: 0 }
     }
 
-    /// Gives the next bytes into the front of `buf`, as far as it and they reach.
+    /// Copies the next bytes into the front of `buf`, as many as both allow. Returns how many.
     pub fn give(&mut self, buf: &mut [u8]) -> usize
         ensures count { result ≡ min (length buf.old) (length self.old) }
         ensures bytes { self.old ≡ take result buf.new ++ self.new }

@@ -16,28 +16,27 @@ pub mod memory;
 pub mod plain;
 pub mod tcp;
 
-/// A peer, from which bytes come and to which bytes go. A call that fails takes and gives nothing
-/// and raises the count of faults; another leaves that count as it was. The count ends as that of
-/// a [`Source`](crate::Source).
+/// A peer to read from and to write to. A call that fails transfers nothing and raises the count of faults; any other
+/// call leaves the count. The count stops at its highest value, as that of a [`Source`](crate::Source) does.
 pub trait Link {
-    /// The bytes that are still to come, the bytes that were taken, how many can be taken in all,
-    /// which reads and writes were made and which addresses were dialled, where told; whether the link is
-    /// sure; and how often a call has failed.
+    /// What contracts see of the link: the bytes still to come, the bytes taken, how many can be taken in all, the
+    /// reads and writes that were made, and the addresses that were dialled, each if the link tells it; whether calls
+    /// can fail for other reasons than room; and how many calls have failed.
     ///
-    /// Whoever tells the room takes as much of a piece as it has room for. On a sure link a call
-    /// fails only where there is no room for a byte of a piece; no call makes it sure or unsure.
+    /// A link that tells its room takes as much of a piece as there is room for. The link type declares whether it is
+    /// sure. On a sure link a call fails only where there is no room for a byte of a piece. No call changes whether a
+    /// link is sure.
     ghost seen: { Self → LinkView };
 
-    /// Connects to the peer at `address`, a host and a port as in `127.0.0.1:179`. An address at
-    /// which no peer is reached counts as dialled too.
+    /// Connects to the peer at `address`, a host and a port such as `127.0.0.1:179`. An address at which no peer is
+    /// reached counts as dialled too.
     fn dial(&mut self, address: &str) -> Result<(), Failed>
         ensures dials { Dials (seen self.old) (seen self.new) address.now }
         ensures sure { IsSure (seen self.old) → IsOk result }
         ensures others { OnlyDials (seen self.old) (seen self.new) }
         ensures cause { HasCause (seen self.old).faults (seen self.new).faults result };
 
-    /// Takes the next bytes into the front of `buf`, and answers how many.
-    /// Into a buffer that has room, 0 is the end.
+    /// Reads the next bytes into the front of `buf`. Returns how many; if the buffer has room, 0 means the end.
     fn read(&mut self, buf: &mut [u8]) -> Result<usize, Failed>
         ensures bound { ReadsAtMost result buf.new }
         ensures bytes { ReadConsumes (seen self.old).incoming (seen self.new).incoming
@@ -49,8 +48,7 @@ pub trait Link {
         ensures others { OnlyReads (seen self.old) (seen self.new) }
         ensures cause { HasCause (seen self.old).faults (seen self.new).faults result };
 
-    /// Takes bytes from the front of `piece`, at least one where there is one, and answers how
-    /// many.
+    /// Takes bytes from the front of `piece`, at least one unless it is empty. Returns how many.
     fn write(&mut self, piece: &[u8]) -> Result<usize, Failed>
         ensures bound { IfOk result (λ n. n ≤ length piece.now) }
         ensures some { 0 < length piece.now → IfOk result (λ n. 0 < n) }
@@ -66,9 +64,9 @@ pub trait Link {
         ensures others { OnlyWrites (seen self.old) (seen self.new) }
         ensures cause { HasCause (seen self.old).faults (seen self.new).faults result };
 
-    /// Writes a piece whole: by one write, and by further ones only for what a write left. An
-    /// empty piece is not written. It takes no memory.
-    /// After a failure the link has taken a front of the piece, and never the whole.
+    /// Writes a whole piece: by one write, and by further ones only for what a write left. An empty piece is not
+    /// written. Takes no memory. After a failure the link has taken a part from the front of the piece, and never all
+    /// of it.
     final fn write_all(&mut self, piece: &[u8]) -> Result<(), Failed>
     where
         Self: Sized,

@@ -1,4 +1,4 @@
-//! A source and a sink in memory with no call that is listed to fail.
+//! A source and a sink in memory without calls that are listed to fail.
 ghost use Rattle.std.specs.Prelude.{◌≡◌, ◌<◌, ◌↔◌, min, length, [], ◌∷◌, Some, IfOk, IsOk, IsErr, is_err};
 ghost use Rattle.std.specs.Io.{ReadsAtMost};
 ghost use Rattle.std.specs.Io.KnownBytes.{ReadConsumes, WriteAppends};
@@ -12,14 +12,14 @@ use crate::link::acts::StreamActs;
 use crate::outside::{Failed, Sink, Source};
 use crate::room::Room;
 
-/// Bytes in memory. No read fails, and no call takes memory.
+/// A source in memory. No read fails, and no call takes memory.
 #[derive(Drop)]
 pub struct PlainSource {
     content: Content,
 }
 
 impl PlainSource {
-    /// All of `content` is to come.
+    /// A source with all of `content` still to come.
     pub fn new(content: Vec<u8>) -> PlainSource
         ensures { ⟦<PlainSource as Source>⟧.seen result ≡
             record { left = Some content.items; faults = 0 } }
@@ -44,7 +44,7 @@ impl Source for PlainSource {
     }
 }
 
-/// Room in memory. A write fails exactly where it finds nothing free. No call takes memory.
+/// A sink in memory. A write fails exactly where there is no room for a byte of its piece. No call takes memory.
 #[derive(Drop)]
 pub struct PlainSink {
     room: Room,
@@ -54,7 +54,7 @@ pub struct PlainSink {
 }
 
 impl PlainSink {
-    /// Nothing is held, as many bytes can be taken as `room` is long, and no write was made.
+    /// An empty sink that can take as many bytes as `room` has.
     pub fn new(room: Vec<u8>) -> PlainSink
         ensures { ⟦<PlainSink as Sink>⟧.seen result ≡
             record { held = Some []; room = Some (length room.items); writes = Some []; faults = 0 } }
@@ -73,7 +73,7 @@ impl PlainSink {
         self.room.held()
     }
 
-    // Takes bytes from the front of `piece`, as far as it and the free room reach.
+    // Takes bytes from the front of `piece`, as far as there is room.
     fn take(&mut self, piece: &[u8]) -> Result<usize, Failed>
         ensures bytes { WriteAppends (Some self.old.room.held) (Some self.new.room.held)
             result piece.now }

@@ -1,4 +1,4 @@
-//! What was received over a link and not yet handled.
+//! Bytes that were received over a link and are not handled yet.
 ghost use Rattle.std.specs.Prelude.{◌≡◌, ◌+◌, ◌<◌, ◌≤◌, ◌↔◌, [], None, length, take, drop, OnOk, OnErr, IfSome, IsErrOf, IsOk, IfOk};
 ghost use Rattle.std.specs.Io.KnownBytes.{ReadConsumes, Keeps};
 ghost use Rattle.route_io.specs.Causes.{HasCause, RoseIf, StaysTold};
@@ -16,19 +16,19 @@ use thiserror::Error;
 /// How many bytes one fill asks for.
 pub const PORTION: usize = 16 * 1024;
 
-/// What a fill has found.
+/// The result of a fill.
 #[derive(Clone, Copy, Debug, PartialEq, Eq)]
 pub enum Filled {
-    /// At least one byte came.
+    /// At least one byte was received.
     More,
     /// The link has ended.
     End,
 }
 
-/// Why a fill has asked in vain.
+/// Why a fill failed.
 #[derive(Debug, Drop, Error)]
 pub enum NotFilled {
-    /// Memory ran out, before the link was asked.
+    /// Memory ran out before the link was read.
     #[error("out of memory")]
     NoMemory,
     /// A read of the link failed.
@@ -36,8 +36,8 @@ pub enum NotFilled {
     Fault,
 }
 
-/// The bytes that came over a link and are not yet taken, in order. Its memory grows with the
-/// longest run of them that was waited for, and not with all that came.
+/// The bytes that were received over a link and not yet taken, in order. Its memory grows with the longest run of bytes
+/// that was waited for, and not with everything received.
 #[derive(Drop)]
 pub struct Received {
     bytes: BytesMut,
@@ -52,7 +52,7 @@ impl Model for Received {
 }
 
 impl Received {
-    /// Nothing was received. It takes no memory.
+    /// No bytes. Takes no memory.
     pub fn new(alloc: Global) -> Received
         ensures { result ≡ [] }
     {
@@ -61,15 +61,14 @@ impl Received {
         }
     }
 
-    /// The bytes that are not yet taken. It takes no memory.
+    /// The bytes not yet taken. Takes no memory.
     pub fn as_slice(&self) -> &[u8]
         ensures { result.now ≡ self.now }
     {
         self.bytes.as_slice()
     }
 
-    /// Takes the first `count` bytes away, or all where there are fewer. It takes no memory, and
-    /// moves no byte.
+    /// Removes the first `count` bytes, or all if there are fewer. Takes no memory, and moves no byte.
     pub fn take_front(&mut self, count: usize)
         ensures { self.new ≡ drop count self.old }
     {
@@ -77,9 +76,9 @@ impl Received {
         self.bytes.advance(count);
     }
 
-    /// Reads once from the link, at most a portion, and puts what came behind the others.
+    /// Reads once from the link, at most a portion, and adds what was read at the end.
     pub fn fill<L: Link>(&mut self, link: &mut L) -> Result<Filled, NotFilled>
-        // No byte is lost, whatever the answer.
+        // no byte is lost, whatever the answer
         ensures ahead { ahead self.new (L.seen link.new) ≡ ahead self.old (L.seen link.old) }
         ensures grows { GrowsWithin PORTION self.old self.new }
         ensures more { (result ≡ Ok Filled.More) ↔ (length self.old < length self.new) }

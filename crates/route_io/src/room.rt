@@ -1,9 +1,9 @@
-//! Room in memory that is filled in order.
+//! A buffer in memory that is filled in order.
 ghost use Rattle.std.specs.Prelude.{◌≡◌, ◌-◌, min, length, take, ◌++◌, []};
 
 use std::marker::Model;
 
-/// Bytes of which those before `place` are taken, and the others are free.
+/// A buffer whose bytes before `place` are used; the others are free.
 #[derive(Drop)]
 pub struct Room {
     bytes: Vec<u8>,
@@ -23,7 +23,7 @@ impl Model for Room {
 }
 
 impl Room {
-    /// Nothing is taken, and all of `bytes` is free.
+    /// An empty buffer, with all of `bytes` free.
     pub fn new(bytes: Vec<u8>) -> Room
         ensures held { result.held ≡ [] }
         ensures size { result.size ≡ length bytes.items }
@@ -38,7 +38,7 @@ impl Room {
         &self.bytes[..self.place]
     }
 
-    /// Takes bytes from the front of `piece`, as far as it and the free room reach.
+    /// Takes bytes from the front of `piece`, as far as there is room. Returns how many.
     pub fn take(&mut self, piece: &[u8]) -> usize
         ensures count { result ≡ min (length piece.now) (self.old.size - length self.old.held) }
         ensures held { self.new.held ≡ self.old.held ++ take result piece.now }

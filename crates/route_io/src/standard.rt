@@ -1,6 +1,6 @@
-//! The trusted edge: a source and a sink over what `std::io` reads and writes.
+//! The trusted edge: a source and a sink over `std::io`.
 //!
-//! What the system gives and takes is told by no contract, so neither tells any content.
+//! No contract says what the system sends and receives, so neither tells any content.
 ghost use Rattle.std.specs.Prelude.{◌≡◌, ◌<◌, ◌≤◌, length, take, None, IfOk, IfSome, is_err};
 ghost use Rattle.std.specs.Io.{ReadsAtMost};
 ghost use Rattle.std.specs.Io.KnownBytes.{ReadConsumes, Appends};
@@ -9,7 +9,7 @@ ghost use Rattle.route_io.specs.Causes.{HasCause, counted};
 use crate::outside::{Failed, Sink, Source};
 use std::io::{Read, Write};
 
-/// A reader as a source. Each error that the reader answers is counted.
+/// A source over a reader. Each error of the reader is counted as a fault.
 #[derive(Drop)]
 pub struct StdSource<R> {
     reader: R,
@@ -17,7 +17,7 @@ pub struct StdSource<R> {
 }
 
 impl<R: Read> StdSource<R> {
-    /// No call was made yet.
+    /// A source before the first call.
     pub fn new(reader: R) -> StdSource<R>
         ensures reader { result.reader ≡ reader }
         ensures faults { result.faults ≡ 0 }
@@ -33,7 +33,7 @@ impl<R: Read> Source for StdSource<R> {
         ensures bound { ReadsAtMost result buf.new }
         ensures cause { HasCause self.old.faults self.new.faults result }
         ensures counted { self.new.faults ≡ counted (is_err result) self.old.faults }
-        // Where the reader tells what it gives, this is what it gave.
+        // if the reader tells what it gives, this is what it gave
         ensures gave { ReadConsumes (R.remaining self.old.reader) (R.remaining self.new.reader)
             result buf.new }
     {
@@ -45,8 +45,8 @@ impl<R: Read> Source for StdSource<R> {
     }
 }
 
-/// A writer as a sink. It is flushed after each write. Each error that the writer answers is
-/// counted, and so is a write that takes nothing of a piece.
+/// A sink over a writer, which is flushed after each write. Each error of the writer is counted as a fault, and so is a
+/// write that takes no byte of its piece.
 #[derive(Drop)]
 pub struct StdSink<W> {
     writer: W,
@@ -54,7 +54,7 @@ pub struct StdSink<W> {
 }
 
 impl<W: Write> StdSink<W> {
-    /// No call was made yet.
+    /// A sink before the first call.
     pub fn new(writer: W) -> StdSink<W>
         ensures writer { result.writer ≡ writer }
         ensures faults { result.faults ≡ 0 }
@@ -71,7 +71,7 @@ impl<W: Write> Sink for StdSink<W> {
         ensures some { 0 < length piece.now → IfOk result (λ n. 0 < n) }
         ensures cause { HasCause self.old.faults self.new.faults result }
         ensures counted { self.new.faults ≡ counted (is_err result) self.old.faults }
-        // Where the writer tells what it holds, this is what it took.
+        // if the writer tells what it holds, this is what it took
         ensures took { IfOk result (λ n.
             Appends (W.contents self.old.writer) (W.contents self.new.writer) (take n piece.now)) }
     {
@@ -85,7 +85,7 @@ impl<W: Write> Sink for StdSink<W> {
     }
 }
 
-// Writes and flushes. None is an error, or a write that took nothing of a piece.
+// Writes and flushes. The answer `None` means an error, or a write that took no byte of its piece.
 pub(crate) fn write_through<W: Write>(writer: &mut W, piece: &[u8]) -> Option<usize>
     ensures bound { IfSome result (λ n. n ≤ length piece.now) }
     ensures some { 0 < length piece.now → IfSome result (λ n. 0 < n) }
@@ -108,7 +108,7 @@ mod tests {
     use std::io::{Read, Write};
     use std::test::Fail;
 
-    // Gives a text byte by byte, and fails once before the byte at `cut`.
+    // Gives a text byte by byte, and fails once, before the byte at `cut`.
     #[derive(Drop)]
     struct Flaky<'a> {
         text: &'a [u8],
@@ -149,7 +149,7 @@ mod tests {
         Ok(())
     }
 
-    // Its flushes fail, and so do its writes where it takes nothing.
+    // Its flushes fail, and its writes too unless `takes` is set.
     #[derive(Drop)]
     struct Broken {
         takes: bool,

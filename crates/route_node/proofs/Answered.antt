@@ -1,4 +1,4 @@
--- A node that answers a frame.
+-- A node answers a frame.
 use Rattle.std.proofs.Common.{ℕ, ◌+◌, ◌≡◌, ◌<◌, ◌≤◌, inl, inr, ◌⊎◌, true, Option, Some, None, List, ◌∷◌, ◌++◌, length, drop, refl, sym, ap, ◌∙◌, subst, append_assoc, arith}
 use Rattle.std.specs.Prelude.{is_some, filter_map}
 use Rattle.std.specs.Io.KnownBytes.{Appends, prepend_known}
@@ -49,11 +49,11 @@ broke : (records : Option (List Frame)) (status : Status) → (status ≡ NoMemo
 broke records status (inl e) = subst (BreaksOff records) (sym e) (by_memory records)
 broke records status (inr e) = subst (BreaksOff records) (sym e) (by_link records)
 
--- a front of what is written behind
+-- the first part of what is written after it
 begins_behind : (xs ys some : List ℕ) → Begins some ys → Begins (xs ++ some) (xs ++ ys)
 begins_behind xs ys some begins = (begins.0, append_assoc xs some begins.0 ∙ ap (λ l. xs ++ l) begins.1)
 
--- what ends at the replies is no fault of the disk
+-- an end at the replies is no fault of the disk
 pub no_disk_fault_behind : (replies : List Frame) (old new : LinkView) (status : Status) → Breaks replies old new status → status ≡ DiskFault → ⊥
 no_disk_fault_behind replies old new status breaks is = not_either breaks.why
   where
@@ -63,7 +63,7 @@ no_disk_fault_behind replies old new status breaks is = not_either breaks.why
 
 module _ {P : Type 0} (rules : Rules) (at : Serving P) (frames : List Frame) (process : Process P) (old : LinkView) (runs : Runs rules at process old frames)
     (frame : Frame) (size : ℕ) (holds : Holds process.received frame size) (i : Input) (admits : Admits at.net at.node frame i) where
-  -- the bytes that are left begin with the frame
+  -- the rest of the bytes begins with the frame
   left_as : (t : List ℕ) → process.received ++ t ≡ spell frame ++ (drop size process.received ++ t)
   left_as t = ap (λ l. l ++ t) holds.splits ∙ append_assoc (spell frame) (drop size process.received) t
 
@@ -129,7 +129,7 @@ module _ {P : Type 0} (rules : Rules) (at : Serving P) (frames : List Frame) (pr
       ends_unwritten rules at frames process old old runs status refl refl refl (prompt_as rules at frames process old old runs refl) why
       (record { later = let e = runs.quiet in omega (arith, e); rose = λ e. absurd (not_link e); quiet = λ _. runs.quiet }) (λ _ e. not_link e)
 
-  -- ---- the node handled what the frame brought
+  -- ---- the node handled the frame's input
 
   module _ (node : Node P) (told : Outputs) (stands : StandsFor at.policy rules at.net at.node node (chronicle_of (run_over (who_at rules at) frames) (gives rules at.net at.node (run_over (who_at rules at) frames) i)))
       (answers' : Answers (run_over (who_at rules at) frames) (gives rules at.net at.node (run_over (who_at rules at) frames) i) told)
@@ -154,7 +154,7 @@ module _ {P : Type 0} (rules : Rules) (at : Serving P) (frames : List Frame) (pr
       spelled_now : spelled (replies (who_at rules at) (frame ∷ frames)) ≡ spelled (replies (who_at rules at) frames) ++ spelled (filter_map telling (handed told))
       spelled_now = ap spelled replies_now ∙ spelled_both (replies (who_at rules at) frames) (filter_map telling (handed told))
 
-      -- the frames that were taken stand in front
+      -- the frames that were taken are at the front
       pub front_now : (bytes : List ℕ) → at.first.incoming ≡ Some bytes → (rest : List ℕ) × (bytes ≡ stream (frame ∷ frames) ++ rest)
       front_now bytes known =
           let seen = told_as rules at frames process old old runs bytes known in
@@ -163,7 +163,7 @@ module _ {P : Type 0} (rules : Rules) (at : Serving P) (frames : List Frame) (pr
       pub front_of_taken : AreInFront (who_at rules at) at.first.incoming (frame ∷ frames)
       front_of_taken = record { in_front = λ bytes known. let front = front_now bytes known in (front.0, sym front.1); taken = taken_now }
 
-      -- what lacked room for the replies lacks it for all answers
+      -- if there is no room for the replies, there is none for all answers
       too_long : LacksRoom old (spelled (filter_map telling (handed told))) → TooLongAnswers (who_at rules at) at.first
       too_long lacks =
           let behind : room_behind at.first.room old.outgoing ≡ Some lacks.0 = ap (λ r. room_behind r old.outgoing) (sym runs.same_room) ∙ lacks.1 in

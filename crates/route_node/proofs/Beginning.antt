@@ -1,4 +1,4 @@
--- A process that begins.
+-- A process at its start.
 use Rattle.std.proofs.Common.{ℕ, ◌≡◌, ◌≤◌, true, Option, Some, None, List, [], length, refl, sym, ap, subst, arith}
 use Rattle.std.specs.List.{list_all}
 use Rattle.std.specs.Io.KnownBytes.{Appends, prepend_known}
@@ -29,7 +29,7 @@ known_as : (known : Option (List ℕ)) → prepend_known [] (prepend_known [] kn
 known_as None = refl
 known_as (Some bytes) = refl
 
--- nothing is replied to no frame
+-- no frame has no replies
 pub nothing_replied : (who : Who) → replies who [] ≡ []
 unfolding going_on
 nothing_replied who = replies_are who [] [] (sym (append-nil (outputs (begun_by who))))
@@ -37,7 +37,7 @@ nothing_replied who = replies_are who [] [] (sym (append-nil (outputs (begun_by 
 none_of : (who : Who) → answers who [] ≡ []
 none_of who = ap spelled (nothing_replied who)
 
--- a process without a journal, or one that begins behind its records
+-- a process without a journal, or one that starts after its records
 pub begins : {P : Type 0} (rules : Rules) (at : Serving P) (process : Process P) → IsValid at.net → has at.net.nodes at.node ≡ true → process.topology.value ≡ at.net → process.id ≡ at.node → AreBegun rules at.net at.node at.records
     → StandsFor at.policy rules at.net at.node process.node (begun_by (who_at rules at)) → process.frames ≡ 0 → process.offset ≡ 0 → process.received ≡ [] → Runs rules at process at.first []
 unfolding going_on

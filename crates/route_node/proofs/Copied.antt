@@ -21,7 +21,7 @@ use Rattle.node_core.specs.Names.{are_nodes}
 use Rattle.admission_laws.specs.Handing.{table_fits}
 use Rattle.route_node.specs.Frames.{first_of, list_told, item_told, row_told, session_told, pending_told, report_told}
 
--- ---- what is told of lists that rise is these lists
+-- ---- the list that a frame has of an ascending list is that list
 
 pub list_is : (ts : List Trigger) → Ascend ts → list_told ts ≡ ts
 list_is ts rises = union_rest ts rises
@@ -81,7 +81,7 @@ twice {A} {B} {C} f g (x ∷ xs) = ap (λ (l : List C). g (f x) ∷ l) (twice f 
 abbrev report_with : TheReport → List TheRow → List TheSessionRow → List Pending → TheReport
 report_with r rows sessions pending = record { node = r.node; epoch = r.epoch; rows = rows; sessions = sessions; pending = pending }
 
--- copies of the lists of a report make what is told of it
+-- copies of the lists of a report give the report that a frame has
 pub report_is : (r : TheReport) (rows : List TheRow) (sessions : List TheSessionRow) (pending : List Pending) → rows ≡ map (λ x. row_told (row_seen x)) r.rows → sessions ≡ r.sessions → pending ≡ map pending_told r.pending
     → report_with r rows sessions pending ≡ report_told (report_seen r)
 report_is r rows sessions pending first second third =
@@ -90,7 +90,7 @@ report_is r rows sessions pending first second third =
 
 -- ---- the paths of a table
 
--- the path at a place that has one fits
+-- the path at a place fits, if there is one
 fits_at : (net : Net) (u i : ℕ) (paths : List (Option (List ℕ))) (o : Option (Option (List ℕ))) (path : List ℕ) → list_all (path_fits net u) paths ≡ true
     → slice_get paths i ≡ o → Some path ≡ option_and_then (λ p. p) o → path_fits net u (Some path) ≡ true
 fits_at net u i paths None path all at is = absurd (cc is)
@@ -102,7 +102,7 @@ fits_at net u i paths (Some (Some other)) path all at is =
       | false ↦ λ e. absurd (cc (list_all_at (path_fits net u) paths i None (slice_get_within paths i (Some other) at) e, all))
     ]) refl
 
--- such a path is made anew of its nodes
+-- such a path is built again from its nodes
 path_made : (net : Net) (u : ℕ) (path : List ℕ) (made : Option (List ℕ)) → path_fits net u (Some path) ≡ true → IfSome made (λ p. p ≡ path) → (IsSome made ↔ IsPath path) → made ≡ Some path
 path_made net u [] made fit some is_path = absurd (cc fit)
 path_made net u (n ∷ ns) None fit some is_path =
@@ -117,7 +117,7 @@ path_copied net u i paths path copy made all is same some is_path =
     let fit = fits_at net u i paths (slice_get paths i) path all refl is in
     path_made net u path made fit (subst (λ l. IfSome made (λ p. p ≡ l)) same some) (subst (λ l. IsSome made ↔ IsPath l) same is_path) ∙ is
 
--- one path more
+-- one more path
 pub paths_more : (net : Net) (u i : ℕ) (paths list more : List (Option (List ℕ))) (path : Option (List ℕ)) → table_fits net u paths ≡ true → i < length net.prefixes
     → list ≡ take i paths → ((net : Net) (u : ℕ) → list_all (path_fits net u) paths ≡ true → path ≡ option_and_then (λ p. p) (slice_get paths i))
     → more ≡ list ++ path ∷ [] → more ≡ take (i + 1) paths

@@ -1,4 +1,4 @@
--- How a node over a link ends, from what it has taken and written.
+-- How a node over a link ends, from what it took and wrote.
 use Rattle.std.proofs.Common.{ℕ, ◌≡◌, true, false, Option, Some, None, List, [], ◌∷◌, ◌++◌, length, refl, sym, ap, ◌∙◌, subst, inl, inr, ◌≤◌, arith}
 use Rattle.std.specs.Prelude.{is_some}
 use Rattle.std.specs.List.{list_all}
@@ -27,7 +27,7 @@ never_linkfault offset End e = absurd (cc e)
 never_linkfault offset (Refused fault) e = absurd (cc e)
 never_linkfault offset (Stopped reached) e = absurd (cc e)
 
--- ---- which ending a status is of
+-- ---- the ending of a status
 
 is_done : (offset : ℕ) (ending : Ending) → status_of offset ending ≡ Done → ending ≡ End
 is_done offset End e = refl
@@ -50,7 +50,7 @@ is_limit offset kind number (Stopped reached) e =
 
 -- ---- the two ways to end
 
--- what is whole was not broken off
+-- a run that is whole did not break off
 no_break : (records : Option (List Frame)) (status s : Status) → BreaksOff records status → (NoMemory ≡ s → ⊥) → (LinkFault ≡ s → ⊥) → (DiskFault ≡ s → ⊥) → status ≡ s → ⊥
 no_break None status s (inl e) no_memory no_link no_disk is = no_memory (sym e ∙ is)
 no_break None status s (inr e) no_memory no_link no_disk is = no_link (sym e ∙ is)
@@ -72,7 +72,7 @@ break_formed (Some records) status (inl e) = ap (ends_serving true) e
 break_formed (Some records) status (inr (inl e)) = ap (ends_serving true) e
 break_formed (Some records) status (inr (inr e)) = ap (ends_serving true) e
 
--- want of memory breaks a run off, and a call of the link that failed does
+-- want of memory breaks a run off, and so does a failed call of the link
 pub by_memory : (records : Option (List Frame)) → BreaksOff records NoMemory
 by_memory None = inl refl
 by_memory (Some records) = inl refl
@@ -91,7 +91,7 @@ module _ (who : Who) (first link : LinkView) (status : Status) (frames : List Fr
       go [] grows = grows [] [] refl
       go (f ∷ fs) grows = grows (f ∷ []) fs refl
 
-  -- the stream has come to its end
+  -- the stream has ended
   pub ends_by_ending : (ending : Ending) → status ≡ status_of (length (stream frames)) ending → ends_serving (is_some who.records) status ≡ true → ((bytes : List ℕ) → first.incoming ≡ Some bytes → StreamComesTo who bytes frames ending) → Answered who frames first link
       → link.faults ≡ first.faults → (status ≡ Done → IsAtEnd link.incoming) → EndsServing who first link frames status
   ends_by_ending ending is formed comes answered quiet read = record {
@@ -143,7 +143,8 @@ module _ (who : Who) (first link : LinkView) (status : Status) (frames : List Fr
       omega_le : first.faults ≡ link.faults → first.faults ≤ link.faults
       omega_le e = omega (arith, e)
 
-  -- it broke off, when these bytes were written, a front of the answers that has all but those to the newest frame
+  -- the run broke off after these bytes were written: a first part of the answers that has all but those to the newest
+  -- frame
   pub ends_by_break : BreaksOff who.records status → RoseIf (status ≡ LinkFault) first.faults link.faults → (IsSure first → status ≡ LinkFault → TooLongAnswers who first)
       → ((bytes : List ℕ) → first.incoming ≡ Some bytes → Begins (stream frames) bytes) → list_all has_spelling (replies who frames) ≡ true
       → (some : List ℕ) → Appends first.outgoing link.outgoing some → Begins some (answers who frames) → Begins (answers who (older frames)) some → EndsServing who first link frames status

@@ -1,4 +1,4 @@
--- How a node that keeps a journal ends, from what it has kept and how it ends over its link.
+-- How a node with a journal ends, from what it kept and how it ends over its link.
 use Rattle.std.proofs.Common.{ℕ, ◌+◌, ◌<◌, ◌≤◌, ◌≡◌, ◌⊎◌, inl, inr, ⊎_elim, Option, Some, None, List, [], ◌∷◌, ◌++◌, length, Result, Ok, Err, IsErrOf, refl, sym, ap, ◌∙◌, subst, arith}
 use Rattle.std.proofs.lemmas.Bool.{cases_lt}
 use Rattle.topology.specs.declared.status.LimitKind.TheVariants.{Journal}
@@ -25,7 +25,7 @@ use Rattle.route_node.specs.Streams.{journal_limit}
 use Rattle.route_node.specs.Who.{Who, spellings}
 use Rattle.route_node.proofs.Journaled.{Tried, WasKept, appended_moments, deeper, kept_not, no_room, rests_behind, room_left, telling_both, what_was_kept}
 
--- the disk is as its journal was left by the last frame
+-- the disk is as the last frame left its journal
 pub served_at_rest : (who : Who) (first link : LinkView) (begun disk : DiskView) (now : Option ℕ) (frames : List Frame) (status : Status) → KeepsFrames who first.incoming begun now disk frames → EndsServing who first link frames status
     → (status ≡ DiskFault → ⊥) → ServedKept who first link begun disk status
 served_at_rest who first link begun disk now frames status keeps ends quiet = record {
@@ -40,7 +40,7 @@ served_at_rest who first link begun disk now frames status keeps ends quiet = re
   telling = keeps.telling;
 }
 
--- what an end of the journal makes of a run
+-- what an end of the journal means for a run
 ahead_of : (end : JournalEnd) → (end ≡ journal.Full → ⊥) → MayBeAhead (ended_by end)
 ahead_of journal.NoMemory not_full = inl refl
 ahead_of journal.Fault not_full = inr refl

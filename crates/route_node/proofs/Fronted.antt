@@ -1,4 +1,4 @@
--- What stands at the front of bytes, where a frame was read of them.
+-- What is at the front of bytes if a frame was read from them.
 use Rattle.std.proofs.Common.{ℕ, ◌≡◌, true, List, ◌++◌, drop, length, sym, ap, ◌∙◌, subst}
 use Rattle.std.proofs.lemmas.List.{take-append-drop, length-take-le}
 use Rattle.wire_frames.specs.declared.frames.Frame.{Frame}

@@ -15,11 +15,11 @@ use Rattle.route_node.specs.Streams.{stream, answers, AreTaken}
 use Rattle.route_node.specs.Writing.{OneWriteEach}
 use Rattle.route_node.proofs.Unique.{Longer, compare, oldest, from_oldest, in_front, all_spelled, taken_oldest}
 
--- what is told of acts once one more was made
+-- told acts after one more was made
 pub told_once : (was now : Option (List StreamAct)) (act : StreamAct) (acts : List StreamAct) → now ≡ option_map (λ before. act ∷ before) was → was ≡ Some acts → now ≡ Some (act ∷ acts)
 told_once was now act acts once is = once ∙ ap (option_map (λ before. act ∷ before)) is
 
--- and once some more were
+-- told acts after some more were made
 pub told_behind : (was now : Option (List StreamAct)) (more since before : List StreamAct) → now ≡ option_map (λ acts. more ++ acts) was → was ≡ Some (since ++ before) → now ≡ Some ((more ++ since) ++ before)
 told_behind was now more since before behind is =
     behind ∙ (ap (option_map (λ acts. more ++ acts)) is ∙ ap (λ (l : List StreamAct). Some l) (sym (append_assoc more since before)))
@@ -36,12 +36,12 @@ module _ (who : Who) where
   same_begins : (xs ys : List ℕ) → xs ≡ ys → Begins xs ys
   same_begins xs ys e = ([], append-nil xs ∙ e)
 
-  -- no frame has older ones
+  -- no frame has earlier frames
   pub grows_none : AnswersGrow who []
   grows_none [] older e = same_begins (answers who older) (answers who []) (ap (answers who) (sym e))
   grows_none (x ∷ newer) older e = absurd (cc e)
 
-  -- one more frame: its replies come behind those before
+  -- one more frame: its replies come after those before
   pub grows_more : (f : Frame) (frames : List Frame) (more : List ℕ) → answers who (f ∷ frames) ≡ answers who frames ++ more → AnswersGrow who frames → AnswersGrow who (f ∷ frames)
   grows_more f frames more is grow [] older e = same_begins (answers who older) (answers who (f ∷ frames)) (ap (answers who) (sym e))
   grows_more f frames more is grow (x ∷ newer) older e =
@@ -49,9 +49,10 @@ module _ (who : Who) where
       let before = grow newer older tail in
       (before.0 ++ more, sym (append_assoc (answers who older) before.0 more) ∙ (ap (λ (l : List ℕ). l ++ more) before.1 ∙ sym is))
 
-  -- ---- frames that lie whole in front of what came
+  -- ---- whole frames at the front of what came
 
-  -- where behind the frames that were taken only the front of one is left, any that lie in front are among these
+  -- if after the frames that were taken only the beginning of one is left, all whole frames at the front are among
+  -- these
   answered_all : (frames others : List Frame) (received rest : List ℕ) → AnswersGrow who frames → AreTaken who frames → found received ≡ Partial → AreTaken who others
       → stream others ++ rest ≡ stream frames ++ received → Begins (answers who others) (answers who frames)
   answered_all frames others received rest grow taken partial are same = by_longer (compare frames others received rest (all_spelled who frames taken) (all_spelled who others are) (sym same))
@@ -79,18 +80,18 @@ module _ (who : Who) where
   prompt_none [] earlier brought e = absurd (cc e)
   prompt_none (act ∷ later) earlier brought e = absurd (cc e)
 
-  -- one write behind others
+  -- one write after others
   prompt_write : (piece : List ℕ) (took : Option ℕ) (acts : List StreamAct) → IsPrompt who acts → IsPrompt who (Write piece took ∷ acts)
   prompt_write piece took acts prompt [] earlier brought e = absurd (cc e)
   prompt_write piece took acts prompt (act ∷ later) earlier brought e = prompt later earlier brought (cc e)
 
-  -- and several
+  -- several writes after others
   pub prompt_writes : (more acts : List StreamAct) → AreWrites more → IsPrompt who acts → IsPrompt who (more ++ acts)
   prompt_writes [] acts alone prompt = prompt
   prompt_writes (Read bytes ∷ more) acts alone prompt = absurd alone
   prompt_writes (Write piece took ∷ more) acts alone prompt = prompt_write piece took (more ++ acts) (prompt_writes more acts alone prompt)
 
-  -- one read behind others, which came in time
+  -- one read after others, in time
   prompt_read : (acts : List StreamAct) (bytes : Option (List ℕ)) → IsPrompt who acts
       → ((frames : List Frame) → Begins (stream frames) (came acts) → AreTaken who frames → Begins (answers who frames) (written acts))
       → IsPrompt who (Read bytes ∷ acts)
@@ -100,14 +101,14 @@ module _ (who : Who) where
   prompt_read acts bytes prompt now (act ∷ later) earlier brought e = prompt later earlier brought (cc e)
 
   module _ (frames : List Frame) (received : List ℕ) (since : List StreamAct) (keeps : KeepsUp who frames received since) where
-    -- a read where only the front of a frame is left
+    -- a read when only the beginning of a frame is left
     pub prompt_wait : (bytes : Option (List ℕ)) → AnswersGrow who frames → AreTaken who frames → found received ≡ Partial → IsPrompt who (Read bytes ∷ since)
     prompt_wait bytes grow taken partial =
         prompt_read since bytes keeps.prompt
         (λ others front are.
         subst (Begins (answers who others)) (sym keeps.took) (answered_all frames others received front.0 grow taken partial are (front.1 ∙ keeps.brought)))
 
-    -- it brought more
+    -- the read brought more
     pub keeps_read : (more : List ℕ) (next : List ℕ) → next ≡ received ++ more → AnswersGrow who frames → AreTaken who frames → found received ≡ Partial
         → KeepsUp who frames next (Read (Some more) ∷ since)
     keeps_read more next is grow taken partial = record {

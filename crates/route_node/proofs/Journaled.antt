@@ -28,7 +28,7 @@ use Rattle.route_node.specs.ServedKept.{AreInFront, HasKeptBehind, KeepsFront}
 use Rattle.route_node.specs.Streams.{stream, journal_limit}
 use Rattle.route_node.specs.Who.{Who, spellings}
 
--- ---- what a disk told it tells
+-- ---- what a disk told before it tells after
 
 pub telling_same : (old new : DiskView) → new ≡ old → KeepsTelling old new
 telling_same old new same = subst (KeepsTelling old) (sym same) (record { reads = λ r. r; told = told_same old.content })
@@ -36,9 +36,9 @@ telling_same old new same = subst (KeepsTelling old) (sym same) (record { reads 
 pub telling_both : (old mid new : DiskView) → KeepsTelling old mid → KeepsTelling mid new → KeepsTelling old new
 telling_both old mid new first second = record { reads = λ r. second.reads (first.reads r); told = told_on old.content mid.content new.content first.told second.told }
 
--- ---- frames in front
+-- ---- frames at the front
 
--- the older ones of frames in front
+-- the earlier of some frames at the front
 pub fewer : (who : Who) (incoming : Option (List ℕ)) (f : Frame) (frames : List Frame) → AreInFront who incoming (f ∷ frames) → AreInFront who incoming frames
 fewer who incoming f frames front = record {
   in_front = λ bytes told. let all = front.in_front bytes told in (spell f ++ all.0, sym (append_assoc (stream frames) (spell f) all.0) ∙ all.1);
@@ -49,7 +49,7 @@ fewer who incoming f frames front = record {
 pub none_in_front : (who : Who) (incoming : Option (List ℕ)) → AreInFront who incoming []
 none_in_front who incoming = record { in_front = λ bytes told. (bytes, refl); taken = tt }
 
--- the file that stands has the records that are kept, and is one of a journal
+-- a durable file has the kept records, and is one of a journal
 rests : (gate : ℕ) (disk : DiskView) (records : List (List ℕ)) → HasKept gate disk records → (image : List ℕ) → LeavesNow disk image → (Back image ≡ records) × IsJournalFile image
 rests gate disk records h image left =
     let here = durable_left disk h.file image h.durable left in
@@ -62,7 +62,7 @@ pub rests_behind : (r : Option (List Frame)) (frames : List Frame) (disk : DiskV
 rests_behind None frames disk records h image left = absurd h
 rests_behind (Some first) frames disk records h image left = rests (place_behind (spellings (frames ++ first))) disk records h image left
 
--- nothing was kept yet
+-- nothing is kept yet
 pub keeps_none : (who : Who) (incoming : Option (List ℕ)) (first : DiskView) (journal : Option ℕ) → journal ≡ option_map (λ records. place_behind (spellings records)) who.records → KeepsFrames who incoming first journal first []
 keeps_none who incoming first journal has = record {
   has = has;
@@ -77,7 +77,7 @@ keeps_none who incoming first journal has = record {
 
 -- ---- one more frame
 
--- a record behind others is behind the frames of these and its own
+-- a record after others is after the frames of these and its own
 pub deeper : (records : List (List ℕ)) (f : Frame) (frames : List Frame) → (records ++ spellings frames) ++ spell f ∷ [] ≡ records ++ spellings (f ∷ frames)
 deeper records f frames = append_assoc records (spellings frames) (spell f ∷ [])
 
@@ -94,7 +94,7 @@ moment_of who incoming records f frames front image holds =
 next_gate : (first : List Frame) (f : Frame) (frames : List Frame) → place_behind (spellings (frames ++ first)) + (5 + length (spell f)) ≡ place_behind (spellings ((f ∷ frames) ++ first))
 next_gate first f frames = sym (place_more (spellings (frames ++ first)) (spell f))
 
--- how much one more record may take
+-- how many bytes one more record may take
 abbrev pub IsRoom : ℕ → Frame → Type 0
 IsRoom gate f = gate + (6 + length (spell f)) ≤ MOST_JOURNAL
 
@@ -109,18 +109,18 @@ no_room first before f beyond =
     let test : nat_lt MOST_JOURNAL (place_behind (spellings (before ++ first)) + (6 + length (spell f))) ≡ true = grind (arith, nat_tests, beyond) in
     ap (λ b. if b then Some (record { kind = Journal; number = MOST_JOURNAL }) else None) test
 
--- what an append came to, at the journal of some frames
+-- the result of an append, for the journal of some frames
 pub record Tried (first frames : List Frame) (f : Frame) (old : DiskView) (end : Result ℕ JournalEnd) (new : DiskView) : Type 0 where
   pub appends : Appends (place_behind (spellings (frames ++ first))) (spell f) old end new
 
--- answers of what was to be kept
+-- answers when something should be kept
 abbrev pub kept_now : Option ℕ → Result (Option ℕ) Status
 kept_now next = Ok next
 
 abbrev pub kept_not : Status → Result (Option ℕ) Status
 kept_not status = Err status
 
--- a frame was to be kept: without a journal nothing was done; with one it was appended
+-- a frame should be kept: without a journal nothing was done; with one it was appended
 abbrev pub WasKept : Option (List Frame) → List Frame → Frame → DiskView → Result (Option ℕ) Status → DiskView → Type 0
 WasKept r frames f old answer new =
     ((r ≡ None) × (answer ≡ kept_now None) × (new ≡ old)) ⊎ ((first : List Frame) × (r ≡ Some first) × (end : Result ℕ JournalEnd) × Tried first frames f old end new × (answer ≡ kept_as end))
@@ -134,7 +134,7 @@ what_was_kept (Some first) frames f now old answer new has kept =
     inr (first, refl, all.0, record { appends = all.1 }, all.2)
 
 module _ (who : Who) (incoming : Option (List ℕ)) (begun mid : DiskView) (now : Option ℕ) (frames : List Frame) (keeps : KeepsFrames who incoming begun now mid frames) (f : Frame) where
-  -- the moments up to now, and those of one append
+  -- the moments so far, and those of one append
   pub appended_moments : (first : List Frame) → who.records ≡ Some first → (end : Result ℕ JournalEnd) (new : DiskView) → Tried first frames f mid end new → AreInFront who incoming (f ∷ frames)
       → (records : List (List ℕ)) → HasKeptBehind who.records [] begun records → LeavesOnly begun new (KeepsFront who incoming records)
   appended_moments first is end new tried front records h =
@@ -159,7 +159,7 @@ module _ (who : Who) (incoming : Option (List ℕ)) (begun mid : DiskView) (now 
     telling = telling_both begun mid new keeps.telling tried.appends.telling;
   }
 
-  -- where it was kept, there was room, and it is kept behind the others
+  -- if it was kept, there was room, and it is kept after the others
   pub room_there : (next : Option ℕ) (new : DiskView) → KeptBy now (spell f) mid (Ok next) new → journal_limit who.records frames f ≡ None
   room_there next new kept = by_case (what_was_kept who.records frames f now mid (kept_now next) new keeps.has kept)
     where
@@ -199,7 +199,7 @@ module _ (who : Who) (incoming : Option (List ℕ)) (begun mid : DiskView) (now 
 
 -- ---- the bytes of a frame
 
--- what stands in front of what was received are the bytes of the frame
+-- the front of what was received has the bytes of the frame
 front_is : (received : List ℕ) (f : Frame) (size : ℕ) → Holds received f size → take size received ≡ spell f
 front_is received f size holds =
     let count = holds.size in

@@ -1,4 +1,4 @@
--- What each end of a node that keeps its frames gives of the promise.
+-- What each end of a node that keeps its frames gives for the promise.
 use Rattle.std.proofs.Common.{ℕ, ◌≡◌, inl, inr, ◌⊎◌, Some, None, Result, Ok, Err, List, length, Bool, true, false, true≢false, refl, sym, ap, ◌∙◌, subst}
 use Rattle.topology.specs.declared.frame_faults.FrameFault.{FrameFault}
 use Rattle.topology.specs.declared.status.Status.{Status}
@@ -71,7 +71,7 @@ early_formed : (s : Status) → ends_early s ≡ true → ends_attending_kept s 
 early_formed s is = early (λ s. ends_attending_kept s ≡ true)
     (record { no_memory = refl; bad_schedule = λ line bad. refl; too_long = λ number. refl; read_fault = refl; no_such_node = λ node. refl }) s is
 
--- it is no end over a link
+-- the status is no end over a link
 early_unanswered : (s : Status) → ends_early s ≡ true → ends_answering s ≡ true → ⊥
 early_unanswered s is = early (λ s. ends_answering s ≡ true → ⊥)
     (record { no_memory = λ e. cc e; bad_schedule = λ line bad e. cc e; too_long = λ number e. cc e; read_fault = λ e. cc e; no_such_node = λ node e. cc e }) s is
@@ -87,16 +87,16 @@ early_link s is e = true≢false (sym is ∙ ap ends_early e)
 early_disk : (s : Status) → ends_early s ≡ true → s ≡ DiskFault → ⊥
 early_disk s is e = true≢false (sym is ∙ ap ends_early e)
 
--- the file was read to its end where it would be without a journal
+-- the file was read to its end if it would be without a journal
 early_read : (s : Status) → ends_early s ≡ true → ends_read_kept s ≡ true → ends_read s ≡ true
 early_read s is = early (λ s. ends_read_kept s ≡ true → ends_read s ≡ true)
     (record { no_memory = λ e. e; bad_schedule = λ line bad e. refl; too_long = λ number e. e; read_fault = λ e. e; no_such_node = λ node e. refl }) s is
 
--- without a journal it would end so over the link, or before the first frame
+-- without a journal it would end like this over the link, or before the first frame
 abbrev EndsWithout : Status → Type 0
 EndsWithout s = (ends_serving false s ≡ true) ⊎ ((s ≡ NoMemory) ⊎ ((s ≡ ReadFault) ⊎ (s ≡ LinkFault)))
 
--- where a network has the node, it is want of memory or a read that failed
+-- if the network has the node, it is want of memory or a failed read
 early_unread : (s : Status) → ends_early s ≡ true → EndsWithout s → (s ≡ NoMemory) ⊎ (s ≡ ReadFault)
 early_unread s is = early (λ s. EndsWithout s → (s ≡ NoMemory) ⊎ (s ≡ ReadFault)) (record {
   no_memory = λ e. inl refl;
@@ -113,7 +113,7 @@ early_unread s is = early (λ s. EndsWithout s → (s ≡ NoMemory) ⊎ (s ≡ R
     neither t other memory read link (inr (inr (inr f))) = link f
 
 module _ (here : KeptEndpoint) (old : Outside) (source' : SourceView) where
-  -- as it would end without a journal
+  -- it ends as it would without a journal
   pub kept_early : (status : Status) → ends_early status ≡ true → Attended (endpoint here.id here.address) old.source source' old.link old.link status → AttendedKept here old (outside source' old.link old.disk) status
   kept_early status early attended = record {
     formed = early_formed status early;
@@ -150,7 +150,7 @@ module _ (here : KeptEndpoint) (old : Outside) (source' : SourceView) where
       unread : (bytes : List ℕ) → old.source.left ≡ Some bytes → (net : Net) → IsNetwork bytes net → has net.nodes here.id ≡ true → (status ≡ NoMemory) ⊎ (status ≡ ReadFault)
       unread bytes told net is there = early_unread status early (formed_of net (attended.served bytes told net is there))
 
--- ---- behind the network
+-- ---- after the network
 
 back_formed : (s : Status) → ends_restoring s ≡ true → ends_attending_kept s ≡ true
 back_formed NoMemory e = refl
@@ -168,13 +168,13 @@ back_formed (NoSuchNode node) e = absurd (cc e)
 back_formed (BadTables line) e = absurd (cc e)
 back_formed (Inconsistent line bad) e = absurd (cc e)
 
--- an answer without a status is a node that was started again
+-- an answer without a status is a restarted node
 comes_back : (answer : Result Kept Status) → status_in answer ≡ None → (kept : Kept) × (answer ≡ Ok kept)
 comes_back (Ok kept) e = (kept, refl)
 comes_back (Err status) e = absurd (cc e)
 
 module _ (net : Net) (here : KeptEndpoint) (old new : Outside) (status : Status) (runs : RunsKept net here old new status) where
-  -- what the records and the frames come to is how it ends, unless it breaks off
+  -- the run ends as the records and the frames say, unless it breaks off
   pub completes : (file : List ℕ) → old.disk.content ≡ Some file → (records : List Frame) → ComesBack (afresh gao_rexford net here.id) (Back file) records End
       → (incoming : List ℕ) → old.link.incoming ≡ Some incoming → (frames : List Frame) (ending : Ending) → StreamComesTo (again gao_rexford net here.id records) incoming frames ending
       → (status ≡ status_of (length (stream frames)) ending) ⊎ BreaksOffKept status
@@ -206,7 +206,7 @@ module _ (net : Net) (here : KeptEndpoint) (old new : Outside) (status : Status)
       by_answer (inr (inl e)) = inr (inl (not_back NoMemory e))
       by_answer (inr (inr e)) = inr (inr (inr (inr (not_back DiskFault e))))
 
--- the ends of a node that was not started again, or that was, are none of these
+-- a node that was restarted, or was not, does not end in one of these ways
 abbrev never_back : Status → Bool
 never_back (BadSchedule line bad) = true
 never_back (Limit kind.Bytes number) = true
@@ -214,7 +214,7 @@ never_back ReadFault = true
 never_back (NoSuchNode node) = true
 never_back other = false
 
--- a call of a sure link fails only where answers of the node that was started again are longer than the room
+-- a call of a sure link fails only if answers of the restarted node exceed the room
 abbrev EndsSure : Net → KeptEndpoint → LinkView → Status → Type 0
 EndsSure net here link status = IsSure link → status ≡ LinkFault → (records : List Frame) × AreRestored (afresh gao_rexford net here.id) records × TooLongAnswers (again gao_rexford net here.id records) link
 
@@ -310,7 +310,7 @@ unanswered (NoSuchNode node) e f = absurd (cc f)
 unanswered (BadTables line) e f = absurd (cc f)
 unanswered (Inconsistent line bad) e f = absurd (cc f)
 
--- a dial changes nothing of the room
+-- a dial does not change the room
 as_first : (net : Net) (u : ℕ) (records : List Frame) (link : LinkView) (address : List ℕ) → TooLongAnswers (again gao_rexford net u records) (once_dialled link address) → TooLongAnswers (again gao_rexford net u records) link
 as_first net u records link address long = record { frames = long.frames; in_front = long.in_front; taken = long.taken; left = long.left; room = long.room; longer = long.longer }
 
@@ -363,7 +363,7 @@ not_bad_journal : (s : Status) (offset : ℕ) (fault : FrameFault) → ends_serv
 not_bad_journal s offset fault e is = true≢false (sym (sym (ap (ends_serving true) is) ∙ e))
 
 module _ (here : KeptEndpoint) (old : Outside) (source' : SourceView) (net : Net) (gives : Gives old.source source' net) (there : has net.nodes here.id ≡ true) (mid : DiskView) where
-  -- the node was not started again
+  -- the node was not restarted
   pub kept_unrestored : (status : Status) → Restored net here.id old.disk (Err status) mid → AttendedKept here old (outside source' old.link mid) status
   kept_unrestored status restored =
       kept_behind here old source' old.link mid net gives there status (back_formed status restored.formed) (not_back status restored.formed)

@@ -1,4 +1,4 @@
--- What each end of a node over a source and a link gives of the promise.
+-- What each end of a node over a source and a link gives for the promise.
 use Rattle.std.proofs.Common.{ℕ, suc, ◌≡◌, ◌≤◌, ◌<◌, inl, inr, ◌⊎◌, Option, Some, None, Result, Ok, Err, is_err, IsNone, IsOk, IfSome, ◌↔◌, List, [], length, Bool, true, false, not, true≢false, refl, sym, ap, ap₂, ◌∙◌, subst, arith}
 use Rattle.std.specs.Prelude.{is_some}
 use Rattle.std.specs.Io.KnownBytes.{IsAtEnd}
@@ -44,12 +44,12 @@ same_refusal bytes line other bad last first again =
 pub not_both : (net other : Net) (id : ℕ) → net ≡ other → has net.nodes id ≡ true → has other.nodes id ≡ false → ⊥
 not_both net other id same there none = true≢false (sym there ∙ (ap (λ (n : Net). has n.nodes id) same ∙ none))
 
--- what a told source gave is what it told
+-- what a source that tells its bytes gave
 pub known : (told : Option (List ℕ)) (items : List ℕ) → IfSome told (λ bytes. items ≡ bytes) → (bytes : List ℕ) → told ≡ Some bytes → items ≡ bytes
 known None items given bytes e = absurd (cc e)
 known (Some some) items given bytes e = let same : some ≡ bytes = cc e in given ∙ same
 
--- ---- what calls tell
+-- ---- what calls return
 
 -- what is said to be none is none
 pub no_place : {T : Type 0} (place : Option T) (answer : Bool) → is_some place ≡ not answer → answer ≡ true → IsNone place
@@ -65,12 +65,12 @@ pub dial_fails : {T E : Type 0} (r : Result T E) (before now : ℕ) → is_err r
 dial_fails (Ok x) before now failed cause = absurd (cc failed)
 dial_fails (Err e) before now failed cause = has_risen before now refl cause.later cause.failed
 
--- what may not fail did not
+-- a call that may not fail did not
 pub never_failed : {T E : Type 0} (r : Result T E) → is_err r ≡ true → IsOk r → ⊥
 never_failed (Ok x) failed ok = cc failed
 never_failed (Err e) failed ok = cc ok
 
--- it was, and nothing else was done with the link
+-- the address was dialled, and nothing else was done with the link
 pub dialled : {T E : Type 0} (r : Result T E) (address : List ℕ) (link link' : LinkView) → is_err r ≡ false → Dials link link' address → OnlyDials link link' → HasCause link.faults link'.faults r → link' ≡ once_dialled link address
 dialled (Ok x) address link link' done dials only cause = only ∙ ap₂ (λ d n. record link { dialled = d; faults = n }) dials cause.quiet
 dialled (Err e) address link link' done dials only cause = absurd (cc done)
@@ -97,7 +97,7 @@ ends_no_memory here source source' link quiet = record {
   read = λ e. absurd (cc e);
 }
 
--- ---- behind the file
+-- ---- after the file
 
 -- the source was read to its end, and gave these bytes
 pub record Got (source source' : SourceView) (bytes : List ℕ) : Type 0 where
@@ -110,7 +110,7 @@ module _ (source source' : SourceView) (bytes : List ℕ) (read : (told : List �
   pub not_long : length bytes ≤ MOST_BYTES → (told : List ℕ) → source.left ≡ Some told → MOST_BYTES < length told → ⊥
   not_long short told is long = let same = ap length (read told is) in omega (arith, short, same, long)
 
-  -- the same of the bytes that were told
+  -- the same for the bytes that are told
   as_read : (P : List ℕ → Type 0) (told : List ℕ) → source.left ≡ Some told → P told → P bytes
   as_read P told is holds = subst P (sym (read told is)) holds
 
@@ -144,7 +144,7 @@ module _ (here : Endpoint) (source source' : SourceView) (net : Net) (gives : Gi
   pub is_it : (told : List ℕ) → source.left ≡ Some told → (other : Net) → IsNetwork told other → net ≡ other
   is_it told t other is = same_network gives.bytes net other gives.network.file (as_read source source' gives.bytes gives.known (λ b. IsTopologyFile b other) told t is.file)
 
-  -- the bytes that were told are a file of it
+  -- the bytes that are told are a file of it
   pub of_it : (told : List ℕ) → source.left ≡ Some told → IsNetwork told net
   of_it told t = as_told source source' gives.bytes gives.known (λ b. IsNetwork b net) told t gives.network
 
@@ -172,7 +172,7 @@ module _ (here : Endpoint) (source source' : SourceView) (net : Net) (gives : Gi
   }
 
   module _ (there : has net.nodes here.id ≡ true) where
-    -- a dial changes nothing of the room
+    -- a dial does not change the room
     as_first : (link : LinkView) → TooLongAnswers (afresh gao_rexford net here.id) (once_dialled link here.address) → TooLongAnswers (afresh gao_rexford net here.id) link
     as_first link long = record { frames = long.frames; in_front = long.in_front; taken = long.taken; left = long.left; room = long.room; longer = long.longer }
 

@@ -1,4 +1,4 @@
--- A journal that is read back, record by record.
+-- Reading back a journal, record by record.
 use Rattle.std.proofs.Common.{ℕ, ◌+◌, ◌≤◌, ◌≡◌, ◌⊎◌, inl, inr, true, Option, Some, None, List, [], ◌∷◌, ◌++◌, length, drop, option_map, Result, Ok, Err, IsErr, IsErrAnd, IsErrOf, refl, sym, ap, ◌∙◌, subst, append_assoc, arith}
 use Rattle.std.proofs.lemmas.List.{append-nil}
 use Rattle.std.proofs.lemmas.Result.{err_from_is_err_and}
@@ -60,7 +60,7 @@ settled_acts : (content : Option (List ℕ)) (name : List ℕ) (before : List Di
 settled_acts None name before acts told = ([], ap (λ a. option_map (settled_by None) (option_map (λ (acts : List DiskAct). Opened name ∷ acts) a)) told)
 settled_acts (Some file) name before acts told = (Settled file ∷ [], ap (λ a. option_map (settled_by (Some file)) (option_map (λ (acts : List DiskAct). Opened name ∷ acts) a)) told)
 
--- what a sync makes of acts comes in front of them
+-- a sync adds its act in front
 settled_more : (content : Option (List ℕ)) (acts : List DiskAct) → (more : List DiskAct) × (settled_by content acts ≡ more ++ acts)
 settled_more None acts = ([], refl)
 settled_more (Some file) acts = (Settled file ∷ [], refl)
@@ -86,7 +86,7 @@ module _ (name : List ℕ) (old : DiskView) where
       }
 
   module _ (mid : DiskView) (reader : Place) (frames : List Frame) (r : ReadSoFar name old mid reader frames) where
-    -- what a disk told that is as it was
+    -- what an unchanged disk tells
     told_still : (now : DiskView) → now ≡ mid → OpensFirst name old now
     told_still now same = λ before told. let known = r.opens before told in (known.0, ap (λ (d : DiskView). d.acts) same ∙ known.1)
 
@@ -115,7 +115,7 @@ module _ (name : List ℕ) (old : DiskView) where
           opens = told_still now same;
         }
 
-    -- these were all
+    -- these were all records
     pub read_all : (next : Place) (now : DiskView) → Reads reader mid (Ok None) next now → ReadSoFar name old now next frames
     read_all next now reads =
         let same = reads.same None refl in
@@ -137,7 +137,7 @@ module _ (name : List ℕ) (old : DiskView) where
         let here = reads.ok None refl file (r.content ∙ told) in
         r.up_to file told ∙ (ap (λ (l : List (List ℕ)). spellings frames ++ l) here.0 ∙ append-nil (spellings frames))
 
--- what a crash leaves of a file that is as it was, is a file of its records
+-- a crash leaves an unchanged file as a file of its records
 abbrev Promised : List ℕ → List ℕ → Type 0
 Promised file image = IsOrOneMore (Back file) (Back image) × IsJournalFile image
 
@@ -154,7 +154,7 @@ failed status = Err status
 abbrev ended : (T : Type 0) → JournalEnd → Result T JournalEnd
 ended T end = Err end
 
--- the ends of a journal but Full are of memory or of the disk
+-- every end of the journal but Full is want of memory or a fault of the disk
 broken_by : (end : JournalEnd) → (end ≡ journal.Full → ⊥) → (ended_by end ≡ NoMemory) ⊎ (ended_by end ≡ DiskFault)
 broken_by journal.NoMemory not_full = inl refl
 broken_by journal.Fault not_full = inr refl
@@ -170,7 +170,7 @@ end_of_fault T journal.NoMemory e = absurd (cc e)
 end_of_fault T journal.Fault e = refl
 end_of_fault T journal.Full e = absurd (cc e)
 
--- a call of the journal failed, behind others that did not
+-- a call of the journal failed, after others that did not
 rose_behind : (T : Type 0) (end : JournalEnd) (first mid now : ℕ) → mid ≡ first → RoseIf (IsErrOf (ended T end) journal.Fault) mid now → RoseIf (failed (ended_by end) ≡ failed DiskFault) first now
 rose_behind T end first mid now same rose = record {
   later = subst (λ n. n ≤ now) same rose.later;
@@ -264,7 +264,7 @@ module _ (net : Net) (u : ℕ) (old : DiskView) where
       still : now.faults ≡ old.faults
       still = ap (λ (d : DiskView). d.faults) (reads.same (Some bytes) refl) ∙ r.quiet
 
-      -- what else the records come to gives the same status
+      -- every other reading of the records gives the same status
       one_status : (ending : Ending) → ((rest : List (List ℕ)) → EndsBack (afresh gao_rexford net u) frames (bytes ∷ rest) ending) → (file : List ℕ) → old.content ≡ Some file → (others : List Frame) (other : Ending)
           → ComesBack (afresh gao_rexford net u) (Back file) others other → status_back (place_behind (spellings frames)) ending ≡ status_back (place_behind (spellings others)) other
       one_status ending ends file told others other comes =
@@ -290,7 +290,7 @@ module _ (net : Net) (u : ℕ) (old : DiskView) where
         telling = telling_both old mid now r.telling reads.telling;
       }
 
-      -- or takes a count of the node above its number
+      -- or exceeds a limit of the node
       pub restored_stopped : (kind : LimitKind) (number : ℕ) → StopsIn (afresh gao_rexford net u) frames (length bytes) (record { kind = kind; number = number }) (found bytes) → Restored net u old (Err (Limit kind number)) now
       restored_stopped kind number stops = record {
         formed = of_node (found bytes) stops;
@@ -320,7 +320,7 @@ module _ (net : Net) (u : ℕ) (old : DiskView) where
           of_node Partial stops = absurd stops
           of_node (Wrong wrong) stops = absurd stops
 
-      -- whatever ends it there
+      -- whatever ends the reading there
       pub restored_at : (offset : ℕ) (status : Status) → offset ≡ reader.at → EndsRecord (afresh gao_rexford net u) frames offset bytes status → Restored net u old (Err status) now
       restored_at offset NoMemory at e =
           restored_broken NoMemory now (inl refl) unmoved (record { later = let e = still in omega (arith, e); rose = λ e. absurd (cc e); quiet = λ _. still }) (telling_both old mid now r.telling reads.telling)
@@ -340,7 +340,7 @@ module _ (net : Net) (u : ℕ) (old : DiskView) where
 
     -- ---- at the end
 
-    -- it was read back whole
+    -- the journal was read back completely
     pub restored_whole : (now : DiskView) (kept : Kept) → ((file : List ℕ) → old.content ≡ Some file → Back file ≡ spellings frames) → Finishes reader.at mid (Ok kept.journal) now → reader.ended ≡ true
         → has net.nodes u ≡ true → AreRestored (afresh gao_rexford net u) frames → StandsFor (record {}) gao_rexford net u kept.node (begun gao_rexford net u (Some frames)) → Restored net u old (Ok kept) now
     restored_whole now kept whole f at_end here taken stands = record {
@@ -396,7 +396,7 @@ module _ (net : Net) (u : ℕ) (old : DiskView) where
             let all = synced_behind disk.content (Wrote reader.at (0 ∷ []) ∷ []) disk.acts refl in
             (all.0, ap (λ (d : DiskView). d.acts) same ∙ all.1)
 
--- an error that a `?` hands on
+-- an error that `?` passes on
 pub handed_back : (net : Net) (u : ℕ) (old now : DiskView) (status : Status) (r : Result Kept Status) → IsErr r × IsErrAnd r (λ e. e ≡ status) → Restored net u old (Err status) now → Restored net u old r now
 handed_back net u old now status r h restored =
     let e = err_from_is_err_and r h.1 in

@@ -1,4 +1,4 @@
--- A frame that is refused, and bytes that are none.
+-- Frames that are refused, and bytes that are no frame.
 use Rattle.std.proofs.Common.{ℕ, ◌≡◌, ◌≤◌, true, false, Option, Some, None, List, [], ◌∷◌, ◌++◌, length, take, drop, Ok, Err, refl, sym, ap, ◌∙◌, subst, append_assoc, arith}
 use Rattle.std.specs.Prelude.{nat_lt, if◌then◌else◌}
 use Rattle.std.specs.Int.{w32, from_be_bytes}
@@ -25,7 +25,7 @@ use Rattle.route_node.specs.Streams.{refusal, Refused, found_fault, EndsAt}
 use Rattle.route_node.proofs.Ending.{ends_by_ending}
 use Rattle.route_node.proofs.Waiting.{told_as, answered_as, prompt_as, ends_without_memory}
 
--- ---- what is wrong stays wrong, whatever comes behind
+-- ---- a fault stays a fault, whatever follows
 
 sized_stays : (tag : Tag) (n : ℕ) (bytes more : List ℕ) (k : FrameKind) → sized tag n bytes ≡ Wrong k → sized tag n (bytes ++ more) ≡ Wrong k
 sized_stays tag n bytes more k e =
@@ -73,10 +73,10 @@ wrong_stays (v ∷ bytes) more k e =
       | false ↦ λ d. d
     ]) e
 
--- ---- the run ends at what is refused
+-- ---- the run ends at a refusal
 
 module _ {P : Type 0} (rules : Rules) (at : Serving P) (frames : List Frame) (process : Process P) (old : LinkView) (runs : Runs rules at process old frames) where
-  -- what is found in front of all that is left is refused for this
+  -- what is found at the front of the rest is refused with this fault
   refused_by : (fault : FrameFault) → ((t : List ℕ) → EndsAt (who_at rules at) frames (process.received ++ t) (Refused fault)) → EndsServing (who_at rules at) at.first old frames (BadFrame process.offset fault)
   refused_by fault ends =
       ends_by_ending (who_at rules at) at.first old (BadFrame process.offset fault) frames runs.taken runs.grow runs.same_room runs.same_dialled (prompt_as rules at frames process old old runs refl) (Refused fault) (ap (λ n. BadFrame n fault) runs.offset) refl
@@ -104,7 +104,7 @@ module _ {P : Type 0} (rules : Rules) (at : Serving P) (frames : List Frame) (pr
   unfolding spell
   spell_some f rest e = absurd (cc e)
 
-  -- a frame that is refused for itself
+  -- a frame that is refused
   pub ends_refused : (f : Frame) (n : ℕ) → Holds process.received f n → (status : Status) → RefusesAt process.offset (refusal (who_at rules at) frames f) status → EndsServing (who_at rules at) at.first old frames status
   ends_refused f n holds NoMemory e = ends_without_memory rules at frames process old old runs refl
   ends_refused f n holds (BadFrame offset fault) e =

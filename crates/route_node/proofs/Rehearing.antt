@@ -1,4 +1,4 @@
--- A node that takes a record of its journal.
+-- A node takes a record of its journal.
 use Rattle.std.proofs.Common.{ℕ, ◌≡◌, Some, None, List, length, sym, ap, ◌∙◌, subst}
 use Rattle.std.specs.Prelude.{if◌then◌else◌}
 use Rattle.topology.proofs.Tests.{same_refl}
@@ -36,7 +36,7 @@ ends_unread who frames offset bytes (BadTables line) e = absurd e
 ends_unread who frames offset bytes (Inconsistent line kind) e = absurd e
 
 module _ (who : Who) (frames : List Frame) (offset : ℕ) (bytes : List ℕ) (f : Frame) (has : HasFrame bytes f) where
-  -- it is refused for its frame
+  -- it is refused because of its frame
   whole : record_fault who frames bytes ≡ refusal who frames f
   whole =
       let n = length bytes in
@@ -62,7 +62,7 @@ module _ (who : Who) (frames : List Frame) (offset : ℕ) (bytes : List ℕ) (f 
     turned : refusal who frames f ≡ out_of_turn (gives who.rules who.net who.node (run_over who frames) i)
     turned = refusal_is who f frames i admits.brings admits.fit
 
-    -- or for what it brings, or takes a count above its number
+    -- or because of its input, or it exceeds a limit
     pub ends_heard_at : (status : Status)
         → EndsHeard offset (out_of_turn (gives who.rules who.net who.node (run_over who frames) i)) (node_limit who.rules who.net who.node (gives who.rules who.net who.node (run_over who frames) i)) status
         → EndsRecord who frames offset bytes status

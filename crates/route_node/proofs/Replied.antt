@@ -1,4 +1,4 @@
--- The frames of outputs, one output after the other.
+-- The frames of outputs, one output after another.
 use Rattle.std.proofs.Common.{ℕ, ◌+◌, ◌≡◌, ◌<◌, Bool, true, false, List, [], ◌∷◌, ◌++◌, map, filter_map, take, drop, length, get_or, refl, sym, ap, ◌∙◌, append_assoc}
 use Rattle.std.specs.List.{list_all}
 use Rattle.std.proofs.lemmas.List.{length-append, map-append, take-append-drop, take_more}
@@ -12,7 +12,7 @@ use Rattle.wire_frames.specs.declared.frames.Frame.{Frame}
 use Rattle.route_node.specs.Frames.{telling}
 use Rattle.route_node.specs.Told.{told}
 
--- an output that stands in a list of such as fit
+-- an output in a list of fitting ones
 pub turn_fits : (net : Net) (u : ℕ) (all : List Given) (i : ℕ) (x : Given) → list_all (output_fits net u) (map output_of all) ≡ true → i < length all → x ≡ get_or all i x
     → output_fits net u (output_of x) ≡ true
 turn_fits net u all i x fit inside at =
@@ -41,7 +41,7 @@ shown_both xs ys = ap (filter_map telling) (map-append output_of xs ys) ∙ filt
 pub told_more : (done : List Given) (x : Given) → filter_map telling (map output_of done) ++ told (output_of x) ≡ filter_map telling (map output_of (done ++ x ∷ []))
 told_more done x = sym (shown_both done (x ∷ []))
 
--- the outputs that are left behind these and one more
+-- the outputs that are left after these and one more
 pub left_behind : List Given → List Given → List Given
 left_behind all done = drop (length done + 1) all
 

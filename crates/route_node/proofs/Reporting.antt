@@ -1,4 +1,4 @@
--- Lists of triggers and reports that a node hands out have a spelling, in version 1 or in version 2.
+-- Lists of triggers and reports that a node hands out have a spelling in version 1 or version 2.
 use Rattle.std.proofs.Common.{ℕ, ◌+◌, ◌≡◌, ◌≢◌, ◌≤◌, inl, inr, ⊎_elim, Bool, true, false, cond, ◌&&◌, ◌||◌, ◌==◌, Some, List, [], ◌∷◌, map, length, refl, ap, subst, arith}
 use Rattle.std.specs.Prelude.{nat_lt, nat_le}
 use Rattle.std.specs.Int.{is_in_range}
@@ -42,7 +42,7 @@ put_length t (s ∷ ts) =
       | false ↦ elim (earlier s t) as (λ b. length (cond b (s ∷ put t ts) (s ∷ ts)) ≤ 1 + length (s ∷ ts)) [ true ↦ omega (arith, later) | false ↦ omega arith ]
     ]
 
--- a list that is told has no more triggers
+-- the list of a frame has no more triggers
 pub told_short : (ts : List Trigger) → length (list_told ts) ≤ length ts
 unfolding union
 told_short [] = omega arith
@@ -62,7 +62,7 @@ each_passes test (x ∷ xs) each = and_both (test x) (list_all test xs) (each x 
 not_none : (t : Trigger) (ts : List Trigger) → (length (t ∷ ts) == 0) ≡ false
 not_none t ts = ne_eqb (length (t ∷ ts)) 0 (λ e. omega (arith, e))
 
--- what counts behind a row
+-- the state after a row
 abbrev behind_row : RowsSoFar → Row → RowsSoFar
 behind_row s k = with_row s (length (map item_told k.sent)) (reached listed_items (begun s.marks (list_told k.triggers)) (map item_told k.sent))
 
@@ -79,7 +79,7 @@ module _ (net : Net) (valid : IsValid net) where
   known t (s ∷ r ∷ ts) fit (inl same) = subst (λ z. trigger_fits net z ≡ true) same (and_left (trigger_fits net s) (triggers_fit net (r ∷ ts)) fit)
   known t (s ∷ r ∷ ts) fit (inr a) = known t (r ∷ ts) (and_right (trigger_fits net s) (triggers_fit net (r ∷ ts)) fit) a
 
-  -- what is known of a list that is told
+  -- properties of a frame's list
   pub record ListParts (ts : List Trigger) : Type 0 where
     pub each : list_all (trigger_fits net) ts ≡ true
     pub rises : Ascend ts
@@ -164,7 +164,7 @@ module _ (net : Net) (valid : IsValid net) where
       (item_as s.marks x (and_left (listed_fits net x) (list_all (listed_fits net) xs) e) (omega (arith, sum)))
       (items_as (behind_item s (list_told x.triggers)) xs (and_right (listed_fits net x) (list_all (listed_fits net) xs) e) (omega (arith, sum, told_short x.triggers)))
 
-  -- the items of a row that lists the trigger alone, as they do
+  -- the items of a row with one trigger, in both formats
   plain_items_as : (t : Trigger) (xs : List Sent) → list_all (listed_fits net) xs ≡ true → list_all (λ (x : Sent). has_alone (Some t) x.triggers) (map item_told xs) ≡ true → many_fit items t (map item_told xs) ≡ true
   unfolding sent
   plain_items_as t [] e alone = refl
@@ -185,7 +185,7 @@ module _ (net : Net) (valid : IsValid net) where
   small_prefix : (p : ℕ) → nat_lt p (length net.prefixes) ≡ true → nat_le p 255 ≡ true
   small_prefix p e = let below = below_as p (length net.prefixes) e in let most = valid.few_prefixes in grind (arith, nat_tests, below, most)
 
-  -- what a row lists, as it is told: nothing where it concerns nothing
+  -- the list of a row in a frame; empty if the row concerns nothing
   abbrev RowList : Scope → List Trigger → Type 0
   RowList (One p) ts = ListParts ts
   RowList All ts = ListParts ts

@@ -1,4 +1,4 @@
--- The records of a journal come to one thing: which frames they are of, and how the reading ends behind them.
+-- Reading the records of a journal has only one result: which frames they are of, and how the reading ends after them.
 use Rattle.std.proofs.Common.{ℕ, ◌≡◌, true, Some, None, List, [], ◌∷◌, ◌++◌, length, refl, sym, ap, ◌∙◌, subst, append_assoc, inl, inr, ◌⊎◌}
 use Rattle.std.specs.Prelude.{if◌then◌else◌}
 use Rattle.std.proofs.lemmas.List.{append-nil}
@@ -19,7 +19,7 @@ use Rattle.route_node.proofs.Unique.{AllSpelled, oldest, same_frame, spelled_old
 
 -- ---- records of frames
 
--- what stands behind frames comes behind their records
+-- what follows frames comes after their records
 records_more : (more frames : List Frame) → spellings (more ++ frames) ≡ spellings frames ++ spellings more
 records_more [] frames = sym (append-nil (spellings frames))
 records_more (f ∷ more) frames = ap (λ (t : List (List ℕ)). t ++ spell f ∷ []) (records_more more frames) ∙ append_assoc (spellings frames) (spellings more) (spell f ∷ [])
@@ -28,9 +28,9 @@ records_more (f ∷ more) frames = ap (λ (t : List (List ℕ)). t ++ spell f �
 from_oldest : (newer : List Frame) (x : Frame) → spellings (newer ++ x ∷ []) ≡ spell x ∷ spellings newer
 from_oldest newer x = records_more newer (x ∷ [])
 
--- ---- two ways to read the same records
+-- ---- two readings of the same records
 
--- the other list goes on behind the first, and the records that are left with what it has more
+-- the other list continues the first, and so do the records that are left
 record Longer (frames others : List Frame) (rest left : List (List ℕ)) : Type 0 where
   pub more : List Frame
   pub others_are : others ≡ more ++ frames
@@ -83,7 +83,7 @@ module _ (who : Who) where
   all_spelled [] taken = tt
   all_spelled (f ∷ frames) (fit, not_refused, not_stopped, taken) = (fit, all_spelled frames taken)
 
-  -- the oldest of the frames behind was taken behind those before it
+  -- the oldest of the later frames was taken after those before it
   taken_oldest : (newer : List Frame) (x : Frame) (frames : List Frame) → AreRestored who ((newer ++ x ∷ []) ++ frames) → AreRestored who (x ∷ frames)
   taken_oldest [] x frames taken = taken
   taken_oldest (f ∷ newer) x frames (fit, not_refused, not_stopped, taken) = taken_oldest newer x frames taken
@@ -103,7 +103,7 @@ module _ (who : Who) where
       let here : StopsIn who frames (length (spell x)) reached (Whole x (length (spell x))) = subst (StopsIn who frames (length (spell x)) reached) is stops in
       let some = here.2 in absurd (cc (none, some))
 
-  -- where the record of a frame that is taken comes next, no reading ends
+  -- if the record of a frame that is taken comes next, the reading does not end
   no_end : (frames : List Frame) (x : Frame) (rest : List (List ℕ)) (ending : Ending) → AreRestored who (x ∷ frames) → EndsBack who frames (spell x ∷ rest) ending → ⊥
   no_end frames x rest End taken ends = absurd (cc ends)
   no_end frames x rest (Refused fault) (fit, none, limit, taken) ends = no_fault frames x (found (spell x)) fault (whole x fit) none ends
@@ -147,7 +147,7 @@ module _ (who : Who) where
           let all : rest ≡ spell x ∷ (spellings newer ++ left) = longer.rest_is ∙ ap (λ (t : List (List ℕ)). t ++ left) (ap spellings is ∙ from_oldest newer x) in
           absurd (no_end frames x (spellings newer ++ left) ending next (subst (λ t. EndsBack who frames t ending) all ends))
 
-  -- records come to one thing
+  -- reading records has only one result
   pub back_once : (records : List (List ℕ)) (frames others : List Frame) (a b : Ending) → ComesBack who records frames a → ComesBack who records others b → (frames ≡ others) × (a ≡ b)
   back_once records frames others a b first second =
       go (compare frames others first.rest second.rest (all_spelled frames first.taken) (all_spelled others second.taken) (sym first.in_front ∙ second.in_front))

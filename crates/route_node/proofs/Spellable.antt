@@ -105,7 +105,7 @@ pub many_fits : (n most : ℕ) → n ≤ most → (many most).fits n ≡ true
 unfolding many
 many_fits n most small = number_fits 0 most n (omega arith) small
 
--- the nodes seen so far and those behind are different
+-- the nodes seen so far and those after them differ
 apart_behind : (seen : List ℕ) (n : ℕ) (ns : List ℕ) → ((x : ℕ) → has seen x ≡ true → has (n ∷ ns) x ≡ false) → differ (n ∷ ns) ≡ true → (x : ℕ) → has (seen ++ n ∷ []) x ≡ true → has ns x ≡ false
 apart_behind seen n ns old apart x e =
     (elim (has seen x) as (λ t. has seen x ≡ t → (t || n == x) ≡ true → has ns x ≡ false) [
@@ -158,7 +158,7 @@ rising_fit net last (n ∷ ns) valid all order leading =
     (and_both (node.fits n) (nat_lt last n) (node_fits net n valid (and_left (has net.nodes n) (are_nodes net ns) all)) leading)
     (rising_fit net n ns valid (and_right (has net.nodes n) (are_nodes net ns) all) (and_right (leads nat_lt n ns) (in_order nat_lt ns) order) (and_left (leads nat_lt n ns) (in_order nat_lt ns) order))
 
--- a number below all of an ascending list is none of it
+-- a number below all of an ascending list is not in it
 not_above : (n : ℕ) (ns : List ℕ) (m : ℕ) → in_order nat_lt (m ∷ ns) ≡ true → n < m → has (m ∷ ns) n ≡ false
 not_above n [] m order below = grind (arith, nat_tests, below)
 not_above n (k ∷ ns) m order below =

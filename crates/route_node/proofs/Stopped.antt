@@ -1,4 +1,4 @@
--- A node that stops at a frame.
+-- A node stops at a frame.
 use Rattle.std.proofs.Common.{ℕ, ◌≡◌, true, false, Some, None, refl, sym, ap, ◌∙◌, subst}
 use Rattle.std.specs.Prelude.{nat_lt, if◌then◌else◌}
 use Rattle.topology.specs.declared.status.LimitKind.TheVariants.{Frames}
@@ -15,7 +15,7 @@ use Rattle.route_node.specs.Fronts.{EndsFrame, StopsFrame}
 use Rattle.route_node.specs.Records.{EndsHeard, StopsRecord}
 use Rattle.route_node.specs.Streams.{out_of_turn}
 
--- what takes a count above its number is in turn
+-- an input that exceeds a limit is in turn
 in_turn : (rules : Rules) (net : Net) (u : ℕ) (step : Step) (reached : Reached) → node_limit rules net u step ≡ Some reached → out_of_turn step ≡ None
 in_turn rules net u (Idle why) reached e = absurd (cc e)
 in_turn rules net u (Goes now) reached e = refl
@@ -33,7 +33,7 @@ ends_stopped rules net u offset frames step (stop.Limit kind number) status is s
     turn : out_of_turn step ≡ None
     turn = in_turn rules net u step (record { kind = kind; number = number }) stops
 
--- the same of what a record brings
+-- the same for the input of a record
 pub ends_heard : (rules : Rules) (net : Net) (u offset : ℕ) (step : Step) (s : Stop) (status : Status) → StopsRecord s status → StopsAt (node_limit rules net u step) s
     → EndsHeard offset (out_of_turn step) (node_limit rules net u step) status
 ends_heard rules net u offset step stop.NoMemory status is stops = subst (EndsHeard offset (out_of_turn step) (node_limit rules net u step)) (sym is) tt

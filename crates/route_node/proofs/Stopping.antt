@@ -1,4 +1,4 @@
--- The limits at which a node over a link stops are not that of the bytes of a file.
+-- A node over a link never stops at the limit on the bytes of a file.
 use Rattle.std.proofs.Common.{ℕ, ◌+◌, ◌≡◌, Bool, true, false, Option, Some, None, List, ◌++◌, refl, sym, ap, ◌∙◌, length}
 use Rattle.std.specs.Prelude.{is_some, nat_lt, if◌then◌else◌}
 use Rattle.topology.specs.declared.status.Status.TheVariants.{Limit}
@@ -32,7 +32,7 @@ of_node keeps false false true updates = refl
 of_node keeps false false false true = refl
 of_node keeps false false false false = refl
 
--- the marks come last
+-- the limit on marks is the last
 with_marks : (keeps : Bool) (o : Option Reached) (more : Bool) → may_stop keeps o ≡ true → may_stop keeps (or_marks o more) ≡ true
 with_marks keeps None true e = refl
 with_marks keeps None false e = refl
@@ -47,7 +47,7 @@ at_input : (who : Who) (before : List Frame) (i : Option Input) → may_stop (is
 at_input who before None = refl
 at_input who before (Some i) = above (is_some who.records) who.rules who.net who.node (gives who.rules who.net who.node (run_over who before) i)
 
--- only a run that keeps a journal stops at its bytes
+-- only a run with a journal stops at the journal's bytes
 at_journal : (records : Option (List Frame)) (before : List Frame) (f : Frame) → may_stop (is_some records) (journal_limit records before f) ≡ true
 at_journal None before f = refl
 at_journal (Some records) before f =
@@ -72,7 +72,7 @@ pub limit_ends : (who : Who) (before : List Frame) (f : Frame) (reached : Reache
     → ends_serving (is_some who.records) (Limit reached.kind reached.number) ≡ true
 limit_ends who before f reached e = sym (ap (may_stop (is_some who.records)) e) ∙ at_frame who before f
 
--- and so it is of a node that reads its journal back
+-- and so is that of a node that reads its journal back
 abbrev may_stop_back : Option Reached → Bool
 may_stop_back None = true
 may_stop_back (Some reached) = ends_restoring (Limit reached.kind reached.number)

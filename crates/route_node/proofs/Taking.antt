@@ -1,4 +1,4 @@
--- A process that takes one more frame.
+-- A process takes one more frame.
 use Rattle.std.proofs.Common.{ℕ, ◌*◌, ◌≡◌, ◌<◌, ◌≤◌, Bool, true, false, Option, Some, None, List, [], ◌∷◌, ◌++◌, length, drop, refl, sym, ap, ◌∙◌, subst, append_assoc, arith}
 use Rattle.std.specs.Prelude.{nat_le, nat_lt, filter_map, if◌then◌else◌}
 use Rattle.std.specs.Int.{w32, to_be_bytes}
@@ -37,7 +37,7 @@ use Rattle.route_node.specs.Streams.{stream, replies, out_of_turn, input_refusal
 use Rattle.route_node.specs.Told.{handed}
 use Rattle.route_node.specs.Who.{Who, afresh, inputs, begun, begun_by, run_over}
 
--- ---- what frames bring
+-- ---- the inputs of frames
 
 -- a frame that brings an input adds it
 pub inputs_more : (f : Frame) (frames : List Frame) (i : Input) → brought f ≡ Some i → inputs (f ∷ frames) ≡ i ∷ inputs frames
@@ -54,13 +54,13 @@ pub all_right : {A : Type 0} (p : A → Bool) (xs ys : List A) → list_all p (x
 all_right p [] ys e = e
 all_right p (x ∷ xs) ys e = all_right p xs ys (and_right (p x) (list_all p (xs ++ ys)) e)
 
--- of outputs that begin with these those behind
+-- if the outputs begin with these, the later ones
 pub behind : {A : Type 0} (xs ys all : List A) → all ≡ xs ++ ys → drop (length xs) all ≡ ys
 behind [] ys all e = e
 behind (x ∷ xs) ys [] e = absurd (cc e)
 behind (x ∷ xs) ys (a ∷ all) e = let rest : all ≡ xs ++ ys = cc e in behind xs ys all rest
 
--- where no count of the first two is above its number, none of either is
+-- if neither of two limits is exceeded, the first of the two is none
 pub neither : (o later : Option Reached) → first_of_two o later ≡ None → (o ≡ None) × (later ≡ None)
 neither None later e = (refl, e)
 neither (Some reached) later e = absurd (cc e)
@@ -96,7 +96,7 @@ module _ (who : Who) where
         | false ↦ λ d c. absurd (cc c)
       ]) refl (sym (ap (input_refusal who.rules who.net who.node (run_over who frames)) e) ∙ none)
 
-  -- what one more frame may come to, by a test of how many there are
+  -- the possible results of one more frame, by a test of their number
   pub limit_as : (f : Frame) (frames : List Frame) (i : Input) (count : ℕ) → brought f ≡ Some i → count ≡ length frames
       → frame_limit who frames f
       ≡ (if nat_lt count MOST_FRAMES then first_of_two (node_limit who.rules who.net who.node (gives who.rules who.net who.node (run_over who frames) i)) (journal_limit who.records frames f)
@@ -105,7 +105,7 @@ module _ (who : Who) where
       ap (λ b. if nat_lt (length frames) MOST_FRAMES then first_of_two (input_limit who frames b) (journal_limit who.records frames f) else Some (record { kind = Frames; number = MOST_FRAMES })) e
       ∙ ap (λ n. if nat_lt n MOST_FRAMES then first_of_two (node_limit who.rules who.net who.node (gives who.rules who.net who.node (run_over who frames) i)) (journal_limit who.records frames f) else Some (record { kind = Frames; number = MOST_FRAMES })) (sym is)
 
-  -- the frames are counted first, then what the node counts
+  -- the limit on frames comes first, then those of the node
   pub limit_first : (f : Frame) (frames : List Frame) (i : Input) (count : ℕ) (reached : Reached) → brought f ≡ Some i → count ≡ length frames
       → (if nat_lt count MOST_FRAMES then node_limit who.rules who.net who.node (gives who.rules who.net who.node (run_over who frames) i) else Some (record { kind = Frames; number = MOST_FRAMES })) ≡ Some reached
       → frame_limit who frames f ≡ Some reached
@@ -118,7 +118,7 @@ module _ (who : Who) where
         | false ↦ λ d. d
       ]) stops
 
-  -- and last the bytes of the journal
+  -- and last that on the bytes of the journal
   pub limit_last : (f : Frame) (frames : List Frame) (i : Input) → brought f ≡ Some i → length frames < MOST_FRAMES
       → node_limit who.rules who.net who.node (gives who.rules who.net who.node (run_over who frames) i) ≡ None → frame_limit who frames f ≡ journal_limit who.records frames f
   limit_last f frames i e few none =
@@ -154,7 +154,7 @@ module _ (who : Who) where
 
 -- ---- what a step hands out
 
--- all that a node hands out is admitted, whether it was started again or not
+-- all that a node hands out is admitted, restarted or not
 pub fits_since : (rules : Rules) (net : Net) (u : ℕ) (records : Option (List Frame)) → IsValid net → has net.nodes u ≡ true → AreBegun rules net u records → (is : List Input)
     → AllAdmitted rules net u (begun rules net u records) is → list_all (output_fits net u) (outputs (going_on rules net u (begun rules net u records) is)) ≡ true
 fits_since rules net u None valid here restored is admitted = all_fit rules net u is valid here admitted
@@ -172,7 +172,7 @@ module _ (who : Who) where
       (subst (λ os. list_all (output_fits who.net who.node) os ≡ true) (sym (hands (run_over who frames) (gives who.rules who.net who.node (run_over who frames) i) told answers'))
       (fits_since who.rules who.net who.node who.records valid here restored (i ∷ inputs frames) (fit, none, all_admitted who frames taken)))
 
-  -- one more frame, and what is told of what it made the node hand out
+  -- one more frame, and the frames of what it made the node hand out
   pub since_more : (f : Frame) (frames : List Frame) (i : Input) (told : Outputs) → brought f ≡ Some i → Answers (run_over who frames) (gives who.rules who.net who.node (run_over who frames) i) told
       → (since : HandsSince who frames) → outputs (run_over who (f ∷ frames)) ≡ outputs (begun_by who) ++ (since.0 ++ handed told)
   since_more f frames i told e answers' since =

@@ -1,4 +1,4 @@
--- The frames that tell what a node hands out have a spelling.
+-- The frames of what a node hands out have a spelling.
 use Rattle.std.proofs.Common.{ℕ, ◌+◌, ◌*◌, ◌≡◌, ◌≤◌, Bool, true, false, ◌&&◌, ◌==◌, Option, Some, None, List, [], ◌∷◌, map, length, take, drop, refl, sym, ap, ◌∙◌, subst, arith}
 use Rattle.std.specs.Prelude.{nat_le, nat_lt, option_map, filter_map}
 use Rattle.std.specs.List.{list_all, flat_map, cons_option}
@@ -193,7 +193,7 @@ module _ (net : Net) (valid : IsValid net) where
       let rest = and_right (has net.nodes u) (epoch_fits e && ballots_fit net u m) fit in
       ballot_told_fits u w e m of (and_left (epoch_fits e) (ballots_fit net u m) rest) (and_right (epoch_fits e) (ballots_fit net u m) rest)
 
-  -- the frame that tells an output has a spelling
+  -- the frame of an output has a spelling
   pub telling_fits : (u : ℕ) (o : Output) (f : Frame) → ((w : ℕ) → has (neighbours net u) w ≡ true → has net.nodes w ≡ true) → output_fits net u o ≡ true → telling o ≡ Some f → has_spelling f ≡ true
   telling_fits u (Logged index) f near fit is = absurd (cc is)
   telling_fits u (Cut e) f near fit is = absurd (cc is)
@@ -228,7 +228,7 @@ module _ (net : Net) (valid : IsValid net) where
       subst (λ g. has_spelling g ≡ true) same
       (spelled (frame.Ended id ending) (λ n r d. absurd (cc d)) (and_both (any32.fits id) (end.fits ending) (any32_fits id fit) (end_fits ending)))
 
-  -- the frames that tell what is handed out
+  -- the frames of what is handed out
   each_told : (u : ℕ) (os : List Output) → list_all (output_fits net u) os ≡ true → list_all has_spelling (filter_map telling os) ≡ true
   each_told u [] fit = refl
   each_told u (o ∷ os) fit = with_first (telling o) refl (each_told u os (and_right (output_fits net u o) (list_all (output_fits net u) os) fit))

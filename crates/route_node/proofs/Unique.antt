@@ -1,4 +1,4 @@
--- Bytes come to one thing: which frames stand in front and are taken, and how the stream ends behind them.
+-- Reading bytes has only one result: which frames are taken from the front, and how the stream ends after them.
 use Rattle.std.proofs.Common.{ℕ, ◌≡◌, true, Some, None, List, [], ◌∷◌, ◌++◌, length, refl, sym, ap, ◌∙◌, subst, append_assoc, inl, inr, ◌⊎◌}
 use Rattle.std.proofs.lemmas.List.{append-nil, append_cancel_left}
 use Rattle.topology.specs.declared.frame_faults.FrameFault.{FrameFault}
@@ -13,7 +13,7 @@ use Rattle.route_node.specs.Streams.{stream, refusal, frame_limit, AreTaken, End
 
 -- ---- streams
 
--- what stands behind frames comes behind what they spell
+-- what follows frames comes after their spelling
 pub stream_more : (more frames : List Frame) → stream (more ++ frames) ≡ stream frames ++ stream more
 stream_more [] frames = sym (append-nil (stream frames))
 stream_more (f ∷ more) frames = ap (λ (t : List ℕ). t ++ spell f) (stream_more more frames) ∙ append_assoc (stream frames) (stream more) (spell f)
@@ -31,7 +31,7 @@ oldest (f ∷ frames) = go (oldest frames)
 pub from_oldest : (newer : List Frame) (x : Frame) → stream (newer ++ x ∷ []) ≡ spell x ++ stream newer
 from_oldest newer x = stream_more newer (x ∷ [])
 
--- ---- two ways to read the same bytes
+-- ---- two readings of the same bytes
 
 -- one more frame in front is found
 pub in_front : (x : Frame) (rest : List ℕ) → has_spelling x ≡ true → found (spell x ++ rest) ≡ Whole x (length (spell x))
@@ -50,7 +50,7 @@ abbrev pub AllSpelled : List Frame → Type 0
 AllSpelled [] = Unit {0}
 AllSpelled (f ∷ frames) = (has_spelling f ≡ true) × AllSpelled frames
 
--- the other list goes on behind the first, and the bytes that are left with what it has more
+-- the other list continues the first, and so do the bytes that are left
 pub record Longer (frames others : List Frame) (rest left : List ℕ) : Type 0 where
   pub more : List Frame
   pub others_are : others ≡ more ++ frames
@@ -104,7 +104,7 @@ module _ (who : Who) where
   all_spelled [] taken = tt
   all_spelled (f ∷ frames) (fit, not_refused, not_stopped, taken) = (fit, all_spelled frames taken)
 
-  -- the oldest of the frames behind was taken behind those before it
+  -- the oldest of the later frames was taken after those before it
   pub taken_oldest : (newer : List Frame) (x : Frame) (frames : List Frame) → AreTaken who ((newer ++ x ∷ []) ++ frames) → AreTaken who (x ∷ frames)
   taken_oldest [] x frames taken = taken
   taken_oldest (f ∷ newer) x frames (fit, not_refused, not_stopped, taken) = taken_oldest newer x frames taken
@@ -118,7 +118,7 @@ module _ (who : Who) where
       let here : StopsAt who frames reached (Whole x n) = subst (StopsAt who frames reached) is stops in
       let some = here.1 in absurd (cc (none, some))
 
-  -- where a frame that is taken stands in front, no stream ends
+  -- if a frame that is taken is at the front, the stream does not end
   no_end : (frames : List Frame) (x : Frame) (rest : List ℕ) (ending : Ending) → AreTaken who (x ∷ frames) → EndsAt who frames (spell x ++ rest) ending → ⊥
   unfolding spell
   no_end frames x rest End taken ends = absurd (cc ends)
@@ -127,7 +127,7 @@ module _ (who : Who) where
   no_end frames x rest (Stopped reached) (fit, none, limit, taken) ends =
       stop_of_found frames x (length (spell x)) (found (spell x ++ rest)) reached (in_front x rest fit) limit ends
 
-  -- behind the same frames it ends in one way
+  -- after the same frames it ends in only one way
   refused_or_stopped : (frames : List Frame) (fault : FrameFault) (reached : Reached) (there : Found) → found_fault who frames there ≡ Some fault → StopsAt who frames reached there → ⊥
   refused_or_stopped frames fault reached (Whole x n) some stops = let none = stops.0 in absurd (cc (none, some))
   refused_or_stopped frames fault reached Partial some stops = stops
@@ -168,7 +168,7 @@ module _ (who : Who) where
           let whole : rest ≡ spell x ++ (stream newer ++ left) = longer.rest_is ∙ (ap (λ (t : List ℕ). t ++ left) (ap stream is ∙ from_oldest newer x) ∙ append_assoc (spell x) (stream newer) left) in
           absurd (no_end frames x (stream newer ++ left) ending next (subst (λ t. EndsAt who frames t ending) whole ends))
 
-  -- bytes come to one thing
+  -- reading bytes has only one result
   pub come_once : (bytes : List ℕ) (frames others : List Frame) (a b : Ending) → StreamComesTo who bytes frames a → StreamComesTo who bytes others b → (frames ≡ others) × (a ≡ b)
   come_once bytes frames others a b first second =
       go (compare frames others first.rest second.rest (all_spelled frames first.taken) (all_spelled others second.taken) (sym first.in_front ∙ second.in_front))

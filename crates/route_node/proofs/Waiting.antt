@@ -36,7 +36,7 @@ use Rattle.route_node.proofs.Ending.{behind_all, by_link, by_memory, ends_by_bre
 use Rattle.route_node.proofs.InTime.{told_once, one_write_read, prompt_wait, keeps_read}
 use Rattle.route_node.proofs.Told.{replies_spelled}
 
--- ---- the front of a frame is no longer than a frame
+-- ---- the beginning of a frame is no longer than a frame
 
 not_partial : (n : ℕ) (r : Result Frame FrameKind) → found_by n r ≡ Partial → ⊥
 not_partial n (Ok f) e = absurd (cc e)
@@ -93,11 +93,11 @@ module _ {P : Type 0} (rules : Rules) (at : Serving P) (frames : List Frame) (pr
           let some : Some (stream frames ++ (process.received ++ t)) ≡ Some bytes = ap (λ k. prepend_known (stream frames) (prepend_known process.received k)) (sym is) ∙ e in
           (t, is, cc some)
 
-  -- the frames that were taken stand in front
+  -- the frames that were taken are at the front
   pub front_as : (bytes : List ℕ) → at.first.incoming ≡ Some bytes → Begins (stream frames) bytes
   front_as bytes told = let known = told_as bytes told in (process.received ++ known.0, sym known.2)
 
-  -- nothing was written since: it broke off with all answers written
+  -- nothing was written since: the run broke off with all answers written
   pub ends_unwritten : (status : Status) → new.outgoing ≡ old.outgoing → new.room ≡ old.room → new.dialled ≡ old.dialled
       → ((before : List StreamAct) → at.first.acts ≡ Some before → (since : List StreamAct) × (new.acts ≡ Some (since ++ before)) × IsPrompt (who_at rules at) since)
       → BreaksOff at.records status → RoseIf (status ≡ LinkFault) at.first.faults new.faults → (IsSure at.first → status ≡ LinkFault → ⊥) → EndsServing (who_at rules at) at.first new frames status
@@ -118,7 +118,7 @@ module _ {P : Type 0} (rules : Rules) (at : Serving P) (frames : List Frame) (pr
   pub prompt_as : new.acts ≡ old.acts → (before : List StreamAct) → at.first.acts ≡ Some before → (since : List StreamAct) × (new.acts ≡ Some (since ++ before)) × IsPrompt (who_at rules at) since
   prompt_as same before told = let known = runs.acts before told in (known.0, same ∙ known.1, known.2.prompt)
 
-  -- one read was, where only the front of a frame was left
+  -- one read was made, when only the beginning of a frame was left
   pub prompt_read : found process.received ≡ Partial → (brought : Option (List ℕ)) → ActsOnce old new (Read brought) → (before : List StreamAct) → at.first.acts ≡ Some before
       → (since : List StreamAct) × (new.acts ≡ Some (since ++ before)) × IsPrompt (who_at rules at) since
   prompt_read partial brought once before told =
@@ -231,7 +231,7 @@ module _ {P : Type 0} (rules : Rules) (at : Serving P) (frames : List Frame) (pr
         })
         (answered_as (ap (λ (l : LinkView). l.outgoing) others) (one_write_read at.first old new (replies (who_at rules at) frames) (Some reads.0) runs.one_write_each reads.2)) (quiet ∙ runs.quiet) (λ e. absurd (cc e))
 
-  -- memory ran out before the link was asked
+  -- memory ran out before the link was read
   pub ends_without_memory : new ≡ old → EndsServing (who_at rules at) at.first new frames NoMemory
   ends_without_memory same =
       ends_unwritten NoMemory (ap (λ (l : LinkView). l.outgoing) same) (ap (λ (l : LinkView). l.room) same) (ap (λ (l : LinkView). l.dialled) same) (prompt_as (ap (λ (l : LinkView). l.acts) same)) (by_memory at.records)

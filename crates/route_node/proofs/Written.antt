@@ -1,4 +1,4 @@
--- What was written over a link, one frame after the other.
+-- What was written over a link, frame by frame.
 use Rattle.std.proofs.Common.{ℕ, ◌-◌, ◌≡◌, ◌≤◌, ◌<◌, inr, true, false, Option, Some, None, Result, Ok, Err, is_err, IsErr, IsErrAnd, IfErr, OnOk, OnErr, List, [], ◌∷◌, ◌++◌, take, drop, length, refl, sym, ap, ◌∙◌, subst, append_assoc, option_map, arith}
 use Rattle.std.specs.Io.KnownBytes.{Appends}
 use Rattle.std.proofs.lemmas.Result.{err_from_is_err_and}
@@ -17,7 +17,7 @@ use Rattle.wire_frames.specs.declared.frames.Frame.{Frame}
 use Rattle.wire_frames.specs.Frames.{spell}
 use Rattle.route_node.specs.Writing.{spelled, whole, each_whole, OneWriteEach, Writes, Breaks}
 
--- an error that a `?` hands on
+-- an error that `?` passes on
 pub handed_on : {T E : Type 0} (r : Result T E) (Q P : E → Type 0) → IsErr r × IsErrAnd r Q → ((e : E) → Q e → P e) → IfErr r P
 handed_on r Q P h step =
     let e = err_from_is_err_and r h.1 in
@@ -42,7 +42,7 @@ pub as_many : (frames : List Frame) → length (each_whole frames) ≡ length fr
 as_many [] = refl
 as_many (f ∷ frames) = let before = as_many frames in omega (arith, before, length-append (each_whole frames) (whole f ∷ []))
 
--- what is left of a room behind more bytes
+-- the room that is left after more bytes
 room_after : (room : Option ℕ) (old now : Option (List ℕ)) (bytes : List ℕ) (left : ℕ) → Appends old now bytes → room_behind room old ≡ Some left → room_behind room now ≡ Some (left - length bytes)
 room_after None old now bytes left e is = absurd (cc is)
 room_after (Some size) None now bytes left e is = absurd (cc is)
@@ -53,7 +53,7 @@ room_after (Some size) (Some old) (Some now) bytes left e is =
     let less : size - length now ≡ left - length bytes = omega (arith, same, more) in
     ap (λ (k : ℕ). Some k) less
 
--- ---- one frame, and those behind others
+-- ---- one frame, and those after others
 
 pub writes_one : {T E : Type 0} (r : Result T E) (f : Frame) (bytes : List ℕ) (link link' : LinkView) → is_err r ≡ false → bytes ≡ spell f → OnOk r (Appends link.outgoing link'.outgoing bytes)
     → (HasRoom link bytes → ActsOnce link link' (Write bytes (whole_by r bytes))) → OnOk r (AddsWrites link link' bytes) → StaysTold link.outgoing link'.outgoing → OnlyWrites link link' → HasCause link.faults link'.faults r → Writes (f ∷ []) link link'
@@ -93,7 +93,7 @@ breaks_one (Err e) f bytes link link' failed is wrote acts full only cause =
       others = only;
     }
 
--- frames that are written behind others, each by one write
+-- frames that are written after others, each by one write
 pub one_write_behind : (fs gs : List Frame) (link mid link' : LinkView) → Appends link.outgoing mid.outgoing (spelled fs) → mid.room ≡ link.room → OneWriteEach fs link mid → OneWriteEach gs mid link' → OneWriteEach (fs ++ gs) link link'
 one_write_behind fs gs link mid link' wrote same_room first second = λ left room small.
     let sizes = ap length (spelled_both fs gs) ∙ length-append (spelled fs) (spelled gs) in

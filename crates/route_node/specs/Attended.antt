@@ -1,4 +1,4 @@
--- What a user is promised of a node of a network that a source holds.
+-- What a user is promised about a node of a network that is read from a source.
 use Rattle.std.specs.Prelude.{ℕ, Bool, true, false, ◌≡◌, ◌≤◌, ◌<◌, ◌⊎◌, Some, option_map, List, ◌∷◌, length}
 use Rattle.std.specs.Io.KnownBytes.{IsAtEnd}
 use Rattle.topology.specs.declared.status.Status.{Status}
@@ -17,21 +17,21 @@ use Rattle.schedule_file.specs.Refusals.{FirstBadOfTopology}
 use Rattle.route_node.specs.Served.{Served, TooLongAnswers}
 use Rattle.route_node.specs.Who.{afresh}
 
--- the node that runs, and the address of its peer
+-- the number of the node that runs, and the address of its peer
 pub record Endpoint : Type 0 where
   pub id : ℕ
   pub address : List ℕ
 
--- the node with this number, whose peer has this address
+-- the endpoint of these parts
 abbrev pub endpoint : ℕ → List ℕ → Endpoint
 endpoint id address = record { id = id; address = address }
 
--- the bytes are a file of this network, and no more than a file may have
+-- the bytes are a file of this network, and are not too many
 pub record IsNetwork (bytes : List ℕ) (net : Net) : Type 0 where
   pub short : length bytes ≤ MOST_BYTES
   pub file : IsTopologyFile bytes net
 
--- the source was read to its end, no read failed, and what it gave is a file of this network
+-- the source was read to its end, no read failed, and the bytes that it gave are a file of this network
 pub record Gives (source source' : SourceView) (net : Net) : Type 0 where
   pub bytes : List ℕ
   pub known : (told : List ℕ) → source.left ≡ Some told → bytes ≡ told
@@ -39,12 +39,12 @@ pub record Gives (source source' : SourceView) (net : Net) : Type 0 where
   pub at_end : IsAtEnd source'.left
   pub quiet : source'.faults ≡ source.faults
 
--- the run ended before the first frame: nothing came over the link, and nothing went
+-- the run ended before the first frame: nothing was read from the link or written to it
 abbrev pub EndsBefore : Status → LinkView → LinkView → Type 0
 EndsBefore status link link' =
     ((status ≡ NoMemory) ⊎ ((status ≡ ReadFault) ⊎ (status ≡ LinkFault))) × OnlyDials link link'
 
--- a link once the address was dialled, and nothing else was done with it
+-- the link after the address was dialled and nothing else was done
 abbrev pub once_dialled : LinkView → List ℕ → LinkView
 once_dialled link address = record link { dialled = option_map (λ before. address ∷ before) link.dialled }
 
@@ -102,7 +102,7 @@ ends_over (BadJournal offset fault) = false
 ends_over (BadTables line) = false
 ends_over (Inconsistent line kind) = false
 
--- the statuses with which it ends once the address was dialled
+-- the statuses with which it ends after the address was dialled
 abbrev pub ends_dialled : Status → Bool
 ends_dialled Done = true
 ends_dialled Usage = false
@@ -120,7 +120,7 @@ ends_dialled (BadJournal offset fault) = false
 ends_dialled (BadTables line) = false
 ends_dialled (Inconsistent line kind) = false
 
--- the statuses before which the file was read to its end
+-- the statuses at which the file was read to its end
 abbrev pub ends_read : Status → Bool
 ends_read Done = true
 ends_read Usage = false
@@ -138,27 +138,27 @@ ends_read (BadJournal offset fault) = false
 ends_read (BadTables line) = false
 ends_read (Inconsistent line kind) = false
 
--- how the node here ends, on a source and a link as they were and as they are then
+-- how the node ends, given the source and the link before and after
 pub record Attended (here : Endpoint) (source source' : SourceView) (link link' : LinkView) (status : Status) : Type 0 where
-  -- never Usage, and nothing of a sink
+  -- never Usage, and no status of a sink
   pub formed : ends_attending status ≡ true
-  -- a network that has the node: the address is dialled, and the frames are answered, unless a read or the dial fails or
+  -- if the network has the node, the address is dialled and the frames are answered, unless a read or the dial fails or
   -- memory runs out before
   pub served : (bytes : List ℕ) → source.left ≡ Some bytes → (net : Net) → IsNetwork bytes net → has net.nodes here.id ≡ true
       → Served (afresh gao_rexford net here.id) (once_dialled link here.address) link' status ⊎ EndsBefore status link link'
-  -- one that has not: it is named, unless a read fails or memory runs out
+  -- if it has not, the missing node is named, unless a read fails or memory runs out
   pub missing : (bytes : List ℕ) → source.left ≡ Some bytes → (net : Net) → IsNetwork bytes net → has net.nodes here.id ≡ false
       → (status ≡ NoSuchNode here.id) ⊎ ((status ≡ NoMemory) ⊎ (status ≡ ReadFault))
-  -- a file outside the grammar is refused by its first bad line
+  -- a file outside the grammar is refused, and its first bad line named
   pub refused : (bytes : List ℕ) → source.left ≡ Some bytes → length bytes ≤ MOST_BYTES → (line : ℕ) (bad : BadKind)
       → FirstBadOfTopology bytes line bad → (status ≡ BadSchedule line bad) ⊎ ((status ≡ NoMemory) ⊎ (status ≡ ReadFault))
-  -- so is a file that is too long, by its length
+  -- so is a file that is too long
   pub too_long : (bytes : List ℕ) → source.left ≡ Some bytes → MOST_BYTES < length bytes
       → (status ≡ Limit kind.Bytes MOST_BYTES) ⊎ ((status ≡ NoMemory) ⊎ (status ≡ ReadFault))
-  -- what ends over the link is the answer of a node of the network
+  -- an end over the link is one of a node of the network
   pub over : ends_over status ≡ true → (bytes : List ℕ) → source.left ≡ Some bytes
       → (net : Net) × IsNetwork bytes net × (has net.nodes here.id ≡ true)
-  -- BadSchedule: the line is the first outside the grammar, and this is what is wrong with it
+  -- BadSchedule: this line is the first outside the grammar, with this fault
   pub bad_schedule : (line : ℕ) (bad : BadKind) → status ≡ BadSchedule line bad
       → (bytes : List ℕ) → source.left ≡ Some bytes → FirstBadOfTopology bytes line bad
   -- NoSuchNode: the network has no node with the number
@@ -167,18 +167,18 @@ pub record Attended (here : Endpoint) (source source' : SourceView) (link link' 
   -- Limit on bytes: the file is too long
   pub limit : (number : ℕ) → status ≡ Limit kind.Bytes number
       → (bytes : List ℕ) → source.left ≡ Some bytes → (number ≡ MOST_BYTES) × (MOST_BYTES < length bytes)
-  -- ReadFault, LinkFault: a call of that side failed; after every other answer none has
+  -- ReadFault, LinkFault: a call of that side failed; at every other status none did
   pub read_fault : RoseIf (status ≡ ReadFault) source.faults source'.faults
   pub link_fault : RoseIf (status ≡ LinkFault) link.faults link'.faults
-  -- LinkFault on a sure link: answers of a node of the network are longer than the room, which is told
+  -- LinkFault on a sure link: the answers of a node of the network exceed the room, which is told
   pub sure : IsSure link → status ≡ LinkFault
       → (net : Net) × ((bytes : List ℕ) → source.left ≡ Some bytes → IsNetwork bytes net) × (has net.nodes here.id ≡ true)
       × TooLongAnswers (afresh gao_rexford net here.id) link
-  -- nothing is done with the link before the network and the number are known
+  -- the link is not touched before the network and the number are known
   pub undialled : ends_undialled status ≡ true → link' ≡ link
-  -- the address is dialled, once, before the first frame
+  -- the address is dialled exactly once, before the first frame
   pub dialled : ends_dialled status ≡ true → Dials link link' here.address
-  -- and nothing else is, whatever the end
+  -- at every status nothing else is dialled
   pub dialled_at_most : Dials link link' here.address ⊎ (link'.dialled ≡ link.dialled)
-  -- nothing is left of the file once it was parsed
+  -- nothing is left of the file once it was read
   pub read : ends_read status ≡ true → IsAtEnd source'.left

@@ -1,4 +1,4 @@
--- What a user is promised of a node of a network that a source holds, where it keeps the frames that it takes in a file.
+-- What a user is promised about a node of a network that is read from a source, if the node keeps its frames in a file.
 use Rattle.std.specs.Prelude.{ℕ, Bool, true, false, ◌≡◌, ◌≤◌, ◌<◌, ◌⊎◌, Some, List, length, Result, Ok, Err}
 use Rattle.std.specs.Io.KnownBytes.{IsAtEnd}
 use Rattle.topology.specs.declared.status.Status.{Status}
@@ -27,17 +27,17 @@ use Rattle.route_node.specs.ServedKept.{ServedKept}
 use Rattle.route_node.specs.Streams.{stream, Ending, End, StreamComesTo}
 use Rattle.route_node.specs.Who.{afresh, again}
 
--- the node that runs, the address of its peer, and the name of the file of its journal
+-- the number of the node that runs, the address of its peer, and the name of its journal's file
 pub record KeptEndpoint : Type 0 where
   pub id : ℕ
   pub address : List ℕ
   pub file : List ℕ
 
--- the node with this number, whose peer has this address, and whose journal this name
+-- the endpoint of these parts
 abbrev pub kept_endpoint : ℕ → List ℕ → List ℕ → KeptEndpoint
 kept_endpoint id address file = record { id = id; address = address; file = file }
 
--- the file with the network, the link to the peer, and the disk with the journal
+-- the source of the network, the link to the peer, and the disk with the journal
 pub record Outside : Type 0 where
   pub source : SourceView
   pub link : LinkView
@@ -64,7 +64,7 @@ ends_attending_kept (BadJournal offset fault) = true
 ends_attending_kept (BadTables line) = false
 ends_attending_kept (Inconsistent line kind) = false
 
--- the statuses before which the file with the network was read to its end
+-- the statuses at which the file with the network was read to its end
 abbrev pub ends_read_kept : Status → Bool
 ends_read_kept Done = true
 ends_read_kept (BadSchedule line bad) = true
@@ -99,22 +99,23 @@ ends_answering (Limit kind.Frames number) = true
 ends_answering (Limit kind.Journal number) = true
 ends_answering other = false
 
--- the node was started again, and then the address was dialled, and then the frames were answered: each only behind the one before
+-- the node was restarted, then the address was dialled, then the frames were answered; each step happens only after the
+-- one before
 pub record RunsKept (net : Net) (here : KeptEndpoint) (old new : Outside) (status : Status) : Type 0 where
-  -- the disk once the journal was read back, and what came of that
+  -- the disk after the journal was read back, and the result of reading it
   pub mid : DiskView
   pub answer : Result Kept Status
   pub restored : Restored net here.id old.disk answer mid
   pub opened : (kept : Kept) → answer ≡ Ok kept → OpensFirst here.file old.disk mid
-  -- it was not started again: that is how it ends, and nothing is done with the link
+  -- if the node was not restarted, the run ends like this, and the link is not touched
   pub not_back : (why : Status) → answer ≡ Err why → (status ≡ why) × (new.link ≡ old.link) × (new.disk ≡ mid)
-  -- it was: the dial fails, or the frames are answered
+  -- if it was, the dial fails, or the frames are answered
   pub back : (kept : Kept) → answer ≡ Ok kept
       → ((status ≡ LinkFault) × OnlyDials old.link new.link × (new.disk ≡ mid))
       ⊎ ((records : List Frame) → IsRestored net kept here.id records
       → ServedKept (again gao_rexford net here.id records) (once_dialled old.link here.address) new.link mid new.disk status)
 
--- it ended before: memory ran out or a read failed, and nothing was done with the link and the disk
+-- it ended before: memory ran out or a read failed, and the link and the disk were not touched
 abbrev pub EndsUnopened : Status → Outside → Outside → Type 0
 EndsUnopened status old new = ((status ≡ NoMemory) ⊎ (status ≡ ReadFault)) × (new.link ≡ old.link) × (new.disk ≡ old.disk)
 
@@ -122,34 +123,35 @@ EndsUnopened status old new = ((status ≡ NoMemory) ⊎ (status ≡ ReadFault))
 abbrev pub BreaksOffKept : Status → Type 0
 BreaksOffKept status = (status ≡ NoMemory) ⊎ ((status ≡ ReadFault) ⊎ ((status ≡ LinkFault) ⊎ (status ≡ DiskFault)))
 
--- how the node here ends, on its outside as it was and as it is then
+-- how the node ends, given its outside before and after
 pub record AttendedKept (here : KeptEndpoint) (old new : Outside) (status : Status) : Type 0 where
-  -- never Usage, and nothing of a sink
+  -- never Usage, and no status of a sink
   pub formed : ends_attending_kept status ≡ true
-  -- a network that has the node: it is started again behind its journal, the address is dialled, and the frames are answered
+  -- if the network has the node, the node is restarted from its journal, the address is dialled, and the frames are
+  -- answered
   pub kept : (bytes : List ℕ) → old.source.left ≡ Some bytes → (net : Net) → IsNetwork bytes net → has net.nodes here.id ≡ true
       → RunsKept net here old new status ⊎ EndsUnopened status old new
-  -- a network that has the node, a file whose records the node takes, and what comes over the link then: that is how it ends,
-  -- unless it breaks off
+  -- if the network has the node, the node takes the records of the file, and the bytes over the link end like this,
+  -- then the run ends like this, unless it breaks off
   pub complete : (bytes : List ℕ) → old.source.left ≡ Some bytes → (net : Net) → IsNetwork bytes net → has net.nodes here.id ≡ true
       → (file : List ℕ) → old.disk.content ≡ Some file → (records : List Frame)
       → ComesBack (afresh gao_rexford net here.id) (Back file) records End
       → (incoming : List ℕ) → old.link.incoming ≡ Some incoming → (frames : List Frame) (ending : Ending)
       → StreamComesTo (again gao_rexford net here.id records) incoming frames ending
       → (status ≡ status_of (length (stream frames)) ending) ⊎ BreaksOffKept status
-  -- one that has not: it is named, unless a read fails or memory runs out
+  -- if the network has not, the missing node is named, unless a read fails or memory runs out
   pub missing : (bytes : List ℕ) → old.source.left ≡ Some bytes → (net : Net) → IsNetwork bytes net → has net.nodes here.id ≡ false
       → (status ≡ NoSuchNode here.id) ⊎ ((status ≡ NoMemory) ⊎ (status ≡ ReadFault))
-  -- a file outside the grammar is refused by its first bad line
+  -- a file outside the grammar is refused, and its first bad line named
   pub refused : (bytes : List ℕ) → old.source.left ≡ Some bytes → length bytes ≤ MOST_BYTES → (line : ℕ) (bad : BadKind)
       → FirstBadOfTopology bytes line bad → (status ≡ BadSchedule line bad) ⊎ ((status ≡ NoMemory) ⊎ (status ≡ ReadFault))
-  -- so is a file that is too long, by its length
+  -- so is a file that is too long
   pub too_long : (bytes : List ℕ) → old.source.left ≡ Some bytes → MOST_BYTES < length bytes
       → (status ≡ Limit kind.Bytes MOST_BYTES) ⊎ ((status ≡ NoMemory) ⊎ (status ≡ ReadFault))
-  -- what ends at the journal or over the link is the answer of a node of the network
+  -- an end at the journal or over the link is one of a node of the network
   pub over : ends_behind status ≡ true → (bytes : List ℕ) → old.source.left ≡ Some bytes
       → (net : Net) × IsNetwork bytes net × (has net.nodes here.id ≡ true)
-  -- BadSchedule: the line is the first outside the grammar, and this is what is wrong with it
+  -- BadSchedule: this line is the first outside the grammar, with this fault
   pub bad_schedule : (line : ℕ) (bad : BadKind) → status ≡ BadSchedule line bad
       → (bytes : List ℕ) → old.source.left ≡ Some bytes → FirstBadOfTopology bytes line bad
   -- NoSuchNode: the network has no node with the number
@@ -158,24 +160,24 @@ pub record AttendedKept (here : KeptEndpoint) (old new : Outside) (status : Stat
   -- Limit on bytes: the file is too long
   pub limit : (number : ℕ) → status ≡ Limit kind.Bytes number
       → (bytes : List ℕ) → old.source.left ≡ Some bytes → (number ≡ MOST_BYTES) × (MOST_BYTES < length bytes)
-  -- ReadFault, LinkFault, DiskFault: a call of that side failed; after every other answer none has
+  -- ReadFault, LinkFault, DiskFault: a call of that side failed; at every other status none did
   pub read_fault : RoseIf (status ≡ ReadFault) old.source.faults new.source.faults
   pub link_fault : RoseIf (status ≡ LinkFault) old.link.faults new.link.faults
   pub disk_fault : RoseIf (status ≡ DiskFault) old.disk.faults new.disk.faults
-  -- LinkFault on a sure link: answers of the node that was started again are longer than the room, which is told
+  -- LinkFault on a sure link: the answers of the restarted node exceed the room, which is told
   pub sure : IsSure old.link → status ≡ LinkFault
       → (net : Net) × ((bytes : List ℕ) → old.source.left ≡ Some bytes → IsNetwork bytes net) × (has net.nodes here.id ≡ true)
       × (records : List Frame) × AreRestored (afresh gao_rexford net here.id) records
       × TooLongAnswers (again gao_rexford net here.id records) old.link
-  -- nothing is done with the disk and the link before the network and the number are known
+  -- the disk and the link are not touched before the network and the number are known
   pub unopened : ends_unopened status ≡ true → (new.link ≡ old.link) × (new.disk ≡ old.disk)
-  -- nor with the link before the journal was read back
+  -- nor is the link before the journal was read back
   pub undialled : (offset : ℕ) (fault : FrameFault) → status ≡ BadJournal offset fault → new.link ≡ old.link
-  -- the address is dialled, once, before the first frame
+  -- the address is dialled exactly once, before the first frame
   pub dialled : ends_answering status ≡ true → Dials old.link new.link here.address
-  -- and nothing else is, whatever the end
+  -- at every status nothing else is dialled
   pub dialled_at_most : Dials old.link new.link here.address ⊎ (new.link.dialled ≡ old.link.dialled)
-  -- nothing is left of the file with the network once it was parsed
+  -- nothing is left of the file with the network once it was read
   pub read : ends_read_kept status ≡ true → IsAtEnd new.source.left
-  -- what the disk told it tells
+  -- what the disk told before it tells after
   pub telling : KeepsTelling old.disk new.disk

@@ -1,4 +1,4 @@
--- What a frame brings to a node, and which frames tell what a node hands out.
+-- The input that a frame brings to a node, and the frames of what a node hands out.
 use Rattle.std.specs.Prelude.{ℕ, Option, Some, None, List, [], ◌∷◌, map, option_map}
 use Rattle.topology.specs.declared.names.Trigger.{Trigger}
 use Rattle.topology.specs.declared.items.Sent.{Sent}
@@ -26,7 +26,7 @@ use Rattle.wire_frames.specs.declared.frames.Frame.TheVariants as frame
 abbrev pub update_of : ℕ → List Trigger → Option (List ℕ) → Update
 update_of p ts path = record { prefix = p; triggers = ts; path = path }
 
--- what a frame brings to the node, the peer being the sender; nothing where frames of its kind go from a node alone
+-- the input that a frame brings to the node, with the peer as the sender; None if only nodes send frames of this kind
 abbrev pub brought : Frame → Option Input
 brought (frame.Originate p) = Some (input.Originate p)
 brought (frame.Withdraw p) = Some (input.Withdraw p)
@@ -51,14 +51,14 @@ brought (frame.Published e paths) = None
 brought (frame.Inject id p) = Some (input.Inject id p)
 brought (frame.Flush v) = Some (input.Flush v)
 
--- ---- what tells an output
+-- ---- the frame of an output
 
--- the first trigger that is listed; a Down lists one
+-- the first trigger of the list; a Down lists just one
 abbrev pub first_of : List Trigger → Trigger
 first_of [] = record { node = 0; count = 0 }
 first_of (t ∷ ts) = t
 
--- a list of triggers, as a frame has it: in rising order, each once, as the lists of a node are
+-- a list of triggers as a frame has it: ascending and without repeats, as the lists of a node are
 abbrev pub list_told : List Trigger → List Trigger
 list_told ts = sorted ts
 
@@ -107,7 +107,7 @@ abbrev pub mail_frame : ℕ → Message → Frame
 mail_frame w (Reports r) = frame.Report w (report_told r)
 mail_frame w (Agrees e m) = ballot_frame w e m
 
--- the frame that tells an output, the peer being the addressee; entries and cuts are the node's own affair
+-- the frame of an output, with the peer as the addressee; entries and cuts have none, they stay inside the node
 abbrev pub telling : Output → Option Frame
 telling (Logged index) = None
 telling (Cut e) = None

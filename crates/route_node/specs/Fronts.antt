@@ -1,4 +1,4 @@
--- What stands at the front of what was received, and what is made of it.
+-- What is at the front of the received bytes, and what is done with it.
 use Rattle.std.specs.Prelude.{ℕ, true, ◌≡◌, nat_lt, if◌then◌else◌, Option, None, Some, List, ◌++◌, length, drop}
 use Rattle.topology.specs.declared.frame_faults.FrameFault.{FrameFault}
 use Rattle.topology.specs.declared.status.Status.{Status}
@@ -19,7 +19,7 @@ use Rattle.route_node.specs.declared.fronts.Front.{Front}
 use Rattle.route_node.specs.declared.fronts.Front.TheVariants as front
 use Rattle.route_node.specs.Frames.{brought}
 
--- the bytes begin with the spelling of this frame, of so many bytes
+-- the bytes begin with the spelling of this frame, which has n bytes
 pub record Holds (bytes : List ℕ) (f : Frame) (n : ℕ) : Type 0 where
   pub there : found bytes ≡ Whole f n
   pub fit : has_spelling f ≡ true
@@ -44,8 +44,8 @@ RefusesAt offset fault NoMemory = Unit {0}
 RefusesAt offset fault (BadFrame at named) = (at ≡ offset) × (fault ≡ Some named)
 RefusesAt offset fault other = ⊥
 
--- the run ends at a frame: memory ran out; what it brings is out of turn; or it would take a count above its number, that of
--- the frames before those of the node
+-- the run ends at a frame: memory ran out; its input is out of turn; or it would exceed a limit, that of frames before
+-- those of the node
 abbrev pub EndsFrame : ℕ → ℕ → Option FrameFault → Option Reached → Status → Type 0
 EndsFrame offset frames fault limit NoMemory = Unit {0}
 EndsFrame offset frames fault limit (BadFrame at named) = (at ≡ offset) × (fault ≡ Some named)
@@ -54,7 +54,7 @@ EndsFrame offset frames fault limit (Limit kind number) =
     ≡ Some (record { kind = kind; number = number }))
 EndsFrame offset frames fault limit other = ⊥
 
--- the status of a node that stopped at a frame: want of memory, or the first count that would be above its number
+-- the status of a node that stopped at a frame: want of memory, or the first limit that would be exceeded
 abbrev pub StopsFrame : ℕ → Stop → Status → Type 0
 StopsFrame frames stop.NoMemory status = status ≡ NoMemory
 StopsFrame frames (stop.Limit kind number) status =

@@ -28,8 +28,8 @@ use Rattle.route_node.specs.ServedKept.{HasKeptBehind, KeepsFront}
 use Rattle.route_node.specs.Streams.{stream, replies, answers, AreTaken}
 use Rattle.route_node.specs.Who.{Who, afresh, begun_by, run_over, spellings}
 
--- who answers: a policy, a network, its node, and the frames of its journal, if it has one; and the link and the disk as
--- they were first
+-- who answers: a policy, a network, its node, and the frames of its journal, if it has one; and the link and the disk
+-- at the start
 pub record Serving (P : Type 0) : Type 0 where
   pub policy : P
   pub net : Net
@@ -42,28 +42,29 @@ pub record Serving (P : Type 0) : Type 0 where
 abbrev pub who_at : {P : Type 0} → Rules → Serving P → Who
 who_at rules at = record { rules = rules; net = at.net; node = at.node; records = at.records }
 
--- the reads since brought the frames and then what is received, the writes took the answers, and each read came in time
+-- the reads since the start brought the frames followed by the received bytes, the writes took the answers, and each
+-- read came in time
 pub record KeepsUp (who : Who) (frames : List Frame) (received : List ℕ) (since : List StreamAct) : Type 0 where
   pub brought : came since ≡ stream frames ++ received
   pub took : written since ≡ answers who frames
   pub prompt : IsPrompt who since
 
--- the answers to the frames begin with those to the older ones
+-- the answers to the frames begin with those to the earlier frames
 abbrev pub AnswersGrow : Who → List Frame → Type 0
 AnswersGrow who frames =
     (more older : List Frame) → frames ≡ more ++ older → Begins (answers who older) (answers who frames)
 
--- the frames of the journal, where there is one, were taken when it was read back
+-- the frames of the journal, if there is one, were taken when it was read back
 abbrev pub AreBegun : Rules → Net → ℕ → Option (List Frame) → Type 0
 AreBegun rules net u None = Unit {0}
 AreBegun rules net u (Some frames) = AreRestored (afresh rules net u) frames
 
--- what the node handed out since it began
+-- what the node has handed out since it began
 abbrev pub HandsSince : Who → List Frame → Type 0
 HandsSince who frames = (since : List Output) × (outputs (run_over who frames) ≡ outputs (begun_by who) ++ since)
 
--- these frames, the newest first, were taken and answered, and what was received behind them stands in front of what is
--- still to come
+-- these frames, the newest first, were taken and answered, and the received bytes after them come before what is still
+-- to come
 pub record Runs {P : Type 0} (rules : Rules) (at : Serving P) (process : Process P) (link : LinkView) (frames : List Frame) : Type 0 where
   pub valid : IsValid at.net
   pub is_node : has at.net.nodes at.node ≡ true
@@ -87,7 +88,7 @@ pub record Runs {P : Type 0} (rules : Rules) (at : Serving P) (process : Process
   pub same_sure : link.sure ≡ at.first.sure
   pub quiet : link.faults ≡ at.first.faults
 
--- no frame is longer than this with its six bytes in front
+-- the most bytes of a frame, with the six bytes before its body
 abbrev pub longest : ℕ
 longest = 1048582
 
@@ -95,24 +96,25 @@ longest = 1048582
 abbrev pub left_of : {P : Type 0} → Process P → ℕ
 left_of process = (MOST_FRAMES - process.frames) * 2000000 + (1999999 - length process.received)
 
--- no more was received than a read puts behind the front of a frame
+-- no more was received than a read adds to the beginning of a frame
 abbrev pub IsWithin : {P : Type 0} → Process P → Type 0
 IsWithin process = (length process.received ≤ 1999999) × (process.frames ≤ MOST_FRAMES)
 
--- these frames were taken by now, and less is left to do
+-- these frames have been taken by now, and less is left to do
 pub record ServesOn {P : Type 0} (rules : Rules) (at : Serving P) (process : Process P) (link : LinkView) (frames : List Frame) (before : ℕ) : Type 0 where
   pub runs : Runs rules at process link frames
   pub within : IsWithin process
   pub less : left_of process < before
 
--- how a run ends over its link, where these are the frames that it took
+-- how a run ends over its link, if it took these frames
 pub record EndsServing (who : Who) (link link' : LinkView) (frames : List Frame) (status : Status) : Type 0 where
   pub served : Served who link link' status
   pub answered : AnswersUpTo who frames link link' status
 
 -- ---- with a disk
 
--- the journal is behind the frames, which are kept; and no crash would have left anything but a front of what comes
+-- the journal is after the frames, which are kept; and a crash would never have left more than the first of the frames
+-- that come
 pub record KeepsFrames (who : Who) (incoming : Option (List ℕ)) (first : DiskView) (journal : Option ℕ) (disk : DiskView) (frames : List Frame) : Type 0 where
   pub has : journal ≡ option_map (λ records. place_behind (spellings (frames ++ records))) who.records
   pub moments : (records : List (List ℕ)) → HasKeptBehind who.records [] first records → LeavesOnly first disk (KeepsFront who incoming records)
@@ -131,14 +133,14 @@ pub record GoesFurther {P : Type 0} (rules : Rules) (at : Serving P) (process : 
   pub goes : ServesOn rules at process link frames before
   pub keeps : KeepsFrames (who_at rules at) at.first.incoming at.disk process.journal disk frames
 
--- a process that has taken some frames, whatever these are
+-- a process that has taken some frames
 pub record IsRunning {P : Type 0} (rules : P → Rules) (process : Process P) (link : LinkView) (disk : DiskView) : Type 0 where
   pub at : Serving P
   pub frames : List Frame
   pub works : Works (rules at.policy) at process link disk frames
   pub within : IsWithin process
 
--- and at the front of what it received stands a frame of so many bytes that brings this input, which its node admits
+-- the front of what it received is a frame of `size` bytes that brings this input, which its node admits
 pub record MayTake {P : Type 0} (rules : P → Rules) (process : Process P) (link : LinkView) (i : Input) (size : ℕ) : Type 0 where
   pub at : Serving P
   pub frames : List Frame

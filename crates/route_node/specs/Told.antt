@@ -6,11 +6,11 @@ use Rattle.node_core.specs.declared.outputs.Outputs.TheVariants.{Did, Idle}
 use Rattle.wire_frames.specs.declared.frames.Frame.{Frame}
 use Rattle.route_node.specs.Frames.{telling}
 
--- the frame that tells an output, if there is one
+-- the frame of an output, if it has one
 abbrev pub told : Output → List Frame
 told o = filter_map telling (o ∷ [])
 
--- what a node handed out: nothing, where it did nothing
+-- what a node handed out; nothing if it did nothing
 abbrev pub handed : Outputs → List Output
 handed (Did list) = map output_of list
 handed (Idle reason) = []

@@ -9,26 +9,26 @@ use Rattle.wire_frames.specs.declared.frames.Frame.{Frame}
 use Rattle.wire_frames.specs.Frames.{spell}
 use Rattle.route_node.specs.Frames.{brought}
 
--- by which rules, in which network and as which node; and the frames that its journal had when it began, where it keeps one
+-- the rules, the network and the node, and the frames that its journal had at the start, if it has one
 pub record Who : Type 0 where
   pub rules : Rules
   pub net : Net
   pub node : ℕ
   pub records : Option (List Frame)
 
--- a node that keeps no journal
+-- a node without a journal
 abbrev pub afresh : Rules → Net → ℕ → Who
 afresh rules net u = record { rules = rules; net = net; node = u; records = None }
 
--- a node that was started again behind the frames of its journal
+-- a node that was restarted from the frames of its journal
 abbrev pub again : Rules → Net → ℕ → List Frame → Who
 again rules net u records = record { rules = rules; net = net; node = u; records = Some records }
 
--- what the frames brought to the node
+-- the inputs that the frames brought to the node
 abbrev pub inputs : List Frame → List Input
 inputs frames = filter_map brought frames
 
--- the run of u before the first frame of the link: nothing; or that over the frames of its journal, a crash and a restart
+-- the run of u before the first frame of the link: empty; or that over the frames of its journal, a crash and a restart
 abbrev pub begun : Rules → Net → ℕ → Option (List Frame) → Chronicle
 begun rules net u None = []
 begun rules net u (Some records) = restarted rules net u (inputs records)

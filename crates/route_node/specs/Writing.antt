@@ -12,27 +12,27 @@ use Rattle.route_io.specs.Views.{StreamAct, Write, LinkView}
 use Rattle.wire_frames.specs.declared.frames.Frame.{Frame}
 use Rattle.wire_frames.specs.Frames.{spell}
 
--- the frames, one behind the other
+-- the bytes of the frames, one after another
 abbrev pub spelled : List Frame → List ℕ
 spelled frames = flat_map spell frames
 
--- a frame by one write: the piece is its spelling, and was taken whole
+-- a frame written by one write: the piece is its spelling, and was taken whole
 abbrev pub whole : Frame → StreamAct
 whole f = Write (spell f) (Some (length (spell f)))
 
--- each frame so, in order; the newest act comes first
+-- each frame written like this, in order; the newest act is first
 abbrev pub each_whole : List Frame → List StreamAct
 each_whole [] = []
 each_whole (f ∷ frames) = each_whole frames ++ whole f ∷ []
 
--- where the link had room for them all, the writes since are one for each frame
+-- if the link had room for them all, the writes since are one for each frame
 abbrev pub OneWriteEach : List Frame → LinkView → LinkView → Type 0
 OneWriteEach frames link link' =
     (left : ℕ) → room_left link ≡ Some left → length (spelled frames) ≤ left
     → (before : List StreamAct) → link.acts ≡ Some before
     → (since : List StreamAct) × (link'.acts ≡ Some (since ++ before)) × (writes since ≡ each_whole frames)
 
--- the frames were written whole, and no call failed
+-- all frames were written, and no call failed
 pub record Writes (frames : List Frame) (link link' : LinkView) : Type 0 where
   pub wrote : Appends link.outgoing link'.outgoing (spelled frames)
   pub told : StaysTold link.outgoing link'.outgoing
@@ -41,7 +41,8 @@ pub record Writes (frames : List Frame) (link link' : LinkView) : Type 0 where
   pub others : OnlyWrites link link'
   pub quiet : link'.faults ≡ link.faults
 
--- a front of the frames was written, and then memory ran out or a call failed; a call of a sure link only for want of room
+-- the first part of the frames was written, and then memory ran out or a call failed; on a sure link only for want of
+-- room
 pub record Breaks (frames : List Frame) (link link' : LinkView) (status : Status) : Type 0 where
   pub why : (status ≡ NoMemory) ⊎ (status ≡ LinkFault)
   pub link_fault : RoseIf (status ≡ LinkFault) link.faults link'.faults

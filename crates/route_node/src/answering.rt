@@ -1,4 +1,4 @@
-//! What a node makes of an input that a frame brought.
+//! What a node does with the input that a frame brings.
 ghost use Rattle.std.specs.Prelude.{◌≡◌, ℕ, ◌<◌, true, None, filter_map, OnOk, IfOk, IfErr};
 ghost use Rattle.std.specs.List.{list_all};
 ghost use Rattle.topology.specs.Net.{Net};
@@ -26,7 +26,7 @@ use std::alloc::Global;
 use topology::limits::MOST_FRAMES;
 use topology::{FrameFault, LimitKind, NodeId, Reason, Status, Topology};
 
-/// Why a frame is refused whose input came to this: it is out of turn.
+/// Why a frame is refused after the node handled its input: the update was out of turn.
 pub(crate) fn fault_of(outputs: &Outputs) -> Option<FrameFault>
     ensures { (past : Chronicle) (step : Step) → Answers past step outputs.now → result ≡ out_of_turn step }
 {
@@ -39,7 +39,7 @@ pub(crate) fn fault_of(outputs: &Outputs) -> Option<FrameFault>
     }
 }
 
-// How the run ends where the node stopped: the frames are counted before all that the node counts.
+// How the run ends if the node stopped. The limit on frames comes before all limits of the node.
 fn stopped(frames: u32, stop: Stop) -> Status
     ensures { StopsFrame frames stop result }
 {
@@ -50,7 +50,7 @@ fn stopped(frames: u32, stop: Stop) -> Status
     }
 }
 
-/// Gives the input of a frame to the node. An update out of turn refuses the frame, before the frames are counted.
+/// Gives the input of a frame to the node. A frame with an update out of turn is refused before frames are counted.
 pub(crate) fn hear<P: Policy + Copy>(
     node: Node<P>,
     input: Input,
@@ -89,7 +89,7 @@ pub(crate) fn hear<P: Policy + Copy>(
     Ok((node, outputs))
 }
 
-/// Writes a frame for each output that has one; nothing, where the node did nothing.
+/// Writes a frame for each output that has one. If the node did nothing, writes nothing.
 pub(crate) fn write_outputs<L: Link>(
     alloc: Global,
     topology: &Topology,

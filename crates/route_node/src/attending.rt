@@ -1,4 +1,4 @@
-//! A node of a network that a source holds.
+//! Runs a node of a network that is read from a source.
 ghost use Rattle.std.specs.Prelude.{◌≡◌, true, IfOk, IfErr};
 ghost use Rattle.route_io.specs.Views.{LinkView};
 ghost use Rattle.route_node.specs.Attended.{Attended, Endpoint, Gives, endpoint};
@@ -15,7 +15,7 @@ use std::rc::Rc;
 use topology::limits::MOST_BYTES;
 use topology::{LimitKind, NodeId, Status, Topology};
 
-/// A node that keeps its frames: its number, the address of its peer, and the name of the file of its journal.
+/// A node that keeps its frames: its number, the address of its peer, and the name of its journal's file.
 #[derive(Clone, Copy, Debug)]
 pub struct KeptNode<'a> {
     pub id: NodeId,
@@ -23,7 +23,7 @@ pub struct KeptNode<'a> {
     pub file: &'a str,
 }
 
-// The network that a source holds.
+// Reads the network from a source.
 fn network_of<I: Source>(alloc: Global, source: &mut I) -> Result<Rc<Topology>, Status>
     ensures ok { IfOk result (λ network. Gives (I.seen source.old) (I.seen source.new) network.value) }
     ensures err { IfErr result (λ status. (here : Endpoint) (link : LinkView) →
@@ -47,8 +47,8 @@ fn network_of<I: Source>(alloc: Global, source: &mut I) -> Result<Rc<Topology>, 
     }
 }
 
-/// Reads a network from the source, dials the address, and answers the frames as the node with this number. What a user may
-/// rely on stands in `specs/Attended.antt`.
+/// Reads a network from the source, dials the address, and answers the frames as the node with this number.
+/// `specs/Attended.antt` says what a user may rely on.
 pub fn attend<I: Source, L: Link>(
     alloc: Global,
     id: NodeId,
@@ -71,9 +71,9 @@ pub fn attend<I: Source, L: Link>(
     serve(alloc, id, network, link)
 }
 
-/// Reads a network from the source, starts the node again behind the frames of its journal, dials the address, and answers
-/// the frames, each of which is kept before its replies are written. What a user may rely on stands in
-/// `specs/AttendedKept.antt`.
+/// Reads a network from the source, restarts the node from the frames of its journal, dials the address, and answers
+/// the frames. Each frame is kept in the journal before its replies are written. `specs/AttendedKept.antt` says what a
+/// user may rely on.
 pub fn attend_kept<I: Source, L: Link, D: Disk>(
     alloc: Global,
     here: KeptNode<'_>,

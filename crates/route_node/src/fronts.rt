@@ -1,4 +1,4 @@
-//! What stands at the front of what was received.
+//! What is at the front of the received bytes.
 ghost use Rattle.route_node.specs.Fronts.{IsFront};
 
 use route_io::Received;
@@ -6,20 +6,20 @@ use std::alloc::Global;
 use topology::FrameKind;
 use wire_frames::{Decoded, Frame, decode, to_owned};
 
-/// What stands at the front of some bytes, with a frame read into memory.
+/// What is at the front of some bytes, with a frame read into memory.
 #[derive(Debug, Drop)]
 pub enum Front {
-    /// A frame, and how many bytes it has.
+    /// A frame, and its number of bytes.
     Frame(Frame, usize),
-    /// What may become a frame, if more bytes come.
+    /// The beginning of a possible frame: more bytes are needed.
     More,
-    /// No frame, whatever comes.
+    /// No frame, whatever bytes follow.
     Bad(FrameKind),
-    /// A frame, for which there was no memory.
+    /// A frame for which there was not enough memory.
     NoMemory,
 }
 
-/// What stands at the front of these bytes.
+/// What is at the front of these bytes.
 pub(crate) fn front_in(alloc: Global, bytes: &[u8]) -> Front
     ensures { IsFront result bytes.now }
 {
@@ -33,7 +33,7 @@ pub(crate) fn front_in(alloc: Global, bytes: &[u8]) -> Front
     }
 }
 
-/// What stands at the front of what was received.
+/// What is at the front of the received bytes.
 pub(crate) fn front_of(alloc: Global, received: &Received) -> Front
     ensures { IsFront result received.now }
 {

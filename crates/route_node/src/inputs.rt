@@ -1,4 +1,4 @@
-//! What frames bring to a node.
+//! The inputs that frames bring to a node.
 ghost use Rattle.std.specs.Prelude.{◌≡◌, option_map, IfOk};
 ghost use Rattle.node_core.specs.Inputs.{input_of as input_seen};
 ghost use Rattle.route_node.specs.Frames.{brought};
@@ -11,7 +11,7 @@ use std::rc::Rc;
 use topology::{Item, NoMemory};
 use wire_frames::Frame;
 
-// What a frame of the agreement brings, with its sender.
+// The input of a frame about an agreement, with its sender.
 fn control_of(frame: Frame) -> Option<Input>
     ensures { option_map input_seen result ≡ agreement_brought frame }
 {
@@ -66,7 +66,7 @@ fn control_of(frame: Frame) -> Option<Input>
     }
 }
 
-// What a frame of a session brings, or one of the agreement.
+// The input of a frame of a session or about an agreement.
 fn arrival_of(frame: Frame) -> Option<Input>
     ensures { option_map input_seen result ≡ arrival_brought frame }
 {
@@ -110,7 +110,7 @@ fn arrival_of(frame: Frame) -> Option<Input>
     }
 }
 
-// What a frame brings that needs memory for it: a report is shared, and a packet lies behind a box.
+// The input of a frame that takes memory: a report becomes shared, and a packet is boxed.
 fn kept_of(alloc: Global, frame: Frame) -> Result<Option<Input>, NoMemory>
     ensures { IfOk result (λ input. option_map input_seen input ≡ kept_brought frame) }
 {
@@ -127,7 +127,7 @@ fn kept_of(alloc: Global, frame: Frame) -> Result<Option<Input>, NoMemory>
     }
 }
 
-/// What a frame brings to the node. None exactly where frames of its kind go from a node alone.
+/// The input that a frame brings to the node. The answer is `None` exactly where only nodes send frames of this kind.
 pub fn input_of(alloc: Global, frame: Frame) -> Result<Option<Input>, NoMemory>
     ensures { IfOk result (λ input. option_map input_seen input ≡ brought frame) }
 {

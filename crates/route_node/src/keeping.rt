@@ -1,14 +1,14 @@
-//! The frames that a node takes, in its journal.
+//! Keeps the frames that a node takes in its journal.
 ghost use Rattle.std.specs.Prelude.{◌≡◌};
 ghost use Rattle.route_node.specs.Keeping.{KeptBy, ended_by};
 
 use acceptor_journal::{Disk, Journal, JournalEnd, MOST_JOURNAL_BYTES};
 use topology::{LimitKind, Status};
 
-/// The most bytes of a journal, as a limit names them.
+/// The most bytes of a journal, as the status `Limit` names them.
 pub const MOST_JOURNAL: u32 = MOST_JOURNAL_BYTES as u32;
 
-/// How a run ends where a call of its journal has no answer.
+/// How a run ends after a failed call of its journal.
 pub(crate) fn status_of(end: JournalEnd) -> Status
     ensures { result ≡ ended_by end }
 {
@@ -19,7 +19,7 @@ pub(crate) fn status_of(end: JournalEnd) -> Status
     }
 }
 
-/// Appends the bytes of a frame to the journal, where there is one.
+/// Appends the bytes of a frame to the journal, if there is one.
 pub(crate) fn keep<D: Disk>(
     journal: Option<Journal>,
     disk: &mut D,

@@ -1,9 +1,9 @@
 //! One node over a link: it reads frames, gives each to the node, and writes what the node hands out.
 //!
-//! [`serve`] answers the frames of a link that was dialled, [`attend`] reads the network from a source and dials first;
-//! [`attend_plain`] does so over plain memory.
-//! What a stream of frames comes to stands in `specs/Streams.antt`, what a user is promised in `specs/Served.antt` and
-//! `specs/Attended.antt`, over plain memory in `specs/Plain.antt`.
+//! [`serve`] answers the frames of a link that was dialled; [`attend`] reads the network from a source and dials first;
+//! [`attend_plain`] does the same over plain memory. `specs/Streams.antt` defines how a stream of frames ends.
+//! `specs/Served.antt` and `specs/Attended.antt` say what a user is promised, `specs/Plain.antt` what is added over
+//! plain memory.
 #![tactic(auto)]
 
 mod answering;

@@ -1,4 +1,4 @@
-//! What a node hands out, as frames.
+//! The outputs of a node, as frames.
 ghost use Rattle.std.specs.Prelude.{◌≡◌, ℕ, true, IfOk};
 ghost use Rattle.trigger_log.specs.Going.{item_of};
 ghost use Rattle.consolidator.specs.Seen.{message_seen};
@@ -14,7 +14,7 @@ use topology::{Item, NoMemory, Topology};
 use trigger_log::Outgoing;
 use wire_frames::Frame;
 
-// An item for a neighbour.
+// The frame of an item for a neighbour.
 fn item_frame(outgoing: Outgoing) -> Frame
     ensures { result ≡ item_told outgoing.to outgoing.session (item_of outgoing.item) }
 {
@@ -26,7 +26,7 @@ fn item_frame(outgoing: Outgoing) -> Frame
             triggers,
             path,
         } => {
-            // that triggers rise is said where they are read
+            // brings in the invariant of the list: triggers ascend
             let _triggers = triggers.as_slice();
             Frame::Update {
                 peer: to,
@@ -50,7 +50,7 @@ fn item_frame(outgoing: Outgoing) -> Frame
     }
 }
 
-// A control message for a node.
+// The frame of a control message for a node.
 fn mail_frame(alloc: Global, mail: Mail) -> Result<Frame, NoMemory>
     ensures { IfOk result (λ frame. frame ≡ mail_told mail.to (message_seen mail.message)) }
 {
@@ -98,7 +98,7 @@ fn mail_frame(alloc: Global, mail: Mail) -> Result<Frame, NoMemory>
     })
 }
 
-/// The frame that tells an output, where one does: entries and cuts are the node's own affair.
+/// The frame of an output, if it has one. Entries and cuts have none: they stay inside the node.
 pub(crate) fn frame_of(
     alloc: Global,
     topology: &Topology,

@@ -7,8 +7,8 @@ use route_io::{Link, PlainLink, PlainSource, Source};
 use std::alloc::Global;
 use topology::{NodeId, Status};
 
-/// [`attend`] where no call of the outside is listed to fail: no read and no dial fails, and a write fails only where the
-/// answers to the frames that were taken are longer than the room.
+/// [`attend`] over memory without calls that are listed to fail: no read and no dial fails, and a write fails only if
+/// the answers to the frames taken so far exceed the room.
 pub fn attend_plain(
     alloc: Global,
     id: NodeId,

@@ -1,4 +1,4 @@
-//! What a node makes of a record of its journal.
+//! What a node does with a record of its journal.
 ghost use Rattle.std.specs.Prelude.{◌≡◌, ◌∷◌, true, ℕ, List, None, IfOk, IfErr, OnOk};
 ghost use Rattle.topology.specs.Net.{Net};
 ghost use Rattle.chronicle.specs.Facts.{Chronicle};
@@ -24,7 +24,7 @@ use std::alloc::Global;
 use topology::{FrameFault, Status};
 use wire_frames::Frame;
 
-// The frame that the record has, and nothing behind it.
+// The frame of the record. Nothing may follow it.
 fn frame_of(alloc: Global, bytes: &[u8], offset: u64) -> Result<Frame, Status>
     ensures ok { IfOk result (λ frame. HasFrame bytes.now frame) }
     ensures err { IfErr result (λ status. (who : Who) (frames : List AnyFrame) → RefusesRecord who frames offset bytes.now status) }
@@ -37,7 +37,7 @@ fn frame_of(alloc: Global, bytes: &[u8], offset: u64) -> Result<Frame, Status>
     }
 }
 
-// What the frame brings, where the node admits it.
+// The input of the frame, if the node admits it.
 fn admit<P: Policy + Copy>(
     alloc: Global,
     node: &Node<P>,
@@ -62,7 +62,7 @@ fn admit<P: Policy + Copy>(
     Ok(input)
 }
 
-// How the reading ends where the node stopped.
+// How reading the journal ends if the node stopped.
 fn stopped(stop: Stop) -> Status
     ensures { StopsRecord stop result }
 {
@@ -72,7 +72,8 @@ fn stopped(stop: Stop) -> Status
     }
 }
 
-// Gives the input of a record to the node. Its outputs were written before, or are not written: they are let go.
+// Gives the input of a record to the node. Its outputs are dropped: they were written before the crash, or are never
+// written.
 fn hear<P: Policy + Copy>(node: Node<P>, input: Input, offset: u64) -> Result<Node<P>, Status>
     ensures node { IfOk result (λ next. (policy : P) (net : Net) (u : ℕ) (carried : Carried) (past : Chronicle) →
         StandsFor policy (P.rules policy) net u node past → MayCome net u (input_seen input) →
@@ -99,7 +100,8 @@ fn hear<P: Policy + Copy>(node: Node<P>, input: Input, offset: u64) -> Result<No
     Ok(node)
 }
 
-/// The node behind the record of these bytes, which begins at this offset. It is checked as a frame of the link is.
+/// The node after the record of these bytes, which begins at this offset. The record is checked like a frame of the
+/// link.
 pub(crate) fn take_record<P: Policy + Copy>(
     alloc: Global,
     node: Node<P>,

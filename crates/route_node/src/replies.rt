@@ -30,7 +30,7 @@ fn write_frame<L: Link>(alloc: Global, frame: &Frame, link: &mut L) -> Result<()
     Ok(())
 }
 
-// Writes the frame that tells the output, if there is one.
+// Writes the frame of the output, if it has one.
 fn write_reply<L: Link>(
     alloc: Global,
     topology: &Topology,
@@ -42,7 +42,7 @@ fn write_reply<L: Link>(
     ensures ok { OnOk result (Writes (told (output_of output)) (L.seen link.old) (L.seen link.new)) }
     ensures err { IfErr result (Breaks (told (output_of output)) (L.seen link.old) (L.seen link.new)) }
 {
-    // that a network is valid is said where its nodes are read
+    // brings in the invariant of the topology
     let _nodes = topology.nodes();
     let Ok(shown) = frame_of(alloc, topology, output) else {
         return Err(Status::NoMemory);
@@ -53,7 +53,7 @@ fn write_reply<L: Link>(
     }
 }
 
-// Writes a frame for each of these outputs that has one, in their order, each by one write.
+// Writes a frame for each of these outputs that has one, in order, each by one write.
 fn write_each<L: Link>(
     alloc: Global,
     topology: &Topology,
@@ -71,7 +71,7 @@ fn write_each<L: Link>(
     Ok(())
 }
 
-/// Writes a frame for each output that has one, in their order, each by one write.
+/// Writes a frame for each output that has one, in order, each by one write.
 pub(crate) fn write_replies<L: Link>(
     alloc: Global,
     topology: &Topology,

@@ -1,4 +1,4 @@
-//! A report and a table as frames have them: the node shares its own.
+//! Copies of reports and tables for frames. The node itself shares its own.
 ghost use Rattle.std.specs.Prelude.{◌≡◌, ℕ, true, IfOk, map, slice_get, option_and_then};
 ghost use Rattle.std.specs.List.{list_all};
 ghost use Rattle.topology.specs.Net.{Net};
@@ -13,7 +13,7 @@ use std::alloc::Global;
 use topology::{NoMemory, Path, Pending, PrefixId, Sent, SentItems, Topology};
 use wire_frames::Paths;
 
-// Each list is told as it is: the lists of items rise, as their type says.
+// Each item has the list that its frame has, because the triggers of a list ascend by type.
 fn items_are_told(items: &[Sent])
     ensures { map item_told items.now ≡ items.now }
 {
@@ -22,7 +22,7 @@ fn items_are_told(items: &[Sent])
     }
 }
 
-// So does what an entry sent.
+// The same for the items that an entry sent.
 fn sent_is_told(sent: &SentItems)
     ensures { map item_told sent.now ≡ sent.now }
 {
@@ -69,7 +69,7 @@ fn all_pending_copy(alloc: Global, rows: &[Pending]) -> Result<PendingRows, NoMe
     Ok(PendingRows::new(list))
 }
 
-/// A copy of a report, as a frame tells it.
+/// A copy of a report for a frame.
 pub(crate) fn report_copy(alloc: Global, report: &Report) -> Result<Report, NoMemory>
     ensures { IfOk result (λ copy. copy ≡ report_told (report_seen report.now)) }
 {

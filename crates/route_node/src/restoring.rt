@@ -1,4 +1,4 @@
-//! A node that is started again behind the frames of its journal.
+//! Restarts a node from the frames of its journal.
 ghost use Rattle.std.specs.Prelude.{◌≡◌, ◌∷◌, ℕ, true, OnOk};
 ghost use Rattle.topology.specs.Lists.{has};
 ghost use Rattle.topology.specs.Net.{Net};
@@ -15,14 +15,14 @@ use std::alloc::Global;
 use std::rc::Rc;
 use topology::{NodeId, Status, Topology};
 
-/// A node that was started again, and the journal in which it keeps the frames that it takes.
+/// A restarted node, and the journal in which it keeps the frames that it takes.
 #[derive(Drop)]
 pub struct Kept {
     pub node: Node<GaoRexford>,
     pub journal: Journal,
 }
 
-// The node behind a crash and a restart.
+// The node after a crash and a restart.
 fn started_again<P: Policy + Copy>(node: Node<P>) -> Node<P>
     ensures { (policy : P) (net : Net) (u : ℕ) (past : Chronicle) →
         StandsFor policy (P.rules policy) net u node past →
@@ -32,9 +32,9 @@ fn started_again<P: Policy + Copy>(node: Node<P>) -> Node<P>
     node.forget()
 }
 
-/// Opens the journal of this name, gives the frame of each record to the node with this number, and closes the gate
-/// behind the records. The node then crashes and comes back, as the process did: what it had collected as a consolidator
-/// is lost. Nothing that it answers on the way is written. A record that is refused leaves the file as it was.
+/// Opens the journal with this name, gives the frame of each record to the node with this number, and closes the gate
+/// after the records. Then the node crashes and restarts, as the process did, and so loses what it had collected as a
+/// consolidator. None of its answers is written. If a record is refused, the file stays as it was.
 pub fn restore<D: Disk>(
     alloc: Global,
     id: NodeId,

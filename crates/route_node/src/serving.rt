@@ -29,8 +29,8 @@ use std::rc::Rc;
 use topology::{FrameFault, NodeId, Status, Topology};
 use wire_frames::Frame;
 
-// A node over its link: what came and was not taken yet, how many frames were taken, how many bytes these had, and the
-// journal in which they are kept, if there is one.
+// A node over its link: the bytes that were received and not yet taken, how many frames were taken, how many bytes
+// these had, and the journal in which they are kept, if there is one.
 #[derive(Drop)]
 pub(crate) struct Process<P: Policy + Copy> {
     alloc: Global,
@@ -44,14 +44,14 @@ pub(crate) struct Process<P: Policy + Copy> {
 }
 
 impl<P: Policy + Copy> Process<P> {
-    // The run ends at the frame that begins here.
+    // Ends the run at the frame that begins here.
     fn refuse(&self, fault: FrameFault) -> Status
         ensures { result ≡ Status.BadFrame self.now.offset fault }
     {
         Status::BadFrame(self.offset, fault)
     }
 
-    // Reads once, where what came is no whole frame. The end of the link between two frames ends the run.
+    // Reads once, because no whole frame was received yet. If the link ends between two frames, the run ends.
     fn wait<L: Link>(mut self, link: &mut L) -> Result<Process<P>, Status>
         ensures ok { IfOk result (λ next. (at : Serving P) (frames : List AnyFrame) →
             Runs (P.rules at.policy) at self (L.seen link.old) frames → IsWithin self → found self.received ≡ Partial →
@@ -70,7 +70,7 @@ impl<P: Policy + Copy> Process<P> {
         }
     }
 
-    // What the frame brings, where the node admits it.
+    // The input of the frame, if the node admits it.
     fn admit(&self, frame: Frame) -> Result<Input, Status>
         ensures ok { IfOk result (λ input. (at : Serving P) (link : LinkView) (frames : List AnyFrame) →
             Runs (P.rules at.policy) at self.now link frames → Admits at.net at.node frame (input_seen input)) }
@@ -165,7 +165,7 @@ impl<P: Policy + Copy> Process<P> {
     }
 }
 
-// Answers the frames until the run ends, and says how.
+// Answers frames until the run ends. Returns how it ended.
 fn ends<P: Policy + Copy, L: Link, D: Disk>(
     process: Process<P>,
     link: &mut L,
@@ -185,14 +185,14 @@ fn ends<P: Policy + Copy, L: Link, D: Disk>(
     }
 }
 
-/// Answers the frames of a link that was dialled, as the node with this number: decodes them in their order, gives each to
-/// the node, and writes the replies of each before it looks at the next one. The end of the link between two frames ends
-/// the run. What a user may rely on stands in `specs/Served.antt`.
+/// Answers the frames of a link that was dialled, as the node with this number. It decodes them in order, gives each to
+/// the node, and writes its replies before it looks at the next one. If the link ends between two frames, the run ends.
+/// `specs/Served.antt` says what a user may rely on.
 pub fn serve<L: Link>(alloc: Global, id: NodeId, topology: Rc<Topology>, link: &mut L) -> Status
     requires { has topology.value.nodes id ≡ true }
     ensures { Served (afresh gao_rexford topology.value id) (L.seen link.old) (L.seen link.new) result }
 {
-    // that a network is valid is said where its nodes are read
+    // brings in the invariant of the topology
     let _nodes = topology.nodes();
     let Ok(shared) = topology.clone() else {
         return Status::NoMemory;
@@ -210,14 +210,14 @@ pub fn serve<L: Link>(alloc: Global, id: NodeId, topology: Rc<Topology>, link: &
         offset: 0,
         journal: None,
     };
-    // without a journal no call is made of it
+    // without a journal this disk is never called
     let mut disk = MemDisk::new(alloc, Vec::new(alloc), Vec::new(alloc));
     ends(process, link, &mut disk)
 }
 
-/// Answers the frames of a link that was dialled, as a node that was started again does: each frame that it takes is in the
-/// journal before its replies are written. Condition: the network is that of the node. What a user may rely on stands in
-/// `specs/ServedKept.antt`.
+/// Answers the frames of a link that was dialled, as a restarted node. Each frame that it takes is in the journal
+/// before its replies are written. Condition: the network is that of the node. `specs/ServedKept.antt` says what a user
+/// may rely on.
 pub fn serve_kept<L: Link, D: Disk>(
     alloc: Global,
     kept: Kept,
@@ -229,7 +229,7 @@ pub fn serve_kept<L: Link, D: Disk>(
     ensures { (u : ℕ) (records : List AnyFrame) → IsRestored topology.value kept u records →
         ServedKept (again gao_rexford topology.value u records) (L.seen link.old) (L.seen link.new) (D.seen disk.old) (D.seen disk.new) result }
 {
-    // that a network is valid is said where its nodes are read
+    // brings in the invariant of the topology
     let _nodes = topology.nodes();
     let Kept { node, journal } = kept;
     let process = Process {

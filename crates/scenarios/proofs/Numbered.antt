@@ -1,4 +1,4 @@
--- Reports of one epoch, of the nodes up to a number in their order.
+-- Reports of one epoch, of the nodes from 1 up to a number in order.
 use Rattle.std.proofs.Common.{ℕ, List, [], ◌∷◌, ◌++◌, map, nat_cmp, Less, ◌≡◌, ◌+◌, ◌<◌, ◌≤◌, sym, ◌∙◌, ap, subst, arith}
 use Rattle.std.specs.List.{AllByRecursion}
 use Rattle.std.specs.List.Sorted.{IsStrictlySortedBy}
@@ -9,7 +9,7 @@ use Rattle.incomplete_closure.specs.declared.reports.Report.{Report}
 use Rattle.incomplete_closure.specs.Together.{OfOneEpoch, nodes_of}
 use Rattle.incomplete_closure.proofs.Listing.{each_at}
 
--- they are of epoch 1, and of ascending nodes, none of which is above n
+-- the reports are of epoch 1, and their nodes ascend and are at most n
 pub record AreNumbered (n : ℕ) (reports : List Report) : Type 0 where
   pub epochs : AllByRecursion (λ (r : Report). r.epoch ≡ 1) reports
   pub low : AllByRecursion (λ m. m ≤ n) (nodes_of reports)
@@ -68,7 +68,7 @@ pushed_numbered f n old new x r items is are node epoch =
     subst (AreNumbered (n + 1)) (ap (λ k. map f old ++ k ∷ []) (sym is) ∙ (sym (map-append f old (x ∷ [])) ∙ ap (map f) (sym items)))
     (more_numbered n (map f old) r are node epoch)
 
--- they may be put together
+-- they can be combined
 pub numbered_together : (n : ℕ) (rs : List Report) → AreNumbered n rs → OfOneEpoch rs
 numbered_together n rs are = record {
   epoch = λ a b m k. each_at (λ (x : Report). x.epoch ≡ 1) rs a are.epochs m ∙ sym (each_at (λ (x : Report). x.epoch ≡ 1) rs b are.epochs k);

@@ -1,4 +1,4 @@
-//! Runs up to their limits, and what is asked of the libraries themselves.
+//! Runs up to their limits, and calls of single libraries.
 mod chains;
 mod limits;
 mod schemes;

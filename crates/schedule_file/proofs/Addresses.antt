@@ -7,7 +7,7 @@ use Rattle.std.proofs.lemmas.Fmt.{decimal_injective}
 use Rattle.std.proofs.lemmas.Nat.{one_shl}
 use Rattle.schedule_file.proofs.Numbers.{same_front}
 
--- what stands behind the first, the second and the third number
+-- what follows the first, the second and the third number
 abbrev pub from_fourth : ℕ → ℕ → List ℕ
 from_fourth bits len = decimal (bits % 256) ++ 47 ∷ decimal len
 

@@ -1,4 +1,4 @@
--- What is printed of a file is a file of the same schedule.
+-- A printed file is a file of the same schedule.
 use Rattle.std.proofs.Common.{◌≡◌, ℕ, suc, true, false, not, ◌||◌, ◌==◌, List, [], ◌∷◌, ◌++◌, length, append-nil, refl, sym, ap, ap₂, ◌∙◌, subst}
 use Rattle.std.specs.Prelude.{Some, None, IsTrue, map, slice_get, unwrap_or, if◌then◌else◌}
 use Rattle.std.specs.List.{list_any}
@@ -99,7 +99,7 @@ same_instruction net (ShowEpoch Closure epoch) e = refl
 same_instruction net (ShowEpoch Tables epoch) e = refl
 same_instruction net (ShowWalk packet) e = refl
 
--- preferences are nothing to the names of an instruction
+-- preferences do not matter for the names of an instruction
 
 module _ (net : Net) (valid : IsValid net) where
   abbrev final : Net
@@ -137,7 +137,7 @@ module _ (net : Net) (valid : IsValid net) where
   same_directive (ShowEpoch view epoch) = refl
   same_directive (ShowWalk packet) = refl
 
-  -- behind begin: the whole network, and the directives so far
+  -- after begin: the whole network, and the directives so far
   record Behind (front : List Numbered) (e : List Line) : Type 0 where
     whole : net_of e ≡ final
     late : begun e ≡ true
@@ -182,7 +182,7 @@ module _ (net : Net) (valid : IsValid net) where
         there = record { whole = at.stands_for; late = refl; directed = ap unnumbered (append-nil (directives_of e) ∙ at.none) };
       }
 
-  -- one section behind the other
+  -- one section after another
   all_come : Described net → (all : List Numbered) → AreInstructed net all → Reaches [] (printed_lines net all) (Behind all)
   all_come d all follow =
       let start : At (with_nodes net []) [] = record { stands_for = refl; early = refl; none = refl } in
@@ -208,7 +208,7 @@ module _ (net : Net) (valid : IsValid net) where
     scheme = refl;
   }
 
--- what such a text says, whoever reads it
+-- what such a text says to every reader
 pub same_again : (text : List ℕ) (schedule other : Schedule) → IsFileAgain text schedule → IsFile text other → IsSame schedule other
 same_again text schedule other again file =
     let same = same_lines text file.0 again.lines file.1 again.reads in

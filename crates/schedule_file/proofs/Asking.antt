@@ -1,4 +1,4 @@
--- What the refusals of a network say of a line, and how an error is handed on.
+-- What the network's refusals say of a line, and how an error is passed on.
 use Rattle.std.proofs.Common.{◌≡◌, refl, sym, ap, ◌∙◌, subst}
 use Rattle.std.specs.Prelude.{Option, Some, None, Result, Err, IsErr, IsErrAnd, IfErr}
 use Rattle.std.proofs.lemmas.Result.{err_from_is_err_and}
@@ -9,7 +9,7 @@ use Rattle.schedule_file.specs.declared.names.Refusal.{Refusal}
 use Rattle.schedule_file.specs.Grammar.{fault_from}
 use Rattle.schedule_file.specs.Standing.{NamesFault, refusal_of}
 
--- an error that a `?` hands on
+-- an error that `?` passes on
 pub handed_on : {T E : Type 0} (r : Result T E) (Q P : E → Type 0) → IsErr r × IsErrAnd r Q → ((e : E) → Q e → P e) → IfErr r P
 handed_on r Q P h step =
     let e = err_from_is_err_and r h.1 in

@@ -1,4 +1,4 @@
--- Lines that may come one after the other, in sections of one kind each.
+-- Lines that may follow one another, in sections of one kind each.
 use Rattle.std.proofs.Common.{◌≡◌, false, List, [], ◌∷◌, ◌++◌, append_assoc, append-nil, refl, sym, ap, ◌∙◌, subst}
 use Rattle.std.specs.Prelude.{map, None, IsTrue, if◌then◌else◌}
 use Rattle.std.specs.List.{AllByRecursion}
@@ -12,7 +12,7 @@ use Rattle.schedule_file.specs.Lines.{line_words, InRange, DeclaresInRange}
 use Rattle.schedule_file.specs.Grammar.{with_declaration, net_of, begun, declared_fault, allowed, directives_of, Reads}
 use Rattle.schedule_file.proofs.Steps.{allowed_from}
 
--- after the earlier lines these may come, one by one
+-- after the earlier lines these may follow, one by one
 abbrev pub MayStandNext : List Line → List Line → Type 0
 MayStandNext earlier [] = Unit {0}
 MayStandNext earlier (line ∷ lines) = InRange line × IsTrue (allowed Run earlier line) × MayStandNext (line ∷ earlier) lines
@@ -30,7 +30,7 @@ pub comes_in_range : (earlier lines : List Line) → MayStandNext earlier lines 
 comes_in_range earlier [] h = tt
 comes_in_range earlier (line ∷ lines) h = (h.0, comes_in_range (line ∷ earlier) lines h.2)
 
--- these come, and then this holds
+-- these may follow, and then this holds
 pub record Reaches (earlier lines : List Line) (P : List Line → Type 0) : Type 0 where
   pub comes : MayStandNext earlier lines
   pub there : P (after earlier lines)
@@ -41,7 +41,7 @@ reaches_both earlier (line ∷ lines) others P Q h next =
     let more = reaches_both (line ∷ earlier) lines others P Q (record { comes = h.comes.2; there = h.there }) next in
     record { comes = (h.comes.0, h.comes.1, more.comes); there = more.there }
 
--- a section: a line for each of a list, where each may come behind those in front of it
+-- a section: a line for each element of a list, each of which may follow those before it
 module _ {X : Type 0} (f : X → Line) (S : List X → List Line → Type 0) (all : List X)
     (step : (front : List X) (x : X) (back : List X) (e : List Line) → front ++ x ∷ back ≡ all → S front e → InRange (f x) × IsTrue (allowed Run e (f x)) × S (front ++ x ∷ []) (f x ∷ e)) where
   from : (front rest : List X) (e : List Line) → front ++ rest ≡ all → S front e → Reaches e (map f rest) (S all)

@@ -1,4 +1,4 @@
--- What is known of a network that the lines of a file describe.
+-- Properties of a network that a file describes.
 use Rattle.std.proofs.Common.{◌≡◌, ℕ, Bool, true, false, cond, ◌||◌, ◌==◌, List, [], ◌∷◌, ◌++◌, filter, length, refl, sym, ap, ◌∙◌, subst}
 use Rattle.std.specs.Prelude.{Some, None, nat_le, ◌&&◌, is_none, if◌then◌else◌}
 use Rattle.std.specs.List.{AllByRecursion}

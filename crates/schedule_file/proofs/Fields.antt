@@ -17,7 +17,7 @@ fine field wanted word words e = cond-true (spells_field field word) (first_faul
 pub bad : (field : Field) (wanted : List Field) (word : List ℕ) (words : List (List ℕ)) → spells_field field word ≡ false → first_fault (field ∷ wanted) (word ∷ words) ≡ Some (fault_of field)
 bad field wanted word words e = cond-false (spells_field field word) (first_fault wanted words) (Some (fault_of field)) e
 
--- where nothing is wrong, there is a word for the first field, which it spells, and nothing is wrong with the others
+-- without a fault there is a word for the first field, which it spells, and the others have no fault
 pub record First (field : Field) (wanted : List Field) (words : List (List ℕ)) : Type 0 where
   pub word : List ℕ
   pub rest : List (List ℕ)
@@ -40,7 +40,7 @@ head_spells field wanted word words e =
     let same : a.word ≡ word = (let q : word ∷ words ≡ a.word ∷ a.rest = a.are in cc) in
     subst (λ w. spells_field field w ≡ true) same a.spells
 
--- where no field is wanted and nothing is wrong, there is no word
+-- if no field is wanted and there is no fault, there is no word
 pub none_left : (words : List (List ℕ)) → first_fault [] words ≡ None → words ≡ []
 none_left [] e = refl
 none_left (word ∷ words) e = absurd (none-some WrongCount (sym e))
@@ -91,7 +91,7 @@ three field other last words e =
       spells_end = b.spells_next;
     }
 
--- the form of a line has no fault exactly where each of its tests passes
+-- a line's form has no fault exactly where each of its tests passes
 pub good_form : (part : Part) (k : Keyword) (words : List (List ℕ)) → may_stand part (shape_of k) ≡ true → may_have (shape_of k) (suc (length words)) ≡ true → form_fault part k words ≡ None
 good_form part k words here count =
     cond-false (not (may_stand part (shape_of k))) (Some NotHere) _ (not_from_true (may_stand part (shape_of k)) here)

@@ -1,4 +1,4 @@
--- What a reading of a text says of files and their first bad line.
+-- What reading a text says of files and of their first bad line.
 use Rattle.std.proofs.Common.{ℕ, List, []}
 use Rattle.std.specs.Prelude.{Result, Ok, Err, IfOk, IfErr, IsErr, IsErrAnd}
 use Rattle.std.proofs.lemmas.Result.{err_from_is_err_and}
@@ -15,7 +15,7 @@ use Rattle.schedule_file.specs.Ends.{SaysWhy, IsWantOfMemory, IsBadOrMemory}
 use Rattle.schedule_file.proofs.Readings.{none_first, one_first_in}
 use Rattle.schedule_file.proofs.Following.{file_follows}
 
--- a text that is read is refused for want of memory alone
+-- a text that can be read is refused only for want of memory
 pub for_memory : (behind : Part) (text : List ℕ) (why : ParseEnd) (lines : List Line) → SaysWhy behind text why → ReadsIn behind [] (words_by_line text) lines → IsWantOfMemory why
 for_memory behind text NoMemory lines says reads = tt
 for_memory behind text (Bad line kind) lines says reads = none_first behind text lines line kind reads says
@@ -33,12 +33,12 @@ pub named : (behind : Part) (text : List ℕ) (result : Result Schedule ParseEnd
 named behind text (Ok schedule) line kind ok says first = none_first behind text ok.0 line kind ok.1 first
 named behind text (Err why) line kind ok says first = first_named Schedule behind text why line kind says first
 
--- what is directed follows
+-- the directives name only what the network has
 pub follows : (text : List ℕ) (result : Result Schedule ParseEnd) → IfOk result (IsFile text) → IfOk result (λ schedule. AreInstructed schedule.topology schedule.lines.items)
 follows text (Ok schedule) ok = file_follows text schedule ok
 follows text (Err why) ok = tt
 
--- what holds of an error that a `?` hands on
+-- what holds of an error that `?` passes on
 pub handed_all : {T E : Type 0} (r : Result T E) (Q : E → Type 0) (M : Result T E → Type 0) → IsErr r × IsErrAnd r Q → ((e : E) → Q e → M (Err e)) → M r
 handed_all r Q M h step =
     let e = err_from_is_err_and r h.1 in

@@ -1,4 +1,4 @@
--- What a file directs follows from its instructions, on the network that it describes.
+-- The directives of a file name only what its network has.
 use Rattle.std.proofs.Common.{◌≡◌, ℕ, suc, Bool, true, false, List, [], ◌∷◌, ◌++◌, length, refl, sym, ap, ◌∙◌, subst}
 use Rattle.std.specs.Prelude.{None, is_none, if◌then◌else◌}
 use Rattle.std.proofs.lemmas.List.Elements.{All-nil, All-cons, All-append}
@@ -14,7 +14,7 @@ use Rattle.schedule_file.specs.Lines.{InRange}
 use Rattle.schedule_file.specs.Grammar.{net_of, begun, part_in, stands, name_fault, directives_of, directive_of, Reads, IsFile, IsInstructed, AreInstructed}
 use Rattle.schedule_file.proofs.Steps.{none_of}
 
--- the directives so far follow, and there are none before begin
+-- the directives so far do, and there are none before begin
 record Sound (earlier : List Line) : Type 0 where
   follow : AreInstructed (net_of earlier) (directives_of earlier)
   none : begun earlier ≡ false → directives_of earlier ≡ []
@@ -23,7 +23,7 @@ no_more : (xs : List Numbered) → xs ++ [] ≡ xs
 no_more [] = refl
 no_more (x ∷ xs) = ap (λ r. x ∷ r) (no_more xs)
 
--- the lines of a schedule that describe the network stand before begin, the others behind it
+-- the lines that describe the network stand before begin, the others after it
 not_begun : (b : Bool) → may_declare (if b then Run else Network) ≡ true → b ≡ false
 not_begun true e = let q : false ≡ true = e in absurd (false≢true q)
 not_begun false e = refl

@@ -1,4 +1,4 @@
--- What is read of a line's first words, and what that says of all its words.
+-- What is read of a line's first words, and what this says of all its words.
 use Rattle.std.proofs.Common.{◌≡◌, ℕ, ◌<◌, true, List, [], ◌∷◌, sym, ap, ◌∙◌, subst, arith}
 use Rattle.std.specs.Prelude.{Option, Some, None, Result, Ok, Err, IfOk, IfErr}
 use Rattle.std.specs.Option.{option_or}
@@ -27,17 +27,17 @@ has_first words (w ∷ ws) h some =
     let are = ap (λ v. v ∷ ws) (sym h.one) in
     record { rest = ws; are = are; held = subst (Holds words) are h }
 
--- the first word is no keyword
+-- the first word is not a keyword
 pub other_first : (words : Words) (all : List (List ℕ)) (part : Part) → Holds words all → 0 < words.count → keyword_in words.first.now ≡ None → word_fault part all ≡ Some UnknownWord
 other_first words all part h some none =
     let f = has_first words all h some in
     ap (word_fault part) f.are ∙ ap (λ k. fault_by part k f.rest) none
 
--- the first word is a keyword, and the form of the line, or else a word behind it, decides
+-- the first word is a keyword, and the fault is in the form of the line or in a later word
 by_first : (words : Words) (all : List (List ℕ)) (part : Part) (k : Keyword) (f : HasFirst words all) → keyword_in words.first.now ≡ Some k → word_fault part all ≡ option_or (form_fault part k f.rest) (first_fault (fields k f.rest) f.rest)
 by_first words all part k f e = ap (word_fault part) f.are ∙ ap (λ found. fault_by part found f.rest) e
 
--- the line begins with a keyword, and nothing is wrong with its form
+-- the line begins with a keyword, and its form has no fault
 pub record Ready (words : Words) (part : Part) (k : Keyword) : Type 0 where
   pub some : 0 < words.count
   pub named : keyword_in words.first.now ≡ Some k
@@ -60,7 +60,7 @@ line_first words all part k line h ready is =
     let f = has_first words all h ready.some in
     is words.first.now f.rest f.held ∙ sym (ap line_of f.are ∙ ap (λ found. line_from found f.rest) ready.named)
 
--- the reader's answer for a keyword, as that for the whole line
+-- the reader's answer for a keyword is the answer for the whole line
 abbrev Answer : Words → Keyword → Result Line BadKind → Type 0
 Answer words k result = (word : List ℕ) (rest : List (List ℕ)) → Holds words (word ∷ rest) → ReadsAs k rest result
 

@@ -1,4 +1,4 @@
--- A text that grows by the line of one more of a list.
+-- A text that grows by one line for each element of a list.
 use Rattle.std.proofs.Common.{◌≡◌, ℕ, zero, suc, ◌+◌, ◌<◌, List, [], ◌∷◌, ◌++◌, length, take, append_assoc, append-nil, refl, sym, ap, ◌∙◌, arith}
 use Rattle.std.specs.Prelude.{Option, Some, None, map, slice_get, option_map}
 use Rattle.std.specs.List.{flat_map}
@@ -10,7 +10,7 @@ use Rattle.schedule_file.specs.declared.lines.Line.TheVariants.{Begin}
 use Rattle.schedule_file.specs.declared.lines.Numbered.{Numbered}
 use Rattle.schedule_file.specs.Printing.{line_text, network_lines, directive_line, printed}
 
--- one more of a list
+-- one more element
 pub take_next : {X : Type 0} (xs : List X) (i : ℕ) (x : X) → slice_get xs i ≡ Some x → take (i + 1) xs ≡ take i xs ++ x ∷ []
 take_next [] i x e = absurd (none-some x e)
 take_next (y ∷ xs) zero x e = ap (λ z. z ∷ []) (same_Some y x e)
@@ -49,7 +49,7 @@ text_next f xs i x old new more at so_far next =
 pub text_whole : {X : Type 0} (f : X → Line) (xs : List X) (i : ℕ) (old new : List ℕ) → slice_get xs i ≡ None → new ≡ old ++ flat_map line_text (map f (take i xs)) → new ≡ old ++ flat_map line_text (map f xs)
 text_whole f xs i old new end so_far = so_far ∙ ap (λ l. old ++ flat_map line_text (map f l)) (take_whole xs i end)
 
--- what was read of a place
+-- what was read at a place
 pub mapped_some : {X Y : Type 0} (f : X → Y) (o : Option X) (y : Y) → option_map f o ≡ Some y → (x : X) × (o ≡ Some x) × (f x ≡ y)
 mapped_some f None y e = absurd (none-some y e)
 mapped_some f (Some x) y e = (x, refl, same_Some (f x) y e)

@@ -1,4 +1,4 @@
--- Holds, sorted and put in anew: the same hold back as before.
+-- Holds that are sorted and added again: the same nodes hold back as before.
 use Rattle.std.proofs.Common.{◌≡◌, ℕ, Bool, true, false, ◌||◌, ◌==◌, List, [], ◌∷◌, ◌++◌, inl, inr, true≢false, refl, sym, ap, ap₂, ◌∙◌}
 use Rattle.std.specs.Prelude.{if◌then◌else◌}
 use Rattle.std.specs.List.{list_any, flat_map, AllByRecursion}
@@ -19,7 +19,7 @@ pub record Held (net : Net) (hold : Hold) : Type 0 where
   pub joined : linked net hold.a hold.b ≡ true
   pub there : holds_back net hold.a hold.b ≡ true
 
--- each of the sorted ones is a hold of the network
+-- each sorted hold is one of the network
 held_with : (net : Net) (u w : ℕ) (t : Bool) → holds_back net u w ≡ t → linked net u w ≡ true → AllByRecursion (Held net) (if t then record { a = u; b = w } ∷ [] else [])
 held_with net u w true e joined = (record { joined = joined; there = e }, tt)
 held_with net u w false e joined = tt
@@ -30,7 +30,7 @@ sorted_held net =
     (λ u _. each_flat (Held net) (held net u) (λ w. linked net u w ≡ true) (λ w joined. held_with net u w (holds_back net u w) refl joined) (neighbours net u) (near_linked net u))
     (ascending net.nodes) (each_of (λ u. Unit {0}) (λ u. tt) (ascending net.nodes))
 
--- holds put in one by one
+-- holds that are added one by one
 abbrev pub hold_all : List Hold → List Hold → List Hold
 hold_all base [] = base
 hold_all base (h ∷ hs) = hold_all (put_hold h base) hs
@@ -39,14 +39,14 @@ pub hold_next : (base front : List Hold) (h : Hold) → put_hold h (hold_all bas
 hold_next base [] h = refl
 hold_next base (k ∷ front) h = hold_next (put_hold k base) front h
 
--- the two of a hold
+-- the two nodes of a hold
 is_first : (u w : ℕ) (h : Hold) → is_hold u w h ≡ true → h.a ≡ u
 is_first u w h e = same_is h.a u (and_left (h.a == u) (h.b == w) e)
 
 is_second : (u w : ℕ) (h : Hold) → is_hold u w h ≡ true → h.b ≡ w
 is_second u w h e = same_is h.b w (and_right (h.a == u) (h.b == w) e)
 
--- what is there behind a put
+-- whether there is a hold after one was added
 there_already : (u w : ℕ) (h : Hold) (hs : List Hold) → list_any (is_hold h.a h.b) hs ≡ true → list_any (is_hold u w) hs ≡ (list_any (is_hold u w) hs || is_hold u w h)
 there_already u w h hs e =
     (elim (is_hold u w h) as (λ t. is_hold u w h ≡ t → list_any (is_hold u w) hs ≡ (list_any (is_hold u w) hs || t)) [
@@ -72,7 +72,7 @@ all_any u w base (h ∷ hs) =
     ∙ ap (λ b. b || list_any (is_hold u w) hs) (put_any u w h base)
     ∙ or_joined (list_any (is_hold u w) base) (is_hold u w h) (list_any (is_hold u w) hs)
 
--- one that holds back has a link
+-- a node that holds back has a link
 hold_linked : (net : Net) (u w : ℕ) (hs : List Hold) → AllByRecursion (HoldsLinked net) hs → list_any (is_hold u w) hs ≡ true → linked net u w ≡ true
 hold_linked net u w [] h e = absurd (true≢false (sym e))
 hold_linked net u w (k ∷ hs) h e =
@@ -85,7 +85,7 @@ back_linked : (net : Net) (u w : ℕ) → IsValid net → holds_back net u w ≡
 unfolding holds_back
 back_linked net u w valid e = hold_linked net u w net.holds valid.holds_fit e
 
--- the sorted ones are those of the network
+-- the sorted holds are those of the network
 is_held : (net : Net) (u w : ℕ) → holds_back net u w ≡ true → list_any (is_hold u w) (held net u w) ≡ true
 is_held net u w e =
     ap (λ t. list_any (is_hold u w) (if t then record { a = u; b = w } ∷ [] else [])) e

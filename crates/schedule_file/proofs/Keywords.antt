@@ -1,4 +1,4 @@
--- The first word of a line, and the words behind show and transient.
+-- The first word of a line, and the words after show and transient.
 use Rattle.std.proofs.Common.{◌≡◌, ◌≢◌, ℕ, Bool, true, false, List, [], ◌∷◌, refl, sym, ap, ◌∙◌, inl, inr}
 use Rattle.std.specs.Prelude.{Some, None, bytes_eq}
 use Rattle.std.specs.List.{find}

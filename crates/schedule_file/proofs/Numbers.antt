@@ -1,4 +1,4 @@
--- Numbers in decimal: their value, and what no digit is.
+-- Decimal numbers: their value, and bytes that are no digits.
 use Rattle.std.proofs.Common.{◌≡◌, ℕ, ◌<◌, ◌^◌, ◌==◌, List, [], ◌∷◌, ◌++◌, refl, sym, ◌∙◌, arith}
 use Rattle.std.specs.List.{list_any}
 use Rattle.std.specs.Fmt.{decimal}
@@ -17,7 +17,7 @@ decimal_digits n h = digits_decimal own n h
 pub decimal_value : (n : ℕ) → n < 2 ^ 64 → digits_value 10 (decimal n) ≡ n
 decimal_value n h = digits_value-decimal own n h
 
--- what is below 48 is in no number: a space, a newline, a point, a slash
+-- no byte below 48 is in a number: a space, a newline, a point, a slash
 pub digits_lack : (mark : ℕ) (ds : List ℕ) → mark < 48 → AllDigits 10 ds → Lacks mark ds
 digits_lack mark [] low h = refl
 digits_lack mark (d ∷ ds) low h =
@@ -27,7 +27,7 @@ digits_lack mark (d ∷ ds) low h =
 pub decimal_lacks : (mark n : ℕ) → mark < 48 → n < 2 ^ 64 → Lacks mark (decimal n)
 decimal_lacks mark n low h = digits_lack mark (decimal n) low (decimal_digits n h)
 
--- a list begins with one number before a mark
+-- a list begins with only one number before a mark
 pub same_front : (mark m n : ℕ) (r s word : List ℕ) → mark < 48 → m < 2 ^ 64 → n < 2 ^ 64 → word ≡ decimal m ++ mark ∷ r → word ≡ decimal n ++ mark ∷ s → (m ≡ n) × (r ≡ s)
 same_front mark m n r s word low h k e f =
     let same = same_cut mark (decimal m) (decimal n) r s (decimal_lacks mark m low h) (decimal_lacks mark n low k) (sym e ∙ f) in

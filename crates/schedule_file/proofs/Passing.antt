@@ -1,4 +1,4 @@
--- The tests of single words pass exactly where the word is a spelling.
+-- The tests of single words pass exactly where the word is the spelling.
 use Rattle.std.proofs.Common.{◌≡◌, ◌≢◌, ℕ, ◌-◌, ◌/◌, ◌%◌, ◌<◌, ◌≤◌, ◌^◌, ◌==◌, ◌&&◌, ◌||◌, Bool, true, false, List, [], ◌∷◌, ◌++◌, refl, sym, ap, ◌∙◌, inl, inr, arith}
 use Rattle.std.specs.Prelude.{codes, nat_le, nat_lt, bytes_eq, map}
 use Rattle.std.specs.List.{list_any, slice_split, onto_first}

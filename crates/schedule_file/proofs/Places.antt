@@ -1,4 +1,4 @@
--- The place of a prefix among different ones.
+-- The place of a prefix in a list of different ones.
 use Rattle.std.proofs.Common.{◌≡◌, ℕ, zero, suc, ◌+◌, ◌≤◌, Bool, true, false, cond, ◌==◌, List, [], ◌∷◌, refl, sym, ap, ◌∙◌, arith}
 use Rattle.std.specs.Prelude.{Some, slice_get}
 use Rattle.std.specs.List.{count_by}
@@ -39,7 +39,7 @@ placed p (q ∷ qs) (suc i) e h =
       | false ↦ λ k. ap suc (next k)
     ]) h
 
--- where prefixes differ, one that stands at a place has that place
+-- in a list of different prefixes, a prefix has the place where it stands
 pub place_of : (p : Range) (qs : List Range) (i : ℕ) → slice_get qs i ≡ Some p → count_by (same_prefix p) qs ≤ 1 → i ≡ place_in p qs
 place_of p qs i e h =
     let same = is_count_by (counts (same_prefix p)) (same_prefix p) refl (λ _ _. refl) qs in

@@ -55,7 +55,7 @@ record Plain (word : List ℕ) : Type 0 where
 lacking-append : (p : ℕ → Bool) (xs ys : List ℕ) → Lacking p xs → Lacking p ys → Lacking p (xs ++ ys)
 lacking-append p xs ys h k = list_any-append p xs ys ∙ or_from (list_any p xs) (list_any p ys) h k
 
--- what no high byte is, no plain word has
+-- if a test fails for every byte from 46 on, no byte of a plain word passes it
 lacks : (p : ℕ → Bool) → ((b : ℕ) → 46 ≤ b → p b ≡ false) → (word : List ℕ) → Lacking low word → Lacking p word
 lacks p never [] h = refl
 lacks p never (b ∷ word) h =
@@ -205,7 +205,7 @@ line_there line rest h =
     ∙ ap (map (λ line. words_of (left_of line))) cut
     ∙ ap (λ first. first ∷ words_by_line rest) (ap words_of left ∙ joined_words words (are_words words plain))
 
--- a text of lines has their words
+-- a text of lines has the words of these lines
 pub lines_there : (lines : List Line) → AllByRecursion InRange lines → words_by_line (flat_map line_text lines) ≡ map line_words lines
 lines_there [] h = refl
 lines_there (line ∷ lines) h = line_there line (flat_map line_text lines) h.0 ∙ ap (λ others. line_words line ∷ others) (lines_there lines h.1)

@@ -1,4 +1,4 @@
--- Preferences, sorted and put in anew: each is found as before.
+-- Preferences that are sorted and added again: each is found as before.
 use Rattle.std.proofs.Common.{◌≡◌, ℕ, ◌≤◌, Bool, true, false, cond, ◌==◌, List, [], ◌∷◌, ◌++◌, filter, find, inl, inr, true≢false, refl, sym, ap, ap₂, ◌∙◌, subst}
 use Rattle.std.specs.Prelude.{Option, Some, None, option_map, if◌then◌else◌}
 use Rattle.std.specs.List.{list_any, flat_map, AllByRecursion}
@@ -28,7 +28,7 @@ differs net valid a b e =
       | inr other ↦ other
     ]
 
--- what find gives passes, and has what all have
+-- what `find` returns passes, and has what all elements have
 pub found_each : {X : Type 0} (P : X → Type 0) (p : X → Bool) (xs : List X) (x : X) → AllByRecursion P xs → find p xs ≡ Some x → P x × (p x ≡ true)
 found_each P p [] x h e = absurd (none-some x e)
 found_each P p (y ∷ xs) x h e =
@@ -61,7 +61,7 @@ pub near_linked : (net : Net) (u : ℕ) → AllByRecursion (λ v. linked net u v
 unfolding neighbours
 near_linked net u = passes_filter (linked net u) (ascending net.nodes)
 
--- each of the sorted ones is a preference of the network
+-- each sorted preference is one of the network
 given_with : (net : Net) → IsValid net → (u v : ℕ) (o : Option Pref) → find (prefers u v) net.preferences ≡ o → linked net u v ≡ true → AllByRecursion (Given net) (pref_with u v (option_map (λ p. p.value) o))
 given_with net valid u v None e joined = tt
 given_with net valid u v (Some p) e joined = (
@@ -79,7 +79,7 @@ sorted_given net valid =
     (λ u _. each_flat (Given net) (added net u) (λ v. linked net u v ≡ true) (λ v joined. given_with net valid u v (find (prefers u v) net.preferences) refl joined) (neighbours net u) (near_linked net u))
     (ascending net.nodes) (each_of (λ u. Unit {0}) (λ u. tt) (ascending net.nodes))
 
--- preferences put in one by one
+-- preferences that are added one by one
 abbrev pub put_all : List Pref → List Pref → List Pref
 put_all base [] = base
 put_all base (p ∷ ps) = put_all (put_preference p base) ps
@@ -101,7 +101,7 @@ both_pass u v p q h k =
     let pb = same_is p.b v (and_right (p.a == u) (p.b == v) h) in
     rw (pa, pb) k
 
--- what is found behind a put
+-- what is found after one was added
 put_found : (u v : ℕ) (p : Pref) (ps : List Pref) → find (prefers u v) (put_preference p ps) ≡ cond (prefers u v p) (Some p) (find (prefers u v) ps)
 put_found u v p [] = refl
 put_found u v p (q ∷ ps) =
@@ -124,7 +124,7 @@ put_found u v p (q ∷ ps) =
           | false ↦ λ h. refl
         ]) refl
 
--- what is found behind many, where each that passes is this one
+-- what is found after many were added, if each that passes is this one
 abbrev Only : ℕ → ℕ → Option Pref → List Pref → Type 0
 Only u v r ps = AllByRecursion (λ p. prefers u v p ≡ true → Some p ≡ r) ps
 
@@ -148,7 +148,7 @@ reached u v r base (p ∷ ps) h e =
 abbrev pref_of : ℕ → ℕ → ℕ → Pref
 pref_of a b value = record { a = a; b = b; value = value }
 
--- two preferences of the same two with one value
+-- two preferences of the same two nodes have the same value
 one_pref : (p q : Pref) → p.a ≡ q.a → p.b ≡ q.b → p.value ≡ q.value → p ≡ q
 one_pref p q a b value = ap₂ (λ m n. pref_of m n p.value) a b ∙ ap (pref_of q.a q.b) value
 

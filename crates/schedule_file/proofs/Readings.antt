@@ -1,4 +1,4 @@
--- Lines read one after the other: what the first of them tells, and that a text is read in one way.
+-- Lines read one after another: what the first one decides, and that a text is read in only one way.
 use Rattle.std.proofs.Common.{◌≡◌, ℕ, zero, suc, ◌+◌, List, [], ◌∷◌, length, sym, ap, subst, refl, ◌∙◌, arith}
 use Rattle.std.specs.Prelude.{Some, IsTrue, map, slice_range}
 use Rattle.std.proofs.lemmas.Option.{none-some, same_Some}
@@ -19,7 +19,7 @@ use Rattle.schedule_file.specs.Refusals.{refusal, BadAt, FirstBadIn, FirstBad, F
 use Rattle.schedule_file.proofs.Spellings.{one_line}
 use Rattle.schedule_file.proofs.Steps.{nothing_wrong}
 
--- what remains is read, or fails, after the earlier lines as the whole is from the start
+-- reading what is left after the earlier lines gives what reading the whole text from the start gives
 pub record Continues (behind : Part) (earlier : List Line) (rest whole : List (List (List ℕ))) : Type 0 where
   pub reads : (all : List Line) → ReadsIn behind earlier rest all → ReadsIn behind [] whole all
   pub fails : (n : ℕ) (kind : BadKind) → BadAt behind earlier rest n kind → BadAt behind [] whole (length earlier + n) kind
@@ -33,11 +33,11 @@ continues_more behind earlier line words others whole h spelled may = record {
   fails = λ n kind f. (let e : suc (length earlier) + n ≡ length earlier + suc n = omega arith in rw e (h.fails (suc n) kind (line, spelled, may, f)));
 }
 
--- the line at a place is the first bad one, where something is wrong with its words
+-- the line at a place is the first bad one, if its words have a fault
 pub bad_here : (behind : Part) (earlier : List Line) (words : List (List ℕ)) (others whole : List (List (List ℕ))) (kind : BadKind) → Continues behind earlier (words ∷ others) whole → refusal behind earlier words ≡ Some kind → BadAt behind [] whole (length earlier) kind
 bad_here behind earlier words others whole kind h e = let f : length earlier + 0 ≡ length earlier = omega arith in rw f at (h.fails 0 kind e)
 
--- a text is read in one way
+-- a text is read in only one way
 pub one_reading : (behind : Part) (earlier : List Line) (texts : List (List (List ℕ))) (all more : List Line) → ReadsIn behind earlier texts all → ReadsIn behind earlier texts more → all ≡ more
 one_reading behind earlier [] all more h k = h ∙ sym k
 one_reading behind earlier (words ∷ others) all more h k =
@@ -52,7 +52,7 @@ no_bad behind earlier (words ∷ others) all (suc n) kind h k =
     let same = one_line words h.0 k.0 h.1 k.1 in
     no_bad behind (h.0 ∷ earlier) others all n kind h.3 (subst (λ l. BadAt behind (l ∷ earlier) others n kind) (sym same) k.3)
 
--- a text has one first bad line, of one kind
+-- a text has at most one first bad line, with one fault
 pub one_bad : (behind : Part) (earlier : List Line) (texts : List (List (List ℕ))) (m n : ℕ) (kind last : BadKind) → BadAt behind earlier texts m kind → BadAt behind earlier texts n last → (m ≡ n) × (kind ≡ last)
 one_bad behind earlier [] m n kind last a b = absurd a
 one_bad behind earlier (words ∷ others) zero zero kind last a b = (refl, same_Some kind last (sym a ∙ b))
@@ -82,7 +82,7 @@ same_directives text schedule other h k = h.3 ∙ ap directives_of (same_lines t
 pub same_network : (text : List ℕ) (net other : Net) → IsTopologyFile text net → IsTopologyFile text other → net ≡ other
 same_network text net other h k = h.2 ∙ ap net_of (one_list Over text h.0 k.0 h.1 k.1) ∙ sym k.2
 
--- lines that are read have no first bad one
+-- lines that were read have no first bad one
 pub none_first : (behind : Part) (text : List ℕ) (lines : List Line) (number : ℕ) (kind : BadKind) → ReadsIn behind [] (words_by_line text) lines → FirstBadIn behind text number kind → ⊥
 none_first behind text lines number kind h k = no_bad behind [] (words_by_line text) lines k.0 kind h k.2
 
@@ -115,7 +115,7 @@ line_here behind earlier lines next text span whole same is left h =
 pub starts : (behind : Part) (reading : Reading) (text : List ℕ) → reading ≡ record { text = text; given = 0 } → Continues behind [] (map (λ line. words_of (left_of line)) (lines_left reading)) (words_by_line text)
 starts behind reading text e = subst (λ r. Continues behind [] (map (λ line. words_of (left_of line)) (lines_left r)) (words_by_line text)) (sym e) (continues_at_start behind (words_by_line text))
 
--- at the end of the text all is read
+-- at the end of the text all lines are read
 pub reads_all : (behind : Part) (earlier : List Line) (reading : Reading) (text : List ℕ) → lines_left reading ≡ [] → Continues behind earlier (map (λ line. words_of (left_of line)) (lines_left reading)) (words_by_line text) → ReadsIn behind [] (words_by_line text) earlier
 reads_all behind earlier reading text e h =
     let at_end = subst (λ lines. Continues behind earlier (map (λ line. words_of (left_of line)) lines) (words_by_line text)) e h in

@@ -1,4 +1,4 @@
--- The network of a file, line by line: nodes, links, prefixes, preferences, holds, and what is said of packets.
+-- The network of a file, line by line: nodes, links, prefixes, preferences, holds, the hop limit and the scheme.
 use Rattle.std.proofs.Common.{◌≡◌, ◌≢◌, ℕ, ◌+◌, ◌<◌, ◌≤◌, ◌^◌, Bool, true, false, not, cond, ◌&&◌, ◌||◌, ◌==◌, List, [], ◌∷◌, ◌++◌, length, filter, length-append, refl, sym, ap, ◌∙◌, subst, inl, inr, true≢false, arith}
 use Rattle.std.specs.Prelude.{None, IsTrue, nat_le, map, if◌then◌else◌}
 use Rattle.std.specs.List.{list_any, count_by, AllByRecursion}
@@ -29,7 +29,7 @@ use Rattle.schedule_file.proofs.Coming.{Reaches, section, At, declared_next}
 use Rattle.schedule_file.proofs.Preferences.{Given, differs, sorted_given, put_all, put_next}
 use Rattle.schedule_file.proofs.Holding.{Held, sorted_held, hold_all, hold_next}
 
--- one of a list, and those in front of it
+-- an element of a list, and those before it
 
 each_at : {X : Type 0} (P : X → Type 0) (front : List X) (x : X) (back : List X) → AllByRecursion P (front ++ x ∷ back) → P x
 each_at P [] x back h = h.0
@@ -69,7 +69,7 @@ first_only p (y ∷ front) x back e h =
       | false ↦ λ k. first_only p front x back e k
     ]) h
 
--- one that passes where one at most does: none in front of it passes
+-- an element that passes, where at most one does: none before it passes
 once : {X : Type 0} (p : X → Bool) (front : List X) (x : X) (back : List X) → p x ≡ true → count_by p (front ++ x ∷ back) ≤ 1 → list_any p front ≡ false
 once p front x back e h =
     let same = is_count_by (counts p) p refl (λ _ _. refl) (front ++ x ∷ back) in
@@ -217,7 +217,7 @@ module _ (net : Net) (valid : IsValid net) where
   abbrev pub with_packets : Net
   with_packets = record { nodes = net.nodes; consolidators = net.consolidators; links = net.links; preferences = put_all [] (sorted_preferences net); prefixes = net.prefixes; holds = hold_all [] (sorted_holds net); hops = net.hops; scheme = net.scheme }
 
-  -- the hops are set, the scheme is not yet
+  -- the hop limit is set, the scheme is not yet
   abbrev with_moves : Net
   with_moves = record { nodes = net.nodes; consolidators = net.consolidators; links = net.links; preferences = put_all [] (sorted_preferences net); prefixes = net.prefixes; holds = hold_all [] (sorted_holds net); hops = net.hops; scheme = Deflect }
 

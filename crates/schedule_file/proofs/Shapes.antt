@@ -1,4 +1,4 @@
--- Words without a fault spell a line, keyword by keyword.
+-- Words without a fault spell a line, for each keyword.
 use Rattle.std.proofs.Common.{◌≡◌, ℕ, true, List, [], ◌∷◌, refl, sym, ap, ap₂, ◌∙◌, subst, arith}
 use Rattle.std.specs.Prelude.{Option, Some, None, is_some, codes}
 use Rattle.std.proofs.lemmas.Option.{none-some}
@@ -23,7 +23,7 @@ use Rattle.schedule_file.proofs.Passing.{number_spelled, prefix_spelled, relatio
 use Rattle.schedule_file.proofs.Fields.{Fits, fits, head_spells, one, two, three, none_left}
 use Rattle.schedule_file.proofs.Keywords.{keyword_is, view_is, scheme_is, other_is_bad}
 
--- the words behind a keyword spell their line, in its place
+-- the words after a keyword spell their line, in its part
 pub record Found (part : Part) (k : Keyword) (rest : List (List ℕ)) : Type 0 where
   pub spelled : keyword_text k ∷ rest ≡ line_words (line_by k rest)
   pub in_range : InRange (line_by k rest)
@@ -32,7 +32,7 @@ pub record Found (part : Part) (k : Keyword) (rest : List (List ℕ)) : Type 0 w
 number_is : (word : List ℕ) → spells_field NodeNumber word ≡ true → (word ≡ decimal (number_of word)) × IsNumber (number_of word)
 number_is word e = let p = number_spelled 1 65535 word e in (p.0, (omega (arith, p.1), omega (arith, p.2)))
 
--- the same of what show asks for
+-- the same for a view
 record Shown (part : Part) (word : List ℕ) (view : Option View) (rest : List (List ℕ)) : Type 0 where
   spelled : codes "show" ∷ word ∷ rest ≡ line_words (shown_by view (word ∷ rest))
   in_range : InRange (shown_by view (word ∷ rest))
@@ -70,13 +70,13 @@ shown_first part (word ∷ rest) f =
     let s = shown part word (view_in word) rest f.here refl f.fine_words in
     record { spelled = s.spelled; in_range = s.in_range; here = s.here }
 
--- the same of the scheme that is set
+-- the same for a scheme
 record IsSet (part : Part) (word : List ℕ) (name : Option SchemeName) (rest : List (List ℕ)) : Type 0 where
   spelled : codes "transient" ∷ word ∷ rest ≡ line_words (set_by name (word ∷ rest))
   in_range : InRange (set_by name (word ∷ rest))
   here : stands part (set_by name (word ∷ rest)) ≡ true
 
--- no more words are there
+-- there are no more words
 alone : (word : List ℕ) (rest : List (List ℕ)) → first_fault (Schemed ∷ []) (word ∷ rest) ≡ None → rest ≡ []
 alone word rest f =
     let a = one Schemed (word ∷ rest) f in
@@ -229,12 +229,12 @@ found_by keyword.Inject part rest f =
 found_by keyword.Hop part rest f = hop_first part rest f
 found_by keyword.Show part rest f = shown_first part rest f
 
--- words without a fault spell their line, in its place
+-- words without a fault spell their line, in its part
 pub record InPlace (part : Part) (words : List (List ℕ)) : Type 0 where
   pub spells : Spells words (line_of words)
   pub here : stands part (line_of words) ≡ true
 
--- the same where the keyword of the first word is known
+-- the same, given the keyword of the first word
 record From (part : Part) (word : List ℕ) (k : Option Keyword) (rest : List (List ℕ)) : Type 0 where
   spells : Spells (word ∷ rest) (line_from k rest)
   here : stands part (line_from k rest) ≡ true

@@ -1,4 +1,4 @@
--- A line in its place has no fault in its words, and is read back from them. So words spell one line.
+-- A line in its part has no fault in its words, and is read back from them. So words spell only one line.
 use Rattle.std.proofs.Common.{◌≡◌, ℕ, suc, ◌≤◌, true, false, List, [], ◌∷◌, length, refl, sym, ap, ap₂, ◌∙◌, arith}
 use Rattle.std.specs.Prelude.{None, codes}
 use Rattle.std.specs.Option.{option_or}
@@ -60,7 +60,7 @@ two_fine f g a b h k = fine f (g ∷ []) a (b ∷ []) h ∙ one_fine g b k
 three_fine : (f g x : Field) (a b c : List ℕ) → spells_field f a ≡ true → spells_field g b ≡ true → spells_field x c ≡ true → first_fault (f ∷ g ∷ x ∷ []) (a ∷ b ∷ c ∷ []) ≡ None
 three_fine f g x a b c h k l = fine f (g ∷ x ∷ []) a (b ∷ c ∷ []) h ∙ two_fine g x b c k l
 
--- the words behind a keyword are as many as it may have, and each may stand there
+-- a keyword is followed by a permitted number of words, each of which may stand there
 record Fine (k : Keyword) (words : List (List ℕ)) : Type 0 where
   counted : may_have (shape_of k) (suc (length words)) ≡ true
   fine_words : first_fault (fields k words) words ≡ None
@@ -234,7 +234,7 @@ read_back Begin h = from_keyword keyword.Begin []
 read_back (Declares d) h = from_keyword (declaring d) (declared_words d) ∙ declared_back d h
 read_back (Directs i) h = from_keyword (directing i) (directed_words i) ∙ directed_back i h
 
--- the same of words that spell a line
+-- the same for words that spell a line
 pub fine_words : (part : Part) (words : List (List ℕ)) (line : Line) → Spells words line → stands part line ≡ true → word_fault part words ≡ None
 fine_words part words line h s = ap (word_fault part) h.spelled ∙ fine_line part line h.in_range s
 

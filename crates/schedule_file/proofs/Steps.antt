@@ -1,4 +1,4 @@
--- Nothing is wrong with words exactly where they spell an allowed line; and what one line more makes of what the parser holds.
+-- Words have no fault exactly where they spell an allowed line; and how one more line changes what the parser holds.
 use Rattle.std.proofs.Common.{◌≡◌, ℕ, true, false, List, refl, sym, ap, ◌∙◌, subst}
 use Rattle.std.specs.Prelude.{Option, Some, None, is_none, IsTrue}
 use Rattle.std.specs.Option.{option_or}
@@ -28,7 +28,7 @@ pub none_of : {A : Type 0} (x : Option A) → is_none x ≡ true → x ≡ None
 none_of None e = refl
 none_of (Some a) e = let q : false ≡ true = e in absurd (false≢true q)
 
--- the faults of words that spell a line in its place are those of its names
+-- the faults of words that spell a line in its part are those of its names
 pub names_decide : (behind : Part) (earlier : List Line) (words : List (List ℕ)) (line : Line) → Spells words line → stands (part_in behind earlier) line ≡ true → refusal behind earlier words ≡ name_fault (net_of earlier) line
 unfolding refusal
 names_decide behind earlier words line h s =
@@ -46,13 +46,13 @@ no_word_fault behind earlier words e = (neither (word_fault (part_in behind earl
 pub allowed_from : (behind : Part) (earlier : List Line) (line : Line) → stands (part_in behind earlier) line ≡ true → name_fault (net_of earlier) line ≡ None → allowed behind earlier line ≡ true
 allowed_from behind earlier line s e = and_from (stands (part_in behind earlier) line) (is_none (name_fault (net_of earlier) line)) s (is_none_of (name_fault (net_of earlier) line) e)
 
--- where nothing is wrong, an allowed line is spelled
+-- words without a fault spell an allowed line
 pub allowed_line : (behind : Part) (earlier : List Line) (words : List (List ℕ)) → refusal behind earlier words ≡ None → (line : Line) × Spells words line × IsTrue (allowed behind earlier line)
 allowed_line behind earlier words e =
     let at = found (part_in behind earlier) words (no_word_fault behind earlier words e) in
     (line_of words, at.spells, allowed_from behind earlier (line_of words) at.here (sym (names_decide behind earlier words (line_of words) at.spells at.here) ∙ e))
 
--- where an allowed line is spelled, nothing is wrong
+-- words that spell an allowed line have no fault
 pub nothing_wrong : (behind : Part) (earlier : List Line) (words : List (List ℕ)) (line : Line) → Spells words line → IsTrue (allowed behind earlier line) → refusal behind earlier words ≡ None
 nothing_wrong behind earlier words line h may =
     let p = and_parts (stands (part_in behind earlier) line) (is_none (name_fault (net_of earlier) line)) may in
@@ -61,7 +61,7 @@ nothing_wrong behind earlier words line h may =
 pub refused_none : (behind : Part) (earlier : List Line) (words : List (List ℕ)) → (line : Line) × Spells words line × IsTrue (allowed behind earlier line) → refusal behind earlier words ≡ None
 refused_none behind earlier words h = nothing_wrong behind earlier words h.0 h.1 h.2
 
--- what a step refuses, it refuses after all lines that the draft stands for
+-- if a step refuses the line, the line has this fault after all lines that the draft stands for
 pub words_refused : (draft : Draft) (words : List (List ℕ)) (kind : BadKind) (why : Refusal) → why ≡ Bad kind → word_fault draft.part words ≡ Some kind → RefusesLine draft words why
 words_refused draft words kind why same e = λ earlier after.
     subst (λ w. NamesFault w (refusal draft.behind earlier words)) (sym same) (words_decide draft.behind earlier words kind (ap (λ p. word_fault p words) (sym after.start) ∙ e))

@@ -1,9 +1,9 @@
--- A list of bytes, cut at the first of a mark.
+-- A list of bytes, cut at its first mark.
 use Rattle.std.specs.Prelude.{ℕ, ◌≡◌, List, ◌∷◌, ◌++◌, option_map, Option, Some, None, false, ◌==◌}
 use Rattle.std.specs.List.{list_any}
 use Rattle.schedule_file.specs.declared.prefixes.Cut.{Cut}
 
--- the whole of the bytes, where no mark is there, or the mark and what is behind it
+-- the bytes again: all of them without a mark, or the front, the mark and the rest
 abbrev pub uncut : ℕ → List ℕ → Option (List ℕ) → List ℕ
 uncut mark front None = front
 uncut mark front (Some rest) = front ++ mark ∷ rest

@@ -1,4 +1,4 @@
--- What the ends of a parse mean.
+-- The meaning of each end of a parse.
 use Rattle.std.specs.Prelude.{ℕ, ◌≡◌, List, Result, Ok, Err}
 use Rattle.topology.specs.declared.status.BadKind.{BadKind}
 use Rattle.schedule_file.specs.declared.table.Part.{Part}
@@ -6,7 +6,7 @@ use Rattle.schedule_file.specs.declared.parser.ParseEnd.{ParseEnd}
 use Rattle.schedule_file.specs.declared.parser.ParseEnd.TheVariants.{NoMemory, Bad}
 use Rattle.schedule_file.specs.Refusals.{FirstBadIn}
 
--- a line is named where it is the first bad one, with what is wrong; want of memory may come at any time
+-- a named line is the first bad one, with its fault; want of memory may come at any time
 abbrev pub SaysWhy : Part → List ℕ → ParseEnd → Type 0
 SaysWhy behind bytes NoMemory = Unit {0}
 SaysWhy behind bytes (Bad line kind) = FirstBadIn behind bytes line kind
@@ -15,7 +15,7 @@ abbrev pub IsWantOfMemory : ParseEnd → Type 0
 IsWantOfMemory NoMemory = Unit {0}
 IsWantOfMemory (Bad line kind) = ⊥
 
--- this line is named for this, or memory ran out
+-- this line is named with this fault, or memory ran out
 abbrev pub IsBadOrMemory : {T : Type 0} → ℕ → BadKind → Result T ParseEnd → Type 0
 IsBadOrMemory number bad (Ok done) = ⊥
 IsBadOrMemory number bad (Err NoMemory) = Unit {0}

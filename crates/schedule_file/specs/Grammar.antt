@@ -1,4 +1,4 @@
--- Which lines make a schedule: each is spelled, and allowed after those before it.
+-- Which lines make a schedule: each line is spelled, and may follow those before it.
 use Rattle.std.specs.Prelude.{ℕ, suc, Bool, true, false, not, ◌≡◌, ◌&&◌, is_none, IsTrue, Option, Some, None, List, [], ◌∷◌, ◌++◌, length, map, if◌then◌else◌}
 use Rattle.std.specs.List.{All}
 use Rattle.topology.specs.declared.prefixes.Prefix.{Prefix as Range}
@@ -27,7 +27,7 @@ use Rattle.schedule_file.specs.Table.{may_declare, may_direct, origin_directive,
 
 -- lists of lines are newest first
 
--- what a declaration adds to the network; the hop limit and the scheme take the place of earlier ones
+-- what a declaration adds to the network; a hop limit or scheme replaces the earlier one
 abbrev pub with_declaration : Declaration → Net → Net
 with_declaration (Node id consolidator) net = with_node net id consolidator
 with_declaration (Link a b relation) net = with_link net (record { a = a; b = b; relation = relation })
@@ -57,18 +57,18 @@ begun (Begin ∷ earlier) = true
 begun (Declares declaration ∷ earlier) = begun earlier
 begun (Directs instruction ∷ earlier) = begun earlier
 
--- what may stand behind these lines, where this may stand behind begin
+-- which lines may follow these, if `behind` are the lines allowed after begin
 abbrev pub part_in : Part → List Line → Part
 part_in behind earlier = if begun earlier then behind else Network
 
--- the line may stand in this part; begin ends the first one
+-- the line may stand in this part; begin ends the first part
 abbrev pub stands : Part → Line → Bool
 stands part Blank = true
 stands part Begin = may_declare part
 stands part (Declares declaration) = may_declare part
 stands part (Directs instruction) = may_direct part
 
--- the kind of each refusal of the network; want of memory is no fault of a line
+-- the fault for each refusal of the network; want of memory is not a fault of the line
 abbrev pub kind_of : BuildError → Option BadKind
 kind_of building.DuplicateNode = Some bad.DuplicateNode
 kind_of (building.UnknownNode id) = Some bad.UnknownNode
@@ -83,14 +83,14 @@ abbrev pub fault_from : Option BuildError → Option BadKind
 fault_from None = None
 fault_from (Some refusal) = kind_of refusal
 
--- the first fault of a node and a prefix that are to be declared
+-- the first fault of a node and a prefix that must be declared
 abbrev pub origin_fault : Net → ℕ → Range → Option BadKind
 origin_fault net node p =
     if not (has net.nodes node) then Some bad.UnknownNode
     else if not (has_prefix net p) then Some bad.UnknownPrefix
     else None
 
--- the first fault of a node that is to be declared
+-- the first fault of a node that must be declared
 abbrev pub node_fault : Net → ℕ → Option BadKind
 node_fault net node = if not (has net.nodes node) then Some bad.UnknownNode else None
 
@@ -98,7 +98,7 @@ node_fault net node = if not (has net.nodes node) then Some bad.UnknownNode else
 abbrev pub pair_fault : Net → ℕ → ℕ → Option BadKind
 pair_fault net a b = fault_from (pref_refusal net a b)
 
--- the first fault of a node and its neighbour; no node has a link with itself, and equal ends are not named
+-- the first fault of a node and its neighbour; a node has no link with itself, so equal ends are no separate fault
 abbrev pub neighbour_fault : Net → ℕ → ℕ → Option BadKind
 neighbour_fault net node nbr =
     if not (has net.nodes node) then Some bad.UnknownNode
@@ -106,7 +106,7 @@ neighbour_fault net node nbr =
     else if not (linked net node nbr) then Some bad.NoLink
     else None
 
--- the first fault of the names of a declaration: an unknown node, equal ends, no link, what is there already, too many
+-- the first fault of the names of a declaration: an unknown node, equal ends, no link, a duplicate, too many
 abbrev pub declared_fault : Net → Declaration → Option BadKind
 declared_fault net (Node id consolidator) = fault_from (node_refusal net id consolidator)
 declared_fault net (Link a b relation) = fault_from (link_refusal net a b)
@@ -149,7 +149,7 @@ abbrev pub place_in : Range → List Range → ℕ
 place_in p [] = 0
 place_in p (q ∷ qs) = if same_prefix p q then 0 else suc (place_in p qs)
 
--- what an instruction says, with the places of its names
+-- the directive of an instruction, with the places of its prefixes
 abbrev pub directive_of : Net → Instruction → Directive
 directive_of net (Origin event node p) = origin_directive event node (place_in p net.prefixes)
 directive_of net (Single event node) = node_directive event node
@@ -166,7 +166,7 @@ directive_of net (Show view) = plain_directive view
 directive_of net (ShowEpoch view epoch) = epoch_directive view epoch
 directive_of net (ShowWalk packet) = directive.ShowWalk packet
 
--- what a line directs
+-- the directives of a line
 abbrev pub directed : Net → Line → List Directive
 directed net Blank = []
 directed net Begin = []
@@ -179,17 +179,18 @@ directives_of [] = []
 directives_of (line ∷ earlier) =
     directives_of earlier ++ map (λ d. record { line = suc (length earlier); directive = d }) (directed (net_of earlier) line)
 
--- after the earlier lines these are spelled, one by one, by allowed lines; all are the lines then. Blank spells a line without words
+-- the texts are spelled, one by one, by lines that may follow the earlier ones, and `all` are the lines then; a text
+-- without words is Blank
 abbrev pub ReadsIn : Part → List Line → List (List (List ℕ)) → List Line → Type 0
 ReadsIn behind earlier [] all = all ≡ earlier
 ReadsIn behind earlier (words ∷ others) all =
     (line : Line) × Spells words line × IsTrue (allowed behind earlier line) × ReadsIn behind (line ∷ earlier) others all
 
--- the same in a schedule, which has a second part
+-- the same for a schedule, which has a second part
 abbrev pub Reads : List Line → List (List (List ℕ)) → List Line → Type 0
 Reads earlier texts all = ReadsIn Run earlier texts all
 
--- the lines of the bytes say this, where such lines may stand behind begin
+-- the bytes are the file of this schedule, if such lines may follow begin
 abbrev pub IsRead : Part → List ℕ → Schedule → Type 0
 IsRead behind bytes schedule =
     (lines : List Line) × ReadsIn behind [] (words_by_line bytes) lines × (schedule.topology ≡ net_of lines) × (schedule.lines.items ≡ directives_of lines)
@@ -198,11 +199,11 @@ IsRead behind bytes schedule =
 abbrev pub IsFile : List ℕ → Schedule → Type 0
 IsFile bytes schedule = IsRead Run bytes schedule
 
--- the bytes are the file of this network alone: behind begin no line has words
+-- the bytes are the file of this network alone: after begin no line has words
 abbrev pub IsTopologyFile : List ℕ → Net → Type 0
 IsTopologyFile bytes net = (lines : List Line) × ReadsIn Over [] (words_by_line bytes) lines × (net ≡ net_of lines)
 
--- the directive is that of an instruction whose numbers are within their ranges and whose names are those of the network
+-- the directive is that of an instruction whose numbers are in range and whose names are in the network
 pub record IsInstructed (net : Net) (d : Directive) : Type 0 where
   pub instruction : Instruction
   pub same : d ≡ directive_of net instruction

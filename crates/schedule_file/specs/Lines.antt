@@ -1,4 +1,4 @@
--- How lines are spelled: by their words alone.
+-- How lines are spelled.
 use Rattle.std.specs.Prelude.{ℕ, true, false, ◌≡◌, ◌≤◌, List, [], ◌∷◌, codes}
 use Rattle.std.specs.Fmt.{decimal}
 use Rattle.topology.specs.declared.names.Scheme.{Scheme}
@@ -33,7 +33,7 @@ scheme_words Deflect = scheme_text name.Deflect ∷ []
 scheme_words (Detour node) = scheme_text name.Detour ∷ decimal node ∷ []
 scheme_words Backup = scheme_text name.Backup ∷ []
 
--- the words behind its first
+-- the words of a declaration after the first
 abbrev pub declared_words : Declaration → List (List ℕ)
 declared_words (Node id false) = decimal id ∷ []
 declared_words (Node id true) = decimal id ∷ codes "consolidator" ∷ []
@@ -61,7 +61,7 @@ directing (Show view) = keyword.Show
 directing (ShowEpoch view epoch) = keyword.Show
 directing (ShowWalk packet) = keyword.Show
 
--- the words behind its first
+-- the words of an instruction after the first
 abbrev pub directed_words : Instruction → List (List ℕ)
 directed_words (Origin event node p) = decimal node ∷ prefix_text p ∷ []
 directed_words (Single event node) = decimal node ∷ []
@@ -85,7 +85,7 @@ line_words Begin = keyword_text keyword.Begin ∷ []
 line_words (Declares declaration) = keyword_text (declaring declaration) ∷ declared_words declaration
 line_words (Directs instruction) = keyword_text (directing instruction) ∷ directed_words instruction
 
--- the number of a scheme's node is within its range
+-- the node of a scheme is in range
 abbrev pub SchemeInRange : Scheme → Type 0
 SchemeInRange Deflect = Unit {0}
 SchemeInRange (Detour node) = IsNumber node

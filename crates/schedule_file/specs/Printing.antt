@@ -1,4 +1,4 @@
--- What print writes of a schedule, and what it is for a text to be read as the same schedule.
+-- The text that `print` writes for a schedule, and what it means that a text is read as the same schedule.
 use Rattle.std.specs.Prelude.{ℕ, ◌≡◌, List, [], ◌∷◌, ◌++◌, map, Option, Some, None, option_map, unwrap_or, slice_get, find, codes, if◌then◌else◌}
 use Rattle.std.specs.List.{flat_map, join_with_byte}
 use Rattle.topology.specs.declared.links.Link.{Link}
@@ -45,7 +45,7 @@ pref_line pref = Declares (declares.Pref pref.a pref.b pref.value)
 abbrev pub hold_line : Hold → Line
 hold_line hold = Declares (declares.Hold hold.a hold.b)
 
--- how far and by which scheme a packet goes that has left the stable tables, said also where nothing was said of it
+-- the lines for the hop limit and for the scheme, which are written even if the file had none
 abbrev pub hops_line : Net → Line
 hops_line net = Declares (declares.Hops net.hops)
 
@@ -60,7 +60,7 @@ abbrev pub pref_with : ℕ → ℕ → Option ℕ → List Pref
 pref_with u v None = []
 pref_with u v (Some value) = record { a = u; b = v; value = value } ∷ []
 
--- the preference that was added for v at u
+-- the preference of u for v, if one was added
 abbrev pub added : Net → ℕ → ℕ → List Pref
 added net u v = pref_with u v (option_map (λ pref. pref.value) (find (prefers u v) net.preferences))
 
@@ -68,7 +68,7 @@ added net u v = pref_with u v (option_map (λ pref. pref.value) (find (prefers u
 abbrev pub sorted_preferences : Net → List Pref
 sorted_preferences net = flat_map (λ u. flat_map (added net u) (neighbours net u)) (ascending net.nodes)
 
--- the hold of u towards w, where u holds back what it would send to w
+-- the hold of u towards w, if there is one
 abbrev pub held : Net → ℕ → ℕ → List Hold
 held net u w = if holds_back net u w then record { a = u; b = w } ∷ [] else []
 
@@ -76,7 +76,7 @@ held net u w = if holds_back net u w then record { a = u; b = w } ∷ [] else []
 abbrev pub sorted_holds : Net → List Hold
 sorted_holds net = flat_map (λ u. flat_map (held net u) (neighbours net u)) (ascending net.nodes)
 
--- the prefix at a place in file order; where there is none it is of no account
+-- the prefix at a place in file order; any prefix where there is none
 abbrev pub prefix_at : Net → ℕ → Range
 prefix_at net place = unwrap_or (slice_get net.prefixes place) (record { bits = 0; len = 0 })
 
@@ -85,7 +85,7 @@ abbrev pub hop_instruction : ℕ → Option ℕ → Instruction
 hop_instruction packet None = Hop packet
 hop_instruction packet (Some times) = HopTimes packet times
 
--- the instruction that says this, its prefix by name
+-- the instruction of a directive, with the prefix itself
 abbrev pub instruction_of : Net → Directive → Instruction
 instruction_of net (directive.Originate node place) = Origin Originate node (prefix_at net place)
 instruction_of net (directive.Withdraw node place) = Origin Withdraw node (prefix_at net place)
@@ -118,7 +118,8 @@ instruction_of net (directive.ShowWalk packet) = ShowWalk packet
 abbrev pub directive_line : Net → Numbered → Line
 directive_line net numbered = Directs (instruction_of net numbered.directive)
 
--- the lines up to begin: nodes, links and prefixes in file order, the preferences, the holds, then what is said of packets
+-- the lines up to begin: nodes, links and prefixes in file order, the preferences, the holds, then the hop limit and
+-- the scheme
 abbrev pub network_lines : Net → List Line
 network_lines net =
     map (node_line net) net.nodes ++ map link_line net.links ++ map prefix_line net.prefixes ++ map pref_line (sorted_preferences net) ++ map hold_line (sorted_holds net) ++ packet_lines net
@@ -131,7 +132,7 @@ printed_lines net directives = network_lines net ++ (Begin ∷ map (directive_li
 unfoldable pub printed : Net → List Numbered → List ℕ
 printed net directives = flat_map line_text (printed_lines net directives)
 
--- the same network. Preferences and holds are asked for by their two nodes, and have no order of their own
+-- the same network; preferences and holds are looked up by their two nodes, so their order does not matter
 pub record SameNet (net other : Net) : Type 0 where
   pub nodes : other.nodes ≡ net.nodes
   pub consolidators : other.consolidators ≡ net.consolidators
@@ -142,16 +143,16 @@ pub record SameNet (net other : Net) : Type 0 where
   pub hops : other.hops ≡ net.hops
   pub scheme : other.scheme ≡ net.scheme
 
--- what is directed, whatever the numbers of the lines
+-- the directives without the line numbers
 abbrev pub unnumbered : List Numbered → List Directive
 unnumbered directives = map (λ numbered. numbered.directive) directives
 
--- the same schedule but for the numbers of lines
+-- the same schedule, except for the line numbers
 pub record IsSame (schedule other : Schedule) : Type 0 where
   pub topology : SameNet schedule.topology other.topology
   pub directives : unnumbered other.lines.items ≡ unnumbered schedule.lines.items
 
--- the bytes are a file of this schedule but for the numbers of lines, which are those of the bytes
+-- the bytes are a file of this schedule, except for the line numbers, which are those in the bytes
 pub record IsFileAgain (bytes : List ℕ) (schedule : Schedule) : Type 0 where
   pub lines : List Line
   pub reads : Reads [] (words_by_line bytes) lines

@@ -1,4 +1,4 @@
--- What is wrong with a line, and which line of a file is the first bad one.
+-- The fault of a line, and the first bad line of a file.
 use Rattle.std.specs.Prelude.{ℕ, zero, suc, true, false, not, ◌≡◌, IsTrue, Option, Some, None, List, [], ◌∷◌, length, if◌then◌else◌}
 use Rattle.std.specs.Option.{option_or}
 use Rattle.topology.specs.declared.names.Scheme.TheVariants as scheme
@@ -22,14 +22,14 @@ use Rattle.schedule_file.specs.Words.{word_at, number_at, prefix_of, relation_of
 use Rattle.schedule_file.specs.Table.{keyword_in, view_in, scheme_in, shape_of, may_stand, may_have, fields, first_fault}
 use Rattle.schedule_file.specs.Grammar.{allowed, part_in, name_fault, net_of}
 
--- the first fault of the form of a line: it stands on the wrong side of begin, or has too few or too many words
+-- the first fault of a line's form: it stands on the wrong side of begin, or has too few or too many words
 abbrev pub form_fault : Part → Keyword → List (List ℕ) → Option BadKind
 form_fault part keyword words =
     if not (may_stand part (shape_of keyword)) then Some NotHere
     else if not (may_have (shape_of keyword) (suc (length words))) then Some WrongCount
     else None
 
--- the first fault of a line that begins with a keyword, or with another word
+-- the first fault of a line that begins with this keyword, or with no keyword
 abbrev pub fault_by : Part → Option Keyword → List (List ℕ) → Option BadKind
 fault_by part None words = Some UnknownWord
 fault_by part (Some keyword) words = option_or (form_fault part keyword words) (first_fault (fields keyword words) words)
@@ -39,21 +39,21 @@ abbrev pub word_fault : Part → List (List ℕ) → Option BadKind
 word_fault part [] = None
 word_fault part (word ∷ words) = fault_by part (keyword_in word) words
 
--- the line of what show asks for; of another word it is of no account
+-- the line of a view; any line if the word names none
 abbrev pub shown_by : Option View → List (List ℕ) → Line
 shown_by None words = form.Blank
 shown_by (Some (Plain view)) words = form.Directs (directs.Show view)
 shown_by (Some (OfEpoch view)) words = form.Directs (directs.ShowEpoch view (number_at 1 words))
 shown_by (Some Walk) words = form.Directs (directs.ShowWalk (number_at 1 words))
 
--- the line of the scheme that transient names; of another word it is of no account
+-- the line of a scheme; any line if the word names none
 abbrev pub set_by : Option SchemeName → List (List ℕ) → Line
 set_by None words = form.Blank
 set_by (Some Deflect) words = form.Declares (declares.Transient scheme.Deflect)
 set_by (Some Detour) words = form.Declares (declares.Transient (scheme.Detour (number_at 1 words)))
 set_by (Some Backup) words = form.Declares (declares.Transient scheme.Backup)
 
--- the line of a keyword and the words behind it; where one of them may not stand there it is of no account
+-- the line of a keyword and the words after it; any line if one of these may not stand there
 abbrev pub line_by : Keyword → List (List ℕ) → Line
 line_by Node (id ∷ mark ∷ others) = form.Declares (declares.Node (number_at 0 (id ∷ mark ∷ others)) true)
 line_by Node words = form.Declares (declares.Node (number_at 0 words) false)
@@ -77,7 +77,7 @@ line_by Hop (packet ∷ times ∷ others) = form.Directs (directs.HopTimes (numb
 line_by Hop words = form.Directs (directs.Hop (number_at 0 words))
 line_by Show words = shown_by (view_in (word_at 0 words)) words
 
--- the line that begins with a keyword; that of another word is of no account
+-- the line that begins with a keyword; any line without one
 abbrev pub line_from : Option Keyword → List (List ℕ) → Line
 line_from None words = form.Blank
 line_from (Some keyword) words = line_by keyword words
@@ -87,25 +87,25 @@ abbrev pub line_of : List (List ℕ) → Line
 line_of [] = form.Blank
 line_of (word ∷ words) = line_from (keyword_in word) words
 
--- what is wrong with a line of these words behind the earlier ones: the first fault of its words, or else of its names
+-- the fault of a line of these words after the earlier ones: the first fault of the words, or else of the names
 unfoldable pub refusal : Part → List Line → List (List ℕ) → Option BadKind
 refusal behind earlier words = option_or (word_fault (part_in behind earlier) words) (name_fault (net_of earlier) (line_of words))
 
--- after the earlier lines n lines are spelled by allowed ones, and the next one is bad
+-- after the earlier lines the first n texts are spelled by allowed lines, and the next one is bad
 abbrev pub BadAt : Part → List Line → List (List (List ℕ)) → ℕ → BadKind → Type 0
 BadAt behind earlier [] n kind = ⊥
 BadAt behind earlier (words ∷ others) zero kind = refusal behind earlier words ≡ Some kind
 BadAt behind earlier (words ∷ others) (suc n) kind =
     (line : Line) × Spells words line × IsTrue (allowed behind earlier line) × BadAt behind (line ∷ earlier) others n kind
 
--- the line of this number, from 1, is the first bad one, and this is what is wrong with it
+-- the line with this number, from 1, is the first bad one, with this fault
 abbrev pub FirstBadIn : Part → List ℕ → ℕ → BadKind → Type 0
 FirstBadIn behind bytes number kind = (n : ℕ) × (number ≡ suc n) × BadAt behind [] (words_by_line bytes) n kind
 
--- the same of a schedule
+-- the same for a schedule
 abbrev pub FirstBad : List ℕ → ℕ → BadKind → Type 0
 FirstBad bytes number kind = FirstBadIn Run bytes number kind
 
--- and of a network alone
+-- the same for a network alone
 abbrev pub FirstBadOfTopology : List ℕ → ℕ → BadKind → Type 0
 FirstBadOfTopology bytes number kind = FirstBadIn Over bytes number kind

@@ -1,4 +1,4 @@
--- How the parts of a line are spelled.
+-- The spelling of the parts of a line.
 use Rattle.std.specs.Prelude.{ℕ, ◌<◌, ◌/◌, ◌%◌, ◌^◌, List, ◌++◌, map, codes}
 use Rattle.std.specs.Fmt.{decimal}
 use Rattle.text_lines.specs.Lines.{lines_of, left_of}
@@ -8,7 +8,7 @@ use Rattle.topology.specs.declared.links.Relation.TheVariants.{Customer, Provide
 use Rattle.topology.specs.declared.prefixes.Prefix.{Prefix as Range}
 use Rattle.topology.specs.Net.{IsPrefix}
 
--- the words of each line of a file, none where a line is empty or all comment
+-- the words of each line of a file; none if a line is empty or only a comment
 abbrev pub words_by_line : List ℕ → List (List (List ℕ))
 words_by_line bytes = map (λ line. words_of (left_of line)) (lines_of bytes)
 
@@ -18,7 +18,7 @@ prefix_text p =
     decimal (p.bits / 2 ^ 24 % 256) ++ codes "." ++ decimal (p.bits / 2 ^ 16 % 256) ++ codes "." ++ decimal (p.bits / 2 ^ 8 % 256)
     ++ codes "." ++ decimal (p.bits % 256) ++ codes "/" ++ decimal p.len
 
--- what the second end of a link is to the first
+-- the relation of the second end of a link to the first
 abbrev pub relation_text : Relation → List ℕ
 relation_text Customer = codes "customer"
 relation_text Provider = codes "provider"
@@ -29,6 +29,6 @@ relation_text Any = codes "any"
 abbrev pub IsNumber : ℕ → Type 0
 IsNumber n = (0 < n) × (n < 2 ^ 16)
 
--- the bits of an address, and a length that no set bit is beyond
+-- the bits are an address, and no bit is set beyond the length
 abbrev pub IsRange : Range → Type 0
 IsRange p = (p.bits < 2 ^ 32) × IsPrefix p

@@ -27,17 +27,17 @@ pub record Holds (words : Words) (all : List (List ℕ)) : Type 0 where
   pub three : words.third.now ≡ word_at 2 all
   pub four : words.fourth.now ≡ word_at 3 all
 
--- an answer of the reader: the line of a keyword and the words behind it, or their first fault
+-- the reader returns the line of a keyword and the words after it, or their first fault
 abbrev pub ReadsAs : Keyword → List (List ℕ) → Result Line BadKind → Type 0
 ReadsAs keyword words (Ok line) = (line ≡ line_by keyword words) × (first_fault (fields keyword words) words ≡ None)
 ReadsAs keyword words (Err kind) = first_fault (fields keyword words) words ≡ Some kind
 
--- an answer of the check of a line's form: nothing is wrong with it, or its first fault
+-- the check of a line's form returns no fault, or the first one
 abbrev pub HasForm : {T : Type 0} → Part → Keyword → List (List ℕ) → Result T BadKind → Type 0
 HasForm part keyword words (Ok done) = form_fault part keyword words ≡ None
 HasForm part keyword words (Err kind) = form_fault part keyword words ≡ Some kind
 
--- what the refusal of the network means for the line
+-- the refusal of the line for each refusal of the network
 abbrev pub refusal_of : BuildError → Refusal
 refusal_of building.DuplicateNode = Bad bad.DuplicateNode
 refusal_of (building.UnknownNode id) = Bad bad.UnknownNode
@@ -53,27 +53,28 @@ abbrev pub NamesFault : Refusal → Option BadKind → Type 0
 NamesFault NoMemory fault = Unit {0}
 NamesFault (Bad kind) fault = fault ≡ Some kind
 
--- the network, the directives and the part are those of the lines
+-- the draft has the network, the directives and the part of these lines
 pub record IsAfter (draft : Draft) (earlier : List Line) : Type 0 where
   pub topology : draft.schedule.topology ≡ net_of earlier
   pub lines : draft.schedule.lines.items ≡ directives_of earlier
   pub start : draft.part ≡ part_in draft.behind earlier
 
--- after any lines that the draft stands for, the line may follow, and then it stands for all of them
+-- if the draft stands for some lines, this line may follow them, and the new draft stands for all of them
 abbrev pub Takes : Draft → ℕ → Line → Draft → Type 0
 Takes old number line new =
     (earlier : List Line) → IsAfter old earlier → number ≡ suc (length earlier) → IsTrue (allowed old.behind earlier line) × IsAfter new (line ∷ earlier)
 
--- after any lines that the draft stands for, this is wrong with the names of the line
+-- if the draft stands for some lines, this is the fault of the line's names
 abbrev pub Refuses : Draft → Line → Refusal → Type 0
 Refuses old line why = (earlier : List Line) → IsAfter old earlier → NamesFault why (name_fault (net_of earlier) line)
 
--- after any lines that the draft stands for, these words spell a line that may follow, and then it stands for all of them
+-- if the draft stands for some lines, these words spell a line that may follow them, and the new draft stands for all
+-- of them
 abbrev pub TakesLine : Draft → ℕ → List (List ℕ) → Draft → Type 0
 TakesLine old number words new =
     (earlier : List Line) → IsAfter old earlier → number ≡ suc (length earlier)
     → (line : Line) × Spells words line × IsTrue (allowed old.behind earlier line) × IsAfter new (line ∷ earlier)
 
--- after any lines that the draft stands for, this is wrong with a line of these words
+-- if the draft stands for some lines, this is the fault of a line of these words
 abbrev pub RefusesLine : Draft → List (List ℕ) → Refusal → Type 0
 RefusesLine old words why = (earlier : List Line) → IsAfter old earlier → NamesFault why (refusal old.behind earlier words)

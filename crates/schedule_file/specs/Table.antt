@@ -1,4 +1,5 @@
--- The table of the grammar: each word that begins a line, how many words such a line has, on which side of begin it stands, which words may stand behind the first, and what it directs.
+-- The table of the grammar: each word that begins a line, how many words such a line has, on which side of begin it
+-- stands, which words may follow the first, and its directive.
 use Rattle.std.specs.Prelude.{ℕ, Bool, true, false, ◌&&◌, nat_le, is_some, List, [], ◌∷◌, Option, Some, None, codes, bytes_eq, if◌then◌else◌}
 use Rattle.std.specs.List.{find}
 use Rattle.topology.specs.declared.status.BadKind.{BadKind}
@@ -27,31 +28,31 @@ use Rattle.schedule_file.specs.declared.table.Shape.{Shape}
 use Rattle.topology.specs.declared.limits.TheConstants.{HIGHEST_NODE, HIGHEST_PREFERENCE, HIGHEST_HOPS, MOST_TIMES, HIGHEST_MESSAGE, HIGHEST_PACKET, HIGHEST_EPOCH}
 use Rattle.schedule_file.specs.Words.{has_word, word_at, spells_number, spells_prefix}
 
--- the verb of a node and a prefix: its word
+-- the word of a verb about a node and a prefix
 abbrev pub origin_text : OriginVerb → List ℕ
 origin_text Originate = codes "originate"
 origin_text Withdraw = codes "withdraw"
 origin_text Probe = codes "probe"
 
--- and what it directs
+-- its directive
 abbrev pub origin_directive : OriginVerb → ℕ → ℕ → Directive
 origin_directive Originate node prefix = directive.Originate node prefix
 origin_directive Withdraw node prefix = directive.Withdraw node prefix
 origin_directive Probe node prefix = directive.Probe node prefix
 
--- an event of one node: its word
+-- the word of an event of one node
 abbrev pub node_text : NodeEvent → List ℕ
 node_text Snap = codes "snap"
 node_text Crash = codes "crash"
 node_text Restart = codes "restart"
 
--- and what it directs
+-- its directive
 abbrev pub node_directive : NodeEvent → ℕ → Directive
 node_directive Snap node = directive.Snap node
 node_directive Crash node = directive.Crash node
 node_directive Restart node = directive.Restart node
 
--- an event of two nodes with a link: its word
+-- the word of an event of two nodes with a link
 abbrev pub pair_text : PairEvent → List ℕ
 pair_text Deliver = codes "deliver"
 pair_text Fail = codes "fail"
@@ -60,7 +61,7 @@ pair_text Notice = codes "notice"
 pair_text Open = codes "open"
 pair_text Flush = codes "flush"
 
--- and what it directs
+-- its directive
 abbrev pub pair_directive : PairEvent → ℕ → ℕ → Directive
 pair_directive Deliver a b = directive.Deliver a b
 pair_directive Fail a b = directive.Fail a b
@@ -69,31 +70,31 @@ pair_directive Notice a b = directive.Notice a b
 pair_directive Open a b = directive.OpenSession a b
 pair_directive Flush a b = directive.Flush a b
 
--- what is shown of the run so far: its word
+-- the word of a view of the run so far
 abbrev pub plain_text : PlainView → List ℕ
 plain_text plain.Rib = codes "rib"
 plain_text plain.Log = codes "log"
 plain_text plain.Control = codes "ctl"
 
--- and what it directs
+-- its directive
 abbrev pub plain_directive : PlainView → Directive
 plain_directive plain.Rib = directive.ShowRib
 plain_directive plain.Log = directive.ShowLog
 plain_directive plain.Control = directive.ShowControl
 
--- what is shown of one epoch: its word
+-- the word of a view of one epoch
 abbrev pub epoch_text : EpochView → List ℕ
 epoch_text Cut = codes "cut"
 epoch_text Closure = codes "closure"
 epoch_text Tables = codes "tables"
 
--- and what it directs
+-- its directive
 abbrev pub epoch_directive : EpochView → ℕ → Directive
 epoch_directive Cut epoch = directive.ShowCut epoch
 epoch_directive Closure epoch = directive.ShowClosure epoch
 epoch_directive Tables epoch = directive.ShowTables epoch
 
--- the word behind show
+-- the word after show
 abbrev pub view_text : View → List ℕ
 view_text (Plain view) = plain_text view
 view_text (OfEpoch view) = epoch_text view
@@ -102,11 +103,11 @@ view_text Walk = codes "walk"
 abbrev pub views : List View
 views = Plain plain.Rib ∷ Plain plain.Log ∷ Plain plain.Control ∷ OfEpoch Cut ∷ OfEpoch Closure ∷ OfEpoch Tables ∷ Walk ∷ []
 
--- what the word behind show asks for
+-- the view that the word after show names
 abbrev pub view_in : List ℕ → Option View
 view_in word = find (λ view. bytes_eq word (view_text view)) views
 
--- how a packet goes on that has left the stable tables: its word
+-- the word of a scheme for packets off the stable tables
 abbrev pub scheme_text : SchemeName → List ℕ
 scheme_text Deflect = codes "deflect"
 scheme_text Detour = codes "detour"
@@ -115,11 +116,11 @@ scheme_text Backup = codes "backup"
 abbrev pub schemes : List SchemeName
 schemes = Deflect ∷ Detour ∷ Backup ∷ []
 
--- which scheme the word behind transient names
+-- the scheme that the word after transient names
 abbrev pub scheme_in : List ℕ → Option SchemeName
 scheme_in word = find (λ name. bytes_eq word (scheme_text name)) schemes
 
--- the word that a line of this kind begins with
+-- the first word of a line of this kind
 abbrev pub keyword_text : Keyword → List ℕ
 keyword_text Node = codes "node"
 keyword_text Link = codes "link"
@@ -152,15 +153,15 @@ keywords =
 abbrev pub keyword_in : List ℕ → Option Keyword
 keyword_in word = find (λ keyword. bytes_eq word (keyword_text keyword)) keywords
 
--- a line before begin, of so many words
+-- a line before begin, with from `least` to `most` words
 abbrev pub declares : ℕ → ℕ → Shape
 declares least most = record { directs = false; least = least; most = most }
 
--- a line behind begin, of so many words
+-- a line after begin, with from `least` to `most` words
 abbrev pub directs : ℕ → ℕ → Shape
 directs least most = record { directs = true; least = least; most = most }
 
--- what lines of this kind are like; the first word counts
+-- the shape of lines of this kind; the first word counts
 abbrev pub shape_of : Keyword → Shape
 shape_of Node = declares 2 3
 shape_of Link = declares 4 4
@@ -193,15 +194,15 @@ may_direct Network = false
 may_direct Run = true
 may_direct Over = false
 
--- the line may stand in this part
+-- a line of this shape may stand in this part
 abbrev pub may_stand : Part → Shape → Bool
 may_stand part shape = if shape.directs then may_direct part else may_declare part
 
--- the line may have so many words
+-- a line of this shape may have so many words
 abbrev pub may_have : Shape → ℕ → Bool
 may_have shape count = nat_le shape.least count && nat_le count shape.most
 
--- what a word behind the first may be
+-- what a word after the first can be
 pub data Field : Type 0 where
   NodeNumber : Field
   Value : Field
@@ -218,21 +219,21 @@ pub data Field : Type 0 where
 abbrev pub relations : List (List ℕ)
 relations = codes "customer" ∷ codes "provider" ∷ codes "peer" ∷ codes "any" ∷ []
 
--- what stands behind show: a word that asks for something, and what that wants
+-- the fields after show: the view, and what the view needs
 abbrev pub view_fields : Option View → List Field
 view_fields None = Viewed ∷ []
 view_fields (Some (Plain view)) = Viewed ∷ []
 view_fields (Some (OfEpoch view)) = Viewed ∷ EpochNumber ∷ []
 view_fields (Some Walk) = Viewed ∷ PacketNumber ∷ []
 
--- what stands behind transient: the word for a scheme, and what that wants
+-- the fields after transient: the scheme, and what the scheme needs
 abbrev pub scheme_fields : Option SchemeName → List Field
 scheme_fields None = Schemed ∷ []
 scheme_fields (Some Deflect) = Schemed ∷ []
 scheme_fields (Some Detour) = Schemed ∷ NodeNumber ∷ []
 scheme_fields (Some Backup) = Schemed ∷ []
 
--- what is to stand behind the first word, where these words do
+-- the fields after the first word, for these words
 abbrev pub fields : Keyword → List (List ℕ) → List Field
 fields Node (id ∷ []) = NodeNumber ∷ []
 fields Node words = NodeNumber ∷ OneOf (codes "consolidator" ∷ []) ∷ []
@@ -256,7 +257,7 @@ fields Hop (packet ∷ []) = PacketNumber ∷ []
 fields Hop words = PacketNumber ∷ Times ∷ []
 fields Show words = view_fields (view_in (word_at 0 words))
 
--- the word is one that may stand there
+-- the word may stand in this field
 abbrev pub spells_field : Field → List ℕ → Bool
 spells_field NodeNumber word = spells_number 1 HIGHEST_NODE word
 spells_field Value word = spells_number 0 HIGHEST_PREFERENCE word
@@ -270,7 +271,7 @@ spells_field Viewed word = is_some (view_in word)
 spells_field Schemed word = is_some (scheme_in word)
 spells_field EpochNumber word = spells_number 1 HIGHEST_EPOCH word
 
--- what is wrong with another word
+-- the fault of any other word in the field
 abbrev pub fault_of : Field → BadKind
 fault_of NodeNumber = BadNumber
 fault_of Value = BadNumber
@@ -284,7 +285,7 @@ fault_of Viewed = UnknownWord
 fault_of Schemed = UnknownWord
 fault_of EpochNumber = BadNumber
 
--- the first from the left; words that are missing or left over are the wrong number of words
+-- the first fault from the left; missing or additional words are a wrong number of words
 abbrev pub first_fault : List Field → List (List ℕ) → Option BadKind
 first_fault [] [] = None
 first_fault [] (word ∷ words) = Some WrongCount

@@ -1,4 +1,4 @@
-//! What holds of every schedule file. A call of a law brings what it says into the caller's proof.
+//! Laws of every schedule file. A call of a law gives the caller's proof what the law says.
 ghost use Rattle.std.specs.Prelude.{ℕ, ◌≡◌, ◌↔◌, None, List, [], IsTrue};
 ghost use Rattle.topology.specs.declared.status.BadKind.{BadKind};
 ghost use Rattle.topology.specs.Net.{Net, IsValid};
@@ -11,14 +11,14 @@ ghost use Rattle.schedule_file.specs.declared.lines.Line.{Line};
 ghost use Rattle.schedule_file.specs.declared.lines.Schedule.{Schedule};
 ghost use Rattle.schedule_file.specs.declared.table.Part.{Part};
 
-/// Nothing is wrong with words exactly where they spell a line that may follow the earlier ones.
+/// Words have no fault exactly where they spell a line that may follow the earlier ones.
 #[tactic(auto, using(crate::proofs::Steps::allowed_line, crate::proofs::Steps::refused_none))]
 pub fn refused_is_not_allowed()
     ensures { (behind : Part) (earlier : List Line) (words : List (List ℕ))
         → (refusal behind earlier words ≡ None) ↔ ((line : Line) × Spells words line × IsTrue (allowed behind earlier line)) }
 {}
 
-/// Words spell one line at most, and a text one list of lines, so a file says one schedule.
+/// Words spell at most one line, and a text at most one list of lines. So a file has at most one schedule.
 #[tactic(auto, using(crate::proofs::Spellings::one_line, crate::proofs::Readings::one_list, crate::proofs::Readings::same_topology, crate::proofs::Readings::same_directives, crate::proofs::Readings::same_network))]
 pub fn readings_are_unique()
     ensures line { (words : List (List ℕ)) (line other : Line)
@@ -34,7 +34,7 @@ pub fn readings_are_unique()
         → IsTopologyFile text net → IsTopologyFile text other → net ≡ other }
 {}
 
-/// A file has no first bad line, and another text one at most.
+/// The file of a schedule has no first bad line, and every other text has at most one.
 #[tactic(auto, using(crate::proofs::Readings::no_file, crate::proofs::Readings::no_topology, crate::proofs::Readings::same_number, crate::proofs::Readings::same_kind))]
 pub fn bad_lines_are_first()
     ensures file { (text : List ℕ) (schedule : Schedule) (line : ℕ) (kind : BadKind)
@@ -47,8 +47,7 @@ pub fn bad_lines_are_first()
         → FirstBadIn behind text line kind → FirstBadIn behind text other last → kind ≡ last }
 {}
 
-/// What is printed of a schedule that was read is read as the same one, but for the numbers of
-/// lines.
+/// A printed schedule is read back as the same schedule, except for the line numbers.
 pub fn printed_is_read_again()
     ensures printed { (schedule : Schedule) (bytes : List ℕ) → IsValid schedule.topology → IsFile bytes schedule
         → IsFileAgain (printed schedule.topology schedule.lines.items) schedule }

@@ -1,13 +1,13 @@
-//! What a schedule file holds.
+//! Lines, directives and schedules.
 use crate::table::{EpochView, NodeEvent, OriginVerb, PairEvent, PlainView};
 use topology::{Epoch, NodeId, Prefix, PrefixId, Relation, Scheme, Topology};
 
-/// A line of the file, by its words alone: names are not looked up.
+/// A line of the file as its words spell it. Names are not looked up.
 #[derive(Clone, Copy, Debug, PartialEq, Eq)]
 pub enum Line {
-    /// No words.
+    /// A line without words.
     Blank,
-    /// The end of the first part.
+    /// The line that ends the first part.
     Begin,
     /// A line of the first part.
     Declares(Declaration),
@@ -28,13 +28,13 @@ pub enum Declaration {
         b: NodeId,
         relation: Relation,
     },
-    /// The preference that `a` gives to `b`.
+    /// The preference of `a` for `b`.
     Pref {
         a: NodeId,
         b: NodeId,
         value: u32,
     },
-    /// `a` holds back what it would send to `b`.
+    /// `a` holds back its updates to `b`.
     Hold {
         a: NodeId,
         b: NodeId,
@@ -42,7 +42,7 @@ pub enum Declaration {
     Prefix {
         prefix: Prefix,
     },
-    /// How many moves a packet may make that has left the stable tables.
+    /// How many moves a packet may make off the stable tables.
     Hops {
         hops: u16,
     },
@@ -52,50 +52,50 @@ pub enum Declaration {
     },
 }
 
-/// What a line says is to happen, by names that are not looked up.
+/// What a line of the second part orders. Names are not looked up.
 #[derive(Clone, Copy, Debug, PartialEq, Eq)]
 pub enum Instruction {
-    /// Something happens to a prefix at a node, or its packets are probed from there.
+    /// An event of a prefix at a node, or a probe of the prefix from there.
     Origin {
         verb: OriginVerb,
         node: NodeId,
         prefix: Prefix,
     },
-    /// Something happens at a node.
+    /// An event of a node.
     Single {
         event: NodeEvent,
         node: NodeId,
     },
-    /// Something happens at the link of two nodes.
+    /// An event of the link of two nodes.
     Pair {
         event: PairEvent,
         a: NodeId,
         b: NodeId,
     },
-    /// The preference that `node` gives to `nbr` from then on.
+    /// The preference of `node` for `nbr` from now on.
     Prefer {
         node: NodeId,
         nbr: NodeId,
         value: u32,
     },
-    /// The node begins a ballot on the value of the epoch.
+    /// The node starts a ballot on the value of the epoch.
     Propose {
         node: NodeId,
         epoch: Epoch,
     },
-    /// At most so many deliveries, each the next one.
+    /// At most this many deliveries, each of them the next one.
     Drain {
         times: u32,
     },
-    /// The control message of this number arrives.
+    /// The control message with this number arrives.
     Control {
         number: u32,
     },
-    /// At most so many control messages, each the next one.
+    /// At most this many control messages, each of them the next one.
     ControlAll {
         times: u32,
     },
-    /// A packet of this number starts at the node, for the prefix.
+    /// A packet with this number starts at the node, for the prefix.
     Inject {
         packet: u32,
         node: NodeId,
@@ -105,7 +105,7 @@ pub enum Instruction {
     Hop {
         packet: u32,
     },
-    /// At most so many moves of the packet.
+    /// At most this many moves of the packet.
     HopTimes {
         packet: u32,
         times: u32,
@@ -117,13 +117,13 @@ pub enum Instruction {
         view: EpochView,
         epoch: Epoch,
     },
-    /// The way of the packet is shown.
+    /// Writes the walk of the packet.
     ShowWalk {
         packet: u32,
     },
 }
 
-/// A line after `begin`, its names looked up in the network.
+/// What a line after `begin` orders, with its names looked up in the network.
 #[derive(Clone, Copy, Debug, PartialEq, Eq)]
 pub enum Directive {
     Originate {
@@ -134,7 +134,7 @@ pub enum Directive {
         node: NodeId,
         prefix: PrefixId,
     },
-    /// The walk that a packet of the prefix has from the node, if nothing happens any more, is shown.
+    /// Writes the walk that a packet for the prefix would have from the node if nothing else happened.
     Probe {
         node: NodeId,
         prefix: PrefixId,
@@ -164,7 +164,7 @@ pub enum Directive {
         node: NodeId,
         nbr: NodeId,
     },
-    /// The node sends what it held back towards the neighbour.
+    /// The node sends the updates that it held back from the neighbour.
     Flush {
         node: NodeId,
         nbr: NodeId,
@@ -178,30 +178,30 @@ pub enum Directive {
     Restart {
         node: NodeId,
     },
-    /// The node begins a ballot on the value of the epoch.
+    /// The node starts a ballot on the value of the epoch.
     Propose {
         node: NodeId,
         epoch: Epoch,
     },
-    /// At most so many deliveries, each the next one.
+    /// At most this many deliveries, each of them the next one.
     Drain {
         times: u32,
     },
-    /// The control message of this number arrives.
+    /// The control message with this number arrives.
     Control {
         number: u32,
     },
-    /// At most so many control messages, each the next one.
+    /// At most this many control messages, each of them the next one.
     ControlAll {
         times: u32,
     },
-    /// A packet of this number, from 1, starts at the node, for the prefix.
+    /// A packet with this number, at least 1, starts at the node, for the prefix.
     Inject {
         packet: u32,
         node: NodeId,
         prefix: PrefixId,
     },
-    /// The packet makes its next move, where `times` is given at most so many.
+    /// The packet makes its next move. With `times` it makes at most so many.
     Hop {
         packet: u32,
         times: Option<u32>,
@@ -212,7 +212,7 @@ pub enum Directive {
     ShowCut(Epoch),
     ShowClosure(Epoch),
     ShowTables(Epoch),
-    /// The way of the packet of this number.
+    /// Writes the walk of the packet with this number.
     ShowWalk(u32),
 }
 
@@ -223,7 +223,7 @@ pub struct Numbered {
     pub directive: Directive,
 }
 
-/// A network and what is to happen in it.
+/// A network and the directives of a run.
 #[derive(Drop)]
 pub struct Schedule {
     pub topology: Topology,

@@ -10,7 +10,7 @@ use crate::lines::{Declaration, Directive, Instruction};
 use topology::laws::relations_are_converse;
 use topology::{BadKind, BuildError, NodeId, Prefix, PrefixId, Topology};
 
-/// Why a line is not taken.
+/// Why a line is refused.
 #[derive(Clone, Copy, Debug, PartialEq, Eq)]
 pub enum Refusal {
     NoMemory,
@@ -42,7 +42,7 @@ impl From<BadKind> for Refusal {
     }
 }
 
-/// Adds what the line declares, or sets it.
+/// Adds or sets what the line declares.
 pub fn declare(topology: &mut Topology, declaration: &Declaration) -> Result<(), Refusal>
     requires { DeclaresInRange declaration.now }
     ensures ok { OnOk result (topology.new ≡ with_declaration declaration.now topology.old) }
@@ -63,7 +63,7 @@ pub fn declare(topology: &mut Topology, declaration: &Declaration) -> Result<(),
     Ok(())
 }
 
-// The place of the prefix, where the node and the prefix are declared.
+// The place of the prefix, if the node and the prefix are declared.
 fn origin(topology: &Topology, node: NodeId, prefix: Prefix) -> Result<PrefixId, BadKind>
     ensures ok { IfOk result (λ place. place ≡ place_in prefix topology.now.prefixes) }
     ensures fine { OnOk result (origin_fault topology.now node prefix ≡ None) }
@@ -73,7 +73,7 @@ fn origin(topology: &Topology, node: NodeId, prefix: Prefix) -> Result<PrefixId,
     if topology.rank_of(node).is_none() {
         return Err(BadKind::UnknownNode);
     }
-    // The call says that no prefix is there twice.
+    // brings in the invariant of the topology: no prefix is there twice
     let _valid = topology.nodes();
     let Some(place) = topology.find_prefix(prefix) else {
         return Err(BadKind::UnknownPrefix);
@@ -81,7 +81,7 @@ fn origin(topology: &Topology, node: NodeId, prefix: Prefix) -> Result<PrefixId,
     Ok(place)
 }
 
-// The node is declared.
+// Checks that the node is declared.
 fn check_node(topology: &Topology, node: NodeId) -> Result<(), BadKind>
     ensures ok { OnOk result (node_fault topology.now node ≡ None) }
     ensures err { IfErr result (λ kind. node_fault topology.now node ≡ Some kind) }
@@ -92,7 +92,7 @@ fn check_node(topology: &Topology, node: NodeId) -> Result<(), BadKind>
     }
 }
 
-// The two are different nodes with a link.
+// Checks that the two are different nodes with a link.
 fn check_pair(topology: &Topology, a: NodeId, b: NodeId) -> Result<(), BadKind>
     ensures ok { OnOk result (pair_fault topology.now a b ≡ None) }
     ensures err { IfErr result (λ kind. pair_fault topology.now a b ≡ Some kind) }
@@ -110,7 +110,7 @@ fn check_pair(topology: &Topology, a: NodeId, b: NodeId) -> Result<(), BadKind>
     Ok(())
 }
 
-// The two are nodes with a link. Equal ends have none.
+// Checks that the two are nodes with a link. A node has no link with itself.
 fn check_neighbour(topology: &Topology, node: NodeId, nbr: NodeId) -> Result<(), BadKind>
     ensures ok { OnOk result (neighbour_fault topology.now node nbr ≡ None) }
     ensures err { IfErr result (λ kind. neighbour_fault topology.now node nbr ≡ Some kind) }
@@ -125,7 +125,7 @@ fn check_neighbour(topology: &Topology, node: NodeId, nbr: NodeId) -> Result<(),
     Ok(())
 }
 
-// A packet starts at the node, for the prefix.
+// The directive that a packet starts at the node, for the prefix.
 fn inject(
     topology: &Topology,
     packet: u32,
@@ -145,14 +145,14 @@ fn inject(
     })
 }
 
-// The packet makes its next move, or at most so many.
+// The directive that the packet makes its next move, or at most so many.
 fn hop(packet: u32, times: Option<u32>) -> Directive
     ensures { result ≡ directive.Hop packet times }
 {
     Directive::Hop { packet, times }
 }
 
-/// The directive of the instruction, its names looked up.
+/// The directive of the instruction, with its names looked up.
 pub fn look_up(topology: &Topology, instruction: &Instruction) -> Result<Directive, BadKind>
     ensures ok { IfOk result (λ directive. directive ≡ directive_of topology.now instruction.now) }
     ensures fine { OnOk result (directed_fault topology.now instruction.now ≡ None) }

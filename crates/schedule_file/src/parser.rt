@@ -20,26 +20,26 @@ use std::alloc::Global;
 use text_lines::{Line as Span, Lines};
 use topology::{BadKind, Topology};
 
-/// Why the bytes are no schedule.
+/// Why the bytes are not a schedule.
 #[derive(Clone, Copy, Debug, PartialEq, Eq)]
 pub enum ParseEnd {
     NoMemory,
-    /// The first bad line, from 1, and what is wrong with it.
+    /// The first bad line, counted from 1, and its fault.
     Bad { line: u32, kind: BadKind },
 }
 
-// A schedule as far as it was read.
+// The part of a schedule that was read so far.
 #[derive(Drop)]
 struct Draft {
     schedule: Schedule,
-    /// What may stand next.
+    /// Which lines may come next.
     part: Part,
-    /// What may stand behind `begin`.
+    /// Which lines may come after `begin`.
     behind: Part,
 }
 
 impl Draft {
-    // Takes one line that may stand here.
+    // Takes one line, if it may stand here.
     fn take(&mut self, number: u32, line: &Line) -> Result<(), Refusal>
         requires in_range { InRange line.now }
         requires place { stands self.old.part line.now ≡ true }
@@ -83,7 +83,7 @@ impl Draft {
     }
 }
 
-// What the lines of the text say, where this may stand behind `begin`.
+// Reads all lines of the text; `behind` says which lines may come after `begin`.
 fn read(alloc: Global, text: &[u8], behind: Part) -> Result<Schedule, ParseEnd>
     requires { length text.now < 2 ^ 32 - 1 }
     ensures ok { IfOk result (λ schedule. IsRead behind text.now schedule) }
@@ -113,31 +113,30 @@ fn read(alloc: Global, text: &[u8], behind: Part) -> Result<Schedule, ParseEnd>
     Ok(draft.schedule)
 }
 
-/// The schedule that the bytes spell, else the first bad line and what is wrong with it. Linear in
-/// the bytes.
+/// The schedule that the bytes spell, or else the first bad line and its fault. Takes time linear in the bytes.
 pub fn parse(alloc: Global, text: &[u8]) -> Result<Schedule, ParseEnd>
     requires { length text.now < 2 ^ 32 - 1 }
     ensures ok { IfOk result (IsFile text.now) }
     ensures err { IfErr result (SaysWhy Run text.now) }
-    // What is directed names what the network has.
+    // directives name only what the network has
     ensures follow { IfOk result (λ schedule. AreInstructed schedule.topology schedule.lines.items) }
-    // A file is refused for want of memory alone.
+    // a valid file is refused only for want of memory
     ensures complete { (schedule : Schedule) → IsFile text.now schedule → IfErr result IsWantOfMemory }
-    // The first bad line is named, unless memory runs out before.
+    // the first bad line is named, unless memory runs out before
     ensures named { (line : ℕ) (kind : BadKind) → FirstBad text.now line kind → IsBadOrMemory line kind result }
 {
     read(alloc, text, Part::Run)
 }
 
-/// The network that the bytes describe, in a file for one node: nothing stands behind `begin`.
-/// Else the first bad line and what is wrong with it. Linear in the bytes.
+/// The network that the bytes describe, in a file where nothing follows `begin`, or else the first bad line and its
+/// fault. Takes time linear in the bytes.
 pub fn parse_topology(alloc: Global, text: &[u8]) -> Result<Topology, ParseEnd>
     requires { length text.now < 2 ^ 32 - 1 }
     ensures ok { IfOk result (IsTopologyFile text.now) }
     ensures err { IfErr result (SaysWhy Over text.now) }
-    // A file is refused for want of memory alone.
+    // a valid file is refused only for want of memory
     ensures complete { (net : Net) → IsTopologyFile text.now net → IfErr result IsWantOfMemory }
-    // The first bad line is named, unless memory runs out before.
+    // the first bad line is named, unless memory runs out before
     ensures named { (line : ℕ) (kind : BadKind) → FirstBadOfTopology text.now line kind → IsBadOrMemory line kind result }
 {
     let Schedule { topology, lines: _ } = read(alloc, text, Part::Over)?;

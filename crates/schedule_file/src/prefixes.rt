@@ -1,4 +1,4 @@
-//! Prefixes, as they are spelled.
+//! Reads the spelling of a prefix.
 ghost use Rattle.std.specs.Prelude.{ℕ, ◌≡◌, ◌≢◌, ◌<◌, ◌≤◌, List, ◌∷◌, ◌++◌, IfSome, IfNone};
 ghost use Rattle.std.specs.Fmt.{decimal};
 ghost use Rattle.schedule_file.specs.Spelling.{prefix_text, IsRange};
@@ -8,7 +8,7 @@ ghost use Rattle.topology.specs.declared.prefixes.Prefix.{Prefix as Range};
 use text_lines::read_number;
 use topology::Prefix;
 
-// The bytes before the first mark, and those behind it, where there is one.
+// The bytes before the first mark, and those after it, if there is a mark.
 #[derive(Clone, Copy, Debug)]
 struct Cut<'a> {
     front: &'a [u8],
@@ -35,7 +35,7 @@ fn cut_at(mark: u8, bytes: &[u8]) -> Cut<'_>
     }
 }
 
-// The number, up to 255, before the first mark, and what stands behind the mark.
+// The number, up to 255, before the first mark, and the bytes after the mark.
 fn number_before(mark: u8, word: &[u8]) -> Option<(u32, &[u8])>
     requires { mark < 48 }
     ensures some { IfSome result (λ r. word.now ≡ decimal r.0 ++ mark ∷ r.1.now) }
@@ -48,8 +48,8 @@ fn number_before(mark: u8, word: &[u8]) -> Option<(u32, &[u8])>
     Some((number, rest?))
 }
 
-/// The prefix that the word spells: four numbers joined by points, a slash and the length. None
-/// exactly where it spells none, or one with bits beyond its length.
+/// The prefix that the word spells: four numbers joined by points, a slash and the length. The answer is `None` exactly
+/// where the word spells no prefix, or one with bits beyond its length.
 pub fn read_prefix(word: &[u8]) -> Option<Prefix>
     ensures some { IfSome result (λ p. word.now ≡ prefix_text p) }
     ensures in_range { IfSome result (λ p. IsRange p) }

@@ -14,7 +14,7 @@ use crate::table::{EpochView, NodeEvent, OriginVerb, PairEvent, PlainView};
 use std::alloc::{AllocError, Global};
 use topology::{Epoch, NoMemory, NodeId, Prefix, PrefixId, Topology};
 
-// The prefix at a place. Where there is none it is of no account.
+// The prefix at a place. If there is none, the answer does not matter.
 fn prefix_at(topology: &Topology, place: PrefixId) -> Prefix
     ensures { result ≡ prefix_at topology.now place }
 {
@@ -24,7 +24,7 @@ fn prefix_at(topology: &Topology, place: PrefixId) -> Prefix
     }
 }
 
-// What a verb says of the prefix at this place.
+// The instruction of a verb for the prefix at this place.
 fn origin(topology: &Topology, verb: OriginVerb, node: NodeId, place: PrefixId) -> Instruction
     ensures { result ≡ Instruction.Origin verb node (prefix_at topology.now place) }
 {
@@ -35,35 +35,35 @@ fn origin(topology: &Topology, verb: OriginVerb, node: NodeId, place: PrefixId) 
     }
 }
 
-// Something happens at the link of these two.
+// The instruction of an event of two nodes.
 fn pair(event: PairEvent, a: NodeId, b: NodeId) -> Instruction
     ensures { result ≡ Instruction.Pair event a b }
 {
     Instruction::Pair { event, a, b }
 }
 
-// Something happens at this node.
+// The instruction of an event of one node.
 fn single(event: NodeEvent, node: NodeId) -> Instruction
     ensures { result ≡ Instruction.Single event node }
 {
     Instruction::Single { event, node }
 }
 
-// This is shown.
+// The instruction to show a view.
 fn show(view: PlainView) -> Instruction
     ensures { result ≡ Instruction.Show view }
 {
     Instruction::Show { view }
 }
 
-// This is shown of an epoch.
+// The instruction to show a view of an epoch.
 fn show_epoch(view: EpochView, epoch: Epoch) -> Instruction
     ensures { result ≡ Instruction.ShowEpoch view epoch }
 {
     Instruction::ShowEpoch { view, epoch }
 }
 
-// The packet makes its next move, or at most so many.
+// The instruction that the packet makes its next move, or at most so many.
 fn hop(packet: u32, times: Option<u32>) -> Instruction
     ensures { result ≡ hop_instruction packet times }
 {
@@ -73,7 +73,7 @@ fn hop(packet: u32, times: Option<u32>) -> Instruction
     }
 }
 
-// The instruction that says this, its prefix by name.
+// The instruction of a directive, with the prefix itself.
 fn instruction_of(net: &Topology, directive: &Directive) -> Instruction
     ensures { result ≡ instruction_of net.now directive.now }
 {
@@ -120,7 +120,7 @@ fn node_lines(out: &mut String, topology: &Topology) -> Result<(), AllocError>
     ensures { OnOk result (string_bytes out.new
         ≡ string_bytes out.old ++ flat_map line_text (map (node_line topology.now) topology.now.nodes)) }
 {
-    // There are at most 64.
+    // brings in the invariant of the topology: at most 64
     let _few = topology.nodes();
     let mut place = 0;
     while let Some(node) = topology.node_at(place) {
@@ -136,7 +136,7 @@ fn link_lines(out: &mut String, topology: &Topology) -> Result<(), AllocError>
     ensures { OnOk result (string_bytes out.new
         ≡ string_bytes out.old ++ flat_map line_text (map link_line topology.now.links)) }
 {
-    // There are at most 512.
+    // brings in the invariant of the topology: at most 512
     let _few = topology.nodes();
     let mut place = 0;
     while let Some(link) = topology.link_at(place) {
@@ -152,7 +152,7 @@ fn prefix_lines(out: &mut String, topology: &Topology) -> Result<(), AllocError>
     ensures { OnOk result (string_bytes out.new
         ≡ string_bytes out.old ++ flat_map line_text (map prefix_line topology.now.prefixes)) }
 {
-    // There are at most 256.
+    // brings in the invariant of the topology: at most 256
     let _few = topology.nodes();
     let mut place = 0;
     while let Some(prefix) = topology.prefix(PrefixId::new(place)) {
@@ -162,7 +162,7 @@ fn prefix_lines(out: &mut String, topology: &Topology) -> Result<(), AllocError>
     Ok(())
 }
 
-// The preference that was added for `b` at `a`, where there is one.
+// The preference of `a` for `b`, if one was added.
 fn added_line(out: &mut String, topology: &Topology, a: NodeId, b: NodeId) -> Result<(), AllocError>
     ensures { OnOk result (string_bytes out.new
         ≡ string_bytes out.old ++ flat_map line_text (map pref_line (added topology.now a b))) }
@@ -197,7 +197,7 @@ fn pref_lines(out: &mut String, topology: &Topology) -> Result<(), AllocError>
     Ok(())
 }
 
-// That `a` holds back what it would send to `b`, where it does.
+// The hold of `a` towards `b`, if there is one.
 fn held_line(out: &mut String, topology: &Topology, a: NodeId, b: NodeId) -> Result<(), AllocError>
     ensures { OnOk result (string_bytes out.new
         ≡ string_bytes out.old ++ flat_map line_text (map hold_line (held topology.now a b))) }
@@ -233,7 +233,7 @@ fn hold_lines(out: &mut String, topology: &Topology) -> Result<(), AllocError>
     Ok(())
 }
 
-// How far and by which scheme packets go that have left the stable tables.
+// The hop limit and the scheme for packets off the stable tables.
 fn packet_lines(out: &mut String, topology: &Topology) -> Result<(), AllocError>
     ensures { OnOk result (string_bytes out.new
         ≡ string_bytes out.old ++ flat_map line_text (packet_lines topology.now)) }
@@ -257,7 +257,7 @@ fn network_text(out: &mut String, topology: &Topology) -> Result<(), AllocError>
     packet_lines(out, topology)
 }
 
-// The lines behind `begin`.
+// The lines after `begin`.
 fn directive_lines(out: &mut String, schedule: &Schedule) -> Result<(), AllocError>
     ensures { OnOk result (string_bytes out.new ≡ string_bytes out.old
         ++ flat_map line_text (map (directive_line schedule.now.topology) schedule.now.lines.items)) }
@@ -269,17 +269,16 @@ fn directive_lines(out: &mut String, schedule: &Schedule) -> Result<(), AllocErr
     Ok(())
 }
 
-/// The schedule as a file, one line each: the nodes, links and prefixes in file order, the
-/// preferences and then the holds, each ascending by node and neighbour, `hops` and `transient` also where the file has no
-/// such line, `begin`, and the directives. It is a file of the same schedule but for the numbers of
-/// its lines.
+/// The schedule as a file, one line each: the nodes, links and prefixes in file order; the preferences and then the
+/// holds, each by ascending node and neighbour; `hops` and `transient`, even if the file had no such line; `begin`; and
+/// the directives. The result is a file of the same schedule, except for the line numbers.
 pub fn print(alloc: Global, schedule: &Schedule) -> Result<Vec<u8>, NoMemory>
     ensures text { IfOk result (λ text. text.items ≡ printed schedule.now.topology schedule.now.lines.items) }
-    // Whatever is read is printed so that it is read again.
+    // a schedule that was read is printed so that it is read back
     ensures again { (bytes : List ℕ) → IsFile bytes schedule.now
         → IfOk result (λ text. IsFileAgain text.items schedule.now) }
 {
-    // The call says that the network is valid.
+    // brings in the invariant of the topology
     let _valid = schedule.topology.nodes();
     let mut out = String::new(alloc);
     network_text(&mut out, &schedule.topology)?;

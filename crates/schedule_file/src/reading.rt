@@ -1,4 +1,4 @@
-//! Reads one line by its words.
+//! Reads one line from its words.
 ghost use Rattle.std.specs.Prelude.{ℕ, ◌≡◌, true, List, [], ◌∷◌, IfOk, IfErr, OnOk, Some};
 ghost use Rattle.schedule_file.specs.declared.lines.Line.TheVariants.{Declares};
 ghost use Rattle.schedule_file.specs.declared.lines.Declaration.TheVariants as declares;
@@ -17,14 +17,14 @@ use crate::words::{
 };
 use topology::{BadKind, Scheme};
 
-// Such a line may have so many words.
+// Whether such a line may have so many words.
 fn may_have(shape: &Shape, count: usize) -> bool
     ensures { result ≡ may_have shape.now count }
 {
     shape.least <= count && count <= shape.most
 }
 
-// The line may stand here and has as many words as it may have.
+// Checks that the line may stand here and has a permitted number of words.
 fn check_form(keyword: Keyword, words: &Words<'_>, part: Part) -> Result<(), BadKind>
     ensures count { OnOk result (may_have (shape_of keyword) words.now.count ≡ true) }
     ensures form { (word : List ℕ) (rest : List (List ℕ)) → Holds words.now (word ∷ rest)
@@ -40,7 +40,7 @@ fn check_form(keyword: Keyword, words: &Words<'_>, part: Part) -> Result<(), Bad
     Ok(())
 }
 
-// The word behind `node`, where there is one.
+// The line `node` with one more word.
 fn node_line(id: &[u8]) -> Result<Line, BadKind>
     ensures { ReadsAs keyword.Node (id.now ∷ []) result }
 {
@@ -51,7 +51,7 @@ fn node_line(id: &[u8]) -> Result<Line, BadKind>
     }))
 }
 
-// The words behind `node`, where there are two.
+// The line `node` with two more words.
 fn consolidator_line(id: &[u8], mark: &[u8]) -> Result<Line, BadKind>
     ensures { ReadsAs keyword.Node (id.now ∷ mark.now ∷ []) result }
 {
@@ -65,7 +65,7 @@ fn consolidator_line(id: &[u8], mark: &[u8]) -> Result<Line, BadKind>
     }))
 }
 
-// The words behind `link`.
+// The line `link` from the words after it.
 fn link_line(a: &[u8], b: &[u8], relation: &[u8]) -> Result<Line, BadKind>
     ensures { ReadsAs keyword.Link (a.now ∷ b.now ∷ relation.now ∷ []) result }
 {
@@ -75,7 +75,7 @@ fn link_line(a: &[u8], b: &[u8], relation: &[u8]) -> Result<Line, BadKind>
     Ok(Line::Declares(Declaration::Link { a, b, relation }))
 }
 
-// The words behind `pref`.
+// The line `pref` from the words after it.
 fn pref_line(a: &[u8], b: &[u8], value: &[u8]) -> Result<Line, BadKind>
     ensures { ReadsAs keyword.Pref (a.now ∷ b.now ∷ value.now ∷ []) result }
 {
@@ -85,7 +85,7 @@ fn pref_line(a: &[u8], b: &[u8], value: &[u8]) -> Result<Line, BadKind>
     Ok(Line::Declares(Declaration::Pref { a, b, value }))
 }
 
-// The words behind `hold`.
+// The line `hold` from the words after it.
 fn hold_line(a: &[u8], b: &[u8]) -> Result<Line, BadKind>
     ensures { ReadsAs keyword.Hold (a.now ∷ b.now ∷ []) result }
 {
@@ -94,7 +94,7 @@ fn hold_line(a: &[u8], b: &[u8]) -> Result<Line, BadKind>
     Ok(Line::Declares(Declaration::Hold { a, b }))
 }
 
-// The word behind `prefix`.
+// The line `prefix` from the word after it.
 fn prefix_line(prefix: &[u8]) -> Result<Line, BadKind>
     ensures { ReadsAs keyword.Prefix (prefix.now ∷ []) result }
 {
@@ -102,7 +102,7 @@ fn prefix_line(prefix: &[u8]) -> Result<Line, BadKind>
     Ok(Line::Declares(Declaration::Prefix { prefix }))
 }
 
-// The word behind `hops`.
+// The line `hops` from the word after it.
 fn hops_line(hops: &[u8]) -> Result<Line, BadKind>
     ensures { ReadsAs keyword.Hops (hops.now ∷ []) result }
 {
@@ -110,14 +110,14 @@ fn hops_line(hops: &[u8]) -> Result<Line, BadKind>
     Ok(Line::Declares(Declaration::Hops { hops }))
 }
 
-// This scheme is set.
+// The line that sets this scheme.
 fn set(scheme: Scheme) -> Line
     ensures { result ≡ Declares (declares.Transient scheme) }
 {
     Line::Declares(Declaration::Transient { scheme })
 }
 
-// The word behind `transient`, where there is one.
+// The line `transient` with one more word.
 fn transient_line(name: &[u8]) -> Result<Line, BadKind>
     ensures { ReadsAs keyword.Transient (name.now ∷ []) result }
 {
@@ -128,7 +128,7 @@ fn transient_line(name: &[u8]) -> Result<Line, BadKind>
     }
 }
 
-// The words behind `transient`, where there are two.
+// The line `transient` with two more words.
 fn transient_more_line(name: &[u8], more: &[u8]) -> Result<Line, BadKind>
     ensures { ReadsAs keyword.Transient (name.now ∷ more.now ∷ []) result }
 {
@@ -142,7 +142,7 @@ fn transient_more_line(name: &[u8], more: &[u8]) -> Result<Line, BadKind>
     }
 }
 
-// The words behind the verb of a node and a prefix.
+// The line of a verb, from the words after it.
 fn origin_line(verb: OriginVerb, node: &[u8], prefix: &[u8]) -> Result<Line, BadKind>
     ensures { ReadsAs (keyword.Origin verb) (node.now ∷ prefix.now ∷ []) result }
 {
@@ -151,7 +151,7 @@ fn origin_line(verb: OriginVerb, node: &[u8], prefix: &[u8]) -> Result<Line, Bad
     Ok(Line::Directs(Instruction::Origin { verb, node, prefix }))
 }
 
-// The word of an event of one node.
+// The line of an event of one node, from the word after it.
 fn single_line(event: NodeEvent, node: &[u8]) -> Result<Line, BadKind>
     ensures { ReadsAs (keyword.Single event) (node.now ∷ []) result }
 {
@@ -159,7 +159,7 @@ fn single_line(event: NodeEvent, node: &[u8]) -> Result<Line, BadKind>
     Ok(Line::Directs(Instruction::Single { event, node }))
 }
 
-// The words of an event of two nodes.
+// The line of an event of two nodes, from the words after it.
 fn pair_line(event: PairEvent, a: &[u8], b: &[u8]) -> Result<Line, BadKind>
     ensures { ReadsAs (keyword.Pair event) (a.now ∷ b.now ∷ []) result }
 {
@@ -168,7 +168,7 @@ fn pair_line(event: PairEvent, a: &[u8], b: &[u8]) -> Result<Line, BadKind>
     Ok(Line::Directs(Instruction::Pair { event, a, b }))
 }
 
-// The words behind `prefer`.
+// The line `prefer` from the words after it.
 fn prefer_line(node: &[u8], nbr: &[u8], value: &[u8]) -> Result<Line, BadKind>
     ensures { ReadsAs keyword.Prefer (node.now ∷ nbr.now ∷ value.now ∷ []) result }
 {
@@ -178,7 +178,7 @@ fn prefer_line(node: &[u8], nbr: &[u8], value: &[u8]) -> Result<Line, BadKind>
     Ok(Line::Directs(Instruction::Prefer { node, nbr, value }))
 }
 
-// The words behind `propose`.
+// The line `propose` from the words after it.
 fn propose_line(node: &[u8], epoch: &[u8]) -> Result<Line, BadKind>
     ensures { ReadsAs keyword.Propose (node.now ∷ epoch.now ∷ []) result }
 {
@@ -187,7 +187,7 @@ fn propose_line(node: &[u8], epoch: &[u8]) -> Result<Line, BadKind>
     Ok(Line::Directs(Instruction::Propose { node, epoch }))
 }
 
-// The word behind `drain`.
+// The line `drain` from the word after it.
 fn drain_line(times: &[u8]) -> Result<Line, BadKind>
     ensures { ReadsAs keyword.Drain (times.now ∷ []) result }
 {
@@ -195,7 +195,7 @@ fn drain_line(times: &[u8]) -> Result<Line, BadKind>
     Ok(Line::Directs(Instruction::Drain { times }))
 }
 
-// The word behind `ctl`, where there is one.
+// The line `ctl` with one more word.
 fn control_line(number: &[u8]) -> Result<Line, BadKind>
     ensures { ReadsAs keyword.Control (number.now ∷ []) result }
 {
@@ -203,7 +203,7 @@ fn control_line(number: &[u8]) -> Result<Line, BadKind>
     Ok(Line::Directs(Instruction::Control { number }))
 }
 
-// The words behind `ctl`, where there are two.
+// The line `ctl` with two more words.
 fn control_all_line(all: &[u8], times: &[u8]) -> Result<Line, BadKind>
     ensures { ReadsAs keyword.Control (all.now ∷ times.now ∷ []) result }
 {
@@ -214,7 +214,7 @@ fn control_all_line(all: &[u8], times: &[u8]) -> Result<Line, BadKind>
     Ok(Line::Directs(Instruction::ControlAll { times }))
 }
 
-// The words behind `inject`.
+// The line `inject` from the words after it.
 fn inject_line(packet: &[u8], node: &[u8], prefix: &[u8]) -> Result<Line, BadKind>
     ensures { ReadsAs keyword.Inject (packet.now ∷ node.now ∷ prefix.now ∷ []) result }
 {
@@ -228,7 +228,7 @@ fn inject_line(packet: &[u8], node: &[u8], prefix: &[u8]) -> Result<Line, BadKin
     }))
 }
 
-// The word behind `hop`, where there is one.
+// The line `hop` with one more word.
 fn hop_line(packet: &[u8]) -> Result<Line, BadKind>
     ensures { ReadsAs keyword.Hop (packet.now ∷ []) result }
 {
@@ -236,7 +236,7 @@ fn hop_line(packet: &[u8]) -> Result<Line, BadKind>
     Ok(Line::Directs(Instruction::Hop { packet }))
 }
 
-// The words behind `hop`, where there are two.
+// The line `hop` with two more words.
 fn hop_times_line(packet: &[u8], times: &[u8]) -> Result<Line, BadKind>
     ensures { ReadsAs keyword.Hop (packet.now ∷ times.now ∷ []) result }
 {
@@ -245,7 +245,7 @@ fn hop_times_line(packet: &[u8], times: &[u8]) -> Result<Line, BadKind>
     Ok(Line::Directs(Instruction::HopTimes { packet, times }))
 }
 
-// The word behind `show`, where there is one.
+// The line `show` with one more word.
 fn show_line(view: &[u8]) -> Result<Line, BadKind>
     ensures { ReadsAs keyword.Show (view.now ∷ []) result }
 {
@@ -256,7 +256,7 @@ fn show_line(view: &[u8]) -> Result<Line, BadKind>
     }
 }
 
-// The words behind `show`, where there are two.
+// The line `show` with two more words.
 fn show_more_line(view: &[u8], more: &[u8]) -> Result<Line, BadKind>
     ensures { ReadsAs keyword.Show (view.now ∷ more.now ∷ []) result }
 {
@@ -273,7 +273,7 @@ fn show_more_line(view: &[u8], more: &[u8]) -> Result<Line, BadKind>
     }
 }
 
-// The line of a keyword and as many words as it may have.
+// The line of a keyword, whose number of words was checked.
 fn line_of(keyword: Keyword, words: &Words<'_>) -> Result<Line, BadKind>
     requires { may_have (shape_of keyword) words.now.count ≡ true }
     ensures { (word : List ℕ) (rest : List (List ℕ)) → Holds words.now (word ∷ rest)
@@ -306,8 +306,8 @@ fn line_of(keyword: Keyword, words: &Words<'_>) -> Result<Line, BadKind>
     }
 }
 
-/// The line that the words spell, where it may stand in this part, else the first fault of the
-/// words. Names are not looked up.
+/// The line that the words spell, if it may stand in this part; otherwise the first fault of the words. Names are not
+/// looked up.
 pub fn read_line(words: &Words<'_>, part: Part) -> Result<Line, BadKind>
     ensures ok { IfOk result (λ line. (all : List (List ℕ)) → Holds words.now all → Spells all line) }
     ensures stands { IfOk result (λ line. (all : List (List ℕ)) → Holds words.now all → stands part line ≡ true) }

@@ -1,4 +1,4 @@
-//! Spells single lines.
+//! Writes single lines.
 ghost use Rattle.std.specs.Prelude.{◌≡◌, ◌++◌, ◌∷◌, codes, decimal, OnOk};
 ghost use Rattle.std.specs.List.{join_with_byte};
 ghost use Rattle.std.specs.String.{string_bytes};
@@ -46,7 +46,7 @@ fn push_node(out: &mut String, node: NodeId) -> Result<(), AllocError>
     push_number(out, u32::from(node.number()))
 }
 
-// Two numbers, joined by a point.
+// Adds two numbers, joined by a point.
 fn two_numbers(out: &mut String, first: u32, second: u32) -> Result<(), AllocError>
     ensures { OnOk result (string_bytes out.new ≡ string_bytes out.old ++ decimal first ++ codes "." ++ decimal second) }
 {
@@ -152,7 +152,7 @@ fn push_declaration(out: &mut String, declaration: &Declaration) -> Result<(), A
     }
 }
 
-// The word that the line of an instruction begins with.
+// The first word of an instruction's line.
 fn first_word(instruction: &Instruction) -> &'static str
     ensures { result.now ≡ keyword_text (directing instruction.now) }
 {
@@ -212,7 +212,7 @@ fn push_instruction(out: &mut String, instruction: &Instruction) -> Result<(), A
     }
 }
 
-/// Adds the line, its words one space apart, and a newline.
+/// Adds the line, with one space between its words, and a newline.
 pub fn push_line(out: &mut String, line: &Line) -> Result<(), AllocError>
     ensures { OnOk result (string_bytes out.new ≡ string_bytes out.old ++ line_text line.now) }
 {

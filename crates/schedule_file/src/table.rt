@@ -1,6 +1,5 @@
-//! The table of the grammar: the words that begin a line, how many words each such line has, on
-//! which side of `begin` it stands, and what it directs. `specs/Table.antt` is its definition. A
-//! word for one more event of two nodes is a row here for each way, and one there.
+//! The table of the grammar: the words that begin a line, how many words such a line has, on which side of `begin` it
+//! stands, and its directive. `specs/Table.antt` is its definition. docs/CONTRIBUTING.md says what a new line needs.
 ghost use Rattle.std.specs.Prelude.{◌≡◌, ◌≢◌, true, false, IfSome, IfNone};
 ghost use Rattle.schedule_file.specs.Spelling.{relation_text};
 ghost use Rattle.schedule_file.specs.Table.{keyword_text, view_text, scheme_text, origin_text, node_text, pair_text, plain_text, epoch_text, shape_of, may_stand, origin_directive, node_directive, pair_directive, plain_directive, epoch_directive};
@@ -8,7 +7,7 @@ ghost use Rattle.schedule_file.specs.Table.{keyword_text, view_text, scheme_text
 use crate::lines::Directive;
 use topology::{Epoch, NodeId, PrefixId, Relation};
 
-/// The first word of a line of a node and a prefix.
+/// The first word of a line about a node and a prefix.
 #[derive(Clone, Copy, Debug, PartialEq, Eq)]
 pub enum OriginVerb {
     Originate,
@@ -16,7 +15,7 @@ pub enum OriginVerb {
     Probe,
 }
 
-/// What happens at a node.
+/// The event of a line about one node.
 #[derive(Clone, Copy, Debug, PartialEq, Eq)]
 pub enum NodeEvent {
     Snap,
@@ -24,7 +23,7 @@ pub enum NodeEvent {
     Restart,
 }
 
-/// What happens at the link of two nodes.
+/// The event of a line about the link of two nodes.
 #[derive(Clone, Copy, Debug, PartialEq, Eq)]
 pub enum PairEvent {
     Deliver,
@@ -35,7 +34,7 @@ pub enum PairEvent {
     Flush,
 }
 
-/// What `show` writes of the run so far.
+/// What `show` writes about the run so far.
 #[derive(Clone, Copy, Debug, PartialEq, Eq)]
 pub enum PlainView {
     Rib,
@@ -43,7 +42,7 @@ pub enum PlainView {
     Control,
 }
 
-/// What `show` writes of one epoch.
+/// What `show` writes about one epoch.
 #[derive(Clone, Copy, Debug, PartialEq, Eq)]
 pub enum EpochView {
     Cut,
@@ -51,25 +50,25 @@ pub enum EpochView {
     Tables,
 }
 
-/// The word behind `show`.
+/// The word after `show`.
 #[derive(Clone, Copy, Debug, PartialEq, Eq)]
 pub enum View {
     Plain(PlainView),
     OfEpoch(EpochView),
-    /// The way of one packet.
+    /// The walk of one packet.
     Walk,
 }
 
-/// The word behind `transient`.
+/// The word after `transient`.
 #[derive(Clone, Copy, Debug, PartialEq, Eq)]
 pub enum SchemeName {
     Deflect,
-    /// A node is named behind it.
+    /// The word is followed by a node.
     Detour,
     Backup,
 }
 
-/// What a line begins with.
+/// The kinds of lines, by first word.
 #[derive(Clone, Copy, Debug, PartialEq, Eq)]
 pub enum Keyword {
     Node,
@@ -92,23 +91,23 @@ pub enum Keyword {
     Show,
 }
 
-/// What may stand at a place of a file.
+/// Which lines may stand at a place of a file.
 #[derive(Clone, Copy, Debug, PartialEq, Eq)]
 pub enum Part {
     /// Lines that describe the network, up to `begin`.
     Network,
     /// Lines that say what happens.
     Run,
-    /// No line that has words.
+    /// No line with words.
     Over,
 }
 
-/// What a line of one keyword is like.
+/// Where lines of one keyword stand, and how many words they have.
 #[derive(Clone, Copy, Debug, PartialEq, Eq)]
 pub struct Shape {
-    /// It stands behind `begin`.
+    /// Whether they stand after `begin`.
     pub directs: bool,
-    /// The number of its words, the first among them, is one of these.
+    /// The least and the greatest number of words, including the first.
     pub least: usize,
     pub most: usize,
 }
@@ -150,7 +149,7 @@ pub fn keyword_named(word: &[u8]) -> Option<Keyword>
     }
 }
 
-/// What the word behind `show` asks for.
+/// The view that the word after `show` names.
 pub fn view_named(word: &[u8]) -> Option<View>
     ensures some { IfSome result (λ view. word.now ≡ view_text view) }
     ensures none { IfNone result ((view : View) → word.now ≢ view_text view) }
@@ -167,7 +166,7 @@ pub fn view_named(word: &[u8]) -> Option<View>
     }
 }
 
-/// Which scheme the word behind `transient` names.
+/// The scheme that the word after `transient` names.
 pub fn scheme_named(word: &[u8]) -> Option<SchemeName>
     ensures some { IfSome result (λ name. word.now ≡ scheme_text name) }
     ensures none { IfNone result ((name : SchemeName) → word.now ≢ scheme_text name) }
@@ -207,7 +206,7 @@ pub fn relation_word(relation: Relation) -> &'static str
 }
 
 impl Part {
-    /// Such a line may stand here.
+    /// Whether such a line may stand here.
     pub fn takes(self, shape: &Shape) -> bool
         ensures { result ≡ may_stand self shape.now }
     {
@@ -244,7 +243,7 @@ impl Shape {
 }
 
 impl Keyword {
-    /// What its lines are like. Which words may stand behind it is told where they are read.
+    /// The shape of its lines. Which words may follow the first is decided where they are read.
     pub fn shape(self) -> Shape
         ensures { result ≡ shape_of self }
     {
@@ -264,7 +263,7 @@ impl Keyword {
 }
 
 impl OriginVerb {
-    /// The word for it.
+    /// The word for the verb.
     pub fn word(self) -> &'static str
         ensures { result.now ≡ origin_text self }
     {
@@ -288,7 +287,7 @@ impl OriginVerb {
 }
 
 impl NodeEvent {
-    /// The word for it.
+    /// The word for the event.
     pub fn word(self) -> &'static str
         ensures { result.now ≡ node_text self }
     {
@@ -312,7 +311,7 @@ impl NodeEvent {
 }
 
 impl PairEvent {
-    /// The word for it.
+    /// The word for the event.
     pub fn word(self) -> &'static str
         ensures { result.now ≡ pair_text self }
     {
@@ -342,7 +341,7 @@ impl PairEvent {
 }
 
 impl PlainView {
-    /// The word for it.
+    /// The word for the view.
     pub fn word(self) -> &'static str
         ensures { result.now ≡ plain_text self }
     {
@@ -365,7 +364,7 @@ impl PlainView {
 }
 
 impl EpochView {
-    /// The word for it.
+    /// The word for the view.
     pub fn word(self) -> &'static str
         ensures { result.now ≡ epoch_text self }
     {
@@ -389,7 +388,7 @@ impl EpochView {
 }
 
 impl SchemeName {
-    /// The word for it.
+    /// The first word of its lines.
     pub fn word(self) -> &'static str
         ensures { result.now ≡ scheme_text self }
     {

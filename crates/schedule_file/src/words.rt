@@ -1,4 +1,4 @@
-//! The words of a line, and what each may be.
+//! The words of a line, and the values that single words spell.
 ghost use Rattle.std.specs.Prelude.{ℕ, ◌≡◌, ◌≢◌, ◌≤◌, ◌<◌, ◌+◌, false, true, List, None, Some, IfOk, OnOk, OnErr, IfErr, IfSome, IfNone, length, slice_range, drop};
 ghost use Rattle.text_lines.specs.Words.{words_of};
 ghost use Rattle.text_lines.specs.Readings.{words_left};
@@ -19,7 +19,7 @@ use topology::limits::{
 };
 use topology::{BadKind, Epoch, NodeId, Prefix, Relation};
 
-/// The words of one line: how many, and the first four. One that is not there is empty.
+/// The words of one line: their number, and the first four. A missing word is empty.
 #[derive(Clone, Copy, Debug)]
 pub struct Words<'a> {
     pub count: usize,
@@ -42,7 +42,7 @@ fn count_left(tokens: &mut Tokens<'_>) -> usize
     count
 }
 
-// The next word, empty where there is none. It is counted.
+// The next word, which is counted; empty if there is none.
 fn next_word<'a>(text: &'a [u8], tokens: &mut Tokens<'a>, count: &mut usize) -> &'a [u8]
     requires text { tokens.old.text ≡ text.now }
     requires inside { tokens.old.from ≤ tokens.old.end }
@@ -99,7 +99,7 @@ pub fn keyword_of(word: &[u8]) -> Result<Keyword, BadKind>
     }
 }
 
-/// What the word behind `show` asks for.
+/// The view that the word after `show` names.
 pub fn view_of(word: &[u8]) -> Result<View, BadKind>
     ensures ok { IfOk result (λ view. view_in word.now ≡ Some view) }
     ensures err { OnErr result (view_in word.now ≡ None) }
@@ -111,7 +111,7 @@ pub fn view_of(word: &[u8]) -> Result<View, BadKind>
     }
 }
 
-/// Which scheme the word behind `transient` names.
+/// The scheme that the word after `transient` names.
 pub fn scheme_of(word: &[u8]) -> Result<SchemeName, BadKind>
     ensures ok { IfOk result (λ name. scheme_in word.now ≡ Some name) }
     ensures err { OnErr result (scheme_in word.now ≡ None) }
@@ -123,7 +123,7 @@ pub fn scheme_of(word: &[u8]) -> Result<SchemeName, BadKind>
     }
 }
 
-// A number from 0.
+// A number from 0 to `high`.
 fn number_to(word: &[u8], high: u32) -> Result<u32, BadKind>
     ensures ok { IfOk result (λ number. number ≡ number_of word.now) }
     ensures fine { OnOk result (spells_number 0 high word.now ≡ true) }
@@ -137,7 +137,7 @@ fn number_to(word: &[u8], high: u32) -> Result<u32, BadKind>
     }
 }
 
-// A number from 1.
+// A number from 1 to `high`.
 fn number_of(word: &[u8], high: u32) -> Result<u32, BadKind>
     ensures ok { IfOk result (λ number. number ≡ number_of word.now) }
     ensures fine { OnOk result (spells_number 1 high word.now ≡ true) }
@@ -154,7 +154,7 @@ fn number_of(word: &[u8], high: u32) -> Result<u32, BadKind>
     Ok(number)
 }
 
-/// The number of a node, from 1.
+/// The number of a node, at least 1.
 pub fn node_of(word: &[u8]) -> Result<NodeId, BadKind>
     ensures ok { IfOk result (λ node. node ≡ number_of word.now) }
     ensures fine { OnOk result (spells_field NodeNumber word.now ≡ true) }
@@ -186,7 +186,7 @@ pub fn hops_of(word: &[u8]) -> Result<u16, BadKind>
     Ok(hops as u16)
 }
 
-/// How many times, from 1.
+/// A number of times, at least 1.
 pub fn times_of(word: &[u8]) -> Result<u32, BadKind>
     ensures ok { IfOk result (λ times. times ≡ number_of word.now) }
     ensures fine { OnOk result (spells_field Times word.now ≡ true) }
@@ -196,7 +196,7 @@ pub fn times_of(word: &[u8]) -> Result<u32, BadKind>
     number_of(word, MOST_TIMES)
 }
 
-/// The number of a control message, from 1.
+/// The number of a control message, at least 1.
 pub fn message_of(word: &[u8]) -> Result<u32, BadKind>
     ensures ok { IfOk result (λ number. number ≡ number_of word.now) }
     ensures fine { OnOk result (spells_field MessageNumber word.now ≡ true) }
@@ -206,7 +206,7 @@ pub fn message_of(word: &[u8]) -> Result<u32, BadKind>
     number_of(word, HIGHEST_MESSAGE)
 }
 
-/// The number of a packet, from 1.
+/// The number of a packet, at least 1.
 pub fn packet_of(word: &[u8]) -> Result<u32, BadKind>
     ensures ok { IfOk result (λ packet. packet ≡ number_of word.now) }
     ensures fine { OnOk result (spells_field PacketNumber word.now ≡ true) }
@@ -216,7 +216,7 @@ pub fn packet_of(word: &[u8]) -> Result<u32, BadKind>
     number_of(word, HIGHEST_PACKET)
 }
 
-/// The number of an epoch, from 1.
+/// The number of an epoch, at least 1.
 pub fn epoch_of(word: &[u8]) -> Result<Epoch, BadKind>
     ensures ok { IfOk result (λ epoch. epoch ≡ number_of word.now) }
     ensures fine { OnOk result (spells_field EpochNumber word.now ≡ true) }
@@ -240,7 +240,7 @@ pub fn prefix_of(word: &[u8]) -> Result<Prefix, BadKind>
     Ok(prefix)
 }
 
-/// What the second end of a link is to the first.
+/// The relation of the second end of a link to the first.
 pub fn relation_of(word: &[u8]) -> Result<Relation, BadKind>
     ensures ok { IfOk result (λ relation. relation ≡ relation_of word.now) }
     ensures fine { OnOk result (spells_field (OneOf relations) word.now ≡ true) }

@@ -1,4 +1,4 @@
--- Tables by values by which nothing is incomplete: how many entries were dropped is not seen in them.
+-- Tables by values without incomplete triggers: they do not depend on how many entries were dropped.
 use Rattle.std.proofs.Common.{ℕ, suc, ◌==◌, arith, Bool, true, false, ◌&&◌, ◌||◌, not, nat_lt, Option, List, [], ◌∷◌, length, map, filter, option_and_then, ◌≡◌, refl, sym, ◌∙◌, ap, ap₂}
 use Rattle.std.specs.Prelude.{if◌then◌else◌}
 use Rattle.std.specs.List.{list_any}
@@ -22,7 +22,7 @@ pub is_none : (ts : List Trigger) (b : Bool) → b ≡ (length ts == 0) → b �
 is_none [] b is on = refl
 is_none (t ∷ ts) b is on = let test : (suc (length ts) == 0) ≡ false = grind (arith, nat_tests) in absurd (cc (sym on ∙ (is ∙ test)))
 
--- values of which nothing is incomplete are equal where the same nodes responded
+-- values without incomplete triggers are equal if the same nodes responded
 pub same_value : (a b : Value) → a.responding ≡ b.responding → a.incomplete ≡ [] → b.incomplete ≡ [] → a ≡ b
 same_value a b responding here there = ap₂ (λ (r : List ℕ) (i : List Trigger). record { responding = r; incomplete = i }) responding (here ∙ sym there)
 
@@ -31,7 +31,7 @@ none_listed : (ts : List Trigger) → list_any (lists []) ts ≡ false
 none_listed [] = refl
 none_listed (t ∷ ts) = none_listed ts
 
--- so each entry may go
+-- so each entry may be dropped
 all_go : (n : ℕ) (h : List Entry) (k : Entry) → may_go (lists []) n h k ≡ true
 all_go n h k = ap (λ b. nat_lt (length h) n || not b) (none_listed k.triggers) ∙ or_true (nat_lt (length h) n)
   where
@@ -79,7 +79,7 @@ module _ (rules : Rules) (net : Net) (u : ℕ) (value : Value) (n m : ℕ) (h : 
   pub same_all_backups : map (trimmed_backups rules net u value (trimmed n h)) (places net) ≡ map (trimmed_backups rules net u value (trimmed m h)) (places net)
   same_all_backups = map_same same_backups (places net)
 
-  -- a table by the value and these entries is the table of any epoch, but for its epoch
+  -- the table of one epoch is that of any other by the same value and entries, except for the epoch
   pub is_again : (e : ℕ) (t : View) → t.value ≡ value → t.paths ≡ trimmed_table rules net u value (trimmed n h) → t.backups ≡ map (trimmed_backups rules net u value (trimmed n h)) (places net)
       → record t { epoch = e } ≡ trimmed_table_of rules net u e value (trimmed m h)
   is_again e t same paths backups =

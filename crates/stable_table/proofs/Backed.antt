@@ -23,12 +23,12 @@ all_at P [] i d below all = absurd (omega arith)
 all_at P (x ∷ xs) zero d below all = all.0
 all_at P (x ∷ xs) (suc i) d below all = all_at P xs i d (omega arith) all.1
 
--- one path more, and those still to come
+-- one more path, and those still to come
 pub one_more : {A : Type 0} (xs ys : List A) (o : Option A) (all : List A) → xs ++ cons_option o ys ≡ all → (xs ++ option_to_list o) ++ ys ≡ all
 one_more xs ys None all e = ap (λ l. l ++ ys) (append-nil xs) ∙ e
 one_more xs ys (Some x) all e = append_assoc xs (x ∷ []) ys ∙ e
 
--- one neighbour more, and those still to come
+-- one more neighbour, and those still to come
 pub backed_more : (f : ℕ → Option (List ℕ)) (nbrs : List ℕ) (i w : ℕ) (xs ys : List (List ℕ)) (o : Option (List ℕ)) → i < length nbrs → w ≡ get_or nbrs i w → o ≡ f w → ys ≡ xs ++ option_to_list o
     → xs ++ filter_map f (drop i nbrs) ≡ filter_map f nbrs → ys ++ filter_map f (drop (i + 1) nbrs) ≡ filter_map f nbrs
 backed_more f nbrs i w xs ys o below at is new before =
@@ -103,7 +103,7 @@ module _ (net : Net) (u : ℕ) (h : History) (p : ℕ) where
   all_of before [] = tt
   all_of before (v ∷ after) = (has_here before v after, subst (λ l. AllByRecursion (λ w. has l w ≡ true) after) (append_assoc before (v ∷ []) after) (all_of (before ++ v ∷ []) after))
 
-  -- the order has neighbours only
+  -- the order has only neighbours
   pub order_near : (rules : Rules) → AllByRecursion (λ w. has (neighbours net u) w ≡ true) (order rules net u h p)
   unfolding order
   order_near rules = both_all (λ w. has (neighbours net u) w ≡ true) (map (λ (c : Choice). c.nbr) (by_rank rules net u h p)) (filter (has_none u h p) (neighbours net u)) (ranked_near (by_rank rules net u h p) (ranked_is rules)) (others_near (neighbours net u) (all_of [] (neighbours net u)))

@@ -1,4 +1,4 @@
--- Tables from a base: the state after the entries that were dropped, and then those that are kept and list no incomplete trigger.
+-- Tables from a base: first the state after the dropped entries, then the kept entries that list no incomplete trigger.
 use Rattle.std.proofs.Common.{ℕ, ◌≤◌, Bool, true, false, cond, not, ◌&&◌, nat_lt, List, [], ◌∷◌, ◌++◌, length, map, filter, fold, option_and_then, Option, ◌≡◌, refl, sym, ◌∙◌, ap, ap₂, arith}
 use Rattle.std.specs.Prelude.{if◌then◌else◌}
 use Rattle.std.specs.List.{list_any, AllZip}
@@ -25,7 +25,8 @@ use Rattle.stable_table.specs.Trimming.{complete_after, trimmed_complete, trimme
 use Rattle.stable_table.specs.Keeping.{kept_by}
 use Rattle.stable_table.proofs.Keeping.{is_kept, reads_kept, kept_same}
 
--- behind a base of all that was dropped, the complete entries are those of the others, and then all of the base that concern the prefix
+-- if all of the base was dropped, the complete entries are those of the later entries on top of those of the base that
+-- concern the prefix
 pub complete_of_base : (incomplete : Trigger → Bool) (p : ℕ) (newer base : List Entry)
     → complete_after (length base) incomplete p (newer ++ base) ≡ complete incomplete p newer ++ filter (λ (k : Entry). concerns p k.read.scope) base
 complete_of_base incomplete p [] base = all_of (length base) base (omega arith)
@@ -52,7 +53,7 @@ complete_of_base incomplete p (k ∷ newer) base =
     by true = refl
     by false = refl
 
--- the same, as routing reads them: what the base is read as, and what is kept, as far as they concern the prefix
+-- the same as routing reads it: what is read from the base and from the kept entries, as far as they concern the prefix
 pub complete_on_base : (incomplete : List Trigger) (p : ℕ) (newer base : List Entry)
     → reads (complete_after (length base) (lists incomplete) p (newer ++ base)) ≡ concerning p (reads_kept incomplete newer ++ reads base)
 complete_on_base incomplete p newer base = ap reads (complete_of_base (lists incomplete) p newer base) ∙ by newer
@@ -81,14 +82,14 @@ complete_on_base incomplete p newer base = ap reads (complete_of_base (lists inc
         step false true e before = rw e before
         step false false e before = before
 
--- what was dropped of a log is what was dropped of its cut
+-- what a log dropped is what its cut dropped
 pub base_behind : (n : ℕ) (newer entries : List Entry) → n ≤ length entries → base_of (trimmed n (newer ++ entries)) ≡ base_of (trimmed n entries)
 base_behind n [] entries within = refl
 base_behind n (k ∷ newer) entries within =
     let long = length-append newer entries in
     base_stays n k (newer ++ entries) (omega (arith, within, long)) ∙ base_behind n newer entries within
 
--- what is kept of the entries that are shown behind the base, on top of what is read of the base
+-- the shown entries after the base, on top of what is read from the base
 pub kept_on_base : (rules : Rules) (net : Net) (u : ℕ) (incomplete : List Trigger) (newer base : List Entry) (shown : List Shown) (past : History) → AllZip (Shows rules net u) (entered_on newer base) shown
     → fold (kept_by incomplete) past shown ≡ reads_kept incomplete newer ++ past
 kept_on_base rules net u incomplete [] base [] past z = refl
@@ -108,8 +109,8 @@ kept_on_base rules net u incomplete (k ∷ newer) base shown past z =
         more false = refl
     last (b ∷ c ∷ bs) z = absurd z.1
 
--- the complete entries of a log, as routing reads them: what is kept and lists no incomplete trigger, on what was dropped, as far
--- as it concerns the prefix
+-- the complete entries of a log as routing reads them: the kept entries without an incomplete trigger on top of the
+-- dropped ones, as far as they concern the prefix
 pub trimmed_reads : (value : Value) (p : ℕ) (log : Trimmed) → log.dropped ≤ length log.entries
     → reads (trimmed_complete value p log) ≡ concerning p (reads_kept value.incomplete (kept_of log) ++ reads (base_of log))
 trimmed_reads value p log within =
@@ -132,7 +133,7 @@ unfolding trimmed_backups backups
 backups_of_whole rules net u value h p =
     ap (λ (ks : List Entry). if has value.responding u then filter (all_responded value) (map (λ (c : Choice). c.path) (by_rank rules net u (reads ks) p)) else []) (whole_complete (lists value.incomplete) p h)
 
--- so is the table
+-- the table, too
 pub whole_table : (rules : Rules) (net : Net) (u epoch : ℕ) (value : Value) (h : List Entry) → trimmed_table_of rules net u epoch value (trimmed 0 h) ≡ table_of rules net u epoch value h
 unfolding trimmed_table table
 whole_table rules net u epoch value h =

@@ -6,14 +6,14 @@ use Rattle.std.proofs.lemmas.Grind.{get_or-set_at}
 use Rattle.topology.specs.Lists.{has}
 use Rattle.stable_table.specs.Flags.{is_flagged}
 
--- what is found first may be found last
+-- the first of three tests may come after the second
 pub either_first : (a b c : Bool) → ((a || b) || c) ≡ (b || (a || c))
 either_first true true c = refl
 either_first true false c = refl
 either_first false true c = refl
 either_first false false c = refl
 
--- the flags stay where the list is filled up without any
+-- extending the list leaves the flags
 pub filled : (flags : List Bool) (k n : ℕ) → is_flagged (flags ++ replicate k false) n ≡ is_flagged flags n
 filled [] k n = none k n
   where
@@ -24,7 +24,7 @@ filled [] k n = none k n
 filled (m ∷ flags) k zero = refl
 filled (m ∷ flags) k (suc n) = filled flags k n
 
--- so they do where it was shorter
+-- extending a shorter list leaves the flags
 pub filled_from : (flags longer : List Bool) (size more n : ℕ) → length flags ≤ size → longer ≡ take size flags ++ replicate more false → is_flagged longer n ≡ is_flagged flags n
 filled_from flags longer size more n short is =
     ap (λ l. is_flagged l n) (is ∙ ap (λ l. l ++ replicate more false) (all flags size short)) ∙ filled flags more n
@@ -35,7 +35,7 @@ filled_from flags longer size more n short is =
     all (m ∷ ms) zero le = absurd (omega (arith, le))
     all (m ∷ ms) (suc k) le = ap (λ l. m ∷ l) (all ms k (omega (arith, le)))
 
--- one place more is flagged
+-- one more place is flagged
 pub flagged_more : (flags old : List Bool) (i n : ℕ) → i < length flags → ((n : ℕ) → is_flagged flags n ≡ is_flagged old n) → is_flagged (set flags i true) n ≡ (i == n || is_flagged old n)
 flagged_more flags old i n below same =
     (elim (i == n) as (λ b. (i == n) ≡ b → get_or (set flags i true) n false ≡ (b || is_flagged old n)) [
@@ -43,7 +43,7 @@ flagged_more flags old i n below same =
       | false ↦ λ q. get_or-set_other flags i n true false (λ e. let off : (i == n) ≡ true = grind (arith, nat_tests, e) in absurd (cc (sym off ∙ q))) ∙ same n
     ]) refl
 
--- behind all of a list nothing is left
+-- nothing is left after the whole list
 pub none_left : (xs : List ℕ) (i n : ℕ) (flagged : Bool) → length xs ≤ i → (flagged || has (drop i xs) n) ≡ has xs n → flagged ≡ has xs n
 none_left xs i n flagged over is = or_nothing flagged ∙ (ap (λ b. flagged || b) (sym (empty xs i over)) ∙ is)
   where

@@ -1,4 +1,4 @@
--- What a set of triggers lists after one was put in.
+-- The members of a set of triggers after one was added.
 use Rattle.std.proofs.Common.{ℕ, Bool, true, false, ◌&&◌, ◌||◌, ◌==◌, List, [], ◌∷◌, Ordering, Less, Equal, Greater, nat_cmp, ◌≡◌, refl, sym, ◌∙◌, ap, arith}
 use Rattle.std.specs.Ordering.{ordering_then, match_ordering}
 use Rattle.std.specs.BTreeSet.{insert_key}
@@ -23,7 +23,7 @@ twice true b c e = rw (sym e) refl
 twice false b c e = refl
 
 module _ (by : Trigger → Trigger → Ordering) (is : (s t : Trigger) → by s t ≡ by_parts s t) where
-  -- a trigger that is put in is listed beside those before
+  -- after an insertion the set lists the trigger and those before
   pub lists_inserted : (keys : List Trigger) (t s : Trigger) → lists (insert_key by keys t) s ≡ (same_trigger s t || lists keys s)
   lists_inserted [] t s = refl
   lists_inserted (k ∷ keys) t s = rw (is t k) (elim (by_parts t k) as (λ o. by_parts t k ≡ o → lists (match_ordering o (t ∷ k ∷ keys) (k ∷ keys) (k ∷ insert_key by keys t)) s ≡ (same_trigger s t || lists (k ∷ keys) s)) [
@@ -37,7 +37,7 @@ gathered true true c = refl
 gathered true false c = refl
 gathered false b c = refl
 
--- one more of the list is put in, and no longer left
+-- one more of the list was inserted, and is no longer to come
 pub one_more : (keys new left rest all : List Trigger) (x t : Trigger) → lists new t ≡ (same_trigger t x || lists keys t) → left ≡ x ∷ rest → (lists keys t || lists left t) ≡ lists all t
     → (lists new t || lists rest t) ≡ lists all t
 one_more keys new left rest all x t inserted is before = rw inserted (gathered (same_trigger t x) (lists keys t) (lists rest t) ∙ (ap (λ (l : List Trigger). lists keys t || lists l t) (sym is) ∙ before))

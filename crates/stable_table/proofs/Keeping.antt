@@ -1,4 +1,4 @@
--- The entries of a cut that are kept, one by one, and as those of a log.
+-- The kept entries of a cut, one by one, and as entries of a log.
 use Rattle.std.proofs.Common.{zero, suc, ◌<◌, get_or, inl, inr, Bool, true, false, cond, not, ◌||◌, List, [], ◌∷◌, ◌++◌, length, drop, fold, filter, ◌≡◌, refl, sym, ◌∙◌, ap, ap₂, subst, arith}
 use Rattle.std.specs.Prelude.{ℕ, if◌then◌else◌}
 use Rattle.std.specs.List.{list_any}
@@ -15,14 +15,14 @@ use Rattle.trigger_log.specs.KeptEntries.{taken}
 use Rattle.trigger_log.proofs.Kept.{all_accepted, reads_parts}
 use Rattle.stable_table.specs.Keeping.{kept_by}
 
--- what may be a log with more entries may be one without them
+-- if a longer list can be a log, so can its first part
 pub accepted_before : (incomplete : List Trigger) (past : History) (es : List Shown) → Accepted (fold (kept_by incomplete) past es) → Accepted past
 accepted_before incomplete past [] a = a
 accepted_before incomplete past (e ∷ es) a =
     (elim (list_any (lists incomplete) e.triggers) as (λ b. Accepted (if b then past else change e.scope e.cause ∷ past) → Accepted past) [ true ↦ λ x. x | false ↦ λ x. x.1 ])
     (accepted_before incomplete (kept_by incomplete past e) es a)
 
--- what is left from a place on, by its first
+-- the rest from a place on begins with the element there
 pub dropped : {A : Type 0} (xs : List A) (i : ℕ) (x : A) → i < length xs → x ≡ get_or xs i x → drop i xs ≡ x ∷ drop (suc i) xs
 dropped [] i x below is = absurd (omega arith)
 dropped (y ∷ xs) zero x below is = ap (λ z. z ∷ xs) (sym is)
@@ -34,7 +34,7 @@ dropped (y ∷ xs) (suc i) x below is = dropped xs i x (omega arith) is
 abbrev pub is_kept : List Trigger → Entry → Bool
 is_kept incomplete k = not (list_any (lists incomplete) k.triggers)
 
--- what is read of those that list none
+-- what is read of the entries that list no incomplete trigger
 abbrev pub reads_kept : List Trigger → List Entry → History
 reads_kept incomplete h = reads (filter (is_kept incomplete) h)
 
@@ -47,12 +47,12 @@ kept_same incomplete past shown k triggers read =
       | false ↦ ap (λ (e : Change). e ∷ past) read
     ])
 
--- two lists that list the same triggers have the same ones of others
+-- of two lists with the same triggers, either both have one of ts, or neither has
 pub lists_alike : (a b : List Trigger) → ((t : Trigger) → lists a t ≡ lists b t) → (ts : List Trigger) → list_any (lists a) ts ≡ list_any (lists b) ts
 lists_alike a b same [] = refl
 lists_alike a b same (t ∷ ts) = ap₂ (λ x y. x || y) (same t) (lists_alike a b same ts)
 
--- two lists that list the same triggers keep the same entries
+-- two lists with the same triggers keep the same entries
 pub kept_alike : (a b : List Trigger) → ((t : Trigger) → lists a t ≡ lists b t) → (past : History) (es : List Shown) → fold (kept_by a) past es ≡ fold (kept_by b) past es
 kept_alike a b same past [] = refl
 kept_alike a b same past (e ∷ es) =
@@ -75,7 +75,7 @@ kept_part base incomplete (k ∷ h) = elim (is_kept incomplete k) as (λ b. IsPa
   | false ↦ part_more (reads_kept incomplete h ++ base) (reads h ++ base) k.read (kept_part base incomplete h)
 ]
 
--- where none of them lists an incomplete trigger, all are kept
+-- if none of them lists an incomplete trigger, all are kept
 pub all_kept : (incomplete : List Trigger) (past : History) (es : List Shown) → list_any (λ (e : Shown). list_any (lists incomplete) e.triggers) es ≡ false → fold (kept_by incomplete) past es ≡ fold taken past es
 all_kept incomplete past [] none = refl
 all_kept incomplete past (e ∷ es) none =
@@ -83,7 +83,7 @@ all_kept incomplete past (e ∷ es) none =
     let others = or_right (list_any (lists incomplete) e.triggers) (list_any (λ (d : Shown). list_any (lists incomplete) d.triggers) es) none in
     ap (λ (b : Bool). fold (kept_by incomplete) (if b then past else change e.scope e.cause ∷ past) es) here ∙ all_kept incomplete (taken past e) es others
 
--- what is kept behind a base is part of the log
+-- what is kept after a base is part of the log
 pub kept_accepted : (incomplete : List Trigger) (newer base : List Entry) → Fits (newer ++ base) → Accepted (reads_kept incomplete newer ++ reads base)
 kept_accepted incomplete newer base f =
     part_accepted (reads_kept incomplete newer ++ reads base) (reads (newer ++ base))

@@ -1,4 +1,4 @@
--- How many of the first entries of a cut that are kept list no incomplete trigger, as they are shown and as those of the log.
+-- How many of the first kept entries of a cut list no incomplete trigger, as they are shown and as entries of the log.
 use Rattle.std.proofs.Common.{ℕ, zero, suc, ◌+◌, ◌-◌, ◌≤◌, Bool, true, false, not, ◌||◌, List, [], ◌∷◌, ◌++◌, length, length-append, append_assoc, drop, take, map, ◌≡◌, refl, sym, ◌∙◌, ap, ap₂, arith}
 use Rattle.std.specs.Prelude.{if◌then◌else◌}
 use Rattle.std.specs.List.{AllZip, list_any}
@@ -54,7 +54,7 @@ or_false : (b : Bool) → (b || false) ≡ b
 or_false true = refl
 or_false false = refl
 
--- as many list no incomplete trigger as are shown so
+-- as many list no incomplete trigger as are shown to
 leading_shown : (rules : Rules) (net : Net) (u n : ℕ) (incomplete : List Trigger) (steps : List Entered) (shown : List Shown) → AllZip (Shows rules net u) steps shown
     → complete_first incomplete shown ≡ leading (is_clean (lists incomplete) n) (map (λ (e : Entered). e.entry) steps)
 leading_shown rules net u n incomplete [] [] z = refl
@@ -81,7 +81,7 @@ pub first_alike : (a b : List Trigger) → ((t : Trigger) → lists a t ≡ list
 first_alike a b same [] = refl
 first_alike a b same (s ∷ shown) = ap₂ (λ (t : Bool) (n : ℕ). if t then 0 else suc n) (lists_alike a b same s.triggers) (first_alike a b same shown)
 
--- what may be dropped of the cut: what was, and the first of the others that are complete
+-- what may be dropped of the cut: what was dropped, and the first of the other entries that are complete
 pub first_droppable : (rules : Rules) (net : Net) (u n cut : ℕ) (incomplete : List Trigger) (newer entries : List Entry) (all : List Shown) → AllZip (Shows rules net u) (drop n (all_entered (newer ++ entries))) all → cut ≡ length entries → n ≤ cut
     → droppable (lists incomplete) n entries ≡ n + complete_first incomplete (take (cut - n) all)
 first_droppable rules net u n cut incomplete newer entries all z is within =

@@ -1,4 +1,4 @@
--- Readings of what was published, over other things of the same epochs.
+-- The readings of what was published commute with a function that keeps the epochs.
 use Rattle.std.proofs.Common.{ℕ, Bool, true, false, cond, ◌==◌, nat_lt, Option, Some, None, List, [], ◌∷◌, length, ◌≡◌, refl, ◌∙◌, ap, map, option_map}
 use Rattle.std.specs.Prelude.{if◌then◌else◌}
 use Rattle.std.proofs.lemmas.List.{length-map}

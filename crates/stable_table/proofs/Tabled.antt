@@ -1,4 +1,4 @@
--- The rows of all prefixes are the table, over the entries of the cut that are kept, on top of those that were dropped.
+-- The rows of all prefixes form the table, over the kept entries of the cut on top of the dropped ones.
 use Rattle.std.proofs.Common.{ℕ, ◌+◌, ◌-◌, ◌≤◌, false, Option, List, [], ◌∷◌, ◌++◌, length, length-append, drop, take, ◌≡◌, refl, sym, ◌∙◌, ap, ap₂, subst, arith, map, filter, filter_map, fold, option_and_then}
 use Rattle.std.specs.Prelude.{if◌then◌else◌}
 use Rattle.std.specs.List.{AllZip, cons_option, list_any, range_with_len}
@@ -31,7 +31,7 @@ use Rattle.stable_table.specs.Trimming.{trimmed_complete, trimmed_path, trimmed_
 use Rattle.stable_table.proofs.Based.{kept_on_base, trimmed_reads}
 use Rattle.stable_table.proofs.Keeping.{all_kept, reads_kept, kept_accepted, scoped_of}
 
--- ---- one row more
+-- ---- one more row
 
 map_same : (xs : List ℕ) → map (λ x. x) xs ≡ xs
 map_same [] = refl
@@ -44,7 +44,7 @@ range_more n =
 pub rows_more : (P : ℕ → Row → Type 0) (rows : List Row) (n : ℕ) (row : Row) → AllZip P (range_with_len 0 n) rows → P n row → AllZip P (range_with_len 0 (n + 1)) (rows ++ row ∷ [])
 rows_more P rows n row all here = subst (λ l. AllZip P l (rows ++ row ∷ [])) (sym (range_more n)) (zip_push P (range_with_len 0 n) rows n row all here)
 
--- ---- what is read for a prefix is read of the entries that concern it
+-- ---- what is read for a prefix depends only on the entries that concern it
 
 filter_map_same : (f g : ℕ → Option Choice) → ((v : ℕ) → f v ≡ g v) → (vs : List ℕ) → filter_map f vs ≡ filter_map g vs
 filter_map_same f g same [] = refl
@@ -74,7 +74,7 @@ made epoch value paths backups = record { epoch = epoch; value = value; paths = 
 abbrev pub kept_reads : Value → Trimmed → History
 kept_reads value log = reads_kept value.incomplete (kept_of log) ++ reads (base_of log)
 
--- what the row of p has over them
+-- the row of p over them
 abbrev pub kept_row : Rules → Net → ℕ → Value → Trimmed → ℕ → RowView
 kept_row rules net u value log p = prefix_row rules net u value (kept_reads value log) p
 
@@ -129,13 +129,13 @@ cut_shown rules net u n cut newer entries all z is within =
 
 module _ (rules : Rules) (net : Net) (u n cut : ℕ) (value : Value) (newer entries : List Entry) (incomplete : List Trigger) (all shown : List Shown)
     (z : AllZip (Shows rules net u) (drop n (all_entered (newer ++ entries))) all) (first : shown ≡ take (cut - n) all) (is : cut ≡ length entries) (within : n ≤ cut) (same : incomplete ≡ value.incomplete) where
-  -- what comes of the kept entries of the cut, behind the base
+  -- what routing reads from the kept entries of the cut, after the base
   pub cut_kept : fold (kept_by incomplete) (reads (base_of (trimmed n entries))) shown ≡ kept_reads value (trimmed n entries)
   cut_kept =
       ap₂ (λ (i : List Trigger) (s : List Shown). fold (kept_by i) (reads (base_of (trimmed n entries))) s) same first
       ∙ kept_on_base rules net u value.incomplete (kept_of (trimmed n entries)) (base_of (trimmed n entries)) (take (cut - n) all) (reads (base_of (trimmed n entries))) (cut_shown rules net u n cut newer entries all z is within)
 
-  -- where no entry of the cut that is kept lists an incomplete trigger, that is what routing reads of the whole cut
+  -- if no kept entry of the cut lists an incomplete trigger, this is what routing reads from the whole cut
   pub cut_whole : list_any (λ (e : Shown). list_any (lists incomplete) e.triggers) shown ≡ false → kept_reads value (trimmed n entries) ≡ reads entries
   cut_whole none =
       sym cut_kept

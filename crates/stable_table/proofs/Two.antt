@@ -1,4 +1,4 @@
--- The two tables of the highest epochs, where epochs descend.
+-- The two tables of the highest epochs, where epochs descend from newest to oldest.
 use Rattle.std.proofs.Common.{ℕ, ◌≤◌, Bool, true, false, cond, ◌==◌, nat_lt, Option, Some, None, List, [], ◌∷◌, drop, length, ◌≡◌, refl, sym, ◌∙◌, ap, ap₂, subst, arith}
 use Rattle.std.specs.Prelude.{if◌then◌else◌, option_to_list, slice_get}
 use Rattle.std.proofs.lemmas.Bool.Decides.{nat_tests}
@@ -19,7 +19,7 @@ module _ {A : Type 0} (f : A → ℕ) where
   pub newest_first : (t : A) (ts : List A) → Descends f (t ∷ ts) → newest f (t ∷ ts) ≡ Some t
   newest_first t ts d = ap (λ x. Some x) (newer_first t (newest f ts) d.0)
 
-  -- what is above one epoch is above a higher one
+  -- if an epoch is above that of the publication, so is a higher epoch
   above_more : (e n : ℕ) (o : Option A) → e ≤ n → is_above f e o ≡ true → is_above f n o ≡ true
   above_more e n None le up = refl
   above_more e n (Some s) le up = grind (arith, nat_tests, up)
@@ -45,7 +45,7 @@ module _ {A : Type 0} (f : A → ℕ) where
       at true = refl
       at false = refl
 
-  -- two of higher epochs are too many
+  -- two of higher epochs are too many for a third to be kept
   too_many : (t s : A) (ts : List A) → nat_lt (length (t ∷ s ∷ ts)) 2 ≡ false
   too_many t s ts = grind (arith, nat_tests)
 
@@ -89,7 +89,7 @@ module _ {A : Type 0} (f : A → ℕ) where
     two false true not_t is_s = is_second not_t is_s
     two false false not_t not_s = is_neither not_t not_s (nat_lt (f s) e) refl
 
-  -- where epochs descend, what is kept is one of the first two
+  -- where epochs descend, a kept table is one of the first two
   pub kept_is : (e : ℕ) (ts : List A) → Descends f ts → kept f e ts ≡ of_two e (newest f ts) (newest f (drop 1 ts))
   kept_is e [] d = refl
   kept_is e (t ∷ []) d = kept_one e t
@@ -116,11 +116,11 @@ module _ (e : ℕ) (tables : TwoViews) (published : List View) (stands : StandsF
     | false ↦ λ is. refl
   ]) none
 
-  -- what is kept is the newest one, where it is of the epoch
+  -- the kept table is the newest one, if that is of the epoch
   pub kept_newest : (t : View) → of_epoch epoch_of e (option_to_list tables.newest) ≡ Some t → kept epoch_of e published ≡ Some t
   kept_newest t is = kept_here ∙ of_newest t tables.newest tables.older is
 
-  -- and otherwise the older one, where it is of the epoch
+  -- otherwise it is the older one, if that is of the epoch
   pub kept_older : of_epoch epoch_of e (option_to_list tables.newest) ≡ None → kept epoch_of e published ≡ of_epoch epoch_of e (option_to_list tables.older)
   kept_older none = kept_here ∙ of_older tables.newest tables.older none
 

@@ -1,4 +1,4 @@
--- What a table has of a prefix, read of the complete entries.
+-- The row of a prefix in a table, read from the complete entries.
 use Rattle.std.specs.Prelude.{ℕ, ◌≡◌, Option, List, [], map, filter, option_and_then, if◌then◌else◌}
 use Rattle.topology.specs.Lists.{has}
 use Rattle.topology.specs.Net.{Net}
@@ -10,12 +10,12 @@ use Rattle.incomplete_closure.specs.declared.values.Value.{Value}
 use Rattle.stable_table.specs.declared.rows.Row.{Row}
 use Rattle.stable_table.specs.Tables.{answered, all_responded}
 
--- what a row has: the path, if there is one, and the backups
+-- a row: the path, if there is one, and the backups
 pub record RowView : Type 0 where
   pub path : Option (List ℕ)
   pub backups : List (List ℕ)
 
--- what the row of p has over these entries, through nodes that responded
+-- the row of p over these entries, through nodes that responded
 abbrev pub prefix_row : Rules → Net → ℕ → Value → History → ℕ → RowView
 prefix_row rules net u value h p = record {
   path = option_and_then (answered value u) (path_of u (best rules net u h p));

@@ -7,18 +7,18 @@ use Rattle.stable_table.specs.Published.{newest, Descends}
 abbrev pub epoch_of : View → ℕ
 epoch_of t = t.epoch
 
--- the table of the highest epoch, and the one of the next lower epoch
+-- the table of the highest epoch, and that of the next lower one
 pub record TwoViews : Type 0 where
   pub newest : Option View
   pub older : Option View
 
--- of all that was published these two are kept
+-- of all that was published, these two are kept
 pub record StandsFor (tables : TwoViews) (published : List View) : Type 0 where
-  -- each was published for a higher epoch than all before it
+  -- each table is of a higher epoch than all before it
   pub descends : Descends epoch_of published
-  -- the one for the highest epoch
+  -- the table of the highest epoch
   pub newest_is : tables.newest ≡ newest epoch_of published
-  -- the one for the highest epoch of those before
+  -- the table of the highest epoch before that
   pub older_is : tables.older ≡ newest epoch_of (drop 1 published)
 
 -- the second node of a path
@@ -27,10 +27,10 @@ second [] = None
 second (u ∷ []) = None
 second (u ∷ v ∷ rest) = Some v
 
--- the path of p in the table
+-- the path for p in the table
 abbrev pub path_in : ℕ → View → Option (List ℕ)
 path_in p t = option_and_then (λ path. path) (slice_get t.paths p)
 
--- the node to which the table sends what goes to p
+-- the next node for p by the table
 abbrev pub next_hop : ℕ → View → Option ℕ
 next_hop p t = option_and_then second (path_in p t)

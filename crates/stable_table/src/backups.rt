@@ -14,7 +14,7 @@ use path_vector::{Policy, RouteState};
 use std::alloc::Global;
 use topology::{NoMemory, NodeId, Path, PrefixId};
 
-// The candidate of the neighbour, where all its nodes responded.
+// The candidate of the neighbour, if all its nodes responded.
 fn backup_by<P: Policy + Copy>(
     state: &RouteState<P>,
     responders: &Responders<'_>,
@@ -35,7 +35,7 @@ fn backup_by<P: Policy + Copy>(
     Ok(Some(path.copy()?))
 }
 
-// Puts the path at the end, where there is one.
+// Adds the path at the end, if there is one.
 fn push_some(list: &mut Vec<Path>, path: Option<Path>) -> Result<(), NoMemory>
     ensures { OnOk result (list.new.items ≡ list.old.items ++ option_to_list path) }
 {
@@ -45,7 +45,7 @@ fn push_some(list: &mut Vec<Path>, path: Option<Path>) -> Result<(), NoMemory>
     Ok(())
 }
 
-/// The candidates of a prefix by rank whose nodes all responded, where the own node did.
+/// The candidates for a prefix whose nodes all responded, by rank; none if the own node did not respond.
 pub(crate) fn backups_of<P: Policy + Copy>(
     alloc: Global,
     state: &RouteState<P>,

@@ -1,4 +1,4 @@
-//! How much of a log is needed no more once the table of an epoch is published.
+//! How much of a log is no longer needed once the table of an epoch is published.
 ghost use Rattle.std.specs.Prelude.{ℕ, suc, List, ◌≡◌, ◌≤◌, ◌++◌, length, IfOk, if◌then◌else◌};
 ghost use Rattle.topology.specs.Triggers.{lists};
 ghost use Rattle.trigger_log.specs.Dropping.{droppable};
@@ -30,10 +30,10 @@ fn complete_first(entries: &[Entry], incomplete: &Incomplete) -> usize
     count
 }
 
-/// The place before which a node may drop the entries of its log, once it has published its table by this value, where the first
-/// `cut` entries are its cut of the epoch. Where all nodes responded, these are the longest first part of the cut of which
-/// each entry was dropped before or lists no incomplete trigger. Where not all responded, no entry goes that was not dropped before.
-/// Of a cut that is shorter than what was dropped nothing is promised.
+/// The place before which a node may drop its entries, after it has published its table of an epoch by this value. The
+/// first `cut` entries are its cut of the epoch. If all nodes responded, the entries that may go are the longest run
+/// from the start of the cut in which each entry was dropped before or lists no incomplete trigger. If some node did
+/// not respond, no further entry may go. If the cut is shorter than what was dropped, nothing is promised.
 pub fn droppable_before<P: Policy + Copy>(
     alloc: Global,
     topology: &Topology,

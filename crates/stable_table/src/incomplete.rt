@@ -1,4 +1,4 @@
-//! The incomplete triggers of a value, to be looked up.
+//! The incomplete triggers of a value, for look-ups.
 ghost use Rattle.std.specs.Prelude.{◌≡◌, ℕ, IfOk};
 ghost use Rattle.std.specs.List.{list_any};
 ghost use Rattle.topology.specs.declared.names.Trigger.{Trigger as AnyTrigger};
@@ -9,7 +9,7 @@ use std::collections::BTreeSet;
 use std::marker::Model;
 use topology::{NoMemory, Trigger, Triggers};
 
-/// A set of triggers, in which one is found without going over all of them, in whatever order they were given.
+/// A set of triggers in which one is found without a walk over all. The triggers may be given in any order.
 #[derive(Drop)]
 pub(crate) struct Incomplete {
     set: BTreeSet<Trigger>,

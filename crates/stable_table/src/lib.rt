@@ -1,5 +1,5 @@
-//! The stable tables of epochs: for each prefix the best path over the complete entries of a cut, and
-//! the backups, through nodes that responded; and the two tables that a node keeps.
+//! The stable table of an epoch: for each prefix the best path over the complete entries of a cut, and the backup
+//! paths, all through nodes that responded. A node keeps two such tables.
 #![tactic(auto)]
 
 mod backups;

@@ -8,7 +8,8 @@ use incomplete_closure::Value;
 use std::alloc::Global;
 use topology::{NoMemory, NodeId};
 
-/// The nodes that responded for a value, each flagged at the place of its number: one is found without going over all of them.
+/// The nodes that responded for a value, as a flag at the place of each node's number, so that one is found without a
+/// walk over all.
 #[derive(Drop)]
 pub(crate) struct Responders<'a> {
     pub(crate) value: &'a Value,
@@ -16,7 +17,7 @@ pub(crate) struct Responders<'a> {
     ghost flagged: { (n : ℕ) → is_flagged flags.items n ≡ has value.now.responding n },
 }
 
-// Makes the list so long that it has this place, and flags nothing.
+// Extends the list up to this place, without flagging anything.
 fn lengthen(flags: &mut Vec<bool>, place: usize) -> Result<(), NoMemory>
     requires { place < 65536 }
     ensures long { OnOk result (place < length flags.new.items) }
@@ -39,7 +40,7 @@ fn flag(flags: &mut Vec<bool>, number: u16) -> Result<(), NoMemory>
     Ok(())
 }
 
-// A flag for each of the nodes.
+// The list with a flag for each of the nodes.
 fn flags_of(alloc: Global, nodes: &[NodeId]) -> Result<Vec<bool>, NoMemory>
     ensures { IfOk result (λ flags. (n : ℕ) → is_flagged flags.items n ≡ has nodes.now n) }
 {
@@ -51,7 +52,7 @@ fn flags_of(alloc: Global, nodes: &[NodeId]) -> Result<Vec<bool>, NoMemory>
 }
 
 impl<'a> Responders<'a> {
-    /// Those of this value. Takes memory in proportion to the largest of their numbers.
+    /// The nodes that responded for this value. Takes memory in proportion to the largest of their numbers.
     pub(crate) fn new(alloc: Global, value: &'a Value) -> Result<Responders<'a>, NoMemory>
         ensures { IfOk result (λ set. set.value.now ≡ value.now) }
     {

@@ -14,7 +14,7 @@ use path_vector::{Policy, RouteState};
 use topology::NoMemory;
 use trigger_log::Entry;
 
-// Takes the entry, if its trigger is not among the incomplete ones.
+// Applies the entry, if none of its triggers is incomplete.
 fn take<P: Policy + Copy>(
     state: &mut RouteState<P>,
     incomplete: &Incomplete,
@@ -31,7 +31,7 @@ fn take<P: Policy + Copy>(
     Ok(())
 }
 
-/// The routes from the base on, after those of the entries whose trigger is not among the incomplete ones.
+/// The base routes after those entries that list no incomplete trigger.
 pub(crate) fn routes_of<P: Policy + Copy>(
     base: &RouteState<P>,
     entries: &[Entry],
@@ -48,7 +48,7 @@ pub(crate) fn routes_of<P: Policy + Copy>(
     Ok(state)
 }
 
-/// Whether the trigger of one of the entries is among the incomplete ones.
+/// Whether one of the entries lists an incomplete trigger.
 pub(crate) fn has_incomplete(entries: &[Entry], incomplete: &Incomplete) -> bool
     ensures { result ≡ list_any (λ (e : Shown). list_any (lists incomplete.now) e.triggers) entries.now }
 {

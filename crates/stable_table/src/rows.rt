@@ -1,4 +1,4 @@
-//! What a table has of a prefix.
+//! Rows of a table: what it has for one prefix.
 ghost use Rattle.std.specs.Prelude.{ℕ, ◌≡◌, ◌<◌, true, length, option_and_then, IfOk};
 ghost use Rattle.std.specs.List.{AllZip};
 ghost use Rattle.topology.specs.Lists.{has};
@@ -16,14 +16,14 @@ use std::alloc::Global;
 use std::rc::Rc;
 use topology::{NoMemory, NodeId, Path, PrefixId, Topology};
 
-/// The path of a prefix, where there is one, and its backups.
+/// The path of a prefix, if there is one, and its backups.
 #[derive(Debug, Drop)]
 pub struct Row {
     pub path: Option<Path>,
     pub backups: Vec<Path>,
 }
 
-// The best path, where all its nodes responded.
+// The best path, if all its nodes responded.
 fn path_of<P: Policy + Copy>(
     state: &RouteState<P>,
     responders: &Responders<'_>,
@@ -43,7 +43,7 @@ fn path_of<P: Policy + Copy>(
     Ok(Some(path.copy()?))
 }
 
-// The row of a prefix: nothing where the own node did not respond.
+// The row of a prefix. It is empty if the own node did not respond.
 fn row_of<P: Policy + Copy>(
     alloc: Global,
     state: &RouteState<P>,

@@ -17,7 +17,7 @@ use std::rc::Rc;
 use topology::{Epoch, NoMemory, NodeId, Path, PrefixId, Topology};
 use trigger_log::{Entry, NodeLog};
 
-/// The stable table of an epoch at one node. It does not change.
+/// The stable table of an epoch at one node. It never changes.
 #[derive(Debug, Drop)]
 pub struct Table {
     epoch: Epoch,
@@ -42,7 +42,7 @@ impl Model for Table {
 }
 
 impl Table {
-    /// The epoch that the table is of.
+    /// The epoch of the table.
     pub fn epoch(&self) -> Epoch
         ensures { result ≡ self.now.epoch }
     {
@@ -60,7 +60,7 @@ impl Table {
         })
     }
 
-    /// Whether the table is by an equal value, by which nothing is incomplete.
+    /// Whether the table was made by an equal value without incomplete triggers.
     pub fn is_complete_by(&self, value: &Value) -> bool
         ensures { IsTrue result → (self.now.value ≡ value.now) × (value.now.incomplete ≡ []) }
     {
@@ -74,15 +74,15 @@ impl Table {
         own.responding.as_slice() == value.responding.as_slice()
     }
 
-    /// The value that the table is by.
+    /// The value by which the table was made.
     pub fn value(&self) -> &Value
         ensures { result.now ≡ self.now.value }
     {
         &self.value
     }
 
-    /// The path of a prefix, from the own node on. None where there is none, and where there is no
-    /// such prefix. Takes no memory.
+    /// The path of a prefix, with the own node in front. The answer is `None` if there is no path or no such prefix.
+    /// Takes no memory.
     pub fn path(&self, prefix: PrefixId) -> Option<&[NodeId]>
         ensures { option_map (λ nodes. nodes.now) result
             ≡ option_and_then (λ path. path) (slice_get self.now.paths prefix) }
@@ -92,8 +92,8 @@ impl Table {
         Some(path.nodes())
     }
 
-    /// The backups of a prefix, by rank, each from the own node on: no path where there is no such
-    /// prefix. Takes no memory.
+    /// The backups of a prefix, by rank, each with the own node in front. There are none if there is no such prefix.
+    /// Takes no memory.
     pub fn backups(&self, prefix: PrefixId) -> &[Path]
         ensures { result.now ≡ unwrap_or (slice_get self.now.backups prefix) [] }
     {
@@ -124,19 +124,19 @@ fn copy_path(path: &Option<Path>) -> Result<Option<Path>, NoMemory>
     }
 }
 
-// The first entries, up to this number.
+// The first `count` entries.
 pub(crate) fn first_of(entries: &[Entry], count: u32) -> &[Entry]
     ensures { result.now ≡ take count entries.now }
 {
     &entries[..entries.len().min(count as usize)]
 }
 
-/// The table of an epoch at the node of a log, where the first `cut` entries are its cut and this is
-/// the value that was agreed on: for each prefix the best path over the complete entries of the cut,
-/// where the node and all nodes of the path responded, and all candidates over these entries whose
-/// nodes all responded, by rank. An entry that the log dropped counts as complete, and the cut has at least those: of a
-/// shorter one nothing is promised. Where the cut is the whole log and no entry of it is incomplete, the table is read off
-/// the routes of the log. Else the routes after the dropped entries are copied, and take each complete entry that is kept.
+/// The table of an epoch at the node of a log. The first `cut` entries of the log are the cut, and `value` is the value
+/// that was agreed on. For each prefix the table has the best path over the complete entries of the cut, if the own
+/// node and all nodes of the path responded. It also has, by rank, all candidates over these entries whose nodes all
+/// responded. Entries that the log dropped count as complete, and the cut must include them; else nothing is promised.
+/// If the cut is the whole log and none of its entries is incomplete, the table is read from the live routes. Otherwise
+/// a copy of the routes after the dropped entries takes each complete entry that is kept.
 pub fn table_of<P: Policy + Copy>(
     alloc: Global,
     topology: &Topology,

@@ -11,11 +11,11 @@ use std::rc::Rc;
 use thiserror::Error;
 use topology::{Epoch, NodeId, PrefixId};
 
-/// Why a table is not published: one of its epoch, or of a later one, was published before.
+/// Why a table is not published: a table of its epoch or of a later one was published before.
 #[derive(Debug, Drop, Error)]
 #[error("a table of epoch {} was published before", .kept.number())]
 pub struct Older {
-    /// The newest epoch of which a table was published.
+    /// The newest epoch for which a table was published.
     pub kept: Epoch,
     /// The table that was not published.
     pub refused: Rc<Table>,
@@ -41,7 +41,7 @@ impl Model for TwoTables {
     } };
 }
 
-// The table, where it is of the epoch.
+// The table, if it is of this epoch.
 fn if_of(table: &Option<Rc<Table>>, epoch: Epoch) -> Option<&Rc<Table>>
     ensures { option_map (λ one. rc_value one.now) result ≡ of_epoch epoch_of epoch (option_to_list (option_map rc_value table.now)) }
 {
@@ -63,8 +63,8 @@ impl TwoTables {
         }
     }
 
-    /// Publishes a table: it is the newest now, and the newest so far is the older one. A table whose
-    /// epoch is not above all epochs published so far is refused, and nothing changes. Takes no memory.
+    /// Publishes a table. It becomes the newest, and the newest so far becomes the older one. A table whose epoch is
+    /// not above all epochs published so far is refused, and nothing changes. Takes no memory.
     pub fn publish(&mut self, table: Rc<Table>) -> Result<(), Older>
         ensures published { OnOk result ((published : List View) → StandsFor self.old published →
             StandsFor self.new (rc_value table ∷ published)) }
@@ -88,7 +88,7 @@ impl TwoTables {
         Ok(())
     }
 
-    /// The table of the highest epoch that was published. None where there is none. Takes no memory.
+    /// The published table of the highest epoch, if any. Takes no memory.
     pub fn newest(&self) -> Option<&Rc<Table>>
         ensures { (published : List View) → StandsFor self.now published →
             option_map (λ table. rc_value table.now) result ≡ newest epoch_of published }
@@ -96,7 +96,7 @@ impl TwoTables {
         self.newest.as_ref()
     }
 
-    /// The table of an epoch, where it is one of the two. Takes no memory.
+    /// The table of an epoch, if it is one of the two. Takes no memory.
     #[tactic(auto, using(crate::proofs::Two::kept_newest, crate::proofs::Two::kept_older))]
     pub fn of(&self, epoch: Epoch) -> Option<&Rc<Table>>
         ensures { (published : List View) → StandsFor self.now published →
@@ -108,9 +108,9 @@ impl TwoTables {
         if_of(&self.older, epoch)
     }
 
-    /// The second node of the path that the table of an epoch has for a prefix. None where there is no
-    /// table of it among the two, where the table has no path of the prefix, and where the path has no
-    /// second node, as a path of an own prefix. Takes no memory.
+    /// The second node of the path for a prefix in the table of an epoch. The answer is `None` if neither of the two
+    /// tables is of the epoch, if the table has no path for the prefix, or if the path has no second node, as for a
+    /// prefix that the node originates. Takes no memory.
     #[tactic(auto, using(crate::proofs::Two::second_is))]
     pub fn next_hop(&self, epoch: Epoch, prefix: PrefixId) -> Option<NodeId>
         ensures { (published : List View) → StandsFor self.now published →

@@ -1,4 +1,4 @@
--- Lists of nodes that are compared, and nodes that come again.
+-- Comparing lists of nodes, and nodes that occur again.
 use Rattle.std.proofs.Common.{◌≡◌, ℕ, Bool, true, false, not, ◌&&◌, ◌||◌, ◌==◌, List, [], ◌∷◌, ◌++◌, suc, ◌+◌, ◌<◌, length, take, drop, get_or, cond, refl, sym, ap, ◌∙◌, arith}
 use Rattle.std.specs.List.{list_any}
 use lib.Pointwise.{pointwise}
@@ -21,12 +21,12 @@ or_true : (b : Bool) → (b || true) ≡ true
 or_true true = refl
 or_true false = refl
 
--- a node that is there is there in a longer list
+-- a member of a list is a member of a longer one
 has_longer : (xs : List ℕ) (n : ℕ) (rest : List ℕ) → has (xs ++ n ∷ rest) n ≡ true
 has_longer [] n rest = grind (arith, nat_tests)
 has_longer (x ∷ xs) n rest = rw (has_longer xs n rest) (or_true (x == n))
 
--- a node that comes again
+-- a node that occurs again
 pub comes_again : (xs : List ℕ) (n : ℕ) (rest : List ℕ) → has xs n ≡ true → differ (xs ++ n ∷ rest) ≡ false
 comes_again [] n rest h = absurd (cc h)
 comes_again (x ∷ xs) n rest h =
@@ -39,12 +39,12 @@ comes_again (x ∷ xs) n rest h =
     last true = refl
     last false = refl
 
--- the nodes up to a place, the one there, and those behind it
+-- the nodes before a place, the one there, and those after it
 split_at : (nodes : List ℕ) (i x : ℕ) → i < length nodes → x ≡ get_or nodes i x → nodes ≡ take i nodes ++ x ∷ drop (suc i) nodes
 split_at nodes i x inside at =
     sym (take-append-drop i nodes) ∙ ap (λ rest. take i nodes ++ rest) (drop-cons nodes i x inside ∙ ap (λ y. y ∷ drop (suc i) nodes) (sym at))
 
--- a node that was seen before
+-- a node that occurred before
 pub seen_again : (nodes : List ℕ) (i x : ℕ) → i < length nodes → x ≡ get_or nodes i x → has (take i nodes) x ≡ true → false ≡ differ nodes
 seen_again nodes i x inside at h =
     sym (ap differ (split_at nodes i x inside at) ∙ comes_again (take i nodes) x (drop (suc i) nodes) h)
@@ -52,7 +52,7 @@ seen_again nodes i x inside at h =
 one_more : (nodes : List ℕ) (i x : ℕ) → i < length nodes → x ≡ get_or nodes i x → take (i + 1) nodes ≡ take i nodes ++ x ∷ []
 one_more nodes i x inside at = take_more nodes i x inside ∙ ap (λ y. take i nodes ++ y ∷ []) (sym at)
 
--- a node that was not
+-- a node that did not
 pub apart_more : (nodes : List ℕ) (i x : ℕ) → i < length nodes → x ≡ get_or nodes i x → differ (take i nodes) ≡ true → has (take i nodes) x ≡ false → differ (take (i + 1) nodes) ≡ true
 apart_more nodes i x inside at apart new = ap differ (one_more nodes i x inside at) ∙ differ-append (take i nodes) x apart new
 

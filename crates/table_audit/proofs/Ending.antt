@@ -1,4 +1,4 @@
--- What each end of an audit gives of the promise.
+-- What each end of an audit gives for the promise.
 use Rattle.std.proofs.Common.{◌≡◌, ℕ, ◌<◌, ◌≤◌, inl, inr, Option, Some, None, IfSome, List, [], ◌∷◌, ◌++◌, length, take, drop, Result, Ok, Err, true, false, refl, sym, ap, ◌∙◌, subst, arith}
 use Rattle.std.specs.Io.KnownBytes.{Appends, IsAtEnd}
 use Rattle.std.proofs.lemmas.List.{append-nil, take-append-drop}
@@ -19,7 +19,7 @@ use Rattle.table_audit.specs.Audited.{Audited, IsConsistent, IsInconsistent, bad
 use Rattle.table_audit.specs.Tables.{rows_of, first_misspelled}
 use Rattle.table_audit.specs.Walks.{FollowsRows}
 
--- what a told source gave is what it told
+-- what a source that tells its bytes gave
 pub known : (told : Option (List ℕ)) (items : List ℕ) → IfSome told (λ bytes. items ≡ bytes) → (bytes : List ℕ) → told ≡ Some bytes → items ≡ bytes
 known None items h bytes e = absurd (cc e)
 known (Some b) items h bytes e = let same : b ≡ bytes = cc in h ∙ same
@@ -41,7 +41,7 @@ bad_parts m n k l e = (cc, cc)
 line_part : (m n : ℕ) → BadTables m ≡ BadTables n → m ≡ n
 line_part m n e = cc
 
--- where the check found no bad row, there is none
+-- if the check found no bad row, there is none
 pub none_is_bad : (bytes text : List ℕ) (rows items : List AuditRow) (verdict : Verdict) → text ≡ bytes → items ≡ rows_of text → rows ≡ items → verdict ≡ verdict_of (first_bad rows rows) → verdict ≡ Consistent → bad_row bytes ≡ None
 none_is_bad bytes text rows items verdict same read are says consistent =
     let all : rows ≡ rows_of bytes = are ∙ (read ∙ ap rows_of same) in

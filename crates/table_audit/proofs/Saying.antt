@@ -61,7 +61,7 @@ path_of_nodes word words other spelled =
     let one : 1 + length words ≡ suc (length words) = omega arith in
     nodes_by (number_of word ∷ []) words refl ∙ rw (other, spelled, one) refl
 
--- the same by the first word, which is empty where there is none
+-- the same for the first word, which is empty if there is none
 pub path_read : (ws : List (List ℕ)) (first : List ℕ) (rest : List (List ℕ)) (node : ℕ) (path : Option (List ℕ)) → first ≡ word_at 0 ws → rest ≡ drop 1 ws → bytes_eq first (codes "none") ≡ false
     → spells_field NodeNumber first ≡ true → node ≡ number_of first → path ≡ nodes_behind (node ∷ []) rest → path ≡ path_in ws
 unfolding spells_number digits
@@ -72,7 +72,7 @@ path_read (w ∷ ws) first rest node path is behind other spelled number read =
 
 -- ---- lines
 
--- the same by the first four words, each empty where it is not there, and the words behind them
+-- the same for the first four words, each empty if missing, and the words after them
 abbrev pub says_by : (line : ℕ) → (first node epoch word : List ℕ) → List (List ℕ) → Says
 says_by line first node epoch word words =
     if bytes_eq first (codes "table")
@@ -110,7 +110,7 @@ says_words line (first ∷ node ∷ epoch ∷ []) =
     ]
 says_words line (first ∷ node ∷ epoch ∷ word ∷ words) = refl
 
--- the words of a line as they are read: the first four, and what is left behind each
+-- the words of a line as they are read: the first four, and what is left after each
 pub record AreRead (words : List (List ℕ)) (first node epoch word : List ℕ) (rest : List (List ℕ)) : Type 0 where
   pub behind_first : List (List ℕ)
   pub behind_node : List (List ℕ)

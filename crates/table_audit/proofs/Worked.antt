@@ -33,7 +33,7 @@ too_short : first_misspelled (codes "table 3 1") ≡ Some 1
 unfolding first_misspelled spells_number spells_prefix prefix_text left_of words_of digits
 too_short = refl
 
--- of a run that published: paths continue, and a line without a table is skipped
+-- a run that published: paths continue, and a line without a table is skipped
 fits_together : List ℕ
 unfolding line
 fits_together =

@@ -1,4 +1,4 @@
--- What a user is promised of a text that is audited.
+-- What a user is promised about a text that is audited.
 use Rattle.std.specs.Prelude.{ℕ, ◌≡◌, ◌≤◌, ◌<◌, ◌⊎◌, Bool, true, false, Option, Some, None, List, length, codes, ◌++◌, ◌∷◌, []}
 use Rattle.std.specs.Io.KnownBytes.{Appends, IsAtEnd}
 use Rattle.topology.specs.declared.prefixes.Prefix.{Prefix}
@@ -20,7 +20,7 @@ use Rattle.table_audit.specs.Walks.{FollowsRows}
 abbrev pub consistent_line : List ℕ
 consistent_line = codes "consistent" ++ 10 ∷ []
 
--- the first bad row of a text, by its line, with what is wrong with it
+-- the first bad row of a text: its line and its fault
 abbrev pub bad_row : List ℕ → Option (ℕ × AuditKind)
 bad_row bytes = first_bad (rows_of bytes) (rows_of bytes)
 
@@ -34,7 +34,7 @@ pub record IsInconsistent (bytes : List ℕ) (line : ℕ) (kind : AuditKind) : T
   pub spelled : first_misspelled bytes ≡ None
   pub bad : bad_row bytes ≡ Some (line, kind)
 
--- nothing was written, or a front of the line for consistent rows
+-- nothing was written, or the first part of the line for consistent rows
 abbrev pub WroteFront : List ℕ → Option (List ℕ) → Option (List ℕ) → Type 0
 WroteFront bytes held held' =
     (held' ≡ held) ⊎ (IsConsistent bytes × (some : List ℕ) × Begins some consistent_line × Appends held held' some)
@@ -56,13 +56,13 @@ ends_audit (BadJournal offset fault) = false
 ends_audit (BadTables line) = true
 ends_audit (Inconsistent line kind) = true
 
--- the statuses before which something may be written
+-- the statuses at which something may have been written
 abbrev pub ends_late : Status → Bool
 ends_late Done = true
 ends_late WriteFault = true
 ends_late other = false
 
--- the statuses before which the text was read to its end
+-- the statuses at which the text was read to its end
 abbrev pub ends_read : Status → Bool
 ends_read Done = true
 ends_read WriteFault = true
@@ -70,47 +70,47 @@ ends_read (BadTables line) = true
 ends_read (Inconsistent line kind) = true
 ends_read other = false
 
--- how an audit ends, on a source and a sink as they were and as they are then
+-- how an audit ends, given the source and the sink before and after
 pub record Audited (source source' : SourceView) (sink sink' : SinkView) (status : Status) : Type 0 where
-  -- never Usage, and nothing of a schedule, a link, a frame, a network or a journal
+  -- never Usage, and no status of a schedule, a link, a frame, a network or a journal
   pub formed : ends_audit status ≡ true
-  -- Done: no row is bad, and the line that says so was written whole
+  -- Done: no row is bad, and the line that says so was written completely
   pub done : status ≡ Done → (bytes : List ℕ) → source.left ≡ Some bytes
       → IsConsistent bytes × Appends sink.held sink'.held consistent_line
-  -- then whoever follows the second nodes of the rows of one epoch and prefix visits no node twice
+  -- then following the second nodes of the rows of one epoch and prefix visits no node twice
   pub loop_free : status ≡ Done → (bytes : List ℕ) → source.left ≡ Some bytes
       → (epoch : ℕ) (prefix : Prefix) (nodes : List ℕ) → FollowsRows (rows_of bytes) epoch prefix nodes → differ nodes ≡ true
-  -- BadTables: the line is the first that begins like one of a table and is none
+  -- BadTables: this is the first line that begins like one of a table but is not one
   pub bad_tables : (line : ℕ) → status ≡ BadTables line
       → (bytes : List ℕ) → source.left ≡ Some bytes → first_misspelled bytes ≡ Some line
-  -- Inconsistent: no line is misspelled, the first bad row stands in the line, and this is wrong with it
+  -- Inconsistent: no line is misspelled, and the first bad row stands in this line and has this fault
   pub inconsistent : (line : ℕ) (kind : AuditKind) → status ≡ Inconsistent line kind
       → (bytes : List ℕ) → source.left ≡ Some bytes → IsInconsistent bytes line kind
   -- Limit: the text is too long
   pub limit : (kind : LimitKind) (number : ℕ) → status ≡ Limit kind number → (kind ≡ Bytes) × (number ≡ MOST_BYTES)
       × ((bytes : List ℕ) → source.left ≡ Some bytes → MOST_BYTES < length bytes)
-  -- ReadFault, WriteFault: a call of that side failed; after every other answer none has
+  -- ReadFault, WriteFault: a call of that side failed; at every other status none did
   pub read_fault : RoseIf (status ≡ ReadFault) source.faults source'.faults
   pub write_fault : RoseIf (status ≡ WriteFault) sink.faults sink'.faults
-  -- a write fault cuts the line off
+  -- at a write fault the line may be cut off
   pub cut_off : status ≡ WriteFault → (bytes : List ℕ) → source.left ≡ Some bytes
       → IsConsistent bytes × AppendsFront sink.held sink'.held consistent_line
-  -- whatever the end, what was written is a front of that line, and of a consistent text
+  -- at every status, what was written is the first part of that line, and the text is consistent
   pub front : (bytes : List ℕ) → source.left ≡ Some bytes → WroteFront bytes sink.held sink'.held
-  -- and nothing was written where the text was not found consistent
+  -- nothing was written if the text was not found consistent
   pub silent : ends_late status ≡ false → sink'.held ≡ sink.held
   -- nothing is left of the text once its rows were read
   pub read : ends_read status ≡ true → IsAtEnd source'.left
-  -- a consistent text is found so, unless a side fails or memory runs out
+  -- a consistent text is found consistent, unless a side fails or memory runs out
   pub complete : (bytes : List ℕ) → source.left ≡ Some bytes → length bytes ≤ MOST_BYTES → IsConsistent bytes
       → (status ≡ Done) ⊎ ((status ≡ NoMemory) ⊎ ((status ≡ ReadFault) ⊎ (status ≡ WriteFault)))
-  -- a text with a misspelled line is refused by the first one, unless a read fails or memory runs out
+  -- a text with a misspelled line is refused, and its first one named, unless a read fails or memory runs out
   pub refused : (bytes : List ℕ) → source.left ≡ Some bytes → length bytes ≤ MOST_BYTES → (line : ℕ)
       → first_misspelled bytes ≡ Some line → (status ≡ BadTables line) ⊎ ((status ≡ NoMemory) ⊎ (status ≡ ReadFault))
-  -- so is one with a bad row, by the first one
+  -- so is a text with a bad row
   pub found : (bytes : List ℕ) → source.left ≡ Some bytes → length bytes ≤ MOST_BYTES → (line : ℕ) (kind : AuditKind)
       → IsInconsistent bytes line kind → (status ≡ Inconsistent line kind) ⊎ ((status ≡ NoMemory) ⊎ (status ≡ ReadFault))
-  -- and one that is too long, by its length
+  -- so is a text that is too long
   pub too_long : (bytes : List ℕ) → source.left ≡ Some bytes → MOST_BYTES < length bytes
       → (status ≡ Limit Bytes MOST_BYTES) ⊎ ((status ≡ NoMemory) ⊎ (status ≡ ReadFault))
   -- no call changes how much the sink can hold

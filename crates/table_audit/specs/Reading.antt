@@ -8,7 +8,7 @@ use Rattle.table_audit.specs.declared.reading.RowsEnd.{RowsEnd}
 use Rattle.table_audit.specs.declared.reading.RowsEnd.TheVariants.{NoMemory, Misspelled}
 use Rattle.table_audit.specs.Tables.{first_misspelled}
 
--- these nodes, and then those that the words spell
+-- these nodes, followed by those that the words spell
 abbrev pub nodes_behind : List ℕ → List (List ℕ) → Option (List ℕ)
 nodes_behind nodes [] = Some nodes
 nodes_behind nodes (word ∷ words) =
@@ -16,7 +16,7 @@ nodes_behind nodes (word ∷ words) =
     then nodes_behind (nodes ++ number_of word ∷ []) words
     else None
 
--- a line is named where it is the first one that is misspelled; want of memory may come at any time
+-- a named line is the first misspelled one; want of memory may come at any time
 abbrev pub SaysWhy : List ℕ → RowsEnd → Type 0
 SaysWhy bytes NoMemory = Unit {0}
 SaysWhy bytes (Misspelled line) = first_misspelled bytes ≡ Some line

@@ -11,7 +11,7 @@ use Rattle.table_audit.specs.declared.lines.Says.TheVariants.{Nothing, Row, Miss
 use Rattle.topology.specs.declared.limits.TheConstants.{MOST_NODES}
 use Rattle.table_audit.specs.declared.rows.AuditRow.{AuditRow}
 
--- there is none
+-- the list is empty
 abbrev pub is_empty : {A : Type 0} → List A → Bool
 is_empty [] = true
 is_empty (x ∷ xs) = false
@@ -25,7 +25,7 @@ abbrev pub spells_epoch : Option (List ℕ) → Bool
 spells_epoch None = false
 spells_epoch (Some word) = spells_field EpochNumber word
 
--- the words behind the node of a line of a table that was not published: the epoch with a colon, and the word for it
+-- the words after the node say that the table was not published: the epoch with a colon, and "unpublished"
 abbrev pub is_unpublished : (epoch word : List ℕ) → Bool
 is_unpublished epoch word = spells_epoch (before_colon epoch) && bytes_eq word (codes "unpublished")
 
@@ -38,7 +38,7 @@ path_in (word ∷ words) =
     then Some (map number_of (word ∷ words))
     else None
 
--- what a row says: its line, node and epoch, then the prefix and the path, where these are spelled
+-- the row of these parts, if the path is spelled
 abbrev pub row_by : (line node epoch : ℕ) → Prefix → Option (List ℕ) → Says
 row_by line node epoch prefix None = Misspelled
 row_by line node epoch prefix (Some path) =
@@ -49,8 +49,8 @@ row_for line node epoch None words = Misspelled
 row_for line node epoch (Some word) words =
     if spells_field Masked word then row_by line node epoch (prefix_of word) (path_in words) else Misspelled
 
--- what the words behind "table" say at this line: node, epoch, and the prefix with a colon and the path; or node, epoch
--- with a colon, and that it was not published
+-- what the words after "table" say in this line: a node, an epoch, a prefix with a colon and a path; or a node, an
+-- epoch with a colon, and that the table was not published
 abbrev pub says_behind : (line : ℕ) → List (List ℕ) → Says
 says_behind line (node ∷ epoch ∷ word ∷ words) =
     if spells_field NodeNumber node
@@ -65,7 +65,7 @@ abbrev pub says : (line : ℕ) → List (List ℕ) → Says
 says line [] = Nothing
 says line (word ∷ words) = if bytes_eq word (codes "table") then says_behind line words else Nothing
 
--- the row, and then the later ones
+-- the row in front of the later ones
 abbrev pub with_row : Says → List AuditRow → List AuditRow
 with_row Nothing later = later
 with_row (Row row) later = row ∷ later
@@ -76,7 +76,7 @@ abbrev pub rows_from : (line : ℕ) → List (List (List ℕ)) → List AuditRow
 rows_from line [] = []
 rows_from line (words ∷ lines) = with_row (says line words) (rows_from (suc line) lines)
 
--- this line where it is misspelled, else a later one
+-- this line if it is misspelled, else a later one
 abbrev pub misspelled_or : (line : ℕ) → Says → Option ℕ → Option ℕ
 misspelled_or line Nothing later = later
 misspelled_or line (Row row) later = later
@@ -92,6 +92,6 @@ first_misspelled_from line (words ∷ lines) =
 unfoldable pub rows_of : List ℕ → List AuditRow
 rows_of bytes = rows_from 1 (words_by_line bytes)
 
--- its first line that begins like one of a table, and is none
+-- its first line that begins like one of a table but is not one
 unfoldable pub first_misspelled : List ℕ → Option ℕ
 first_misspelled bytes = first_misspelled_from 1 (words_by_line bytes)

@@ -9,8 +9,8 @@ use std::alloc::Global;
 use topology::limits::MOST_BYTES;
 use topology::{LimitKind, Status};
 
-/// Reads a text from the source, and writes that its rows are consistent where none is bad. What a
-/// user may rely on stands in `specs/Audited.antt`.
+/// Reads a text from the source. If none of its rows is bad, writes to the sink that they are consistent.
+/// `specs/Audited.antt` says what a user may rely on.
 pub fn audit<I: Source, O: Sink>(alloc: Global, source: &mut I, sink: &mut O) -> Status
     ensures { Audited (I.seen source.old) (I.seen source.new) (O.seen sink.old) (O.seen sink.new) result }
 {

@@ -12,19 +12,19 @@ use std::alloc::Global;
 use std::collections::BTreeSet;
 use topology::{AuditKind, NoMemory, NodeId};
 
-/// What the audit says of rows.
+/// The result of checking rows.
 #[derive(Clone, Copy, Debug, PartialEq, Eq)]
 pub enum Verdict {
     /// No row is bad.
     Consistent,
-    /// The first bad row stands in this line.
+    /// The line of the first bad row, and its fault.
     Bad { line: u32, kind: AuditKind },
 }
 
-/// Checks rows in their order, which is that of their lines, and names the first bad one.
+/// Checks the rows in order, which is the order of their lines, and names the first bad one.
 ///
-/// The row of a node, an epoch and a prefix is found by one index of all rows, so that the time grows
-/// as that of sorting them.
+/// Rows are found by node, epoch and prefix, through one index of all rows. So the time grows like that of sorting
+/// them.
 pub fn check_rows(alloc: Global, rows: &[AuditRow]) -> Result<Verdict, NoMemory>
     ensures { IfOk result (λ verdict. verdict ≡ verdict_of (first_bad rows.now rows.now)) }
 {
@@ -41,7 +41,7 @@ pub fn check_rows(alloc: Global, rows: &[AuditRow]) -> Result<Verdict, NoMemory>
     Ok(Verdict::Consistent)
 }
 
-// What is wrong with a row of these.
+// The fault of a row, if it has one.
 fn kind_of(
     alloc: Global,
     index: &Index,
@@ -80,7 +80,7 @@ fn is_simple(alloc: Global, node: NodeId, path: &[NodeId]) -> Result<bool, NoMem
     }
 }
 
-// Whether no node is there twice.
+// Whether no node occurs twice.
 fn all_differ(alloc: Global, nodes: &[NodeId]) -> Result<bool, NoMemory>
     ensures { IfOk result (λ yes. yes ≡ differ nodes.now) }
 {
@@ -94,7 +94,7 @@ fn all_differ(alloc: Global, nodes: &[NodeId]) -> Result<bool, NoMemory>
     Ok(true)
 }
 
-// Whether the row of this key has this path, where there is one.
+// Whether the row of this key, if there is one, has this path.
 fn has_path(index: &Index, rows: &[AuditRow], key: Key, path: &[NodeId]) -> bool
     requires { IsIndexOf rows.now rows.now index.now }
     ensures { result ≡ has_path (row_of rows.now (place_of_key key)) path.now }
@@ -112,7 +112,7 @@ fn same_nodes(xs: &[NodeId], ys: &[NodeId]) -> bool
     xs == ys
 }
 
-// Whether the row of the second node of the path has what is left of it, where there is one.
+// Whether the row of the path's second node, if there is one, has the rest of the path.
 fn continues(index: &Index, rows: &[AuditRow], row: &AuditRow) -> bool
     requires { IsIndexOf rows.now rows.now index.now }
     ensures { result ≡ continues rows.now row.now row.now.path }

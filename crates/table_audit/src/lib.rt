@@ -1,5 +1,5 @@
-//! Whether printed tables fit together: each path is simple, is printed the same each time, and is
-//! continued by the path of its second node.
+//! Checks whether printed tables fit together: each path is simple, is printed the same each time, and goes on as the
+//! path of its second node.
 //!
 //! The text has lines as `replay` writes them for the tables of an epoch:
 //!
@@ -9,8 +9,8 @@
 //! | `table N E PREFIX: N V ..` | it has this path, of 1 to 64 nodes |
 //! | `table N E: unpublished` | it has published no table of the epoch |
 //!
-//! A line that begins with another word is skipped. [`audit`] reads a text and writes one line where
-//! nothing is wrong; [`check_rows`] is the check alone.
+//! A line that begins with another word is skipped. [`audit`] reads a text and writes one line if nothing is wrong;
+//! [`check_rows`] is the check alone.
 #![tactic(auto)]
 
 pub mod auditing;

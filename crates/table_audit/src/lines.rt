@@ -1,4 +1,4 @@
-//! What a line of a text says to the audit.
+//! What a line of a text means for the audit.
 ghost use Rattle.std.specs.Prelude.{ℕ, ◌≡◌, ◌≤◌, ◌++◌, [], ◌∷◌, List, Some, None, bytes_eq, codes, drop, length, slice_range, option_map, IfOk, IfSome, IfNone};
 ghost use Rattle.text_lines.specs.Words.{words_of};
 ghost use Rattle.text_lines.specs.Readings.{words_left};
@@ -13,18 +13,18 @@ use text_lines::{Line, Tokens};
 use topology::limits::MOST_NODES;
 use topology::{NoMemory, NodeId};
 
-/// What a line says to the audit.
+/// What a line means for the audit.
 #[derive(Debug, Drop)]
 pub(crate) enum Says {
-    /// It is not of a table, or of one that was not published.
+    /// The line is not one of a table, or says that a table was not published.
     Nothing,
-    /// It is a row.
+    /// The line is a row.
     Row(AuditRow),
-    /// It begins like a line of a table, and is none.
+    /// The line begins like one of a table, but is not one.
     Misspelled,
 }
 
-// The next word, empty where there is none.
+// The next word; empty if there is none.
 fn next_word<'a>(text: &'a [u8], tokens: &mut Tokens<'a>) -> &'a [u8]
     requires { tokens.old.text ≡ text.now }
     ensures word { result.now ≡ word_at 0 (words_left tokens.old) }
@@ -37,21 +37,21 @@ fn next_word<'a>(text: &'a [u8], tokens: &mut Tokens<'a>) -> &'a [u8]
     }
 }
 
-// Whether the line is one of a table.
+// Whether the line is one of a table, by its first word.
 fn is_table(word: &[u8]) -> bool
     ensures { result ≡ bytes_eq word.now (codes "table") }
 {
     word == b"table".as_slice()
 }
 
-// Whether the path is empty.
+// Whether the word says that there is no path.
 fn is_none(word: &[u8]) -> bool
     ensures { result ≡ bytes_eq word.now (codes "none") }
 {
     word == b"none".as_slice()
 }
 
-// The word without the colon at its end. None where it has none.
+// The word without the colon at its end; `None` if it has none.
 fn before_colon(word: &[u8]) -> Option<&[u8]>
     ensures some { IfSome result (λ front. before_colon word.now ≡ Some front.now) }
     ensures none { IfNone result (before_colon word.now ≡ None) }
@@ -67,7 +67,7 @@ fn before_colon(word: &[u8]) -> Option<&[u8]>
     Some(front)
 }
 
-// Whether the words are an epoch with a colon, and that its table was not published.
+// Whether the words are an epoch with a colon, and the word for a table that was not published.
 fn is_unpublished(epoch: &[u8], word: &[u8]) -> bool
     ensures { result ≡ is_unpublished epoch.now word.now }
 {
@@ -80,8 +80,8 @@ fn is_unpublished(epoch: &[u8], word: &[u8]) -> bool
     word == b"unpublished".as_slice()
 }
 
-// The node, and those that the words that are left spell. None where one of these spells no node, or
-// there are more than a path may have.
+// The node, followed by the nodes that the remaining words spell. The answer is `None` if a word spells no node, or
+// there are more nodes than a path may have.
 fn read_nodes<'a>(
     alloc: Global,
     text: &'a [u8],
@@ -106,7 +106,7 @@ fn read_nodes<'a>(
     Ok(Some(nodes))
 }
 
-// The path that the words that are left spell. None where they spell none.
+// The path that the remaining words spell; `None` if they spell none.
 fn read_path<'a>(
     alloc: Global,
     text: &'a [u8],
@@ -129,7 +129,7 @@ fn read_path<'a>(
     Ok(nodes)
 }
 
-/// What the line says.
+/// What the line means.
 pub(crate) fn read_line(alloc: Global, text: &[u8], line: Line) -> Result<Says, NoMemory>
     requires ordered { line.start ≤ line.end }
     requires inside { line.end ≤ length text.now }

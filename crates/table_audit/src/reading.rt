@@ -8,16 +8,16 @@ use crate::rows::AuditRow;
 use std::alloc::Global;
 use text_lines::Lines;
 
-/// Why a text has no rows.
+/// Why the rows of a text cannot be read.
 #[derive(Clone, Copy, Debug, PartialEq, Eq)]
 pub enum RowsEnd {
     NoMemory,
-    /// The line with this number, from 1, is the first that begins like one of a table and is none.
+    /// The first line, counted from 1, that begins like one of a table but is not one.
     Misspelled(u32),
 }
 
-/// The rows of a text, by line, or its first line that begins like one of a table and is none.
-/// Linear in the bytes.
+/// The rows of a text, by line; or else its first line that begins like one of a table but is not one. Takes time
+/// linear in the bytes.
 pub fn read_rows(alloc: Global, text: &[u8]) -> Result<Vec<AuditRow>, RowsEnd>
     requires { length text.now < 2 ^ 32 - 1 }
     ensures rows { IfOk result (λ rows. rows.items ≡ rows_of text.now) }

@@ -1,4 +1,4 @@
--- A text is its first line, and then the lines of what stands behind the newline.
+-- A text is its first line, followed by the lines after the newline.
 use Rattle.std.proofs.Common.{◌≡◌, ℕ, ◌+◌, ◌-◌, ◌<◌, ◌≤◌, ◌==◌, min, true, false, List, [], ◌∷◌, ◌++◌, length, take, drop, get_or, refl, sym, ap, ◌∙◌, inl, inr, arith}
 use Rattle.std.specs.Prelude.{Option, position, unwrap_or, slice_range}
 use Rattle.std.specs.List.{position_or_len, before_first, after_first, onto_first}
@@ -29,7 +29,7 @@ first_line b (c ∷ bs) =
       | inr e ↦ first_line_behind b (c ∷ bs) e (ap (onto_first b) (first_line c bs))
     ]
 
--- the first line of what is left from a place on
+-- the first line of the rest of the text from a place
 line_from : (text : List ℕ) (at : ℕ) → at < length text → lines_of (drop at text) ≡ before_first (λ b. b == 10) (drop at text) ∷ lines_of (after_first (λ b. b == 10) (drop at text))
 line_from text at h =
     let e = drop_more text at 0 h in
@@ -39,7 +39,7 @@ pub size_of-push : (lines : List (List ℕ)) (line : List ℕ) → size_of (line
 size_of-push [] line = omega arith
 size_of-push (first ∷ lines) line = let e = size_of-push lines line in omega arith
 
--- the next line, where so many were given and the text from here on has the others
+-- the next line, if so many were given and the rest of the text has the others
 pub record Next (text : List ℕ) (at given n : ℕ) : Type 0 where
   pub exists : given < length (lines_of text)
   pub line : line_at text given ≡ take n (drop at text)
@@ -76,14 +76,14 @@ stands_behind text at given n next stands more is e =
           ∙ (omega (arith, stands.start more, ap length is.line, long));
     }
 
--- where all is read, there is no other line
+-- if all is read, there is no other line
 pub none_left : (text : List ℕ) (at given : ℕ) → StandsAt text at given → at ≡ length text → drop given (lines_of text) ≡ []
 none_left text at given stands end = stands.left ∙ ap lines_of (drop_all at text (omega arith))
 
 pub none_more : (lines : List (List ℕ)) (given : ℕ) → drop given lines ≡ [] → given < length lines → ⊥
 none_more lines given e h = omega (arith, length-drop given lines, ap length e)
 
--- the same, of what a search for the newline found
+-- the same, from the result of the search for the newline
 pub found_line : (text rest : List ℕ) (at given n : ℕ) (found : Option ℕ) → StandsAt text at given → at < length text → rest ≡ drop at text → found ≡ position (λ b. b == 10) rest → n ≡ unwrap_or found (length rest) → Next text at given n
 found_line text rest at given n found stands more e f g =
     next_line text at given n stands.left more (first_or_length (λ b. b == 10) rest found n f g ∙ ap (position_or_len (λ b. b == 10)) e)

@@ -39,14 +39,14 @@ no_other_byte word n i h within other e =
     let digit = digit_at word i digits within in
     grind (arith, nat_tests)
 
--- the digits up to a place are worth no more than all
+-- the digits up to a place are worth at most as much as all
 pub front_no_more : (word : List ℕ) (n i : ℕ) → n < 2 ^ 64 → word ≡ decimal n → digits_value 10 (take i word) ≤ n
 front_no_more word n i h e =
     let less = digits_value-take-le 10 word i (omega arith) in
     let same : digits_value 10 word ≡ n = ap (digits_value 10) e ∙ decimal_value n h in
     omega arith
 
--- digits without a zero in front spell their value
+-- digits without a leading zero are the spelling of their value
 pub spells_value : (word : List ℕ) (i number : ℕ) → length word ≤ i → AllDigits 10 (take i word) → number ≡ digits_value 10 (take i word) → number < 2 ^ 64 → 0 < length word → (get_or word 0 0 ≡ 48 → length word ≡ 1) → word ≡ decimal number
 spells_value word i number all digits value small some first =
     let whole = take_all i word all in

@@ -1,4 +1,4 @@
--- What stands before the first byte that passes a test, and behind it.
+-- What comes before the first byte that passes a test, and after it.
 use Rattle.std.proofs.Common.{◌≡◌, ℕ, ◌+◌, ◌<◌, ◌≤◌, Bool, suc, true, false, not, ltb, List, [], ◌∷◌, length, take, drop, ap, ◌∙◌, inl, inr, arith}
 use Rattle.std.specs.Prelude.{Option, Some, None, unwrap_or, position}
 use Rattle.std.specs.List.{position_or_len, before_first, after_first}

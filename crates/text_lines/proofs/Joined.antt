@@ -1,4 +1,4 @@
--- What words have, and how a line of words is cut.
+-- The bytes of words, and how a line of words is cut.
 use Rattle.std.proofs.Common.{◌≡◌, ℕ, ◌<◌, ◌^◌, ◌==◌, true, false, List, [], ◌∷◌, ◌++◌, length, refl, sym, ap, ◌∙◌, inl, inr, arith}
 use Rattle.std.specs.Prelude.{filter}
 use Rattle.std.specs.List.{list_any, onto_first, slice_split, join_with_byte, All}
@@ -28,7 +28,7 @@ keeps_word : (word : List ℕ) (parts : List (List ℕ)) → has_bytes word ≡ 
 keeps_word [] parts h = absurd (false≢true h)
 keeps_word (b ∷ word) parts h = refl
 
--- a word behind which a separator stands
+-- a word that is followed by a separator
 pub word_cut : (word line : List ℕ) (b : ℕ) → IsWord word → separates b ≡ true → words_of (word ++ b ∷ line) ≡ word ∷ words_of line
 unfolding words_of
 word_cut word line b is e = ap (filter has_bytes) (split_word word line b is.1 e) ∙ keeps_word word (slice_split separates line) is.0
@@ -42,7 +42,7 @@ pub no_words : words_of [] ≡ []
 unfolding words_of
 no_words = refl
 
--- words joined by spaces are these words
+-- words joined by spaces are cut into these words
 pub joined_words : (words : List (List ℕ)) → All IsWord words → words_of (join_with_byte 32 words) ≡ words
 joined_words [] h = no_words
 joined_words (word ∷ []) h = last_word word (All-head IsWord word [] h)

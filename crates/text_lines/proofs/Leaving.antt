@@ -8,7 +8,7 @@ use Rattle.std.proofs.lemmas.List.{length-take-le, get_or-take, take-take, take_
 use Rattle.text_lines.specs.Lines.{left_of}
 use Rattle.text_lines.proofs.Firsts.{first_within, first_behind, parts_here, parts_behind}
 
--- a front of the line whose last byte is a carriage return
+-- a prefix of the line whose last byte is a carriage return
 strips : (line : List ℕ) (n : ℕ) → n ≤ length line → 0 < n → get_or line (n - 1) 0 ≡ 13 → strip_carriage_return (take n line) ≡ take (n - 1) line
 strips line n within some last =
     let long : length (take n line) ≡ n = length-take-le n line within in
@@ -16,7 +16,7 @@ strips line n within some last =
     cond-true (get_or (take n line) (length (take n line) - 1) 0 == 13) (take (length (take n line) - 1) (take n line)) (take n line) (eq-eqb _ 13 here)
     ∙ ap (λ k. take (k - 1) (take n line)) long ∙ take-take (n - 1) n line (omega arith)
 
--- a front of the line that has no carriage return at its end
+-- a prefix of the line without a carriage return at its end
 keeps : (line : List ℕ) (n : ℕ) → n ≤ length line → (0 < n → get_or line (n - 1) 0 ≡ 13 → ⊥) → strip_carriage_return (take n line) ≡ take n line
 keeps line zero within other = refl
 keeps line (suc m) within other =
@@ -43,7 +43,7 @@ cases_end line n =
       | inr none ↦ inr (λ some e. omega arith)
     ]
 
--- what is left is a front of the line
+-- what is left is a prefix of the line
 pub front_is_left : (line : List ℕ) → take (length (left_of line)) line ≡ left_of line
 unfolding left_of
 front_is_left line =
@@ -56,7 +56,7 @@ front_is_left line =
           ap (λ w. take (length w) line) e ∙ ap (λ k. take k line) long ∙ sym e)
     ]
 
--- a line without a comment and a carriage return is left as it is
+-- a line without a comment and a carriage return stays as it is
 none_before : (line : List ℕ) → list_any (λ b. b == 35 || b == 13) line ≡ false → position_or_len (λ b. b == 35) line ≡ length line
 none_before [] h = refl
 none_before (b ∷ line) h =
@@ -77,7 +77,7 @@ left_plain line h =
     let n = length line in
     sym (left_as_it_is line n (sym (none_before line h)) (λ some last. no_return line (n - 1) h last)) ∙ take_all n line (omega arith)
 
--- a comment is dropped, whatever it says
+-- a comment is dropped, whatever its text
 before_comment : (line comment : List ℕ) → before_first (λ b. b == 35) (line ++ 35 ∷ comment) ≡ before_first (λ b. b == 35) line
 before_comment [] comment = refl
 before_comment (b ∷ line) comment =

@@ -1,4 +1,4 @@
--- Where lines begin, what they have, and how a text of lines is cut.
+-- Where lines begin, what they contain, and how a text of lines is cut.
 use Rattle.std.proofs.Common.{◌≡◌, ℕ, zero, suc, ◌+◌, ◌-◌, ◌<◌, ◌≤◌, ◌==◌, false, List, [], ◌∷◌, ◌++◌, length, take, drop, refl, sym, ap, ◌∙◌, inl, inr, arith}
 use Rattle.std.specs.Prelude.{slice_range}
 use Rattle.std.specs.List.{position_or_len, list_any, onto_first, All}
@@ -10,7 +10,7 @@ use Rattle.text_lines.specs.Readings.{Reading, lines_left}
 use Rattle.text_lines.proofs.Cutting.{next_line, size_of-push}
 use Rattle.text_lines.proofs.Firsts.{first_within}
 
--- the text from where a line begins has that line and those behind it
+-- from where a line begins, the text has that line and those after it
 record Begins (text : List ℕ) (k : ℕ) : Type 0 where
   left : drop k (lines_of text) ≡ lines_of (drop (start_of text k) text)
   below : start_of text k < length text
@@ -58,14 +58,14 @@ line_inside text k h =
     let long : length (line_at text k) ≡ n = ap length is.line ∙ length-take-le n (drop s text) fits in
     omega (arith, length-drop s text, here.below)
 
--- a line behind which a newline stands
+-- a line that is followed by a newline
 pub line_cut : (line rest : List ℕ) → list_any (λ b. b == 10) line ≡ false → lines_of (line ++ 10 ∷ rest) ≡ line ∷ lines_of rest
 line_cut [] rest h = refl
 line_cut (b ∷ line) rest h =
     let lacks = or_parts (b == 10) (list_any (λ b. b == 10) line) h in
     cond-false (b == 10) ([] ∷ lines_of (line ++ 10 ∷ rest)) (onto_first b (lines_of (line ++ 10 ∷ rest))) lacks.0 ∙ ap (onto_first b) (line_cut line rest lacks.1)
 
--- a last line without a newline behind it
+-- a last line without a newline
 pub last_line : (b : ℕ) (line : List ℕ) → list_any (λ b. b == 10) (b ∷ line) ≡ false → lines_of (b ∷ line) ≡ (b ∷ line) ∷ []
 last_line b [] h =
     cond-false (b == 10) ([] ∷ []) ((b ∷ []) ∷ []) (or_parts (b == 10) false h).0

@@ -1,4 +1,4 @@
--- A line is its first word, and then the words of what stands behind it.
+-- A line is its first word, followed by the words of the rest.
 use Rattle.std.proofs.Common.{◌≡◌, ℕ, suc, ◌+◌, ◌-◌, ◌<◌, ◌≤◌, true, false, not, List, [], ◌∷◌, length, take, drop, get_or, refl, sym, ap, ◌∙◌, inl, inr, arith}
 use Rattle.std.specs.Prelude.{Option, Some, None, position, unwrap_or, slice_range, filter}
 use Rattle.std.specs.List.{position_or_len, before_first, onto_first, slice_split}
@@ -46,7 +46,7 @@ first_word b bs e =
     ap (filter has_bytes) (at.split ∙ ap (λ w. w ∷ at.others) front) ∙ ap (λ ws. (b ∷ before_first separates bs) ∷ ws) at.words
     ∙ sym (ap (λ w. w ∷ words_of (drop (position_or_len separates (b ∷ bs)) (b ∷ bs))) front)
 
--- separators in front are no part of a word
+-- leading separators belong to no word
 words_behind : (bs : List ℕ) → words_of bs ≡ words_of (drop (position_or_len (λ b. not (separates b)) bs) bs)
 words_behind [] = refl
 words_behind (b ∷ bs) =
@@ -55,7 +55,7 @@ words_behind (b ∷ bs) =
       | inr e ↦ sym (ap (λ n. words_of (drop n (b ∷ bs))) (first_here (λ b. not (separates b)) b bs (not_from_false (separates b) e)))
     ]
 
--- the word behind so many separators, of so many bytes
+-- the word after so many separators, with so many bytes
 pub record NextWord (rest : List ℕ) (skipped n : ℕ) : Type 0 where
   pub filled : 0 < n
   pub within : skipped + n ≤ length rest
@@ -76,7 +76,7 @@ next_word rest skipped n at more e =
           ∙ ap (λ k. take k (drop skipped rest) ∷ words_of (drop k (drop skipped rest))) (sym e);
     }
 
--- the same, of what two searches found
+-- the same, from the results of two searches
 pub found_word : (rest behind : List ℕ) (skipped n : ℕ) (found : Option ℕ) → position (λ b. not (separates b)) rest ≡ Some skipped → behind ≡ drop skipped rest → found ≡ position separates behind → n ≡ unwrap_or found (length behind) → NextWord rest skipped n
 found_word rest behind skipped n found e f g h =
     let at = found_first (λ b. not (separates b)) rest skipped e in

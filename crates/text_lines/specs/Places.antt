@@ -2,7 +2,7 @@
 use Rattle.std.specs.Prelude.{ℕ, ◌≡◌, ◌<◌, ◌≤◌, ◌-◌, ◌^◌, List, length, drop}
 use Rattle.text_lines.specs.Lines.{lines_of, start_of}
 
--- so many lines were given, and the text from here on has the others
+-- so many lines were given, and the rest of the text has the others
 pub record StandsAt (text : List ℕ) (at given : ℕ) : Type 0 where
   pub short : length text < 2 ^ 32 - 1
   pub inside : at ≤ length text

@@ -14,7 +14,7 @@ pub record Reading : Type 0 where
 abbrev pub lines_left : Reading → List (List ℕ)
 lines_left reading = drop reading.given (lines_of reading.text)
 
--- the span is what is left of the next line, from where it begins
+-- the span is what is left of the next line, which begins there
 pub record IsNextLine (reading : Reading) (line : Line) : Type 0 where
   pub number : line.number ≡ reading.given + 1
   pub start : line.start ≡ start_of reading.text reading.given

@@ -11,7 +11,7 @@ abbrev pub has_bytes : List ℕ → Bool
 has_bytes [] = false
 has_bytes (b ∷ bs) = true
 
--- the words of a line, its longest runs without a separator: what stands between separators and is not empty
+-- the words of a line: its longest runs without a separator
 unfoldable pub words_of : List ℕ → List (List ℕ)
 words_of line = filter has_bytes (slice_split separates line)
 

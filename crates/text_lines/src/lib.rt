@@ -1,5 +1,4 @@
-//! Cuts the bytes of a text into lines, words and numbers, as spans of the text. No call takes
-//! memory.
+//! Cuts the bytes of a text into lines, words and numbers, as spans of the text. No call takes memory.
 #![tactic(auto)]
 
 pub mod laws;

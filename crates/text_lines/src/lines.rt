@@ -54,7 +54,7 @@ fn left_length(line: &[u8]) -> usize
 impl<'a> Lines<'a> {
     ghost use Rattle.text_lines.specs.Readings.{lines_left, IsNextLine};
 
-    /// No line of the text is given yet.
+    /// A reader at the start of the text.
     pub fn new(text: &'a [u8]) -> Lines<'a>
         requires { length text.now < 2 ^ 32 - 1 }
         ensures { result ≡ record { text = text.now; given = 0 } }
@@ -66,7 +66,7 @@ impl<'a> Lines<'a> {
         }
     }
 
-    /// The next line. Every line is given, also one without words.
+    /// The next line. Every line is given, even one without words.
     pub fn next(&mut self) -> Option<Line>
         ensures more { IsSome result ↔ (self.old.given < length (lines_of self.old.text)) }
         ensures line { IfSome result (IsNextLine self.old) }

@@ -2,8 +2,8 @@
 ghost use Rattle.std.specs.Prelude.{ℕ, ◌≡◌, ◌≢◌, ◌≤◌, IfSome, IfNone};
 ghost use Rattle.std.specs.Fmt.{decimal};
 
-/// The number that the word spells in decimal, without sign and leading zeros. None exactly where
-/// it spells none up to `max`.
+/// The number that the word spells in decimal, without sign and leading zeros. The answer is `None` exactly where the
+/// word spells no number up to `max`.
 pub fn read_number(word: &[u8], max: u32) -> Option<u32>
     ensures some { IfSome result (λ n. word.now ≡ decimal n) }
     ensures within { IfSome result (λ n. n ≤ max) }

@@ -31,7 +31,7 @@ impl<'a> Model for Tokens<'a> {
     ghost invariant = { λ tokens. (tokens.from ≤ tokens.end) × (tokens.end ≤ length tokens.text.now) };
 }
 
-// The byte is a space or a tab.
+// Whether the byte is a space or a tab.
 fn separates(byte: u8) -> bool
     ensures { result ≡ separates byte }
 {
@@ -55,7 +55,7 @@ fn first_of_word(bytes: &[u8]) -> Option<usize>
 impl<'a> Tokens<'a> {
     ghost use Rattle.text_lines.specs.Readings.{words_left, IsWithin};
 
-    /// No word of the line is given yet.
+    /// A reader at the start of the line.
     pub fn new(text: &'a [u8], line: Line) -> Tokens<'a>
         requires ordered { line.start ≤ line.end }
         requires inside { line.end ≤ length text.now }

@@ -1,4 +1,4 @@
--- What is added keeps a topology sound.
+-- Adding something keeps a topology valid.
 use Rattle.std.proofs.Common.{◌≡◌, ◌≢◌, ℕ, ◌+◌, ◌<◌, ◌≤◌, ◌^◌, Bool, true, false, not, cond, ◌&&◌, ◌==◌, List, [], ◌∷◌, ◌++◌, length, count_by, map, set, slice_get, Option, Some, None, refl, sym, ap, subst, find, ◌∙◌, arith, IsTrue, if◌then◌else◌, nat_le, inl, inr}
 use Rattle.std.specs.List.{list_any, AllByRecursion}
 use Rattle.std.proofs.lemmas.Bool.Decides.{nat_tests}
@@ -31,7 +31,7 @@ map_agree : {X Y : Type 0} (f g : X → Y) → ((x : X) → f x ≡ g x) → (xs
 map_agree f g same [] = refl
 map_agree f g same (x ∷ xs) = rw (same x) (ap (λ l. g x ∷ l) (map_agree f g same xs))
 
--- a second element that passes each test with the first is refused, so that each test passes one at most
+-- a second element that would pass every test of the first is refused, so each test passes at most one element
 
 count_cons : {X : Type 0} (p : X → Bool) (x : X) (xs : List X) → count_by p (x ∷ xs) ≡ cond (p x) 1 0 + count_by p xs
 count_cons p x xs = sum_by-cons (λ x. cond (p x) 1 0) x xs
@@ -58,7 +58,7 @@ one_more p q xs y new like few =
       | false ↦ λ e. omega arith
     ]) refl)
 
--- what may be added, where nothing is refused
+-- what may be added where nothing is refused
 
 none_of_three : {X : Type 0} (a b c : Bool) (x y z : X) → ◌≡◌ {A = Option X} (if a then Some x else if b then Some y else if c then Some z else None) None → (a ≡ false) × (b ≡ false) × (c ≡ false)
 none_of_three true b c x y z e = cc
@@ -209,7 +209,7 @@ each-put_preference P pref (p ∷ ps) h hs =
       | false ↦ (hs.0, each-put_preference P pref ps h hs.1)
     ]
 
--- two preferences of the same node for the same other pass the same tests
+-- two preferences of the same ordered pair pass the same tests
 same_test : (u v : ℕ) (pref p : Pref) → prefers pref.a pref.b p ≡ true → prefers u v p ≡ prefers u v pref
 same_test u v pref p e =
     let from = same_is p.a pref.a (and_left (p.a == pref.a) (p.b == pref.b) e) in
@@ -388,7 +388,7 @@ keeps-prefix net lists p k new few = record {
   near = k.near;
 }
 
--- hops and scheme
+-- the limit on moves, and the scheme
 
 valid-hops : (net : Net) (hops : ℕ) → IsValid net → hops < 2 ^ 16 → IsValid (with_hops net hops)
 valid-hops net hops v few = record {

@@ -1,4 +1,4 @@
--- Links and preferences that are kept under their nodes.
+-- Links and preferences stored under their nodes.
 use Rattle.std.proofs.Common.{◌≡◌, ℕ, min, max, Bool, true, false, cond, ◌&&◌, ◌||◌, ◌==◌, List, [], ◌∷◌, ◌++◌, find, refl, ap, ap₂, arith, if◌then◌else◌, Some, is_some}
 use Rattle.std.specs.List.{list_any}
 use Rattle.std.specs.Map.{lookup, values_of}
@@ -13,7 +13,7 @@ use Rattle.topology.specs.declared.pref_table.Side.{Side}
 use Rattle.topology.specs.declared.link_table.LinkKey.{LinkKey}
 use Rattle.topology.proofs.Tests.{and_left, and_right, or_left, or_right, same_is, same_sym}
 
--- two links have the same ends where one joins the ends of the other
+-- two links have equal keys exactly where one joins the ends of the other
 pub same_ends : (a b c d : ℕ) → (min a b == min c d && max a b == max c d) ≡ ((c == a && d == b) || (c == b && d == a))
 same_ends a b c d = grind (arith, nat_tests)
 
@@ -35,7 +35,7 @@ pub under-append : (entries : List (LinkKey × Link)) (link : Link) → UnderThe
 under-append [] link under = record { each = (refl, tt) }
 under-append (e ∷ es) link under = record { each = (under.each.0, (under-append es link (record { each = under.each.1 })).each) }
 
--- one that passes is found where there is one
+-- `find` finds an element exactly where some element passes
 pub is_some_find : {X : Type 0} (p : X → Bool) (xs : List X) → is_some (find p xs) ≡ list_any p xs
 is_some_find p [] = refl
 is_some_find p (x ∷ xs) = elim (p x) as (λ t. is_some (cond t (Some x) (find p xs)) ≡ (t || list_any p xs)) [ true ↦ refl | false ↦ is_some_find p xs ]

@@ -1,4 +1,4 @@
--- Two lists of triggers that rise are merged into their union.
+-- Merging two ascending lists of triggers gives their union.
 use Rattle.std.proofs.lemmas.List.{drop_all}
 use Rattle.std.proofs.Common.{ℕ, ◌+◌, ◌<◌, ◌≤◌, suc, ◌==◌, length, drop, get_or, true, false, List, [], ◌∷◌, ◌++◌, ◌≡◌, ◌⊎◌, inl, inr, refl, sym, ◌∙◌, ap, ap₂, arith}
 use Rattle.topology.specs.declared.names.Trigger.{Trigger}
@@ -7,7 +7,7 @@ use Rattle.topology.proofs.Tests.{same_is}
 use Rattle.topology.proofs.Rising.{ascend_drop, first_left, left_rises}
 use Rattle.topology.proofs.Unions.{after_all, neither, union_first, union_second, union_same, union_rest}
 
--- what is left of both makes, behind what is merged, the union of both
+-- the merged part followed by the union of what is left of both is the union of both
 pub record Merges (ts us list : List Trigger) (i j : ℕ) : Type 0 where
   pub here : i ≤ length ts
   pub there : j ≤ length us
@@ -21,7 +21,7 @@ push_on (z ∷ xs) ys x = ap (λ l. z ∷ l) (push_on xs ys x)
 pub merge_none : (ts us : List Trigger) → Merges ts us [] 0 0
 merge_none ts us = record { here = omega arith; there = omega arith; whole = refl }
 
--- the first of the one list is earlier
+-- the first of the first list is earlier
 pub merge_first : (ts us list : List Trigger) (i j : ℕ) (t u : Trigger) → Ascend ts → Ascend us → i < length ts → j < length us → t ≡ get_or ts i t → u ≡ get_or us j u
     → earlier t u ≡ true → Merges ts us list i j → Merges ts us (list ++ t ∷ []) (i + 1) j
 merge_first ts us list i j t u rise also_rise inside within is also_is e m =
@@ -39,7 +39,7 @@ merge_first ts us list i j t u rise also_rise inside within is also_is e m =
       whole = push_on list (union (drop (i + 1) ts) (drop j us)) t ∙ (ap (λ l. list ++ l) (sym next) ∙ m.whole);
     }
 
--- that of the other is
+-- the first of the second list is earlier
 pub merge_second : (ts us list : List Trigger) (i j : ℕ) (t u : Trigger) → Ascend ts → Ascend us → i < length ts → j < length us → t ≡ get_or ts i t → u ≡ get_or us j u
     → earlier u t ≡ true → Merges ts us list i j → Merges ts us (list ++ u ∷ []) i (j + 1)
 merge_second ts us list i j t u rise also_rise inside within is also_is e m =
@@ -56,7 +56,7 @@ merge_second ts us list i j t u rise also_rise inside within is also_is e m =
       whole = push_on list (union (drop i ts) (drop (j + 1) us)) u ∙ (ap (λ l. list ++ l) (sym next) ∙ m.whole);
     }
 
--- both are the same
+-- both first triggers are the same
 pub merge_same : (ts us list : List Trigger) (i j : ℕ) (t u : Trigger) → Ascend ts → i < length ts → j < length us → t ≡ get_or ts i t → u ≡ get_or us j u
     → earlier t u ≡ false → earlier u t ≡ false → Merges ts us list i j → Merges ts us (list ++ t ∷ []) (i + 1) (j + 1)
 merge_same ts us list i j t u rise inside within is also_is e f m =
@@ -78,7 +78,7 @@ nothing_behind (x ∷ xs) = ap (λ l. x ∷ l) (nothing_behind xs)
 zero_only : (n : ℕ) → (suc n == 0) ≡ true → ⊥
 zero_only n e = let none = same_is (suc n) 0 e in cc none
 
--- one of the lists is done: what is left of the other goes behind
+-- one list is used up: what is left of the other follows
 pub merge_ends : (ts us list : List Trigger) (i j : ℕ) → Ascend ts → (length ts ≤ i) ⊎ (length us ≤ j) → Merges ts us list i j → (list ++ drop i ts) ++ drop j us ≡ union ts us
 unfolding union
 merge_ends ts us list i j rise (inl done) m =
@@ -91,7 +91,7 @@ merge_ends ts us list i j rise (inr done) m =
     ∙ (ap (λ l. list ++ l) (sym (union_rest (drop i ts) (ascend_drop ts i rise)))
     ∙ (ap (λ l. list ++ union (drop i ts) l) (sym none) ∙ m.whole)))
 
--- a union with an empty list is the other one
+-- the union of an empty list and another is the other
 pub union_of_none : (ts us : List Trigger) → (length ts == 0) ≡ true → union ts us ≡ us
 unfolding union
 union_of_none [] us e = refl

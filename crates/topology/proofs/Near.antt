@@ -1,4 +1,4 @@
--- Neighbours, and what becomes of them.
+-- Neighbours, and how additions change them.
 use Rattle.std.proofs.Common.{◌≡◌, ◌≢◌, ℕ, suc, ◌<◌, ◌≤◌, Bool, true, false, cond, ◌&&◌, ◌||◌, ◌==◌, List, [], ◌∷◌, length, filter, refl, sym, ap, ◌∙◌, arith, if◌then◌else◌, nat_lt}
 use Rattle.std.specs.List.{list_any, AllByRecursion}
 use Rattle.std.proofs.lemmas.Bool.Decides.{nat_tests}
@@ -12,7 +12,7 @@ use Rattle.topology.specs.declared.links.Link.{Link}
 use Rattle.topology.proofs.Tests.{and_no, or_second, or_false, or_comm, same_sym, same_is}
 use Rattle.topology.proofs.Ascending.{Rises, absent, ascending-append, rises-ascending, has-ascending, length-ascending}
 
--- lists that are filtered
+-- filtered lists
 
 pub any_agree : {X : Type 0} (p q : X → Bool) → ((x : X) → p x ≡ q x) → (xs : List X) → list_any p xs ≡ list_any q xs
 any_agree p q same [] = refl
@@ -51,7 +51,7 @@ above_has b x (y ∷ ys) h e =
       | false ↦ λ other. above_has b x ys h.1 (rw other at e)
     ]) refl
 
--- the numbers that one test more lets through
+-- a second test lets one more number through
 module _ (p q : ℕ → Bool) (b : ℕ) (more : (x : ℕ) → q x ≡ (p x || x == b)) (new : p b ≡ false) where
   filter_later : (xs : List ℕ) → AllByRecursion (λ y. b < y) xs → filter q xs ≡ filter p xs
   filter_later [] h = refl
@@ -143,7 +143,7 @@ unfolding neighbours
 neighbours-link_other net link u e f =
     filter_agree _ _ (λ v. linked-link net link u v ∙ ap (λ b. linked net u v || b) (joins_none u v link e f) ∙ or_false (linked net u v)) (ascending net.nodes)
 
--- no node is its own neighbour, so that one node at least is no neighbour
+-- no node is its own neighbour, so at least one node is not a neighbour
 
 pub not_own : (nodes : List ℕ) (links : List Link) → AllByRecursion (JoinsNodes nodes) links → (u : ℕ) → list_any (joins u u) links ≡ false
 not_own nodes [] h u = refl

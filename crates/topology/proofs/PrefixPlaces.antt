@@ -7,11 +7,11 @@ use Rattle.topology.specs.Net.{same_prefix}
 use Rattle.topology.specs.declared.prefixes.Prefix.{Prefix}
 use Rattle.topology.proofs.Tests.{and_left, and_right, or_left, or_right, same_is}
 
--- a key that is new goes last
+-- a new key goes to the end
 pub last_of : {X : Type 0} (p : X → Bool) (xs : List X) (x : X) → list_any p xs ≡ false → (if list_any p xs then xs else xs ++ x ∷ []) ≡ xs ++ x ∷ []
 last_of p xs x e = ap (λ t. if t then xs else xs ++ x ∷ []) e
 
--- and its place is the end
+-- its place is the old length
 pub place_of_new : {X : Type 0} (p : X → Bool) (xs : List X) → list_any p xs ≡ false → position_or_len p xs ≡ length xs
 place_of_new p [] e = refl
 place_of_new p (x ∷ xs) e =
@@ -27,7 +27,7 @@ same_prefix_is p q e =
     let len = same_is p.len q.len (and_right (p.bits == q.bits) (p.len == q.len) e) in
     ap₂ made (sym bits) (sym len)
 
--- the first place that passes is that of the prefix
+-- the first place that passes the test is the prefix's
 pub prefix_found : (p : Prefix) (xs : List Prefix) (r : Option ℕ) → r ≡ position (same_prefix p) xs → IfSome r (λ i. slice_get xs i ≡ Some p)
 prefix_found p xs None e = tt
 prefix_found p xs (Some i) e =

@@ -12,7 +12,7 @@ is_some-map : {X Y : Type 0} (f : X → Y) (o : Option X) → is_some (option_ma
 is_some-map f None = refl
 is_some-map f (Some x) = refl
 
--- there is a relation where there is a link
+-- two nodes have a relation exactly where they have a link
 pub relation_linked : (net : Net) (u v : ℕ) → is_some (relation net u v) ≡ linked net u v
 unfolding relation
 relation_linked net u v = is_some-map (seen_from u) (find (joins u v) net.links) ∙ is_some_find (joins u v) net.links

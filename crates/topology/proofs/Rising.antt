@@ -1,4 +1,4 @@
--- What is left of a list of triggers that rise, and how a list is seen to rise.
+-- The rest of an ascending list of triggers, and how the code sees that a list ascends.
 use Rattle.std.proofs.lemmas.List.{drop_more, length-drop}
 use Rattle.std.proofs.Common.{ℕ, zero, suc, ◌+◌, ◌<◌, ◌≤◌, length, drop, get_or, true, false, List, [], ◌∷◌, ◌≡◌, sym, ◌∙◌, ap, subst, arith}
 use Rattle.topology.specs.declared.names.Trigger.{Trigger}
@@ -10,7 +10,7 @@ ascend_drop ts zero a = a
 ascend_drop [] (suc i) a = tt
 ascend_drop (t ∷ ts) (suc i) a = ascend_drop ts i a.1
 
--- what is left begins with the trigger there
+-- the rest begins with the trigger at its place
 pub first_left : (ts : List Trigger) (i : ℕ) (t : Trigger) → i < length ts → t ≡ get_or ts i t → drop i ts ≡ t ∷ drop (i + 1) ts
 first_left ts i t inside is = drop_more ts i t inside ∙ ap (λ x. x ∷ drop (i + 1) ts) (sym is)
 
@@ -22,18 +22,18 @@ short_rises [] short = tt
 short_rises (t ∷ []) short = (tt, tt)
 short_rises (t ∷ s ∷ ts) short = absurd (omega arith)
 
--- the last trigger alone rises
+-- a rest of one trigger ascends
 pub last_rises : (ts : List Trigger) (i : ℕ) → length ts ≤ i + 1 → Ascend (drop i ts)
 last_rises ts i last = short_rises (drop i ts) (omega (arith, length-drop i ts))
 
--- two triggers beside each other
+-- two triggers that stand next to each other
 pub record Beside (ts : List Trigger) (i : ℕ) (t s : Trigger) : Type 0 where
   pub here : i < length ts
   pub next : i + 1 < length ts
   pub first : t ≡ get_or ts i t
   pub second : s ≡ get_or ts (i + 1) s
 
--- what is left rises with one more in front, where that one is before the next
+-- the rest ascends with one more trigger in front, where that one is before the next
 pub rises_on : (ts : List Trigger) (i : ℕ) (t s : Trigger) → Beside ts i t s → earlier t s ≡ true → Ascend (drop (i + 1) ts) → Ascend (drop i ts)
 rises_on ts i t s b e rises =
     let first = first_left ts i t b.here b.first in
@@ -41,7 +41,7 @@ rises_on ts i t s b e rises =
     let behind = subst Ascend second rises in
     subst Ascend (sym (first ∙ ap (λ l. t ∷ l) second)) ((e, after_all t s (drop (i + 1 + 1) ts) e behind.0), behind)
 
--- no list rises in which one is not before the next
+-- a list with a trigger that is not before the next does not ascend
 pub falls : (ts : List Trigger) (i : ℕ) (t s : Trigger) → Beside ts i t s → earlier t s ≡ false → Ascend ts → ⊥
 falls ts i t s b e rises =
     let first = first_left ts i t b.here b.first in

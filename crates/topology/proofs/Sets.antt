@@ -17,7 +17,7 @@ use Rattle.topology.proofs.Tests.{or_false, and_left, and_right, and_both, or_le
 use Rattle.topology.proofs.Places.{has_placed}
 use Rattle.topology.proofs.Ascending.{Climbs, climbs_at, ascending-append, climbs-ascending, has-ascending}
 
--- the new one stands at the place of the first greater
+-- the new node is inserted at the place of the first greater one
 pub put_is_insert : (n : ℕ) (xs : List ℕ) → put_ascending n xs ≡ insert xs (position_or_len (λ x. nat_lt n x) xs) n
 put_is_insert n [] = refl
 put_is_insert n (x ∷ xs) =
@@ -26,7 +26,7 @@ put_is_insert n (x ∷ xs) =
       | false ↦ rw one-add (ap (λ l. x ∷ l) (put_is_insert n xs))
     ]
 
--- the first place that passes is that of the node
+-- the first place that passes the test is the node's
 pub found : (p : ℕ → Bool) (n : ℕ) → ((x : ℕ) → p x ≡ true → x ≡ n) → (xs : List ℕ) (r : Option ℕ) → r ≡ position p xs → IfSome r (λ i. slice_get xs i ≡ Some n)
 found p n is xs None e = tt
 found p n is xs (Some i) e =
@@ -43,7 +43,7 @@ beside xs n i k l below above =
       | false ↦ λ e. let h : i ≤ k = grind (arith, nat_tests) in let higher = above k h l in grind (arith, nat_tests)
     ]) refl
 
--- a search in a list that rises finds each number that it has
+-- a search in an ascending list finds each of its numbers
 pub sought : (xs : List ℕ) (n : ℕ) (r : Result ℕ ℕ) → IsBinarySearchResult (λ y. nat_cmp y n) xs r → Climbs xs → (IsNone (result_ok r) → has xs n ≡ false) × (has xs n ≡ false → IsNone (result_ok r))
 sought xs n (Ok i) s c =
     let at = searched xs n (Ok i) s (climbs_at xs c) in
@@ -52,7 +52,7 @@ sought xs n (Err i) s c =
     let at = searched xs n (Err i) s (climbs_at xs c) in
     (λ none. or_from_places (λ l. has l n) (λ x. x == n) refl (λ _ _. refl) xs 0 (λ k l. beside xs n i k l at.1 at.2), λ e. refl)
 
--- one node more
+-- one more node
 
 pub has_flip : (p : ℕ → Bool) (n : ℕ) → ((x : ℕ) → p x ≡ (n == x)) → (xs : List ℕ) → list_any p xs ≡ has xs n
 has_flip p n is [] = refl
@@ -75,24 +75,24 @@ both_orders-append added rising n both new = record {
   sorted = ap (put_ascending n) both.sorted ∙ sym (ascending-append added n);
 }
 
--- what an insert into a set of keys leaves, where the key is new
+-- adding a new key to a set of keys puts it at the end
 pub key_added : (p : ℕ → Bool) (n : ℕ) → ((x : ℕ) → p x ≡ (n == x)) → (xs : List ℕ) → has xs n ≡ false → (if list_any p xs then xs else xs ++ n ∷ []) ≡ xs ++ n ∷ []
 key_added p n is xs new = rw (has_flip p n is xs ∙ new)
 
--- what a rank says, from what the search in the ascending nodes answered
+-- the rank of a node, from the answer of the search in the ascending nodes
 pub rank_none : (nodes xs : List ℕ) (n : ℕ) (r : Result ℕ ℕ) (o : Option ℕ) → xs ≡ ascending nodes → IsBinarySearchResult (λ y. nat_cmp y n) xs r → o ≡ result_ok r → (IsNone o → has nodes n ≡ false) × (has nodes n ≡ false → IsNone o)
 rank_none nodes xs n r o e s is =
     let said = sought xs n r s (rw e (climbs-ascending nodes)) in
     let same : has xs n ≡ has nodes n = rw e (has-ascending nodes n) in
     rw (is, ← same) said
 
--- what the place of a node says, where the node stands there in the ascending nodes
+-- the rank of a node, where it stands at this place of the ascending nodes
 pub placed_rank : (nodes xs : List ℕ) (n i : ℕ) → xs ≡ ascending nodes → slice_get xs i ≡ Some n → (true ≡ false → has nodes n ≡ false) × (has nodes n ≡ false → true ≡ false)
 placed_rank nodes xs n i e at =
     let is : has nodes n ≡ true = sym (has-ascending nodes n) ∙ ap (λ l. has l n) (sym e) ∙ has_placed xs i n at in
     (λ none. absurd (true≢false none), λ absent. sym is ∙ absent)
 
--- the first place that passes, or the end
+-- the first place that passes, or the length
 pub place_is : (p : ℕ → Bool) (xs : List ℕ) → unwrap_or (position p xs) (length xs) ≡ position_or_len p xs
 place_is p xs =
     let l = prefix_len-le-length (λ x. not (p x)) xs in

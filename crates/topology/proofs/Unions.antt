@@ -19,7 +19,7 @@ same_is s t e =
     let count : s.count ≡ t.count = grind (arith, nat_tests) in
     ap₂ a_trigger node count
 
--- neither stands before the other
+-- if neither is before the other, both are the same
 pub neither : (s t : Trigger) → earlier s t ≡ false → earlier t s ≡ false → s ≡ t
 neither s t e f = same_is s t (grind (arith, nat_tests))
 
@@ -111,7 +111,7 @@ or_or : (a b c : Bool) → (a || (b || c)) ≡ ((a || b) || c)
 or_or true b c = refl
 or_or false b c = refl
 
--- one of the members of a union passes where one of either list does
+-- a member of a union passes a test exactly where a member of one of the lists does
 pub any_union : (test : Trigger → Bool) (ts us : List Trigger) → list_any test (union ts us) ≡ (list_any test ts || list_any test us)
 unfolding union
 any_union test [] us = refl
@@ -183,18 +183,18 @@ each_at P [] x all a = absurd a
 each_at P (y ∷ ys) x all (inl e) = subst P e all.0
 each_at P (y ∷ ys) x all (inr a) = each_at P ys x all.1 a
 
--- where the members are the same, so are the first ones
+-- ascending lists with the same members have the same first one
 first_same : (s t : Trigger) (ss ts : List Trigger) → Ascend (s ∷ ss) → Ascend (t ∷ ts) → Among s (t ∷ ts) → Among t (s ∷ ss) → s ≡ t
 first_same s t ss ts a b (inl e) n = sym e
 first_same s t ss ts a b (inr m) (inl e) = e
 first_same s t ss ts a b (inr m) (inr n) = absurd (not_both t s (each_at (λ z. earlier t z ≡ true) ts s b.0 m) (each_at (λ z. earlier s z ≡ true) ss t a.0 n))
 
--- a member of a list that rises is no first one again
+-- the first member of an ascending list does not occur again
 behind : (t s : Trigger) (ts : List Trigger) → Ascend (t ∷ ts) → Among s (t ∷ ts) → earlier t s ≡ true → Among s ts
 behind t s ts a (inl e) f = absurd (not_self t (subst (λ z. earlier t z ≡ true) (sym e) f))
 behind t s ts a (inr m) f = m
 
--- lists that rise are the same where their members are
+-- ascending lists with the same members are the same
 pub same_members : (ss ts : List Trigger) → Ascend ss → Ascend ts → ((x : Trigger) → Among x ss → Among x ts) → ((x : Trigger) → Among x ts → Among x ss) → ss ≡ ts
 same_members [] [] a b f g = refl
 same_members [] (t ∷ ts) a b f g = absurd (g t (inl refl))
@@ -205,7 +205,7 @@ same_members (s ∷ ss) (t ∷ ts) a b f g =
     (λ x m. behind t x ts b (f x (inr m)) (subst (λ z. earlier z x ≡ true) e (each_at (λ z. earlier s z ≡ true) ss x a.0 m)))
     (λ x m. behind s x ss a (g x (inr m)) (subst (λ z. earlier z x ≡ true) (sym e) (each_at (λ z. earlier t z ≡ true) ts x b.0 m))))
 
--- a rising list that has the members of both is the union, however it was made
+-- an ascending list with the members of both is the union, however it was made
 pub is_union : (ts us xs : List Trigger) → Ascend us → Ascend xs → ((x : Trigger) → Among x xs → Among x ts ⊎ Among x us) → ((x : Trigger) → Among x ts ⊎ Among x us → Among x xs)
     → xs ≡ union ts us
 is_union ts us xs a b f g =
@@ -225,29 +225,29 @@ unfolding union
 both_after t [] us a b = b
 both_after t (s ∷ ts) us a b = after_put t s (union ts us) a.0 (both_after t ts us a.1 b)
 
--- the first of the one list goes first, where it is before all of the other
+-- the first of the first list comes first, where it is before all others
 pub union_first : (t : Trigger) (ts us : List Trigger) → AllAfter t ts → AllAfter t us → union (t ∷ ts) us ≡ t ∷ union ts us
 unfolding union
 union_first t ts us a b = put_front t (union ts us) (both_after t ts us a b)
 
--- or the first of the other
+-- the first of the second list comes first
 pub union_second : (u : Trigger) (ts us : List Trigger) → AllAfter u ts → union ts (u ∷ us) ≡ u ∷ union ts us
 unfolding union
 union_second u [] us a = refl
 union_second u (t ∷ ts) us a = rw (union_second u ts us a.1, earlier_not u t a.0, a.0) refl
 
--- where the first ones are the same, it goes once
+-- where both first members are the same, it comes once
 pub union_same : (t : Trigger) (ts us : List Trigger) → AllAfter t ts → union (t ∷ ts) (t ∷ us) ≡ t ∷ union ts us
 unfolding union
 union_same t ts us a = let no : earlier t t ≡ false = grind (arith, nat_tests) in rw (union_second t ts us a, no) refl
 
--- a list that rises is left when the other is done
+-- the union of an ascending list and an empty one is the list
 pub union_rest : (ts : List Trigger) → Ascend ts → union ts [] ≡ ts
 unfolding union
 union_rest [] a = refl
 union_rest (t ∷ ts) a = rw (union_rest ts a.1) (put_front t ts a.0)
 
--- one more at the end of the first list
+-- one more trigger at the end of the first list
 pub union_push : (ts us : List Trigger) (t : Trigger) → Ascend us → union (ts ++ t ∷ []) us ≡ put t (union ts us)
 unfolding union
 union_push ts us t a =
@@ -288,7 +288,7 @@ union_push ts us t a =
         split (inl n) = in_union x (ts ++ t ∷ []) us (inl (in_end x ts (inr n)))
         split (inr n) = in_union x (ts ++ t ∷ []) us (inr n)
 
--- one more of the first list
+-- the next trigger of the first list
 pub union_next : (ts us list new : List Trigger) (i : ℕ) (t : Trigger) → Ascend us → i < length ts → t ≡ get_or ts i t → list ≡ union (take i ts) us → new ≡ put t list → new ≡ union (take (i + 1) ts) us
 union_next ts us list new i t a inside is so_far grown =
     let more : take (i + 1) ts ≡ take i ts ++ t ∷ [] = take_more ts i t inside ∙ ap (λ x. take i ts ++ x ∷ []) (sym is) in

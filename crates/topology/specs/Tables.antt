@@ -9,17 +9,17 @@ use Rattle.topology.specs.declared.links.Pref.{Pref}
 use Rattle.topology.specs.declared.pref_table.Side.{Side}
 use Rattle.topology.specs.declared.link_table.LinkKey.{LinkKey}
 
--- different nodes in the order in which they were added, and how many more fit without memory
+-- different nodes in the order in which they were added, and how many more fit without a new allocation
 pub record Members : Type 0 where
   pub nodes : List ℕ
   pub room : ℕ
 
--- the second list has the same different nodes, ascending
+-- the second list has the same nodes in ascending order
 pub record InBothOrders (added rising : List ℕ) : Type 0 where
   pub apart : IsTrue (differ added)
   pub sorted : rising ≡ ascending added
 
--- the two nodes, the lower first
+-- the key of a link: its two ends, the lower first
 abbrev pub ends : ℕ → ℕ → LinkKey
 ends a b = record { low = min a b; high = max a b }
 
@@ -27,7 +27,7 @@ ends a b = record { low = min a b; high = max a b }
 pub record UnderTheirEnds (entries : List (LinkKey × Link)) : Type 0 where
   pub each : AllByRecursion (λ e. e.0 ≡ ends e.1.a e.1.b) entries
 
--- the two nodes, the one that prefers first
+-- the key of a preference: the node that prefers, then the other
 abbrev pub side : ℕ → ℕ → Side
 side a b = record { from = a; to = b }
 
@@ -35,7 +35,7 @@ side a b = record { from = a; to = b }
 pub record UnderTheirSides (entries : List (Side × Pref)) : Type 0 where
   pub each : AllByRecursion (λ e. e.0 ≡ side e.1.a e.1.b) entries
 
--- the topology is sound, and each node has its neighbours in the list at its place
+-- the topology is valid, and the list at each node's place has that node's neighbours
 pub record Keeps (net : Net) (lists : List (List ℕ)) : Type 0 where
   pub valid : IsValid net
   pub near : lists ≡ map (neighbours net) net.nodes

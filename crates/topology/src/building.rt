@@ -1,4 +1,4 @@
-//! Why something is not added to a topology.
+//! Why a call does not add something to a topology.
 ghost use Rattle.std.specs.Prelude.{◌≡◌};
 ghost use Rattle.topology.specs.Building.{number_of};
 ghost use Rattle.topology.specs.declared.building.BuildError.TheVariants.{NoMemory};
@@ -8,8 +8,8 @@ use crate::paths::NoMemory as NoMoreMemory;
 use std::alloc::{AllocError, AllocFailed};
 use thiserror::Error;
 
-/// Why something is not added to a topology. Of several the first in this order is answered:
-/// an unknown node, equal ends, no link, a duplicate, too many.
+/// Why a call adds nothing to a topology. Where several reasons hold, the first in this order is given: an unknown
+/// node, equal ends, no link, a duplicate, too many.
 #[derive(Clone, Copy, Debug, PartialEq, Eq, Error)]
 pub enum BuildError {
     #[error("the node is there already")]

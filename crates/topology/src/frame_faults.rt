@@ -1,43 +1,41 @@
-//! What is wrong with frames.
+//! What can be wrong with a frame.
 ghost use Rattle.std.specs.Prelude.{◌≡◌};
 
-/// What is wrong with the bytes where a frame is to stand: the first of these from left to right.
+/// What is wrong with bytes that should be a frame. The first fault from left to right is given.
 #[derive(Clone, Copy, Debug, PartialEq, Eq)]
 pub enum FrameKind {
-    /// The first byte is not the version 1.
+    /// The first byte is not a version, 1 or 2.
     Version,
-    /// The second byte is that of no kind of frame.
+    /// The second byte is not a kind of frame of that version.
     Kind,
-    /// The body is longer than its kind allows, a field goes past it, or bytes are left over behind
-    /// its last field.
+    /// The body is longer than its kind allows, a field runs past its end, or bytes are left over after the last field.
     Length,
     /// A field is out of its range.
     Value,
-    /// A list is not in its order, or has an element twice that may be there once.
+    /// A list is not in order, or repeats an element that may occur only once.
     Order,
 }
 
-/// Why a node refuses a frame that comes over its link: the first of these.
+/// Why a node refuses a frame that comes over its link. The first reason in this order is given.
 #[derive(Clone, Copy, Debug, PartialEq, Eq)]
 pub enum FrameFault {
-    /// The first byte is not the version 1.
+    /// The first byte is not a version, 1 or 2.
     Version,
-    /// The second byte is that of no kind of frame.
+    /// The second byte is not a kind of frame of that version.
     Kind,
-    /// The body is longer than its kind allows, a field goes past it, or bytes are left over behind
-    /// its last field.
+    /// The body is longer than its kind allows, a field runs past its end, or bytes are left over after the last field.
     Length,
     /// A field is out of its range.
     Value,
-    /// A list is not in its order, or has an element twice that may be there once.
+    /// A list is not in order, or repeats an element that may occur only once.
     Order,
     /// The link ended within the frame.
     Truncated,
-    /// Frames of this kind go from a node alone.
+    /// Only a node sends frames of this kind.
     Direction,
-    /// A name is not one of the network, or one that may not stand there.
+    /// A name is unknown to the network, or may not stand at its place.
     Name,
-    /// The update is not the next one of the session that is held.
+    /// The update is not the next one of the held session.
     Sequence { expected: u32, got: u32 },
 }
 
@@ -60,7 +58,7 @@ impl From<FrameKind> for FrameFault {
 impl FrameFault {
     ghost use Rattle.topology.specs.Words.{fault_words};
 
-    /// The word for it in the line that says how a run ended.
+    /// The word for the fault in the line that says how a run ended.
     pub fn words(self) -> &'static str
         ensures { result.now ≡ fault_words self }
     {

@@ -1,4 +1,4 @@
-//! Who holds back what it would send to whom.
+//! The holds of a network: which node holds back updates from which neighbour.
 ghost use Rattle.std.specs.Prelude.{◌≡◌, [], OnOk, OnErr};
 ghost use Rattle.std.specs.List.{list_any};
 ghost use Rattle.topology.specs.Net.{is_hold};
@@ -9,7 +9,7 @@ use indexmap::IndexSet;
 use std::alloc::Global;
 use std::marker::Model;
 
-/// Holds in the order in which they were added, at most one of a node towards another.
+/// Holds in the order in which they were added, at most one for each ordered pair of nodes.
 #[derive(Drop)]
 pub struct HoldTable {
     holds: IndexSet<Hold>,
@@ -33,14 +33,14 @@ impl HoldTable {
         }
     }
 
-    /// Whether `a` holds back what it would send to `b`.
+    /// Whether `a` holds back its updates to `b`.
     pub fn has(&self, a: NodeId, b: NodeId) -> bool
         ensures { result ≡ list_any (is_hold a b) self.now }
     {
         self.holds.contains(&Hold { a, b })
     }
 
-    /// Puts a hold at the end, unless there is one of the same two.
+    /// Adds a hold at the end, unless there is one for the same two nodes.
     pub fn put(&mut self, hold: Hold) -> Result<(), NoMemory>
         ensures ok { OnOk result (self.new ≡ put_hold hold self.old) }
         ensures err { OnErr result (self.new ≡ self.old) }

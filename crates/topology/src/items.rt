@@ -1,13 +1,13 @@
-//! What goes over a link, what was sent, and what is held back.
+//! Items that go over a link, records of sent items, and updates that are held back.
 ghost use Rattle.std.specs.Prelude.{◌≡◌, ◌≤◌, length, IfOk, IsOk};
 
 use crate::{Epoch, NoMemory, NodeId, Path, PrefixId, Session, Triggers};
 
-/// One message of a session, in its order.
+/// One message of a session.
 #[derive(Debug, Drop)]
 pub enum Item {
-    /// The sender's path for a prefix, or that it has none. `seq` counts the updates of one
-    /// direction of a session, from 1; `triggers` are those of the entries that made it.
+    /// The sender's path for a prefix; `None` says that it has none. `seq` numbers the updates of one direction of a
+    /// session, from 1. `triggers` are those of the entries that caused the update.
     Update {
         prefix: PrefixId,
         seq: u32,
@@ -20,7 +20,7 @@ pub enum Item {
     Hello(Epoch),
 }
 
-/// That an item was sent to a neighbour in a session, with this number and for these triggers.
+/// The record of an item that was sent to a neighbour in a session: its number, and the triggers for which it was sent.
 #[derive(Debug, Drop)]
 pub struct Sent {
     pub to: NodeId,
@@ -30,7 +30,7 @@ pub struct Sent {
 }
 
 impl Sent {
-    /// The same item again. One trigger takes no memory.
+    /// Copies the record. With at most one trigger the copy takes no memory.
     pub fn copy(&self) -> Result<Sent, NoMemory>
         ensures copy { IfOk result (λ sent. sent ≡ self.now) }
         ensures few { length self.now.triggers ≤ 1 → IsOk result }
@@ -44,7 +44,7 @@ impl Sent {
     }
 }
 
-/// That an update of a prefix is held back from a neighbour, in the session that is held with it, for these
+/// The record that an update of a prefix is held back from a neighbour, in the session held with it, and for which
 /// triggers.
 #[derive(Debug, Drop)]
 pub struct Pending {
@@ -55,7 +55,7 @@ pub struct Pending {
 }
 
 impl Pending {
-    /// The same again.
+    /// Copies the record.
     pub fn copy(&self) -> Result<Pending, NoMemory>
         ensures { IfOk result (λ pending. pending ≡ self.now) }
     {

@@ -1,4 +1,4 @@
-//! What holds of every network, and of lists of triggers. A call of a law brings what it says into the caller's proof.
+//! Laws of every network, and of lists of triggers. A call of a law gives the caller's proof what the law says.
 ghost use Rattle.std.specs.Prelude.{◌≡◌, ◌≢◌, ◌||◌, ◌⊎◌, ℕ, Bool, List, false, length, option_map, is_some, IsTrue};
 ghost use Rattle.std.specs.List.{list_any};
 ghost use Rattle.std.specs.List.Sorted.{IsStrictlyIncreasing};
@@ -9,7 +9,7 @@ ghost use Rattle.topology.specs.Paths.{differ};
 ghost use Rattle.topology.specs.Triggers.{Ascend, union};
 ghost use Rattle.topology.specs.Net.{Net, IsValid, linked, neighbours, relation, converse};
 
-/// The ascending list has the same numbers, and where they differ each is above the one before.
+/// `ascending` keeps the numbers of a list; where they differ, each is above the one before.
 #[tactic(auto, using(crate::proofs::Ascending::increasing_ascending, crate::proofs::Ascending::kept_ascending))]
 pub fn ascending_is_sorted()
     ensures rises { (numbers : List ℕ) → IsTrue (differ numbers) → IsStrictlyIncreasing (ascending numbers) }
@@ -17,8 +17,8 @@ pub fn ascending_is_sorted()
     ensures length { (numbers : List ℕ) → length (ascending numbers) ≡ length numbers }
 {}
 
-/// The neighbours of a node are those that it has a link with, and rise. Each of two is a
-/// neighbour of the other, and no node is one of itself.
+/// The neighbours of a node are the nodes that it has a link with, in ascending order. Being a neighbour is mutual, and
+/// no node is its own neighbour.
 #[tactic(auto, using(crate::proofs::Neighbours::neighbours_linked, crate::proofs::Neighbours::increasing_neighbours, crate::proofs::Neighbours::neighbours_mutual, crate::proofs::Neighbours::no_neighbour_of_itself))]
 pub fn neighbours_are_linked()
     ensures linked { (net : Net) (u v : ℕ) → IsValid net → has (neighbours net u) v ≡ linked net u v }
@@ -28,7 +28,7 @@ pub fn neighbours_are_linked()
     ensures not_own { (net : Net) (u : ℕ) → IsValid net → has (neighbours net u) u ≡ false }
 {}
 
-/// There is a relation exactly where there is a link, and the other end has the converse one.
+/// Two nodes have a relation exactly where they have a link. The other end has the converse relation.
 #[tactic(auto, using(crate::proofs::Relations::relation_linked, crate::proofs::Relations::relation_converse))]
 pub fn relations_are_converse()
     ensures linked { (net : Net) (u v : ℕ) → is_some (relation net u v) ≡ linked net u v }
@@ -36,8 +36,8 @@ pub fn relations_are_converse()
         → relation net v u ≡ option_map converse (relation net u v) }
 {}
 
-/// A union has the members of both lists, ascends where the second list does, and is the only such list: it is
-/// the same however it was made.
+/// A union has the members of both lists, and ascends where the second list does. It is the only such list, however it
+/// was made.
 #[tactic(auto, using(crate::proofs::Unions::in_union, crate::proofs::Unions::of_union, crate::proofs::Unions::any_union, crate::proofs::Unions::union_ascends))]
 pub fn a_union_has_the_triggers_of_both()
     ensures into { (t : Trigger) (ts us : List Trigger) → Among t ts ⊎ Among t us → Among t (union ts us) }
@@ -50,7 +50,7 @@ pub fn a_union_has_the_triggers_of_both()
         ((x : Trigger) → Among x ts ⊎ Among x us → Among x xs) → xs ≡ union ts us }
 {}
 
-/// Each limit and each range ends at the number that is written here.
+/// Each limit and each range ends at the number that `specs/Limits.antt` writes out.
 #[tactic(auto, using(crate::proofs::Numbers::counts_end, crate::proofs::Numbers::numbers_end))]
 pub fn limits_end_there()
     ensures counts { CountsEndAt }

@@ -1,12 +1,12 @@
-//! The limits of counts, and the ranges of numbers: each is named here alone. `MOST_` is the highest of a count, `HIGHEST_`
-//! that of a number which a line, an event or a frame may name. `specs/Limits.antt` writes each of them out.
+//! The limits of counts and the ranges of numbers; no other file names them. `MOST_` is the highest value of a count,
+//! `HIGHEST_` that of a number which a line, an event or a frame may name. `specs/Limits.antt` writes each number out.
 
 // ---- a network
 
-/// The most nodes of a network, and the most of a printed path.
+/// The most nodes of a network. A printed path has no more nodes either.
 pub const MOST_NODES: usize = 64;
 
-/// The most nodes that are consolidators.
+/// The most consolidators.
 pub const MOST_CONSOLIDATORS: usize = 7;
 
 /// The most links of a network.
@@ -17,13 +17,13 @@ pub const MOST_PREFIXES: usize = 256;
 
 // ---- what is read, and what a run may have
 
-/// The most bytes of a schedule, of a script and of printed tables.
+/// The most bytes of a schedule, of a script, or of printed tables.
 pub const MOST_BYTES: u32 = 16_777_216;
 
-/// The most events of a run, idle ones among them.
+/// The most events of a run; idle events count too.
 pub const MOST_EVENTS: u32 = 1_000_000;
 
-/// The most triggers of all nodes together, of one value, and of one list.
+/// The most triggers of all nodes together, of one value, or of one list.
 pub const MOST_TRIGGERS: u32 = 8_192;
 
 /// The most control messages.
@@ -32,13 +32,13 @@ pub const MOST_CONTROL: u32 = 16_384;
 /// The most packets.
 pub const MOST_PACKETS: u32 = 4_096;
 
-/// The most frames that a node takes over its link.
+/// The most frames that a node takes from its link.
 pub const MOST_FRAMES: u32 = 1_000_000;
 
 /// The most members of a script.
 pub const MOST_MEMBERS: usize = 7;
 
-/// The most times that one line repeats something. The fewest are 1.
+/// The most times that one line repeats something. The least is 1.
 pub const MOST_TIMES: u32 = 1_000_000;
 
 // ---- what one node may have
@@ -49,20 +49,20 @@ pub const MOST_EPOCHS: u32 = 32;
 /// The most entries of a node.
 pub const MOST_ENTRIES: u32 = 2_048;
 
-/// The most items that the entries of a node list, each close among them.
+/// The most items that the entries of a node list. A close counts as an item.
 pub const MOST_UPDATES: u32 = 16_384;
 
-/// The most triggers that the entries of a node, its items and the rows of what it holds back list, counted once for each
-/// list. A report lists no more.
+/// The most triggers that a node lists in its entries, in their items and in its rows of held-back updates. A trigger
+/// counts once for each list that has it. A report lists no more.
 pub const MOST_MARKS: u32 = 65_536;
 
-/// The most rows of what is held back in a report: one for each prefix and each other node.
+/// The most rows of held-back updates in a report: one for each prefix and each other node.
 pub const MOST_PENDING: u32 = 16_128;
 
 /// The most rows of sessions in a report.
 pub const MOST_SESSIONS: u32 = 65_535;
 
-/// The most nodes of a packet's trail, and of its route.
+/// The most nodes of a packet's trail, or of its route.
 pub const MOST_TRAIL: usize = 64;
 
 // ---- numbers that may be named
@@ -76,11 +76,11 @@ pub const HIGHEST_NODE: u32 = 65_535;
 /// The highest preference of a neighbour. The lowest is 0.
 pub const HIGHEST_PREFERENCE: u32 = 1_000_000;
 
-/// The highest limit of the moves that a packet may make. The lowest is 0.
+/// The highest limit on the moves of a packet. The lowest is 0.
 pub const HIGHEST_HOPS: u32 = 65_535;
 
-/// The highest number of a control message that may be named. The lowest is 1. There are never so many messages: one that
-/// was not sent may be named.
+/// The highest number of a control message that may be named. The lowest is 1. It is more than the number of messages
+/// that can be sent: a line may name a message that was not sent.
 pub const HIGHEST_MESSAGE: u32 = 1_000_000;
 
 /// The highest number of a packet. The lowest is 1.

@@ -28,7 +28,7 @@ impl LinkKey {
     }
 }
 
-/// Links in the order in which they were added, at most one between two nodes.
+/// Links in the order in which they were added, at most one for each pair of nodes.
 #[derive(Drop)]
 pub struct LinkTable {
     links: IndexMap<LinkKey, Link>,

@@ -7,14 +7,14 @@ use indexmap::IndexSet;
 use std::alloc::{AllocFailed, Global};
 use std::marker::Model;
 
-// The place of the first greater node.
+// The place of the first node that is greater.
 fn first_greater(nodes: &[NodeId], id: NodeId) -> Option<usize>
     ensures { result ≡ position (λ x. nat_lt id x) nodes.now }
 {
     nodes.iter().position(|other| id < *other)
 }
 
-// How far the number of a node is above the first one: its place, where no number between them is left out.
+// How far the number of a node is above the first one. This is its place where the numbers have no gap.
 fn offset(nodes: &[NodeId], id: NodeId) -> usize {
     match nodes.first() {
         Some(first) => usize::from(id.number().saturating_sub(first.number())),
@@ -29,7 +29,7 @@ fn stands_at(nodes: &[NodeId], place: usize, id: NodeId) -> bool
     place < nodes.len() && nodes[place] == id
 }
 
-/// Puts a node in front of the first greater one.
+/// Inserts a node in front of the first greater one.
 pub(crate) fn insert_ascending(
     nodes: &mut Vec<NodeId>,
     id: NodeId,
@@ -41,7 +41,7 @@ pub(crate) fn insert_ascending(
     nodes.insert(place, id)
 }
 
-/// Different nodes, in the order in which they were added and ascending.
+/// A set of nodes, read in the order in which they were added or in ascending order.
 #[derive(Drop)]
 pub struct NodeSet {
     added: IndexSet<NodeId>,
@@ -104,7 +104,7 @@ impl NodeSet {
         &self.ascending
     }
 
-    /// The place of a node among the nodes, ascending. Where their numbers have no gap it is known at once.
+    /// The place of a node in ascending order. Where the numbers have no gap, it is found without a search.
     pub fn rank(&self, id: NodeId) -> Option<usize>
         ensures some { IfSome result (λ rank. slice_get (ascending self.now.nodes) rank ≡ Some id) }
         ensures none { IsNone result ↔ (has self.now.nodes id ≡ false) }
@@ -116,7 +116,7 @@ impl NodeSet {
         self.searched(id)
     }
 
-    // The place of a node among the nodes, ascending, by a search.
+    // The place of a node in ascending order, by a search.
     fn searched(&self, id: NodeId) -> Option<usize>
         ensures some { IfSome result (λ rank. slice_get (ascending self.now.nodes) rank ≡ Some id) }
         ensures none { IsNone result ↔ (has self.now.nodes id ≡ false) }
@@ -124,7 +124,7 @@ impl NodeSet {
         self.ascending.binary_search(&id).ok()
     }
 
-    /// Makes room for one node more.
+    /// Reserves room for one more node.
     pub fn reserve(&mut self) -> Result<(), NoMemory>
         ensures ok { OnOk result (0 < self.new.room) }
         ensures nodes { self.new.nodes ≡ self.old.nodes }
@@ -134,7 +134,7 @@ impl NodeSet {
         Ok(())
     }
 
-    /// Adds a node, for which there is room.
+    /// Adds a node. There must be room for it.
     pub fn add(&mut self, id: NodeId)
         requires room { 0 < self.old.room }
         requires new { has self.old.nodes id ≡ false }

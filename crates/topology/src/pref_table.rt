@@ -8,14 +8,14 @@ use indexmap::IndexMap;
 use std::alloc::Global;
 use std::marker::Model;
 
-/// The node that prefers, and the neighbour whose candidates it prefers.
+/// The key of a preference: the node that prefers, and the neighbour whose candidates it prefers.
 #[derive(Clone, Copy, Debug, PartialEq, Eq, Hash)]
 pub struct Side {
     from: NodeId,
     to: NodeId,
 }
 
-/// Preferences in the order in which they were added, at most one of a node for another.
+/// Preferences in the order in which they were added, at most one for each ordered pair of nodes.
 #[derive(Drop)]
 pub struct PrefTable {
     prefs: IndexMap<Side, Pref>,
@@ -51,7 +51,7 @@ impl PrefTable {
         self.prefs.get(&Side { from: a, to: b }).copied()
     }
 
-    /// Puts a preference in the place of an earlier one of the same two, or else at the end.
+    /// Replaces the preference of the same two nodes, or else adds the preference at the end.
     pub fn put(&mut self, pref: Pref) -> Result<(), NoMemory>
         ensures ok { OnOk result (self.new ≡ put_preference pref self.old) }
         ensures err { OnErr result (self.new ≡ self.old) }

@@ -14,7 +14,7 @@ pub enum Reason {
     NotOrigin,
     /// The link is down.
     LinkDown,
-    /// Nothing is on its way from the one node to the other.
+    /// No item is on its way from the one node to the other.
     EmptyChannel,
     /// The addressee does not hold the session that the link carries.
     WrongSession,
@@ -40,13 +40,13 @@ pub enum Reason {
     NoReport,
     /// There is no control message with this number.
     NoSuchMessage,
-    /// The sender's report is held, the sender is counted, or the ballot is accepted already.
+    /// The sender's report is held already, the sender is counted already, or the ballot is accepted already.
     Duplicate,
-    /// The node promised this ballot.
+    /// The node has promised this ballot, and the message's ballot is too low beside it.
     Promised(Ballot),
-    /// The node neither prepares nor gathers the ballot.
+    /// The node neither prepares this ballot nor gathers promises for it.
     StaleBallot,
-    /// No round is above that of this ballot.
+    /// This ballot has the highest round that there is.
     NoRound(Ballot),
     /// The node is not crashed.
     NotCrashed,
@@ -81,8 +81,8 @@ pub enum LimitKind {
     Packets,
     /// The frames that a node took over its link.
     Frames,
-    /// The triggers that one node lists in its entries, in the items that these sent and in what it holds back, counted once
-    /// for each list.
+    /// The triggers that one node lists in its entries, in their items and in its rows of held-back updates, counted
+    /// once for each list.
     Marks,
     /// The bytes of a journal.
     Journal,
@@ -91,7 +91,7 @@ pub enum LimitKind {
 impl LimitKind {
     ghost use Rattle.topology.specs.Words.{limit_words};
 
-    /// The word for it in the line that says how a run ended.
+    /// The words for the count in the line that says how a run ended.
     pub fn words(self) -> &'static str
         ensures { result.now ≡ limit_words self }
     {
@@ -114,11 +114,11 @@ impl LimitKind {
 /// What is wrong with a line of a schedule.
 #[derive(Clone, Copy, Debug, PartialEq, Eq)]
 pub enum BadKind {
-    /// A word begins no line, or is none of those that may stand at its place.
+    /// The word begins no line, or is not allowed at its place.
     UnknownWord,
     /// The line stands on the wrong side of `begin`, or is a second `begin`.
     NotHere,
-    /// No such line has this number of words.
+    /// No form of this line has this number of words.
     WrongCount,
     /// A number is misspelled or out of its range.
     BadNumber,
@@ -138,14 +138,14 @@ pub enum BadKind {
     DuplicateLink,
     /// The prefix is declared already.
     DuplicatePrefix,
-    /// There are as many of them as there may be.
+    /// The limit for such lines is reached.
     TooMany,
 }
 
 impl BadKind {
     ghost use Rattle.topology.specs.Words.{bad_words};
 
-    /// The words for it in the line that says how a run ended.
+    /// The words for the fault in the line that says how a run ended.
     pub fn words(self) -> &'static str
         ensures { result.now ≡ bad_words self }
     {
@@ -170,18 +170,18 @@ impl BadKind {
 /// What is wrong with a row of printed tables.
 #[derive(Clone, Copy, Debug, PartialEq, Eq)]
 pub enum AuditKind {
-    /// Its path repeats a node, or does not begin with its node.
+    /// The path repeats a node, or does not begin with the row's node.
     NotSimple,
-    /// An earlier row of its node, epoch and prefix has another path.
+    /// An earlier row of the same node, epoch and prefix has another path.
     Changed,
-    /// The row of the second node of its path has another path than what is left of it.
+    /// The row of the path's second node has a path that differs from the rest of this one.
     DoesNotContinue,
 }
 
 impl AuditKind {
     ghost use Rattle.topology.specs.Words.{audit_words};
 
-    /// The words for it in the line that says how a run ended.
+    /// The words for the fault in the line that says how a run ended.
     pub fn words(self) -> &'static str
         ensures { result.now ≡ audit_words self }
     {
@@ -198,13 +198,13 @@ impl AuditKind {
 pub enum Status {
     /// The input was read to its end and everything was written.
     Done,
-    /// The words are none of the forms.
+    /// The command line has none of the known forms.
     Usage,
     /// There was no memory left.
     NoMemory,
-    /// The first line outside the grammar, counted from 1.
+    /// The first line outside the grammar, counted from 1, and its fault.
     BadSchedule(u32, BadKind),
-    /// The next action would take this count above its number.
+    /// The next action would exceed this limit; its number is given.
     Limit(LimitKind, u32),
     /// The source failed.
     ReadFault,
@@ -212,24 +212,24 @@ pub enum Status {
     WriteFault,
     /// The link failed.
     LinkFault,
-    /// The frame that begins at this offset of what came over the link is refused.
+    /// A frame was refused. The number is the offset at which it begins in what came over the link.
     BadFrame(u64, FrameFault),
     /// The network has no node with this number.
     NoSuchNode(NodeId),
     /// The disk failed.
     DiskFault,
-    /// The record that begins at this offset of a journal is refused.
+    /// A record of a journal was refused. The number is the offset at which it begins.
     BadJournal(u64, FrameFault),
-    /// The first line that begins like one of a table and is none, counted from 1.
+    /// The first line that begins like a line of a table but is not one, counted from 1.
     BadTables(u32),
-    /// The line of the first bad row of printed tables, counted from 1, and what is wrong with it.
+    /// The line of the first bad row of printed tables, counted from 1, and its fault.
     Inconsistent(u32, AuditKind),
 }
 
 impl Status {
     ghost use Rattle.topology.specs.Codes.{code_of};
 
-    /// The code with which the program ends.
+    /// The exit code of the program.
     pub fn code(&self) -> u8
         ensures { result ≡ code_of self.now }
     {

@@ -18,7 +18,7 @@ const DEFAULT_PREFERENCE: u32 = 100;
 
 const DEFAULT_HOPS: u16 = 128;
 
-/// A network. It starts empty, and what is added stays.
+/// A network. It starts empty, and nothing that was added can be removed.
 #[derive(Drop)]
 pub struct Topology {
     nodes: NodeSet,
@@ -47,7 +47,7 @@ impl Model for Topology {
     ghost invariant = { λ t. Keeps (record { nodes = t.nodes.nodes; consolidators = t.consolidators.nodes; links = t.links; preferences = t.preferences; prefixes = t.prefixes.keys; holds = t.holds; hops = t.hops; scheme = t.scheme }) (map (λ near. near.items) t.neighbours.items) };
 }
 
-// An equal list with one node more.
+// A copy of the list with one more node.
 fn with_ascending(nodes: &[NodeId], id: NodeId, alloc: Global) -> Result<Vec<NodeId>, NoMemory>
     ensures { IfOk result (λ more. more.items ≡ put_ascending id nodes.now) }
 {
@@ -57,8 +57,8 @@ fn with_ascending(nodes: &[NodeId], id: NodeId, alloc: Global) -> Result<Vec<Nod
 }
 
 impl Topology {
-    /// A network without nodes, where a packet makes at most 128 moves off the stable tables, and
-    /// deflects. Takes no memory.
+    /// A network without nodes, with at most 128 moves for a packet off the stable tables, and scheme `Deflect`. Takes
+    /// no memory.
     pub fn empty(alloc: Global) -> Topology
         ensures { result ≡ nothing }
     {
@@ -95,7 +95,7 @@ impl Topology {
         Ok(())
     }
 
-    // The places of the two ends, where a link between them may be added.
+    // The places of the two ends, if a link between them may be added.
     fn check_link(&self, a: NodeId, b: NodeId) -> Result<(usize, usize), BuildError>
         ensures ok { OnOk result (link_refusal self.now a b ≡ None) }
         ensures from { IfOk result (λ places. slice_get self.now.nodes places.0 ≡ Some a) }
@@ -120,7 +120,7 @@ impl Topology {
         Ok((from, to))
     }
 
-    /// Adds a node, numbered from 1. There are at most 64, of which at most 7 are consolidators.
+    /// Adds a node, numbered from 1. There are at most 64 nodes, and at most 7 of them are consolidators.
     pub fn add_node(&mut self, id: NodeId, consolidator: bool) -> Result<(), BuildError>
         requires { 0 < id }
         ensures ok { OnOk result (self.new ≡ with_node self.old id consolidator) }
@@ -138,8 +138,8 @@ impl Topology {
         Ok(())
     }
 
-    /// Adds a link: `b` has this relation to `a`, and `a` the converse one to `b`. There are at
-    /// most 512, and one between two nodes.
+    /// Adds a link: `b` has this relation to `a`, and `a` has the converse relation to `b`. There are at most 512
+    /// links, and at most one between two nodes.
     pub fn add_link(&mut self, a: NodeId, b: NodeId, relation: Relation) -> Result<(), BuildError>
         ensures ok { OnOk result (self.new ≡ with_link self.old (record { a = a; b = b; relation = relation })) }
         ensures refused { AnswersBy result (link_refusal self.old a b) }
@@ -174,8 +174,8 @@ impl Topology {
         Ok(())
     }
 
-    /// Adds the preference that `a` gives to the candidates of `b`, a neighbour. It replaces an
-    /// earlier one of the same two.
+    /// Adds the preference of `a` for the candidates of its neighbour `b`. It replaces an earlier preference of the
+    /// same two nodes.
     pub fn add_pref(&mut self, a: NodeId, b: NodeId, value: u32) -> Result<(), BuildError>
         requires { value ≤ 1000000 }
         ensures ok { OnOk result (self.new ≡ with_pref self.old (record { a = a; b = b; value = value })) }
@@ -187,7 +187,7 @@ impl Topology {
         Ok(())
     }
 
-    /// Adds that `a` holds back what it would send to `b`, a neighbour. One that is there already changes nothing.
+    /// Adds a hold: `a` holds back its updates to its neighbour `b`. A hold that is there already changes nothing.
     pub fn add_hold(&mut self, a: NodeId, b: NodeId) -> Result<(), BuildError>
         ensures ok { OnOk result (self.new ≡ with_hold self.old (record { a = a; b = b })) }
         ensures refused { AnswersBy result (pref_refusal self.old a b) }
@@ -198,7 +198,7 @@ impl Topology {
         Ok(())
     }
 
-    /// Adds a prefix, and answers its place, from 0. There are at most 256.
+    /// Adds a prefix, and returns its place, from 0. There are at most 256.
     pub fn add_prefix(&mut self, prefix: Prefix) -> Result<PrefixId, BuildError>
         requires { IsPrefix prefix }
         ensures place { IfOk result (λ id. id ≡ length self.old.prefixes) }
@@ -216,14 +216,14 @@ impl Topology {
         Ok(PrefixId::new(place as u16))
     }
 
-    /// Sets how many moves a packet may make that has left the stable tables.
+    /// Sets how many moves a packet may make off the stable tables.
     pub fn set_hops(&mut self, hops: u16)
         ensures { self.new ≡ with_hops self.old hops }
     {
         self.hops = hops;
     }
 
-    // Whether packets may go on by the scheme.
+    // Whether the scheme may be set.
     fn check_scheme(&self, scheme: &Scheme) -> Result<(), BuildError>
         ensures ok { OnOk result (scheme_refusal self.now scheme.now ≡ None) }
         ensures err { IfErr result (λ e. scheme_refusal self.now scheme.now ≡ Some e) }
@@ -240,8 +240,7 @@ impl Topology {
         }
     }
 
-    /// Sets the scheme by which a packet goes on that has left the stable tables. The node of a
-    /// detour is one of the network.
+    /// Sets the scheme for packets off the stable tables. The node of a detour must be in the network.
     pub fn set_scheme(&mut self, scheme: Scheme) -> Result<(), BuildError>
         ensures ok { OnOk result (self.new ≡ with_scheme self.old scheme) }
         ensures refused { AnswersBy result (scheme_refusal self.old scheme) }
@@ -252,14 +251,14 @@ impl Topology {
         Ok(())
     }
 
-    /// How many moves a packet may make that has left the stable tables.
+    /// How many moves a packet may make off the stable tables.
     pub fn hops(&self) -> u16
         ensures { result ≡ self.now.hops }
     {
         self.hops
     }
 
-    /// The scheme by which a packet goes on that has left the stable tables.
+    /// The scheme for packets off the stable tables.
     pub fn scheme(&self) -> Scheme
         ensures scheme { result ≡ self.now.scheme }
         ensures fits { Leads self.now.nodes result }
@@ -297,7 +296,7 @@ impl Topology {
         }
     }
 
-    /// What `b` is to `a`. None exactly where they have no link.
+    /// What `b` is to `a`. The answer is `None` exactly where they have no link.
     #[tactic(auto, unfolding(crate::specs::Net::relation))]
     pub fn relation(&self, a: NodeId, b: NodeId) -> Option<Relation>
         ensures { result ≡ relation self.now a b }
@@ -310,7 +309,7 @@ impl Topology {
         }
     }
 
-    /// The preference that was added for the candidates of `b` at `a`.
+    /// The preference that was added for `a` and the candidates of `b`.
     pub fn added_pref(&self, a: NodeId, b: NodeId) -> Option<u32>
         ensures { result ≡ option_map (λ pref. pref.value) (find (prefers a b) self.now.preferences) }
     {
@@ -330,7 +329,7 @@ impl Topology {
         }
     }
 
-    /// Whether `a` holds back what it would send to `b`.
+    /// Whether `a` holds back its updates to `b`.
     #[tactic(auto, unfolding(crate::specs::Net::holds_back))]
     pub fn holds(&self, a: NodeId, b: NodeId) -> bool
         ensures { result ≡ holds_back self.now a b }
@@ -354,14 +353,14 @@ impl Topology {
         self.prefixes.len() as u16
     }
 
-    /// The prefix at a place. None exactly where there is none.
+    /// The prefix at a place. The answer is `None` exactly where there is none.
     pub fn prefix(&self, id: PrefixId) -> Option<Prefix>
         ensures { result ≡ slice_get self.now.prefixes id }
     {
         self.prefixes.get_index(usize::from(id.place())).copied()
     }
 
-    /// The place of a prefix. None exactly where it was not added.
+    /// The place of a prefix. The answer is `None` exactly where it was not added.
     pub fn find_prefix(&self, prefix: Prefix) -> Option<PrefixId>
         ensures some { IfSome result (λ id. slice_get self.now.prefixes id ≡ Some prefix) }
         ensures none { IsNone result ↔ (has_prefix self.now prefix ≡ false) }

@@ -8,13 +8,13 @@ use std::marker::Model;
 use std::rc::Rc;
 use std::slice;
 
-/// Triggers in rising order, by node, then by counter, each once.
+/// Triggers in ascending order, by node, then by counter, without repeats.
 #[derive(Debug, Drop)]
 pub struct Triggers {
     kept: Kept,
 }
 
-// Most lists have one trigger, which takes no memory; the copies of a longer list share it.
+// Most lists have one trigger, which takes no memory. Copies of a longer list share it.
 #[derive(Debug, Drop)]
 enum Kept {
     Nothing,
@@ -35,7 +35,7 @@ impl Model for Triggers {
     ghost invariant = { λ t. Ascend (listed_triggers t.kept) × IsLong t.kept };
 }
 
-// Whether each stands before the next one.
+// Whether each trigger is below the next one.
 fn rises(list: &[Trigger]) -> bool
     ensures { IsTrue result ↔ Ascend list.now }
 {
@@ -50,7 +50,7 @@ fn rises(list: &[Trigger]) -> bool
     true
 }
 
-// The triggers of both lists, which rise: the earlier of the first two that are left goes next.
+// The union of two ascending lists. Each step takes the earlier of the first two triggers that are left.
 fn merged(alloc: Global, one: &[Trigger], other: &[Trigger]) -> Result<Vec<Trigger>, NoMemory>
     requires one { Ascend one.now }
     requires other { Ascend other.now }
@@ -82,7 +82,7 @@ fn merged(alloc: Global, one: &[Trigger], other: &[Trigger]) -> Result<Vec<Trigg
 }
 
 impl Triggers {
-    /// No trigger. Takes no memory.
+    /// The empty list. Takes no memory.
     pub fn none() -> Triggers
         ensures { result ≡ [] }
     {
@@ -91,7 +91,7 @@ impl Triggers {
         }
     }
 
-    /// One trigger. Takes no memory.
+    /// The list of one trigger. Takes no memory.
     pub fn one(trigger: Trigger) -> Triggers
         ensures { result ≡ trigger ∷ [] }
     {
@@ -100,7 +100,7 @@ impl Triggers {
         }
     }
 
-    /// The list of these triggers. None exactly where they do not rise, for which no memory is asked.
+    /// The list of these triggers. The answer is `None` exactly where they do not ascend; then nothing is allocated.
     pub fn new(list: Vec<Trigger>) -> Result<Option<Triggers>, NoMemory>
         ensures some { IfOk result (λ triggers. IfSome triggers (λ t. t ≡ list.items)) }
         ensures none { IfOk result (λ triggers. IsSome triggers ↔ Ascend list.items) }
@@ -113,7 +113,7 @@ impl Triggers {
         Ok(Some(triggers))
     }
 
-    /// The list of these triggers, which rise. One trigger takes no memory.
+    /// The list of these triggers, which must ascend. One trigger takes no memory.
     pub fn from_ascending(list: Vec<Trigger>) -> Result<Triggers, NoMemory>
         requires { Ascend list.items }
         ensures triggers { IfOk result (λ triggers. triggers ≡ list.items) }
@@ -130,7 +130,7 @@ impl Triggers {
         })
     }
 
-    /// An equal list. One trigger takes no memory.
+    /// A copy. A list of one trigger takes no memory.
     pub fn copy(&self) -> Result<Triggers, NoMemory>
         ensures copy { IfOk result (λ triggers. triggers ≡ self.now) }
         ensures few { length self.now ≤ 1 → IsOk result }
@@ -181,7 +181,7 @@ impl Triggers {
         self.as_slice().contains(&trigger)
     }
 
-    /// The triggers of both lists.
+    /// The union of both lists.
     pub fn union(&self, alloc: Global, other: &Triggers) -> Result<Triggers, NoMemory>
         ensures { IfOk result (λ triggers. triggers ≡ union self.now other.now) }
     {

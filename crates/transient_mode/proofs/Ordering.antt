@@ -1,4 +1,4 @@
--- Where a hop does not ask for the order of the neighbours, it is the same for each order.
+-- A hop that does not need the order of the neighbours is the same for every order.
 use Rattle.std.proofs.Common.{Bool, true, false, not, ◌&&◌, ◌==◌, List, ℕ, ◌≡◌, refl, sym, ◌∙◌, ap}
 use Rattle.std.specs.Prelude.{if◌then◌else◌, nat_lt, length, find, None, Some}
 use Rattle.topology.specs.Net.{Net}
@@ -10,11 +10,11 @@ use Rattle.transient_mode.specs.Sights.{Sight}
 use Rattle.transient_mode.specs.TransientHops.{is_new, deflect_by, deflected, follow, set_out, by_scheme, deflects, asks_for_order, unless_ended, hop_under, transient_hop}
 
 module _ (net : Net) (packet : Packet) (view : Sight) (order : List ℕ) where
-  -- what the node sees with that order
+  -- what the node sees, with this order
   abbrev other : Sight
   other = record view { order = order }
 
-  -- a deflection, where the trail is full
+  -- a deflection with a full trail
   same_deflected : nat_lt (length packet.trail) 64 ≡ false → deflected net packet other ≡ deflected net packet view
   unfolding deflected
   same_deflected full =

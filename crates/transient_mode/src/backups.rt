@@ -1,4 +1,4 @@
-//! Backups: along the first path of the newest table, by rank, that leads over no node that was visited.
+//! Backups: the packet goes along the first path of the newest table, by rank, that has no visited node ahead.
 ghost use Rattle.std.specs.Prelude.{◌≡◌, IfOk, OnErr};
 ghost use Rattle.topology.specs.declared.names.Scheme.TheVariants as scheme;
 ghost use Rattle.transient_mode.specs.TransientHops.{answered, IsMove, new_backup, by_backup};
@@ -11,7 +11,7 @@ use backup_routes::backup_for;
 use epoch_packet::{End, Packet};
 use topology::{NoMemory, Topology};
 
-// Along the first backup that qualifies, which becomes the route of the packet.
+// Takes the first backup that qualifies, which becomes the packet's route, and moves along it.
 fn new_backup(
     topology: &Topology,
     packet: Packet,
@@ -27,8 +27,7 @@ fn new_backup(
     }
 }
 
-// A hop under backups of a packet that has moves left. A move along the route that it has takes no
-// memory.
+// A hop under backups of a packet that has moves left. A move along its present route takes no memory.
 fn by_backup(
     topology: &Topology,
     packet: Packet,

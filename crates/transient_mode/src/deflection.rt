@@ -1,4 +1,4 @@
-//! Deflection: to the first neighbour in the order that is new to the packet, else back.
+//! Deflection: the packet goes to the first neighbour in the order that it has not visited, or else back.
 ghost use Rattle.std.specs.Prelude.{◌≡◌, find, option_copied, IfOk, OnErr};
 ghost use Rattle.topology.specs.declared.names.Scheme.TheVariants as scheme;
 ghost use Rattle.epoch_packet.specs.NodeLists.{last_of};
@@ -13,14 +13,14 @@ use epoch_packet::{End, Packet, has_visited};
 use topology::limits::MOST_TRAIL;
 use topology::{NoMemory, NodeId, Scheme, Topology};
 
-// Whether the link to the node is up, and the packet was not there.
+// Whether the link to the node is up, and the packet has not visited it.
 fn is_new(topology: &Topology, visited: u64, up: &[NodeId], node: NodeId) -> bool
     ensures { result ≡ is_new topology.now visited up.now node }
 {
     up.contains(&node) && !has_visited(topology, visited, node)
 }
 
-// The first of the nodes for which that is so.
+// The first of the nodes for which this holds.
 fn first_new<'a>(
     topology: &Topology,
     visited: u64,
@@ -34,7 +34,7 @@ fn first_new<'a>(
         .find(|node| is_new(topology, visited, up, **node))
 }
 
-// The neighbour to which the packet goes forward; none where the trail is full.
+// The neighbour to which the packet goes forward; `None` if the trail is full.
 fn forward(topology: &Topology, packet: &Packet, view: &View<'_>) -> Option<NodeId>
     ensures { result ≡ forward topology.now packet.now view.now }
 {
@@ -45,7 +45,7 @@ fn forward(topology: &Topology, packet: &Packet, view: &View<'_>) -> Option<Node
     }
 }
 
-// Back to the last node of the trail. Takes no memory.
+// Moves the packet back to the last node of its trail. Takes no memory.
 fn back(topology: &Topology, packet: Packet, view: &View<'_>) -> (Packet, Move)
     ensures { result
         ≡ answered packet (back topology.now packet (if_up view.now (last_of packet.trail))) }
@@ -60,9 +60,9 @@ fn back(topology: &Topology, packet: Packet, view: &View<'_>) -> (Packet, Move)
     }
 }
 
-/// Whether a hop of the packet at the node, which owns its prefix or not, asks for the order of the neighbours: only a
-/// deflection does, and not with a trail of 64 nodes. Where it does not, the hop is the same for each order
-/// (`laws::a_hop_that_does_not_ask_is_the_same_for_each_order`). Takes no memory.
+/// Whether a hop of the packet at this node needs the order of the neighbours; `owns` says whether the node owns the
+/// packet's prefix. Only a deflection needs it, and not with a trail of 64 nodes. If the hop does not need it, the hop
+/// is the same for every order (`laws::a_hop_that_does_not_ask_is_the_same_for_each_order`). Takes no memory.
 pub fn asks_for_order(topology: &Topology, packet: &Packet, at: NodeId, owns: bool) -> bool
     ensures { (view : Sight) → view.at ≡ at → view.owns ≡ owns →
         result ≡ asks_for_order topology.now packet.now view }
@@ -77,7 +77,7 @@ pub fn asks_for_order(topology: &Topology, packet: &Packet, at: NodeId, owns: bo
     }
 }
 
-// A deflection of a packet that has moves left. A move back, and the end, take no memory.
+// A deflection of a packet that has moves left. Going back or ending takes no memory.
 #[tactic(auto, unfolding(crate::specs::TransientHops::deflected))]
 pub(crate) fn deflected(
     topology: &Topology,
@@ -98,11 +98,11 @@ pub(crate) fn deflected(
     }
 }
 
-/// A hop by deflection, whatever the scheme of the network. The packet moves to the first neighbour in
-/// the order whose link is up and that does not count as visited, and the node that it leaves goes to
-/// the end of its trail; with a trail of 64 nodes it makes no such move. Else it moves back to the last
-/// node of its trail, which leaves the trail, where that link is up. Else it is stuck. A packet that
-/// ends is answered as it was. Errs only for want of memory, and only where the packet moves.
+/// A hop by deflection, whatever the scheme of the network. The packet moves to the first neighbour in the order whose
+/// link is up and that does not count as visited. The node that it leaves goes to the end of its trail. With a trail of
+/// 64 nodes it makes no such move. Otherwise, if the link to the last node of its trail is up, it moves back there, and
+/// that node leaves the trail. Otherwise it is stuck. A packet whose walk ends is returned as it was. An error can only
+/// be want of memory, and only where the packet moves.
 #[tactic(auto, unfolding(crate::specs::TransientHops::hop_under))]
 pub fn deflect(
     topology: &Topology,

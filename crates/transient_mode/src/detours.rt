@@ -1,4 +1,4 @@
-//! Detours: as a deflection up to a node, then along the path that this node published.
+//! Detours: deflections until the packet reaches a given node, then a walk along the path that this node published.
 ghost use Rattle.std.specs.Prelude.{◌≡◌, true, IfOk, OnErr, option_copied};
 ghost use Rattle.topology.specs.declared.names.Scheme.TheVariants as scheme;
 ghost use Rattle.transient_mode.specs.TransientHops.{answered, IsMove, route_of, set_out, detoured};
@@ -11,7 +11,7 @@ use crate::{Move, View};
 use epoch_packet::Packet;
 use topology::{NoMemory, NodeId, Scheme, Topology};
 
-// The nodes after the first of a path, none where there is no path.
+// The nodes of a path after the first; none without a path.
 fn route_of<'a>(path: Option<&'a [NodeId]>) -> &'a [NodeId]
     ensures { result.now ≡ route_of (option_copied path.entry) }
 {
@@ -21,7 +21,7 @@ fn route_of<'a>(path: Option<&'a [NodeId]>) -> &'a [NodeId]
     }
 }
 
-// The first hop at the node of the detour: where the packet moves, it has been there.
+// The first hop at the node of the detour. If the packet moves, it is marked as having been there.
 fn set_out(topology: &Topology, packet: Packet, view: &View<'_>) -> Result<(Packet, Move), NoMemory>
     ensures hop { IfOk result (λ pair.
         pair ≡ answered packet (set_out topology.now packet view.now)) }
@@ -40,7 +40,7 @@ fn set_out(topology: &Topology, packet: Packet, view: &View<'_>) -> Result<(Pack
     }
 }
 
-// A detour by a node, of a packet that has moves left.
+// A hop of a packet that has moves left, under a detour by a node.
 fn detoured(
     topology: &Topology,
     node: NodeId,
@@ -79,12 +79,11 @@ fn detour_by(
     }
 }
 
-/// A hop where the scheme of the network is a detour by a node. Until the packet has been at this node
-/// it moves as in a deflection. In its first hop there it takes as its route what comes after the node
-/// on the node's newest published path, nothing where there is none. From then on, and already in this
-/// hop, it moves to the next node of its route, where that link is up, and takes it off. Else it is
-/// stuck. A packet that ends is answered as it was. Errs only for want of memory, and only where the
-/// packet moves.
+/// A hop under a detour by a node. Until the packet has been at this node, it moves as by deflection. In its first hop
+/// there, it takes as its route the nodes that follow in the node's newest published path, or none without a path. In
+/// this hop and all later ones it moves to the next node of its route, if that link is up, and removes the node from
+/// the route. Otherwise it is stuck. A packet whose walk ends is returned as it was. An error can only be want of
+/// memory, and only where the packet moves.
 pub fn detour(
     topology: &Topology,
     packet: Packet,

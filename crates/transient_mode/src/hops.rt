@@ -7,13 +7,12 @@ use crate::{Move, View, deflect, detour};
 use epoch_packet::Packet;
 use topology::{NoMemory, Scheme, Topology};
 
-/// A hop of a packet that has left the stable tables. Where the node owns the prefix, the packet is
-/// delivered; else, where its budget is 0, it has expired; else the scheme of the network decides. Under
-/// a deflection and a detour see `deflect` and `detour`. Under backups the packet moves along its route,
-/// where the link to the next node is up. Else it takes the first backup whose link to the second node
-/// is up and whose nodes after the first do not count as visited: these become its route, and it moves
-/// along it. Else it is stuck. A packet that ends is answered as it was. Errs only for want of memory,
-/// and only where the packet moves.
+/// A hop of a packet that has left the stable tables. If the node owns the prefix, the packet is delivered. Otherwise,
+/// with a budget of 0, it has expired. Otherwise the scheme of the network decides; for deflections and detours see
+/// `deflect` and `detour`. Under backups the packet moves along its route, if the link to the next node is up. If not,
+/// it takes the first backup whose link to the second node is up and whose nodes after the first do not count as
+/// visited. These nodes become its route, and it moves along it. If there is no such backup, it is stuck. A packet
+/// whose walk ends is returned as it was. An error can only be want of memory, and only where the packet moves.
 pub fn transient_hop(
     topology: &Topology,
     packet: Packet,

@@ -1,9 +1,9 @@
-//! What a packet does at a node once it has left the stable tables: it is deflected, makes a detour, or
-//! takes a backup, as the scheme of the network says.
+//! What a packet does at a node once it has left the stable tables. By the scheme of the network it is deflected, makes
+//! a detour, or takes a backup.
 //!
-//! Where the node owns the prefix, the walk ends as delivered. Else, where no move is left, it has
-//! expired. Else the packet moves to a neighbour whose link is up, or is stuck. Each move lowers the
-//! budget by one, and the node that it goes to counts as visited from then on.
+//! If the node owns the prefix, the packet is delivered. Otherwise, if it has no move left, it has expired. Otherwise
+//! it moves to a neighbour whose link is up, or is stuck. Each move lowers the budget by one, and the node that it goes
+//! to counts as visited from then on.
 #![tactic(auto)]
 
 mod backups;

@@ -1,4 +1,4 @@
-//! What comes of a hop off the stable tables.
+//! The result of a hop off the stable tables.
 ghost use Rattle.std.specs.Prelude.{◌≡◌};
 ghost use Rattle.topology.specs.Lists.{has};
 ghost use Rattle.transient_mode.specs.TransientHops.{end_at, if_up, spent};
@@ -7,7 +7,7 @@ use crate::View;
 use epoch_packet::{End, Packet, with_visited};
 use topology::{NodeId, Topology};
 
-/// What comes of a hop off the stable tables.
+/// The result of a hop off the stable tables.
 #[derive(Clone, Copy, Debug, PartialEq, Eq)]
 pub enum Move {
     /// The packet goes on to this neighbour.
@@ -16,7 +16,7 @@ pub enum Move {
     Ended(End),
 }
 
-// How the walk ends at the node whatever the scheme, if it does.
+// How the walk ends at the node under every scheme, if it does.
 pub(crate) fn end_at(packet: &Packet, view: &View<'_>) -> Option<End>
     ensures { result ≡ end_at packet.now view.now }
 {
@@ -36,7 +36,7 @@ fn is_up(view: &View<'_>, node: NodeId) -> bool
     view.up.contains(&node)
 }
 
-// The node, where the link to it is up.
+// The node, if the link to it is up.
 pub(crate) fn if_up(view: &View<'_>, node: Option<NodeId>) -> Option<NodeId>
     ensures { result ≡ if_up view.now node }
 {

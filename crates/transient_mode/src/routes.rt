@@ -1,4 +1,4 @@
-//! Along a route: the nodes that are still to come, one after the other.
+//! Moves along a route, which has the nodes still ahead.
 ghost use Rattle.std.specs.Prelude.{◌≡◌, IfOk, OnErr, Some};
 ghost use Rattle.epoch_packet.specs.NodeLists.{after_first};
 ghost use Rattle.transient_mode.specs.TransientHops.{answered, IsMove, next_up, along, follow};
@@ -18,7 +18,7 @@ pub(crate) fn after_first(nodes: &[NodeId]) -> &[NodeId]
     }
 }
 
-// The next node of a route, where the link to it is up.
+// The next node of a route, if the link to it is up.
 pub(crate) fn next_up(view: &View<'_>, route: &[NodeId]) -> Option<NodeId>
     ensures { result ≡ next_up view.now route.now }
 {
@@ -28,7 +28,7 @@ pub(crate) fn next_up(view: &View<'_>, route: &[NodeId]) -> Option<NodeId>
     }
 }
 
-// To the next node of the packet's route. Takes no memory.
+// Moves to the next node of the packet's route. Takes no memory.
 pub(crate) fn along(topology: &Topology, packet: Packet, next: NodeId) -> (Packet, Move)
     ensures { result ≡ answered packet (along topology.now packet packet.route (Some next)) }
 {
@@ -37,7 +37,7 @@ pub(crate) fn along(topology: &Topology, packet: Packet, next: NodeId) -> (Packe
     (moved, Move::Next(next))
 }
 
-// Along the route that the packet has. Takes no memory.
+// Moves along the packet's route. Takes no memory.
 pub(crate) fn follow(topology: &Topology, packet: Packet, view: &View<'_>) -> (Packet, Move)
     ensures { result ≡ answered packet (follow topology.now packet view.now packet.route) }
 {
@@ -47,7 +47,7 @@ pub(crate) fn follow(topology: &Topology, packet: Packet, view: &View<'_>) -> (P
     }
 }
 
-// Along these nodes, which become the route of the packet.
+// Takes these nodes as the packet's route, and moves along it.
 pub(crate) fn start(
     topology: &Topology,
     packet: Packet,

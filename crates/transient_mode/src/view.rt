@@ -1,4 +1,4 @@
-//! What a node knows where a packet is off the stable tables.
+//! What a node knows when a packet is there, off the stable tables.
 use std::marker::Model;
 use topology::{NodeId, Path};
 
@@ -6,16 +6,16 @@ use topology::{NodeId, Path};
 #[derive(Drop)]
 pub struct View<'a> {
     pub at: NodeId,
-    /// The node owns the prefix of the packet.
+    /// Whether the node owns the prefix of the packet.
     pub owns: bool,
     /// The neighbours, in the order in which they are tried.
     pub order: &'a [NodeId],
-    /// Those whose link is up.
+    /// The neighbours whose link is up.
     pub up: &'a [NodeId],
-    /// The path of the prefix in the newest table that the node published.
+    /// The node's path for the prefix in its newest published table.
     pub stable: Option<&'a [NodeId]>,
-    /// The paths of the prefix that the node had to choose from then, by rank: that path is among them, unless the
-    /// prefix is the node's own.
+    /// The node's backups for the prefix in that table, by rank. The path is one of them, unless the node owns the
+    /// prefix.
     pub backups: &'a [Path],
 }
 

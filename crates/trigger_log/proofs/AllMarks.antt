@@ -64,7 +64,7 @@ module _ (rules : Rules) (net : Net) (u : ℕ) (h : List Entry) where
       (λ (b : Among mark (joined rows)). of_rows near rows mark z.1 b)
       (among_append mark row (joined rows) a)
 
-  -- a mark shows what it names
+  -- a mark shows its neighbour and session
   pub found_mark : (near : List ℕ) (rows : List (List SessionMark)) (mark : SessionMark) (w s : ℕ) → AllZip (AreMarks rules net u h) near rows → Among mark (joined rows) → mark.nbr ≡ w → mark.session ≡ s
       → Says h w s (sent_count rules net u h w s) mark
   found_mark near rows mark w s z a is_w is_s =
@@ -83,7 +83,7 @@ module _ (rules : Rules) (net : Net) (u : ℕ) (h : List Entry) where
       let more = unheld_row w s sessions row z.1 (λ mark a. f mark (inr a)) in
       or_none (t == s) (has sessions s) (apart_test t s apart) more
 
-  -- a session of a neighbour that has no mark was never held
+  -- a session of a neighbour without a mark was never held
   pub unfound_mark : (near : List ℕ) (rows : List (List SessionMark)) (w s : ℕ) → AllZip (AreMarks rules net u h) near rows → has near w ≡ true
       → ((mark : SessionMark) → Among mark (joined rows) → mark.nbr ≡ w → mark.session ≡ s → ⊥) → has (ever h w) s ≡ false
   unfound_mark [] rows w s z is f = absurd (cc is)

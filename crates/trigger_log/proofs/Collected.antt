@@ -1,4 +1,4 @@
--- What an entry changes in what is held back.
+-- How an entry changes what is held back.
 use Rattle.std.proofs.Common.{ℕ, zero, suc, ◌+◌, ◌<◌, ◌≤◌, Bool, true, false, cond, ◌==◌, ◌&&◌, ◌||◌, Option, Some, None, List, [], ◌∷◌, ◌++◌, ◌≡◌, ◌⊎◌, inl, inr, refl, sym, ◌∙◌, ap, ap₂, subst, arith, length, filter, map, take, slice_get, slice_index_or}
 use Rattle.std.specs.Prelude.{if◌then◌else◌, is_some}
 use Rattle.std.specs.List.{list_any, range_with_len}
@@ -35,7 +35,7 @@ use Rattle.trigger_log.proofs.Updating.{over_other}
 use Rattle.trigger_log.proofs.Speaking.{ended_by, flush_moves, moved_to}
 
 module _ (rules : Rules) (net : Net) (u : ℕ) where
-  -- ---- where nothing is held back
+  -- ---- nothing is held back
 
   not_pending : (h : List Entry) (w p : ℕ) → holds_back net u w ≡ false → pending rules net u h w p ≡ []
   not_pending h w p e = ap (λ b. if b then gathered rules net u h w p else []) e
@@ -58,7 +58,7 @@ module _ (rules : Rules) (net : Net) (u : ℕ) where
   pub unheld_none : (h : List Entry) (w : ℕ) → Fits h → held (reads h) w ≡ None → holds_some rules net u h w ≡ false
   unheld_none h w f e = none_any (is_pending rules net u h w) (places net) (λ p. ap is_some_trigger (unheld_pending h w p f e))
 
-  -- from whom anything is held back, with them a session is held
+  -- if anything is held back from a neighbour, a session is held with it
   pub held_where : (h : List Entry) (w : ℕ) → Fits h → holds_some rules net u h w ≡ true → is_some (held (reads h) w) ≡ true
   held_where h w f some = by (held (reads h) w) refl
     where
@@ -94,13 +94,13 @@ module _ (rules : Rules) (net : Net) (u : ℕ) where
       let none = sym was.from ∙ free in
       record { from = was.from; rows = was.rows ∙ (none_of h none ∙ sym (none_of (k ∷ h) none)) }
 
--- ---- what the entry sends or ends is gone
+-- ---- the entry empties what is held back from a neighbour
 
 module _ (rules : Rules) (net : Net) (u : ℕ) (k : Entry) (h : List Entry) (fits : Fits (k ∷ h)) where
   abbrev m : Making
   m = making rules net u h k
 
-  -- what is left of it
+  -- the rows that are left
   abbrev left : Cause → ℕ → ℕ → List Trigger
   left cause w p = if empties cause w then [] else pending rules net u h w p
 
@@ -164,19 +164,19 @@ module _ (rules : Rules) (net : Net) (u : ℕ) (k : Entry) (h : List Entry) (fit
       ∙ (ap (λ l. l ++ rows_without v (rows_over net (pending rules net u h) (held (reads h)) ws)) (gone_rows k.read.cause v w e)
       ∙ ap (λ l. rows_to net (held_part m 0 w) w (held (k.read ∷ reads h) w) ++ l) (over_gone v ws e))
 
-  -- nothing is sent or ended
+  -- the entry empties nothing
   pub part_kept : (back : HeldBack) → emptied k.read.cause ≡ None → HoldsBack rules net u h back → HoldsPart m 0 back
   unfolding pending_rows
   part_kept back e was = record { from = was.from; rows = was.rows ∙ over_kept (neighbours net u) e }
 
-  -- what is held back from v is
+  -- what is held back from v is emptied
   pub part_gone : (old new : HeldBack) (v : ℕ) → emptied k.read.cause ≡ Some v → new.from.items ≡ old.from.items → new.rows ≡ rows_without v old.rows
       → HoldsBack rules net u h old → HoldsPart m 0 new
   unfolding pending_rows
   part_gone old new v e from rows was =
       record { from = from ∙ was.from; rows = rows ∙ (ap (rows_without v) was.rows ∙ over_gone v (neighbours net u) e) }
 
-  -- ---- one neighbour more
+  -- ---- one more neighbour
 
   abbrev next : ℕ → ℕ → List Trigger
   next w p = pending rules net u (k ∷ h) w p
@@ -185,7 +185,7 @@ module _ (rules : Rules) (net : Net) (u : ℕ) (k : Entry) (h : List Entry) (fit
   either true = refl
   either false = refl
 
-  -- at a neighbour from which nothing is held back
+  -- a neighbour from which nothing is held back
   unheld : (w p : ℕ) → holds_back net u w ≡ false → next w p ≡ left k.read.cause w p
   unheld w p e =
       not_pending rules net u (k ∷ h) w p e
@@ -214,7 +214,7 @@ module _ (rules : Rules) (net : Net) (u : ℕ) (k : Entry) (h : List Entry) (fit
   part_same n w back at same was =
       record { from = was.from; rows = was.rows ∙ over_same net (held_part m n) (held_part m (suc n)) (held (k.read ∷ reads h)) (neighbours net u) (λ v p there known. same_part n w v p at (same p known)) }
 
-  -- for whom the entry changes what is offered
+  -- a neighbour for which the entry changes an offer
   abbrev moved_at : ℕ → ℕ → Bool
   moved_at w p = changed rules net u (k.read ∷ reads h) w p
 
@@ -314,7 +314,7 @@ module _ (rules : Rules) (net : Net) (u : ℕ) (k : Entry) (h : List Entry) (fit
         (λ w p near known. ap (λ b. part_in b w p) (ap (λ l. has l w) (take_all n (neighbours net u) whole) ∙ near));
   }
 
-  -- ---- an entry that turns no session, and changes no offer
+  -- ---- an entry that turns no session and changes no offer
 
   turns_emptied : (cause : Cause) → turns_session cause ≡ false → emptied cause ≡ None
   turns_emptied Originate e = refl
@@ -339,7 +339,7 @@ module _ (rules : Rules) (net : Net) (u : ℕ) (k : Entry) (h : List Entry) (fit
       still w p known None e = unready_moves w p e
       still w p known (Some s) e = none_passes (update_of m w) (changed rules net u (k.read ∷ reads h) w) (places net) p (none w s e) known
 
--- what is left of what is held back
+-- the rows that are left
 pub part_left : (rules : Rules) (net : Net) (u : ℕ) (h : List Entry) (k : Entry) (fits : Fits (k ∷ h)) (old new : HeldBack) (cause : Cause) → k.read.cause ≡ cause → new.from.items ≡ old.from.items
     → (emptied cause ≡ None → new.rows ≡ old.rows) → ((v : ℕ) → emptied cause ≡ Some v → new.rows ≡ rows_without v old.rows)
     → HoldsBack rules net u h old → HoldsPart (making rules net u h k) 0 new
@@ -349,7 +349,7 @@ part_left rules net u h k fits old new cause is from none some was = by (emptied
     by None e = part_kept rules net u k h fits new e (record { from = from ∙ was.from; rows = none (ap emptied (sym is) ∙ e) ∙ was.rows })
     by (Some v) e = part_gone rules net u k h fits old new v e from (some v (ap emptied (sym is) ∙ e)) was
 
--- ---- what the rows of a neighbour tell
+-- ---- what the rows of a neighbour say
 
 module _ (rules : Rules) (net : Net) (u : ℕ) (h : List Entry) (w : ℕ) (back : HeldBack) (was : HoldsBack rules net u h back) (valid : IsValid net) (near : has (neighbours net u) w ≡ true) where
   own : filter (is_to w) (pending_rows rules net u h) ≡ rows_to net (pending rules net u h w) w (held (reads h) w)
@@ -402,7 +402,7 @@ module _ (rules : Rules) (net : Net) (u : ℕ) (h : List Entry) (w : ℕ) (back 
           ∙ sym (unheld_none rules net u h w fits e)
       by (Some s) e = any_row net (pending rules net u h) (held (reads h)) w s (neighbours net u) (rises-neighbours net u valid) near e
 
--- ---- from whom the node holds back
+-- ---- the neighbours from which the node holds back
 
 has_passing : (t : ℕ → Bool) (ws : List ℕ) (w : ℕ) → has ws w ≡ true → has (filter t ws) w ≡ t w
 has_passing t [] w e = absurd (cc e)
@@ -469,7 +469,7 @@ pub put_more : (w s : ℕ) (xs : List Update) (x : Update) (rows : List Pending)
 put_more w s [] x rows = refl
 put_more w s (y ∷ xs) x rows = put_more w s xs x (put_row (row_of w s y) rows)
 
--- one prefix more, of which the neighbour is offered another path
+-- one more prefix whose offer to the neighbour changed
 pub gathered_more : (rules : Rules) (net : Net) (u : ℕ) (h : List Entry) (k : Entry) (knows : Bool) (w s i p q : ℕ) (ps : List ℕ) (ts : List Trigger) (first so_far new : List Pending) → slice_get ps i ≡ Some p → i < length ps
     → differs (making rules net u h k) knows w p ≡ true → q ≡ p → ts ≡ k.triggers
     → so_far ≡ put_all w s (updates_over (making rules net u h k) knows w (take i ps)) first

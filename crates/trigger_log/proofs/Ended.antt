@@ -1,4 +1,4 @@
--- The end of a session changes the best routes that went by its neighbour, and no other.
+-- The end of a session can change only the best routes that went by its neighbour.
 use Rattle.std.proofs.Common.{ℕ, Bool, true, false, cond, not, ◌==◌, ◌||◌, Option, Some, None, List, [], ◌∷◌, ◌≡◌, ◌≢◌, inl, inr, ⊎_elim, refl, sym, ◌∙◌, ap, subst, arith, map, filter, filter_map}
 use Rattle.std.specs.List.{cons_option}
 use Rattle.std.specs.Prelude.{is_some}
@@ -55,12 +55,12 @@ among_to f (v ∷ vs) w d there is =
     behind None a = a
     behind (Some c) a = inr a
 
--- ---- one choice goes, which was not the first
+-- ---- a choice that was not the first goes away
 
 module _ (before : Ranked → Ranked → Bool) (ranking : IsRanking before) (f g : ℕ → Option Choice) (vs : List ℕ) (v : ℕ)
     (named : (w : ℕ) (d : Choice) → f w ≡ Some d → d.nbr ≡ w) (apart_f : Apart (filter_map f vs)) (apart_g : Apart (filter_map g vs))
     (same : (w : ℕ) → w ≢ v → g w ≡ f w) (gone : g v ≡ None) where
-  -- what is left was there
+  -- what is left was there before
   was_so : (w : ℕ) (d : Choice) → g w ≡ Some d → f w ≡ Some d
   was_so w d of = ⊎_elim
       (λ (e : w ≡ v). absurd (cc (sym gone ∙ (ap g (sym e) ∙ of))))
@@ -145,14 +145,14 @@ module _ (net : Net) (u : ℕ) (h : History) (v s p : ℕ) where
             (choices_apart net u h p valid) (choices_apart net u now p valid) choice_other choice_gone c e apart)
       ]) refl other
 
-  -- a best route that does not go by the neighbour stays
+  -- a best route by another neighbour stays
   pub best_stays : (rules : Rules) → IsRanking rules.before → IsValid net → goes_by rules net u h v p ≡ false → best rules net u now p ≡ best rules net u h p
   unfolding best
   best_stays rules ranking valid other = by_first rules ranking valid (owns h p) other
 
--- ---- what is told of the prefixes whose best routes went by the neighbour is all
+-- ---- telling only the prefixes whose best routes went by the neighbour tells everything
 
--- what passes the second test passes the first
+-- the second test implies the first
 filter_left : (t f : ℕ → Bool) → ((p : ℕ) → t p ≡ false → f p ≡ false) → (ps : List ℕ) → filter f (filter t ps) ≡ filter f ps
 filter_left t f off [] = refl
 filter_left t f off (p ∷ ps) =

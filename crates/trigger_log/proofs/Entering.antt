@@ -1,4 +1,4 @@
--- A log with one entry more.
+-- A log with one more entry.
 use Rattle.std.proofs.Common.{ℕ, suc, ◌≤◌, Bool, true, false, List, [], ◌∷◌, ◌≡◌, refl, sym, ◌∙◌, ap, subst, length, flat_map, map, take}
 use Rattle.std.specs.Prelude.{if◌then◌else◌, is_some}
 use Rattle.std.proofs.lemmas.List.{take_all}
@@ -40,19 +40,19 @@ module _ {P : Type 0} (policy : P) (rules : Rules) (net : Net) (u : ℕ) (h : Li
   abbrev made : Entry
   made = entry triggers scope cause
 
-  -- what is listed, where all are told
+  -- what is listed once all are told
   sent_all : (n : ℕ) (all : List Sent) → length (neighbours net u) ≤ n → all ≡ flat_map (sent_to rules net u h made) (take n (neighbours net u)) → all ≡ sent_by rules net u h made
   unfolding sent_by
   sent_all n all whole is = is ∙ ap (flat_map (sent_to rules net u h made)) (take_all n (neighbours net u) whole)
 
-  -- what went out, where all are told
+  -- what goes out once all are told
   pub went_out : (n : ℕ) (rows : List (List SessionMark)) (said : Speech) → length (neighbours net u) ≤ n → ToldTo (making rules net u h made) n rows silence said
       → map going_of said.out ≡ going_by rules net u h made
   unfolding going_by spread
   went_out n rows said whole was =
       was.out ∙ ap (flat_map (λ w. going_in w (told (making rules net u h made) w) (held (made.read ∷ reads h) w))) (take_all n (neighbours net u) whole)
 
-  -- the log that keeps the entry is that of the entries with it
+  -- a log that keeps the entry stands for the entries with it
   pub entered : (old new : NodeLog P) (n : ℕ) (said : Speech) (kept : List Sent) → StandsFor policy rules net u old h → CauseFits h scope cause → ListsFor scope triggers
       → RoutesStandFor policy net u new.routes (made.read ∷ reads h) → new.node ≡ old.node → new.sessions.near ≡ old.sessions.near
       → new.next_count ≡ (if is_local cause then suc old.next_count else old.next_count)
@@ -100,7 +100,7 @@ module _ {P : Type 0} (policy : P) (rules : Rules) (net : Net) (u : ℕ) (h : Li
     after = offers.chosen_after;
   }
 
-  -- a log whose routes alone took the entry
+  -- a log of which only the routes took the entry
   pub midway : (log : NodeLog P) (taken : RouteState P) → StandsFor policy rules net u log h → IsOfNeighbour net u cause → IsPlaced net scope → CauseFits h scope cause → ListsFor scope triggers
       → RoutesStandFor policy net u taken (made.read ∷ reads h) → IsMidway policy (making rules net u h made) log.routes (record log { routes = taken })
   midway log taken was near placed fits lists stands = record {
@@ -123,7 +123,7 @@ asked_one net h p (Ready v s) fits = absurd fits
 asked_one net h p (Prefer v x) fits = absurd fits
 asked_one net h p (Flush v) fits = absurd fits
 
--- an entry of no prefix may change no routes
+-- an entry of no prefix changes no routes
 pub asked_none : (net : Net) (cause : Cause) → asked net Nothing cause ≡ []
 asked_none net Originate = refl
 asked_none net Withdraw = refl
@@ -134,7 +134,7 @@ asked_none net (Ready v s) = refl
 asked_none net (Prefer v x) = refl
 asked_none net (Flush v) = refl
 
--- all that is asked for covers the entry
+-- all prefixes that are asked for cover the entry
 pub all_covered : (m : Making) (prefixes : List ℕ) → prefixes ≡ asked m.net m.entry.read.scope m.entry.read.cause → Covers m prefixes
 all_covered m prefixes is w s e = ap (updates_over m (is_some (ready (reads m.before) w)) w) is
 
@@ -146,7 +146,7 @@ none_offered m is = record {
   chosen_after = tt;
 }
 
--- equal lists are offers too
+-- lists equal to offers are offers
 pub as_offered : (m : Making) {before after old new : List Offer} → old ≡ before → new ≡ after → AreOffers m before after → AreOffers m old new
 as_offered m {before} {after} {old} {new} is_before is_after offers =
     subst (λ l. AreOffers m l new) (sym is_before) (subst (AreOffers m before) (sym is_after) offers)

@@ -1,4 +1,4 @@
--- A mark that is found among the marks, or is not.
+-- Finding a mark among the marks.
 use Rattle.std.proofs.Common.{◌≡◌, ◌<◌, ◌==◌, ◌&&◌, false, ℕ, zero, suc, List, [], ◌∷◌, length, get_or, subst, inl, inr, arith, Option, Some, None}
 use Rattle.std.specs.Prelude.{MatchOption, IfSome, IfNone}
 use Rattle.std.specs.List.{AllWithin, HoldsAt}
@@ -16,7 +16,7 @@ index_of [] x a = absurd a
 index_of (y ∷ xs) x (inl e) = (0, omega arith, e)
 index_of (y ∷ xs) x (inr a) = let more = index_of xs x a in (suc more.0, omega (arith, more.1), more.2)
 
--- the mark is of session s with w, or it is not
+-- the mark is that of session s with w, or it is not
 abbrev pub Is : ℕ → ℕ → SessionMark → Type 0
 Is w s mark = (mark.nbr ≡ w) × (mark.session ≡ s)
 

@@ -1,4 +1,4 @@
--- Flags of which best routes are the same.
+-- Flags that say which best routes are the same.
 use Rattle.std.proofs.Common.{ℕ, zero, suc, ◌<◌, Bool, true, false, not, List, [], ◌∷◌, ◌++◌, ◌≡◌, ◌↔◌, refl, sym, ◌∙◌, ap, ap₂, subst, length, replicate, take, Some, slice_get, slice_index_or, arith}
 use Rattle.std.specs.List.{list_any}
 use Rattle.std.proofs.lemmas.Option.{get_or_from_slice_get, same_Some}
@@ -9,7 +9,7 @@ use Rattle.trigger_log.proofs.Rounds.{some_at}
 abbrev Offers : Type 0
 Offers = List Offer
 
--- one flag more
+-- one more flag
 pub flags_more : (before after : Offers) (flags : List Bool) (i : ℕ) (b a : Offer) (flag : Bool) → slice_get before i ≡ Some b → slice_get after i ≡ Some a → (flag ≡ true) ↔ (b ≡ a)
     → AreSame (take i before) (take i after) flags → AreSame (take (suc i) before) (take (suc i) after) (flags ++ flag ∷ [])
 flags_more [] after flags i b a flag at_b at_a is was = absurd (cc at_b)
@@ -20,7 +20,7 @@ flags_more (x ∷ before) (y ∷ after) (f ∷ flags) zero b a flag at_b at_a is
 flags_more (x ∷ before) (y ∷ after) [] (suc i) b a flag at_b at_a is was = absurd was
 flags_more (x ∷ before) (y ∷ after) (f ∷ flags) (suc i) b a flag at_b at_a is was = (was.0, flags_more before after flags i b a flag at_b at_a is was.1)
 
--- none is false exactly where all are the same
+-- no flag is false exactly where all routes are the same
 pub none_other : (p : Bool → Bool) → p true ≡ false → p false ≡ true → (before after : Offers) (flags : List Bool) → AreSame before after flags → (list_any p flags ≡ false) ↔ (before ≡ after)
 none_other p of_true of_false [] [] [] all = ((λ e. refl), (λ e. refl))
 none_other p of_true of_false [] [] (f ∷ flags) all = absurd all
@@ -33,7 +33,7 @@ none_other p of_true of_false (b ∷ before) (a ∷ after) (true ∷ flags) all 
 none_other p of_true of_false (b ∷ before) (a ∷ after) (false ∷ flags) all =
     rw of_false ((λ e. absurd (cc e)), (λ e. let here : b ≡ a = cc in absurd (cc (all.0.1 here))))
 
--- where a look for a flag that is false answers so
+-- the search for a false flag answers accordingly
 pub all_same : (p : Bool → Bool) (found : Bool) (before after : Offers) (flags : List Bool) → found ≡ list_any p flags → p true ≡ false → p false ≡ true → AreSame before after flags → (not found ≡ true) ↔ (before ≡ after)
 all_same p found before after flags is of_true of_false all =
     let one = none_other p of_true of_false before after flags all in
@@ -51,7 +51,7 @@ flags_length (b ∷ before) [] flags all = absurd all
 flags_length (b ∷ before) (a ∷ after) [] all = absurd all
 flags_length (b ∷ before) (a ∷ after) (f ∷ flags) all = ap suc (flags_length before after flags all.1)
 
--- a route whose flag is true stood before
+-- a route whose flag is true was there before
 pub same_at : (before after : Offers) (flags : List Bool) (i : ℕ) (o : Offer) → AreSame before after flags → slice_get flags i ≡ Some true → slice_get after i ≡ Some o → slice_get before i ≡ Some o
 same_at [] [] flags i o all flag at = absurd (cc at)
 same_at [] (a ∷ after) flags i o all flag at = absurd all
@@ -66,7 +66,7 @@ flag_at before after flags i all inside set =
     let here = some_at flags i (omega arith) in
     here.1 ∙ ap (λ f. Some f) (sym (get_or_from_slice_get flags i here.0 false here.1) ∙ set)
 
--- routes that are those before
+-- routes that are the same as before
 pub all_flags : (offers : Offers) (n : ℕ) → n ≡ length offers → AreSame offers offers (replicate n true)
 all_flags [] zero long = tt
 all_flags [] (suc n) long = absurd (omega arith)

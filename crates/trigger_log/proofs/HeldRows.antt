@@ -1,4 +1,4 @@
--- What the rows of what is held back tell, and what one entry more changes in them.
+-- What the rows of held-back updates say, and how one more entry changes them.
 use Rattle.std.proofs.Common.{ℕ, Bool, true, false, cond, ◌==◌, ◌||◌, Option, Some, None, List, [], ◌∷◌, ◌≡◌, refl, sym, ◌∙◌, ap, subst, arith, filter, find, map, flat_map}
 use Rattle.std.specs.Prelude.{if◌then◌else◌}
 use Rattle.std.specs.Option.{option_or}
@@ -22,7 +22,7 @@ use Rattle.trigger_log.specs.Fits.{Fits}
 use Rattle.trigger_log.specs.HeldLists.{is_row, list_in, list_for}
 use Rattle.trigger_log.proofs.Gathering.{gathered_ready, gathered_ascends}
 
--- ---- lists ascend
+-- ---- the lists ascend
 
 all_ascends : (lists : List (List Trigger)) → Ascend (all_of lists)
 all_ascends [] = tt
@@ -32,24 +32,24 @@ module _ (rules : Rules) (net : Net) (u : ℕ) where
   pub pending_ascends : (h : List Entry) (w p : ℕ) → Ascend (pending rules net u h w p)
   pending_ascends h w p = elim (holds_back net u w) as (λ b. Ascend (if b then gathered rules net u h w p else [])) [ true ↦ gathered_ascends rules net u h w p | false ↦ tt ]
 
-  -- a close lists triggers in rising order
+  -- a close lists its triggers in ascending order
   pub close_ascends : (h : List Entry) (k : Entry) (w : ℕ) → Ascend (close_list rules net u h k w)
   unfolding all_pending
   close_ascends h k w = union_ascends k.triggers (all_pending rules net u h w) (all_ascends (map (pending rules net u h w) (places net)))
 
-  -- ---- one entry more
+  -- ---- one more entry
 
-  -- towards a neighbour from which u holds back what it would send: nothing is held back once that is sent or the
-  -- session ends; where the offer changes the entry's triggers come to it; else all is as before
+  -- for a neighbour from which u holds back: a flush or the end of the session empties what is held back; where the
+  -- offer changes, the entry's triggers are added; else all is as before
   pub pending_next : (k : Entry) (h : List Entry) (w p : ℕ) → holds_back net u w ≡ true
       → pending rules net u (k ∷ h) w p
       ≡ (if empties k.read.cause w then [] else if changed rules net u (k.read ∷ reads h) w p then union k.triggers (pending rules net u h w p) else pending rules net u h w p)
   unfolding gathered
   pending_next k h w p e = rw e refl
 
-  -- ---- what rows tell
+  -- ---- what the rows say
 
-  -- a list that is not empty is found, else none
+  -- a list that is not empty is found
   found_row : (h : List Entry) (w s p : ℕ) (ps : List ℕ) → list_in (find (is_row w p) (map (pending_row (pending rules net u h w) w s) (filter (is_pending rules net u h w) ps))) ≡ (if has ps p then pending rules net u h w p else [])
   found_row h w s p [] = refl
   found_row h w s p (q ∷ ps) = by (is_pending rules net u h w q) (q == p) refl refl (found_row h w s p ps)

@@ -1,4 +1,4 @@
--- The entries that a log keeps behind those that it dropped: one more, the one at a place, and what dropping more leaves.
+-- The kept entries of a log: adding one, finding one by its place, and dropping more.
 use Rattle.std.proofs.Common.{ℕ, zero, suc, ◌+◌, ◌-◌, ◌<◌, ◌≤◌, ◌⊎◌, ◌↔◌, ⊎_elim, inr, nat_lt, is_some, IsNone, Option, Some, None, get_or, List, [], ◌∷◌, ◌++◌, length, take, drop, fold, ◌≡◌, refl, sym, ◌∙◌, ap, ap₂, subst, append_assoc, append-nil, arith, slice_get}
 use Rattle.std.specs.List.{AllZip}
 use Rattle.std.proofs.lemmas.Bool.Decides.{nat_tests}
@@ -21,13 +21,13 @@ use Rattle.trigger_log.proofs.Holding.{accepted}
 use Rattle.trigger_log.proofs.Reading.{count_steps}
 use Rattle.trigger_log.proofs.Zips.{fold_append, zip_push, zip_split}
 
--- one more at the end stays, where no more than the others are left out
+-- one more at the end stays, where only others are left out
 drop_more : {A : Type 0} (n : ℕ) (xs : List A) (x : A) → n ≤ length xs → drop n (xs ++ x ∷ []) ≡ drop n xs ++ x ∷ []
 drop_more zero xs x le = refl
 drop_more (suc n) [] x le = absurd (omega (arith, le))
 drop_more (suc n) (y ∷ xs) x le = drop_more n xs x (omega (arith, le))
 
--- what is left is shorter by what is left out
+-- the rest is shorter by what is left out
 drop_long : {A : Type 0} (n : ℕ) (xs : List A) → length (drop n xs) ≡ length xs - n
 drop_long zero xs = omega arith
 drop_long (suc n) [] = omega arith
@@ -39,13 +39,13 @@ drop_all zero (y ∷ xs) le = absurd (omega (arith, le))
 drop_all (suc n) [] le = refl
 drop_all (suc n) (y ∷ xs) le = drop_all n xs (omega (arith, le))
 
--- what is left from a place on, by its first
+-- the rest from a place on begins with the element there
 pub drop_next : {A : Type 0} (xs : List A) (i : ℕ) (x : A) → i < length xs → x ≡ get_or xs i x → drop i xs ≡ x ∷ drop (suc i) xs
 drop_next [] i x below is = absurd (omega arith)
 drop_next (y ∷ xs) zero x below is = ap (λ z. z ∷ xs) (sym is)
 drop_next (y ∷ xs) (suc i) x below is = drop_next xs i x (omega arith) is
 
--- the two parts of a list, by the length of the first
+-- the two parts of a list, by the length of the first part
 drop_front : {A : Type 0} (xs ys : List A) → drop (length xs) (xs ++ ys) ≡ ys
 drop_front [] ys = refl
 drop_front (x ∷ xs) ys = drop_front xs ys
@@ -54,12 +54,12 @@ take_front : {A : Type 0} (xs ys : List A) → take (length xs) (xs ++ ys) ≡ x
 take_front [] ys = refl
 take_front (x ∷ xs) ys = ap (λ l. x ∷ l) (take_front xs ys)
 
--- what is left of a list that was turned, without its end
+-- the rest of a reversed list, without its end
 pub rotated : {A : Type 0} (n m : ℕ) (xs : List A) → m ≡ length xs → take (m - n) (drop n xs ++ take n xs) ≡ drop n xs
 rotated n m xs is =
     ap (λ k. take k (drop n xs ++ take n xs)) (ap (λ k. k - n) is ∙ sym (drop_long n xs)) ∙ take_front (drop n xs) (take n xs)
 
--- one entry more
+-- one more entry
 pub keeps_more : {P : Type 0} (policy : P) (rules : Rules) (net : Net) (u : ℕ) (h : List Entry) (k : Entry) (shown : Shown) (old new : KeptEntries P) → KeepsEntries policy rules net u old h
     → Shows rules net u (record { before = h; entry = k }) shown → new.base ≡ old.base → new.from ≡ old.from → new.next ≡ suc old.next → new.entries.items ≡ old.entries.items ++ shown ∷ []
     → KeepsEntries policy rules net u new (k ∷ h)
@@ -80,15 +80,15 @@ keeps_more policy rules net u h k shown old new was shows base from next entries
           (zip_push (Shows rules net u) (drop n (all_entered h)) old.entries.items (record { before = h; entry = k }) shown was.shown shows)));
     }
 
--- ---- what is kept, read by places
+-- ---- kept entries by place
 
--- what stands at a place of what is left
+-- the element at a place of the rest
 get_behind : {A : Type 0} (n i : ℕ) (xs : List A) → slice_get (drop n xs) i ≡ slice_get xs (n + i)
 get_behind zero i xs = let same : zero + i ≡ i = omega arith in ap (slice_get xs) (sym same)
 get_behind (suc n) i [] = refl
 get_behind (suc n) i (y ∷ xs) = let same : suc n + i ≡ suc (n + i) = omega arith in get_behind n i xs ∙ ap (slice_get (y ∷ xs)) (sym same)
 
--- the kept entry at a place is the one of the log at its index
+-- the kept entry at a place is the entry of the log at its index
 pub kept_at : (h : List Entry) (one : Entered) (from index place : ℕ) → 1 ≤ from → from ≤ index → place ≡ index - from → slice_get (drop (from - 1) (all_entered h)) place ≡ Some one
     → slice_get (all_entered h) (index - 1) ≡ Some one
 kept_at h one from index place counted above is at =
@@ -102,7 +102,7 @@ kept_long policy rules net u kept h was =
     AllZip-long (Shows rules net u) (drop (dropped_before kept) (all_entered h)) kept.entries.items was.shown
     ∙ (drop_long (dropped_before kept) (all_entered h) ∙ ap (λ m. m - dropped_before kept) (count_steps h))
 
--- there is none at a place that was dropped, nor past the last one
+-- there is no entry at a place that was dropped, or past the last one
 pub none_kept : {B : Type 0} (r : Option B) (long from index place : ℕ) → is_some r ≡ nat_lt place (long - (from - 1)) → 1 ≤ from → from - 1 ≤ long → from ≤ index → place ≡ index - from
     → IsNone r ↔ ((index ≤ from - 1) ⊎ (long < index))
 none_kept None long from index place within counted short above is =
@@ -111,14 +111,14 @@ none_kept (Some x) long from index place within counted short above is =
     let inside : place < long - (from - 1) = grind (arith, nat_tests, within) in
     (λ none. absurd (cc none), λ past. absurd (⊎_elim (λ (e : index ≤ from - 1). omega (arith, e, counted, above)) (λ (e : long < index). omega (arith, e, inside, counted, short, above, is)) past))
 
--- ---- more are dropped
+-- ---- dropping more
 
--- the entries of a log behind a base, one by one, the oldest first
+-- the entries of a log after a base, one by one, the oldest first
 abbrev pub entered_on : List Entry → List Entry → List Entered
 entered_on [] base = []
 entered_on (k ∷ newer) base = entered_on newer base ++ record { before = newer ++ base; entry = k } ∷ []
 
--- they are those that are left where the base is left out
+-- they are what is left of all entries without the base
 pub on_base : (newer base : List Entry) → drop (length base) (all_entered (newer ++ base)) ≡ entered_on newer base
 on_base [] base = drop_all (length base) (all_entered base) (let long = count_steps base in omega (arith, long))
 on_base (k ∷ newer) base =
@@ -134,14 +134,14 @@ entered_long (k ∷ newer) base =
     let one = length-append (entered_on newer base) (record { before = newer ++ base; entry = k } ∷ []) in
     omega (arith, before, one)
 
--- those on a base in two parts
+-- the entries after a base, split in two
 entered_parts : (newer mid base : List Entry) → entered_on (newer ++ mid) base ≡ entered_on mid base ++ entered_on newer (mid ++ base)
 entered_parts [] mid base = sym (append-nil (entered_on mid base))
 entered_parts (k ∷ newer) mid base =
     ap₂ (λ l b. l ++ record { before = b; entry = k } ∷ []) (entered_parts newer mid base) (append_assoc newer mid base)
     ∙ append_assoc (entered_on mid base) (entered_on newer (mid ++ base)) (record { before = newer ++ (mid ++ base); entry = k } ∷ [])
 
--- those on a base that are shown stand before the others
+-- shown entries on a base come before the others
 pub first_shown : (rules : Rules) (net : Net) (u : ℕ) (newer mid base : List Entry) (shown : List Shown) → AllZip (Shows rules net u) (drop (length base) (all_entered (newer ++ (mid ++ base)))) shown
     → AllZip (Shows rules net u) (entered_on mid base) (take (length mid) shown)
 first_shown rules net u newer mid base shown z =
@@ -151,7 +151,7 @@ first_shown rules net u newer mid base shown z =
     let size : length parts.0 ≡ length mid = AllZip-long (Shows rules net u) (entered_on mid base) parts.0 parts.3 ∙ entered_long mid base in
     subst (AllZip (Shows rules net u) (entered_on mid base)) (sym (ap₂ (λ n l. take n l) (sym size) (sym parts.2) ∙ take_front parts.0 parts.1)) parts.3
 
--- what routing reads of those that are shown
+-- what routing reads from the shown entries
 pub taken_all : (rules : Rules) (net : Net) (u : ℕ) (mid base : List Entry) (shown : List Shown) (past : History) → AllZip (Shows rules net u) (entered_on mid base) shown
     → fold taken past shown ≡ reads mid ++ past
 taken_all rules net u [] base [] past z = refl
@@ -167,19 +167,19 @@ taken_all rules net u (k ∷ mid) base shown past z =
     last (b ∷ []) z = ap (λ (c : Change). c ∷ (reads mid ++ past)) z.0.read
     last (b ∷ c ∷ bs) z = absurd z.1
 
--- what is read of a log in two parts
+-- what routing reads from a log split in two
 pub reads_parts : (mid base : List Entry) → reads mid ++ reads base ≡ reads (mid ++ base)
 reads_parts [] base = refl
 reads_parts (k ∷ mid) base = ap (λ (r : History). k.read ∷ r) (reads_parts mid base)
 
--- the base of a log in two parts
+-- the base of a log split in two
 pub base_is : (newer base : List Entry) → base_of (trimmed (length base) (newer ++ base)) ≡ base
 base_is newer base =
     let both = length-append newer base in
     let first : length (newer ++ base) - length base ≡ length newer = omega (arith, both) in
     ap (λ n. drop n (newer ++ base)) first ∙ drop_front newer base
 
--- a part of a log from its first entry on is a log
+-- the first part of a log is a log
 pub fits_before : (newer entries : List Entry) → Fits (newer ++ entries) → Fits entries
 fits_before [] entries f = f
 fits_before (k ∷ newer) entries f = fits_before newer entries f.1
@@ -188,13 +188,13 @@ pub all_accepted : (h : List Entry) → Fits h → Accepted (reads h)
 all_accepted [] f = tt
 all_accepted (k ∷ h) f = (accepted h k.read.scope k.read.cause f.1 f.0, all_accepted h f.1)
 
--- what may be a log with more entries may be one without them
+-- if a longer list can be a log, so can its first part
 pub accepted_before : (past : History) (es : List Shown) → Accepted (fold taken past es) → Accepted past
 accepted_before past [] a = a
 accepted_before past (e ∷ es) a = (accepted_before (taken past e) es a).1
 
 module _ {P : Type 0} (policy : P) (rules : Rules) (net : Net) (u : ℕ) (old new : KeptEntries P) where
-  -- what is kept where those in the middle are dropped
+  -- what is kept after the entries in the middle are dropped
   pub keeps_fewer : (newer mid base : List Entry) → KeepsEntries policy rules net u old (newer ++ (mid ++ base)) → Fits (newer ++ (mid ++ base)) → dropped_before old ≡ length base → new.from ≡ old.from + length mid → new.next ≡ old.next
       → (Accepted (fold taken (reads base) (take (length mid) old.entries.items)) → RoutesStandFor policy net u old.base (reads base) → RoutesStandFor policy net u new.base (fold taken (reads base) (take (length mid) old.entries.items)))
       → new.entries.items ≡ drop (length mid) old.entries.items → KeepsEntries policy rules net u new (newer ++ (mid ++ base))
@@ -228,7 +228,7 @@ module _ {P : Type 0} (policy : P) (rules : Rules) (net : Net) (u : ℕ) (old ne
             (subst (AllZip (Shows rules net u) (entered_on newer (mid ++ base))) (sym (entries ∙ rest)) parts.4));
       }
 
-  -- what is kept where all are dropped
+  -- what is kept after all are dropped
   pub keeps_none : (h : List Entry) → KeepsEntries policy rules net u old h → RoutesStandFor policy net u new.base (reads h) → new.from ≡ old.next → new.next ≡ old.next → new.entries.items ≡ []
       → KeepsEntries policy rules net u new h
   keeps_none h was live from next entries =
@@ -246,7 +246,7 @@ module _ {P : Type 0} (policy : P) (rules : Rules) (net : Net) (u : ℕ) (old ne
             (subst (λ l. AllZip (Shows rules net u) l []) (sym (drop_all (length h) (all_entered h) (let long = count_steps h in omega (arith, long)))) tt));
       }
 
-  -- the same by places: the entries before this one are dropped
+  -- the same by places: all entries before this place are dropped
   pub keeps_from : (h : List Entry) (place asked : ℕ) → KeepsEntries policy rules net u old h → Fits h → old.from ≤ place → place ≤ suc (length h) → asked ≡ place - old.from → new.from ≡ place → new.next ≡ old.next
       → ((past : History) → Accepted (fold taken past (take asked old.entries.items)) → RoutesStandFor policy net u old.base past → RoutesStandFor policy net u new.base (fold taken past (take asked old.entries.items)))
       → new.entries.items ≡ drop asked old.entries.items → KeepsEntries policy rules net u new h

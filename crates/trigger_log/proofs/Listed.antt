@@ -1,4 +1,4 @@
--- Each trigger of an item, and of what is held back, is listed by an entry.
+-- Each trigger of an item, or of a held-back update, is listed by an entry.
 use Rattle.std.proofs.Common.{ℕ, zero, suc, ◌+◌, ◌<◌, ◌≤◌, length, arith, Bool, true, false, cond, ◌&&◌, Option, None, Some, ap, flat_map, List, [], ◌∷◌, ◌++◌, ◌≡◌, ◌⊎◌, inl, inr, ⊎_elim, refl, sym, subst, filter, map}
 use Rattle.std.specs.Prelude.{if◌then◌else◌}
 use Rattle.std.specs.List.{AllByRecursion, range_with_len}
@@ -30,7 +30,7 @@ among_either x (y ∷ xs) ys a = ⊎_elim
 abbrev pub Made : (ℕ → Update) → (ℕ → Bool) → Update → Type 0
 Made update test x = (p : ℕ) × (update p ≡ x) × (test p ≡ true)
 
--- each of the updates of the prefixes that pass is one
+-- each update of the prefixes that pass is made of one of them
 pub among_passing : (update : ℕ → Update) (test : ℕ → Bool) (ps : List ℕ) (x : Update) → Among x (map update (filter test ps)) → Made update test x
 among_passing update test [] x a = absurd a
 among_passing update test (p ∷ ps) x a =
@@ -48,7 +48,7 @@ any_lists p [] t a = absurd a
 any_lists p (k ∷ h) t (inl both) = inl both.1
 any_lists p (k ∷ h) t (inr more) = inr (any_lists p h t more)
 
--- the triggers of some lists are those of one of them
+-- a trigger of a union of lists is in one of them
 pub of_all : {A : Type 0} (f : A → List Trigger) (xs : List A) (t : Trigger) → Among t (all_of (map f xs)) → (x : A) × Among x xs × Among t (f x)
 of_all f [] t a = absurd a
 of_all {A = A} f (x ∷ xs) t a = ⊎_elim
@@ -94,7 +94,7 @@ module _ (rules : Rules) (net : Net) (u : ℕ) where
       let one = of_all (pending rules net u h w) (places net) t a in
       any_lists one.0 h t (pending_listed h w one.0 t f one.2)
 
-  -- an update of an entry lists what the entry lists, or what was listed before it, of its prefix
+  -- a trigger of an update is listed by the entry, or was listed before for the same prefix
   news_listed : (h : List Entry) (k : Entry) (w : ℕ) (x : Update) (t : Trigger) → Fits (k ∷ h) → Among x (news rules net u h k w) → Among t x.triggers → ListsOf x.prefix (k ∷ h) t
   unfolding news
   news_listed h k w x t f a b =
@@ -144,7 +144,7 @@ module _ (rules : Rules) (net : Net) (u : ℕ) where
         | false ↦ λ d. inr (close_listed h w s triggers t f.1 d a)
       ]) e
 
--- ---- what holds of each update
+-- ---- a property of every update
 
 -- the numbers of a range are below its end
 below : (a n bound : ℕ) → a + n ≤ bound → AllByRecursion (λ p. p < bound) (range_with_len a n)
@@ -155,7 +155,7 @@ pub below_places : (net : Net) → AllByRecursion (λ p. p < length net.prefixes
 unfolding places
 below_places net = below 0 (length net.prefixes) (length net.prefixes) (omega arith)
 
--- what holds of the update of each prefix that passes holds of all of them
+-- what holds for the update of each prefix that passes holds for all these updates
 each_passing : (P : Update → Type 0) (Q : ℕ → Type 0) (update : ℕ → Update) (test : ℕ → Bool) (ps : List ℕ) → ((p : ℕ) → Q p → test p ≡ true → P (update p)) → AllByRecursion Q ps → AllByRecursion P (map update (filter test ps))
 each_passing P Q update test [] each all = tt
 each_passing P Q update test (p ∷ ps) each all =
@@ -164,8 +164,7 @@ each_passing P Q update test (p ∷ ps) each all =
       | false ↦ λ e. each_passing P Q update test ps each all.1
     ]) refl
 
--- what holds of the update of each prefix whose offer changed, and of each that was held back, holds of all that an
--- entry sends
+-- what holds for the update of each changed prefix, and of each held-back prefix, holds for all that an entry sends
 pub news_each : (P : Update → Type 0) (m : Making) (w : ℕ)
     → ((p : ℕ) → p < length m.net.prefixes → changed m.rules m.net m.node (m.entry.read ∷ reads m.before) w p ≡ true → P (update_of m w p))
     → ((p : ℕ) → p < length m.net.prefixes → flushes m.entry.read.cause w ≡ true → is_pending m.rules m.net m.node m.before w p ≡ true → P (held_update m w p))
@@ -182,7 +181,7 @@ news_each P m w at_once flushed =
 
 -- ---- items, and what is held back
 
--- an item of updates is one of them, with its triggers
+-- an item made from updates is one of them, with its triggers
 from_listed : (w s n : ℕ) (xs : List Update) (item : Sent) → Among item (sent_from w s n xs) → (x : Update) × Among x xs × (x.triggers ≡ item.triggers)
 from_listed w s n [] item a = absurd a
 from_listed w s n (x ∷ xs) item (inl e) = (x, inl refl, ap (λ (i : Sent). i.triggers) e)
@@ -221,7 +220,7 @@ module _ (rules : Rules) (net : Net) (u : ℕ) where
           ⊎_elim (λ (own : Among t k.triggers). inl own) (λ (old : Among t (all_pending rules net u h w)). inr (all_pending_listed rules net u h w t f.1 old))
           (of_union t k.triggers (all_pending rules net u h w) m)
 
-  -- a trigger of an item that an entry lists is listed by an entry; the item goes to a neighbour
+  -- a trigger of a listed item is listed by an entry, and the item goes to a neighbour
   pub sent_listed : (h : List Entry) (k : Entry) (item : Sent) (t : Trigger) → Fits (k ∷ h) → Among item (sent_by rules net u h k) → Among t item.triggers → ((w : ℕ) × Among w (neighbours net u)) × Lists (k ∷ h) t
   unfolding sent_by
   sent_listed h k item t f a b =
@@ -239,7 +238,7 @@ module _ (rules : Rules) (net : Net) (u : ℕ) where
       let one = of_mapped (pending_row (pending rules net u h w) w s) (filter (is_pending rules net u h w) (places net)) row a in
       any_lists one.0 h t (pending_listed rules net u h w one.0 t f (subst (λ (r : Pending). Among t r.triggers) (sym one.2) b))
 
-  -- a trigger of a row of what is held back is listed by an entry; the row is of a neighbour
+  -- a trigger of a row is listed by an entry, and the row is one of a neighbour
   pub pending_rows_listed : (h : List Entry) (row : Pending) (t : Trigger) → Fits h → Among row (pending_rows rules net u h) → Among t row.triggers → ((w : ℕ) × Among w (neighbours net u)) × Lists h t
   unfolding pending_rows
   pending_rows_listed h row t f a b =

@@ -1,4 +1,4 @@
--- The newest session with a neighbour: it is the last of those ever held, and it is held until it is closed.
+-- The newest session with a neighbour is the last of those ever held, and is held until it is closed.
 use Rattle.std.proofs.Common.{ℕ, ◌<◌, true, false, cond, ◌==◌, ◌&&◌, Some, None, List, [], ◌∷◌, ◌++◌, ◌≡◌, ◌⊎◌, inl, inr, ⊎_elim, refl, sym, ◌∙◌, ap, subst, arith}
 use Rattle.std.specs.Prelude.{if◌then◌else◌, is_none}
 use Rattle.std.specs.List.{AllByRecursion}

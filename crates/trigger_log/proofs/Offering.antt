@@ -1,4 +1,4 @@
--- One best route more.
+-- One more best route.
 use Rattle.std.proofs.Common.{ℕ, ◌+◌, ◌<◌, Bool, true, false, List, [], ◌∷◌, ◌++◌, ◌≡◌, refl, sym, ◌∙◌, ap, filter, length, map, take, slice_index_or, arith}
 use Rattle.std.specs.List.{AllByRecursion, range_with_len}
 use Rattle.std.proofs.lemmas.List.{map-append, append-nil, length-map, take_more}
@@ -25,7 +25,7 @@ pub offers_more : (offers : List Offer) (n : ℕ) (o : Offer) → prefixes_of of
 offers_more offers n o so_far is =
     map-append (λ (o : Offer). o.prefix) offers (o ∷ []) ∙ (ap (λ l. l ++ o.prefix ∷ []) so_far ∙ (ap (λ m. range_with_len 0 n ++ m ∷ []) is ∙ sym (range_more n)))
 
--- ---- those that pass a test
+-- ---- the prefixes that pass a test
 
 filter_range : (t : ℕ → Bool) (n : ℕ) → filter t (range_with_len 0 (n + 1)) ≡ filter t (range_with_len 0 n) ++ filter t (n ∷ [])
 filter_range t n = ap (filter t) (range_more n) ∙ filter-append t (range_with_len 0 n) (n ∷ [])
@@ -40,7 +40,7 @@ pub passing_no_more : (t : ℕ → Bool) (offers : List Offer) (n : ℕ) → pre
 passing_no_more t offers n so_far fails =
     so_far ∙ sym (filter_range t n ∙ rw fails (append-nil (filter t (range_with_len 0 n))))
 
--- ---- those of the same prefixes
+-- ---- the same prefixes again
 
 pub again_more : (offers again : List Offer) (i : ℕ) (old new : Offer) → prefixes_of again ≡ take i (prefixes_of offers) → i < length offers → old ≡ slice_index_or offers i old → new.prefix ≡ old.prefix
     → prefixes_of (again ++ new ∷ []) ≡ take (i + 1) (prefixes_of offers)

@@ -1,4 +1,4 @@
--- Rows of what is held back: with one update more, and without those of a neighbour.
+-- Rows of held-back updates: with one more update, and without those of a neighbour.
 use Rattle.std.proofs.Common.{ℕ, zero, suc, ◌+◌, ◌<◌, ◌≤◌, Bool, true, false, cond, not, ◌==◌, ◌&&◌, ◌||◌, nat_lt, Option, Some, None, List, [], ◌∷◌, ◌++◌, ◌≡◌, ◌≢◌, refl, sym, ◌∙◌, ap, subst, arith, filter, map, drop, take, set, slice_get, slice_index_or, length}
 use Rattle.std.specs.Prelude.{if◌then◌else◌}
 use Rattle.std.specs.List.{AllByRecursion, list_any, range_with_len}
@@ -27,7 +27,7 @@ has_first p ps = rw (same_refl p) refl
 has_later : (p q : ℕ) (ps : List ℕ) → has ps q ≡ true → has (p ∷ ps) q ≡ true
 has_later p q ps e = elim (p == q) as (λ b. (b || has ps q) ≡ true) [ true ↦ refl | false ↦ e ]
 
--- ---- rows depend on the triggers of the prefixes of the network alone
+-- ---- rows depend only on the triggers of the network's prefixes
 
 row_step : (f : ℕ → List Trigger) (w s p : ℕ) (ps : List ℕ) → rows_for f w s (p ∷ ps) ≡ (if is_some_trigger (f p) then pending_row f w s p ∷ rows_for f w s ps else rows_for f w s ps)
 row_step f w s p ps =
@@ -68,13 +68,13 @@ over_same net f g a (w ∷ ws) same =
     here None = refl
     here (Some s) = rows_same (f w) (g w) w s (places net) (λ p k. same w p (has_first w ws) k)
 
--- ---- one row more
+-- ---- one more row
 
--- the triggers with these more for p
+-- the triggers, with these added for p
 abbrev pub more_for : ℕ → List Trigger → (ℕ → List Trigger) → ℕ → List Trigger
 more_for p ts f q = if p == q then union ts (f q) else f q
 
--- the triggers with these more for p, of w
+-- the triggers, with these added for p and w
 abbrev pub more_at : ℕ → ℕ → List Trigger → (ℕ → ℕ → List Trigger) → ℕ → ℕ → List Trigger
 more_at w p ts f v q = if v == w && p == q then union ts (f v q) else f v q
 
@@ -101,11 +101,11 @@ module _ (w s p : ℕ) (ts : List Trigger) (some : ts ≢ []) (rising : Ascend t
   abbrev pub new_row : Pending
   new_row = record { to = w; prefix = p; session = s; triggers = ts }
 
-  -- the row stands behind the new one, and is of another prefix or neighbour
+  -- the row is behind the new one, and is of another prefix or neighbour
   abbrev IsAfter : Pending → Type 0
   IsAfter row = (is_row w p row ≡ false) × (is_behind w p row ≡ true)
 
-  -- it stands in front of it
+  -- the row is in front of the new one
   abbrev IsBefore : Pending → Type 0
   IsBefore row = (is_row w p row ≡ false) × (is_behind w p row ≡ false)
 
@@ -158,7 +158,7 @@ module _ (w s p : ℕ) (ts : List Trigger) (some : ts ≢ []) (rising : Ascend t
           let test : nat_lt p start ≡ true = grind (arith, nat_tests) in
           (rw (same, apart) refl, rw (same, test) (elim (nat_lt w w) as (λ b. (b || true) ≡ true) [ true ↦ refl | false ↦ refl ]))
 
-  -- at the place of p itself
+  -- the row of p itself
   put_here : (us : List Trigger) (tail rest : List Pending) → AllByRecursion IsAfter (tail ++ rest) → put_row new_row (one_row w s p us tail ++ rest) ≡ one_row w s p (union ts us) tail ++ rest
   put_here [] tail rest after =
       put_front (tail ++ rest) after
@@ -167,7 +167,7 @@ module _ (w s p : ℕ) (ts : List Trigger) (some : ts ≢ []) (rising : Ascend t
       let same : (w == w && p == p) ≡ true = grind (arith, nat_tests) in
       rw same (sym (ap (λ b. (if b then record { to = w; prefix = p; session = s; triggers = union ts (u ∷ us) } ∷ tail else tail) ++ rest) (some_more ts (u ∷ us) some)))
 
-  -- in front of it
+  -- a row in front of it
   put_later : (q : ℕ) (us : List Trigger) (tail more rest : List Pending) → q < p → put_row new_row (tail ++ rest) ≡ more ++ rest → put_row new_row (one_row w s q us tail ++ rest) ≡ one_row w s q us more ++ rest
   put_later q [] tail more rest less later = later
   put_later q (u ∷ us) tail more rest less later =
@@ -235,7 +235,7 @@ module _ (w s p : ℕ) (ts : List Trigger) (some : ts ≢ []) (rising : Ascend t
         ∙ (put_seg (f w) rest 0 (length net.prefixes) (omega arith) (omega arith) after
         ∙ ap (λ l. l ++ rest) (sym (seg_is (more_for p ts (f w)) 0 (length net.prefixes)))))
 
-    -- the row comes to those of its neighbour and prefix
+    -- the row is added to those of its neighbour and prefix
     pub put_over : (ws : List ℕ) → Rises ws → has ws w ≡ true → put_row new_row (rows_over net f a ws) ≡ rows_over net (more_at w p ts f) a ws
     put_over [] rises e = absurd (cc e)
     put_over (v ∷ vs) rises e =
@@ -260,14 +260,14 @@ module _ (w s p : ℕ) (ts : List Trigger) (some : ts ≢ []) (rising : Ascend t
             (put_own (rows_over net f a vs) (a w) session (after_rest (rows_over net f a vs) (rows_above vs all))
             ∙ ap (λ l. rows_to net (more_for p ts (f w)) w (a w) ++ l) (others all))
 
--- ---- updates of some prefixes come to what is held back from w
+-- ---- updates of some prefixes are added to what is held back from w
 
 module _ (net : Net) (a : ℕ → Option ℕ) (ws : List ℕ) (rises : Rises ws) (w s : ℕ) (near : has ws w ≡ true) (session : a w ≡ Some s)
     (ts : List Trigger) (rising : Ascend ts) (path : ℕ → Option (List ℕ)) (test : ℕ → Bool) (some : (p : ℕ) → test p ≡ true → ts ≢ []) where
   abbrev update : ℕ → Update
   update p = record { prefix = p; triggers = ts; path = path p }
 
-  -- the triggers come to those of w for each of these prefixes that passes
+  -- for each of these prefixes that passes, the triggers are added to those of w
   abbrev pub more_over : List ℕ → (ℕ → ℕ → List Trigger) → ℕ → ℕ → List Trigger
   more_over ps f v p = if v == w && (has ps p && test p) then union ts (f v p) else f v p
 
@@ -431,7 +431,7 @@ there [] n w at = absurd (cc at)
 there (x ∷ ws) zero w at = subst (λ y. has (y ∷ ws) w ≡ true) (sym (same_Some x w at)) (has_first w ws)
 there (x ∷ ws) (suc n) w at = has_later x w ws (there ws n w at)
 
--- it is none of those before
+-- the new one is none of those before
 pub not_yet : (ws : List ℕ) (n w : ℕ) → Rises ws → slice_get ws n ≡ Some w → has (take n ws) w ≡ false
 not_yet [] n w rises at = absurd (cc at)
 not_yet (x ∷ ws) zero w rises at = refl
@@ -493,7 +493,7 @@ any_default [] i a b inside = absurd (omega arith)
 any_default (first ∷ rows) zero a b inside = refl
 any_default (first ∷ rows) (suc i) a b inside = any_default rows i a b (omega arith)
 
--- the row that is there gets the triggers besides
+-- the row that is there gets the triggers added
 pub put_there : (x : Pending) (rows : List Pending) (i : ℕ) (row : Pending) → i < length rows → row ≡ slice_index_or rows i row → is_row x.to x.prefix row ≡ true → put_row x rows ≡ take i rows ++ put_row x (drop i rows)
     → put_row x rows ≡ set rows i (with_more x.triggers (slice_index_or rows i x))
 put_there x rows i row inside is test so_far =

@@ -1,4 +1,4 @@
--- An entry that changes no best route and turns no session says nothing.
+-- An entry that changes no best route and turns no session tells nothing.
 use Rattle.std.proofs.Common.{ℕ, ◌+◌, ◌<◌, Bool, true, false, not, Option, Some, None, List, [], ◌∷◌, ◌++◌, ◌≡◌, ◌≢◌, ◌↔◌, refl, sym, ◌∙◌, ap, subst, arith, length, map, filter, flat_map, take, slice_get, slice_index_or, ⊎_elim}
 use Rattle.std.specs.Prelude.{if◌then◌else◌, is_some, option_map}
 use Rattle.std.proofs.lemmas.Bool.{cases_eq}
@@ -86,7 +86,7 @@ not_flushed (Ready v s) w e = refl
 not_flushed (Prefer v x) w e = refl
 not_flushed (Flush v) w e = absurd (cc e)
 
--- ---- equal routes are offered alike
+-- ---- equal routes give equal offers
 
 module _ (rules : Rules) (net : Net) (u w : ℕ) where
   exported_path : (route : Route) → path_of u (exported rules net u w route) ≡ (if may_tell rules (learned net u route) (relation net u w) then path_of u route else None)
@@ -117,7 +117,7 @@ module _ (rules : Rules) (net : Net) (u : ℕ) (h : List Entry) (k : Entry) (w :
       → updates_over (making rules net u h k) true w (prefixes_of offers) ≡ []
   none_over offers before after = ap (map (update_of (making rules net u h k) w)) (none_differs offers before after)
 
--- a route whose flag is true is offered as before to whom knows what was offered
+-- a route whose flag is true is offered as before to a neighbour that knew the offers
 pub stands_still : (rules : Rules) (net : Net) (u : ℕ) (h : List Entry) (k : Entry) (knows : Bool) (w : ℕ) (before after : List Offer) (flags : List Bool) (i : ℕ) (o : Offer) → knows ≡ true → slice_index_or flags i false ≡ true
     → AreSame before after flags → i < length after → slice_get after i ≡ Some o → AreChosen rules net u (reads h) before → AreChosen rules net u (k.read ∷ reads h) after
     → differs (making rules net u h k) knows w o.prefix ≡ false
@@ -127,7 +127,7 @@ stands_still rules net u h k knows w before after flags i o known set all inside
     ∙ same_offered rules net u h k w o (all_at (λ (o : Offer). Copies net u o.chosen (best rules net u (reads h) o.prefix)) before i o was there)
     (all_at (λ (o : Offer). Copies net u o.chosen (best rules net u (k.read ∷ reads h) o.prefix)) after i o now here)
 
--- it is no news to whom knows what was offered
+-- it is no news to such a neighbour
 pub stood : (rules : Rules) (net : Net) (u : ℕ) (h : List Entry) (k : Entry) (knows : Bool) (w : ℕ) (before after : List Offer) (flags : List Bool) (i : ℕ) → knows ≡ true → slice_index_or flags i false ≡ true
     → AreSame before after flags → i < length after → AreChosen rules net u (reads h) before → AreChosen rules net u (k.read ∷ reads h) after
     → updates_over (making rules net u h k) knows w (take (i + 1) (prefixes_of after)) ≡ updates_over (making rules net u h k) knows w (take i (prefixes_of after))
@@ -137,12 +137,12 @@ stood rules net u h k knows w before after flags i known set all inside was now 
     over_same rules net u h k knows w (prefixes_of after) i o.prefix (slice_get-map (λ (o : Offer). o.prefix) after i ∙ ap (option_map (λ (o : Offer). o.prefix)) here.1)
     (omega (arith, length-map after (λ (o : Offer). o.prefix))) (stands_still rules net u h k knows w before after flags i o known set all inside here.1 was now)
 
--- that a session is ready changes no best route
+-- making a session ready changes no best route
 pub best_ready : (rules : Rules) (net : Net) (u : ℕ) (h : History) (v s p : ℕ) → best rules net u (change All (Ready v s) ∷ h) p ≡ best rules net u h p
 unfolding best beyond
 best_ready rules net u h v s p = refl
 
--- so the best routes after it are those before it
+-- so the best routes before and after it are the same
 pub chosen_ready : (rules : Rules) (net : Net) (u : ℕ) (h : History) (v s : ℕ) (offers : List Offer) → AreChosen rules net u (change All (Ready v s) ∷ h) offers → AreChosen rules net u h offers
 chosen_ready rules net u h v s [] all = tt
 chosen_ready rules net u h v s (o ∷ offers) all =
@@ -152,11 +152,11 @@ flat_none : {A : Type 0} (f : ℕ → List A) (ns : List ℕ) → ((n : ℕ) →
 flat_none f [] none = refl
 flat_none f (n ∷ ns) none = ap (λ l. l ++ flat_map f ns) (none n) ∙ flat_none f ns none
 
--- ---- an entry that turns no session, and has no news for those that are ready
+-- ---- an entry that turns no session, and has no news for ready neighbours
 
 module _ (rules : Rules) (net : Net) (u : ℕ) (h : List Entry) (k : Entry) (fitting : Fits (k ∷ h)) (turns_none : turns_session k.read.cause ≡ false)
     (none_ready : (w s : ℕ) → ready (k.read ∷ reads h) w ≡ Some s → moved_to (making rules net u h k) w ≡ []) where
-  -- where it changes no offer it sends nothing, since it is no flush
+  -- an entry that changes no offer and is no flush sends nothing
   not_moved : (w : ℕ) → moved_to (making rules net u h k) w ≡ [] → (b : Bool) → holds_back net u w ≡ b → news rules net u h k w ≡ []
   not_moved w none true e = news_held rules net u h k w e (not_flushed k.read.cause w turns_none)
   not_moved w none false e = news_at_once rules net u h k w e ∙ none
@@ -201,7 +201,7 @@ module _ (rules : Rules) (net : Net) (u : ℕ) (h : List Entry) (k : Entry) (fit
       zip_map (λ s mark. Says (k ∷ h) w s (sent_count rules net u h w s) mark) (λ s mark. Says (k ∷ h) w s (sent_count rules net u (k ∷ h) w s) mark)
       (λ s mark says. is_mark rules net u h k w fitting s (sent_count rules net u h w s) mark (as_before w s) says) (ever (k ∷ h) w) row was
 
-  -- all are told where none is
+  -- if nobody is to be told, all are told
   pub told_silent : (n : ℕ) (rows : List (List SessionMark)) (before after : Speech) → ToldTo (making rules net u h k) 0 rows before after
       → ToldTo (making rules net u h k) n rows before after
   told_silent n rows before after was = record {
@@ -232,7 +232,7 @@ module _ {P : Type 0} (policy : P) (rules : Rules) (net : Net) (u : ℕ) (h : Li
       ∙ (ap (λ b. updates_over (making rules net u h k) b w (prefixes_of turn.after.now)) (was_known h k w s enters.fitting turns_no_session e)
       ∙ none_over rules net u h k w turn.after.now before enters.after))
 
-  -- all are told where none is
+  -- if nobody is to be told, all are told
   pub told_quiet : (n : ℕ) (rows : List (List SessionMark)) (before after : Speech) → ToldTo (making rules net u h k) 0 rows before after
       → ToldTo (making rules net u h k) n rows before after
   told_quiet n rows before after was = told_silent rules net u h k enters.fitting turns_no_session same_news n rows before after was

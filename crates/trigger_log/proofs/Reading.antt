@@ -1,4 +1,4 @@
--- What is read of a log.
+-- What the calls read from a log.
 use Rattle.std.proofs.Common.{ℕ, zero, suc, ◌+◌, ◌<◌, ◌≤◌, Bool, true, false, ◌&&◌, ◌==◌, nat_eq, not, ◌-◌, Option, Some, None, IsNone, List, [], ◌∷◌, ◌++◌, ◌≡◌, ◌⊎◌, inr, ⊎_elim, refl, sym, ◌∙◌, ap, subst, arith, length, length-append, slice_get, slice_index_or, nat_cmp, nat_lt, is_lt}
 use Rattle.std.specs.Prelude.{if◌then◌else◌, IfSome, IfNone, ◌↔◌, IsTrue, is_some, is_none}
 use Rattle.std.proofs.lemmas.Option.{same_Some, slice_get_read}
@@ -67,7 +67,7 @@ none_some : {A : Type 0} (o : Option A) → is_none o ≡ not (is_some o)
 none_some None = refl
 none_some (Some x) = refl
 
--- no session is held with a neighbour whose newest is closed
+-- no session is held with a neighbour whose newest session is closed
 pub held_not : (h : List Entry) (w n : ℕ) (mark : SessionMark) → Fits h → Says h w (last (reads h) w) n mark → is_some mark.down ≡ true → held (reads h) w ≡ None
 held_not h w n mark fits says closed =
     held_mark h w n mark fits says ∙ ap (λ b. if b then Some (last (reads h) w) else None) (none_some mark.down ∙ ap not closed)
@@ -91,7 +91,7 @@ zip_back R (a ∷ xs) [] i y all at = absurd all
 zip_back R (a ∷ xs) (b ∷ ys) zero y all at = (a, refl, subst (R a) (same_Some b y at) all.0)
 zip_back R (a ∷ xs) (b ∷ ys) (suc i) y all at = zip_back R xs ys i y all.1 at
 
--- what `get` answers
+-- what `get` returns
 pub got : {A B : Type 0} (read : B → A) (r : Option B) (xs : List A) (i : ℕ) → is_some r ≡ nat_lt i (length xs) → IfSome r (λ x. read x ≡ slice_index_or xs i (read x)) → IfSome r (λ x. slice_get xs i ≡ Some (read x))
 got read None xs i within is = tt
 got read (Some x) xs i within is = slice_get_read xs (length xs) i (read x) refl (grind (arith, nat_tests)) is
@@ -133,7 +133,7 @@ not_is : (r o : Bool) → r ≡ o → (IsTrue (not r) → o ≡ false) × (o ≡
 not_is true o e = (λ yes. absurd (cc yes), λ f. absurd (cc (e, f)))
 not_is false o e = (λ yes. sym e, λ f. refl)
 
--- ---- what fits
+-- ---- which entry fits
 
 module _ (net : Net) (u : ℕ) (h : List Entry) (cause : Cause) (near : IsOfNeighbour net u cause) where
   pub near_of : (c : Cause) → cause ≡ c → IsOfNeighbour net u c
@@ -168,7 +168,7 @@ module _ (net : Net) (u : ℕ) (h : List Entry) (cause : Cause) (near : IsOfNeig
   pub fits_ready_not : (v s : ℕ) (holds : Bool) → cause ≡ Ready v s → IsTrue holds ↔ (held (reads h) v ≡ Some s) → holds ≡ false → IsTrue holds ↔ CauseFits h All cause
   fits_ready_not v s holds is of not_so = fits_as All (Ready v s) holds is (λ t. absurd (cc (t, not_so)), λ f. of.1 f.0)
 
--- what is kept where there is one
+-- a value that is kept only in one case
 kept_is : (b : Bool) (x t : ℕ) → Some t ≡ (if b then Some x else None) → x ≡ t
 kept_is true x t is = cc is
 kept_is false x t is = absurd (cc is)

@@ -37,7 +37,7 @@ pair = record {
 abbrev of : ℕ → ℕ → List Trigger
 of node count = record { node = node; count = count } ∷ []
 
--- node 1 originates, closes session 1, opens session 2, which node 2 has opened too, and hears from it
+-- node 1 originates, closes session 1, opens session 2, hears that node 2 has opened it too, and receives its update
 abbrev first_end : List Entry
 first_end = reverse (
     entry (of 1 1) (One 0) Originate
@@ -47,7 +47,7 @@ first_end = reverse (
     ∷ entry (of 1 4) (One 0) (Recv 2 2 1 (Some (2 ∷ 1 ∷ [])))
     ∷ [])
 
--- node 2 does the same, and hears the path of node 1 in session 2 first
+-- node 2 does the same, and first receives the path of node 1 in session 2
 abbrev second_end : List Entry
 second_end = reverse (
     entry (of 2 1) All (Down 1 1)
@@ -64,12 +64,12 @@ lists u (k ∷ h) = lists u h ++ sent_by gao_rexford pair u h k ∷ []
 abbrev to : ℕ → ℕ → ℕ → List Trigger → Sent
 to w s n triggers = record { to = w; session = s; seq = n; triggers = triggers }
 
--- an update, then the close behind it, nothing at the opening, and a new count in the new session
+-- an update, then the close, nothing at the opening, and a new count in the new session
 listed_first : lists 1 first_end ≡ (to 2 1 1 (of 1 1) ∷ []) ∷ (to 2 1 2 (of 1 2) ∷ []) ∷ [] ∷ (to 2 2 1 (of 1 4) ∷ []) ∷ [] ∷ []
 unfolding all
 listed_first = refl
 
--- a close where nothing was said before it, and nothing to offer when the session is ready
+-- a close where nothing was told before, and no offer when the session is ready
 listed_second : lists 2 second_end ≡ (to 1 1 1 (of 2 1) ∷ []) ∷ [] ∷ [] ∷ (to 1 2 1 (of 1 4) ∷ []) ∷ []
 unfolding all
 listed_second = refl

@@ -1,4 +1,4 @@
--- One neighbour more is told.
+-- One more neighbour is told.
 use Rattle.std.proofs.Common.{ℕ, zero, suc, ◌+◌, ◌<◌, ◌≤◌, true, false, Some, List, [], ◌∷◌, ◌++◌, ◌≡◌, ◌≢◌, refl, sym, ◌∙◌, ap, subst, arith, length, length-set, map, flat_map, take, set, slice_get, append_assoc, ⊎_elim}
 use Rattle.std.specs.List.{AllZip}
 use Rattle.std.proofs.lemmas.Bool.{cases_eq}
@@ -138,7 +138,7 @@ module _ (rules : Rules) (net : Net) (u : ℕ) (h : List Entry) (k : Entry) (fit
             ∙ ap (λ l. map going_of first.out ++ l) (sym (flat_more gone (neighbours net u) n w at))));
       })
 
-  -- where none are told, and where all are
+  -- none are told, and all are told
   pub told_none : (rows : List (List SessionMark)) (speech : Speech) → AreAllMarked (making rules net u h k) rows → ToldTo (making rules net u h k) 0 rows speech speech
   told_none rows speech marked = record {
     width = AllZip-long (AreMarked (making rules net u h k)) (neighbours net u) rows marked;

@@ -1,4 +1,4 @@
--- The rows of what is held back stay in their order, and where a row stands among them.
+-- The rows of held-back updates stay in order; and the place of a row.
 use Rattle.std.proofs.Common.{ℕ, zero, suc, ◌+◌, ◌<◌, ◌≤◌, Bool, true, false, cond, not, ◌==◌, ◌&&◌, ◌||◌, nat_lt, List, [], ◌∷◌, ◌++◌, ◌≡◌, refl, sym, ◌∙◌, ap, subst, arith, filter, drop, take, set, slice_index_or, length}
 use Rattle.std.specs.Prelude.{if◌then◌else◌}
 use Rattle.std.specs.List.{AllByRecursion}
@@ -7,7 +7,7 @@ use Rattle.topology.specs.declared.items.Pending.{Pending}
 use Rattle.trigger_log.specs.HeldLists.{is_row}
 use Rattle.trigger_log.specs.Putting.{is_behind, is_to, put_row, rows_without, with_more, RowsRise}
 
--- the row stands before that of prefix p to w
+-- the row belongs before that of prefix p and w
 abbrev pub is_ahead : ℕ → ℕ → Pending → Bool
 is_ahead w p row = nat_lt row.to w || (row.to == w && nat_lt row.prefix p)
 
@@ -23,7 +23,7 @@ later_still w p b c one other = grind (arith, nat_tests)
 earlier_still : (w p : ℕ) (a b : Pending) → is_behind a.to a.prefix b ≡ true → is_ahead w p b ≡ true → is_ahead w p a ≡ true
 earlier_still w p a b one other = grind (arith, nat_tests)
 
--- what is neither the row nor behind it is ahead
+-- a row that is neither this one nor behind it is ahead of it
 pub else_ahead : (w p : ℕ) (row : Pending) → is_row w p row ≡ false → is_behind w p row ≡ false → is_ahead w p row ≡ true
 else_ahead w p row other not_behind = grind (arith, nat_tests)
 
@@ -86,7 +86,7 @@ one_of P [] i row inside is all = absurd (omega arith)
 one_of P (first ∷ rows) zero row inside is all = subst P (sym is) all.0
 one_of P (first ∷ rows) (suc i) row inside is all = one_of P rows i row (omega arith) is all.1
 
--- what stands before a row stands ahead of it
+-- a row at an earlier place is ahead
 ahead_of : (rows : List Pending) (i : ℕ) (row : Pending) → RowsRise rows → i < length rows → row ≡ slice_index_or rows i row → AllByRecursion (λ r. is_ahead row.to row.prefix r ≡ true) (take i rows)
 ahead_of [] i row rise inside is = absurd (omega arith)
 ahead_of (first ∷ rows) zero row rise inside is = tt
@@ -95,7 +95,7 @@ ahead_of (first ∷ rows) (suc i) row rise inside is = (
   ahead_of rows i row rise.1 (omega arith) is,
 )
 
--- where a row is ahead of a place, so are those before it
+-- if a row is ahead, so are those before it
 pub lower : (w p : ℕ) (rows : List Pending) (i : ℕ) (row : Pending) → RowsRise rows → i < length rows → row ≡ slice_index_or rows i row → is_ahead w p row ≡ true
     → AllByRecursion (λ r. is_ahead w p r ≡ true) (take (suc i) rows)
 lower w p [] i row rise inside is ahead = absurd (omega arith)
@@ -105,7 +105,7 @@ lower w p (first ∷ rows) (suc i) row rise inside is ahead = (
   lower w p rows i row rise.1 (omega arith) is ahead,
 )
 
--- where a row is behind it, so are those after it
+-- if a row is behind, so are those after it
 pub upper : (w p : ℕ) (rows : List Pending) (i : ℕ) (row : Pending) → RowsRise rows → i < length rows → row ≡ slice_index_or rows i row → is_behind w p row ≡ true
     → AllByRecursion (λ r. is_behind w p r ≡ true) (drop i rows)
 upper w p [] i row rise inside is behind = absurd (omega arith)
@@ -114,7 +114,7 @@ upper w p (first ∷ rows) zero row rise inside is behind =
     (here, all_weaker (λ later. is_behind first.to first.prefix later ≡ true) (λ later. is_behind w p later ≡ true) (λ later next. later_still w p first later here next) rows rise.0)
 upper w p (first ∷ rows) (suc i) row rise inside is behind = upper w p rows i row rise.1 (omega arith) is behind
 
--- ---- where a row comes to stand
+-- ---- where a row is inserted
 
 -- behind those that are ahead
 behind_those : (x : Pending) (rows : List Pending) (n : ℕ) → AllByRecursion (λ r. is_ahead x.to x.prefix r ≡ true) (take n rows) → put_row x rows ≡ take n rows ++ put_row x (drop n rows)
@@ -135,7 +135,7 @@ put_between w p rows n ahead behind x to prefix =
     let high = subst (λ v. AllByRecursion (λ r. is_behind v x.prefix r ≡ true) (drop n rows)) (sym to) (subst (λ q. AllByRecursion (λ r. is_behind w q r ≡ true) (drop n rows)) (sym prefix) behind) in
     behind_those x rows n low ∙ ap (λ l. take n rows ++ l) (before_those x (drop n rows) high)
 
--- a row of the same neighbour and prefix as that at a place comes behind those before it
+-- a row of the same neighbour and prefix as the one at a place comes after all before it
 pub put_at : (x : Pending) (rows : List Pending) (i : ℕ) (row : Pending) → RowsRise rows → i < length rows → row ≡ slice_index_or rows i row → row.to ≡ x.to → row.prefix ≡ x.prefix
     → put_row x rows ≡ take i rows ++ put_row x (drop i rows)
 put_at x rows i row rise inside is to prefix =

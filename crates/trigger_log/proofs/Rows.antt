@@ -1,4 +1,4 @@
--- Rows of marks that are kept as one list.
+-- Rows of marks, stored as one list.
 use Rattle.std.proofs.Common.{◌≡◌, true, ℕ, zero, suc, ◌+◌, ◌-◌, ◌^◌, ◌<◌, ◌≤◌, List, [], ◌∷◌, ◌++◌, length, length-append, append_assoc, get_or, set, slice_get, map, take, drop, refl, sym, ap, ◌∙◌, subst, arith, Some, None}
 use Rattle.std.proofs.lemmas.List.{take_more, same_from_push}
 use Rattle.std.proofs.lemmas.Option.{same_Some, slice_get_read, slice_get_within}
@@ -54,7 +54,7 @@ last_of (x ∷ y ∷ xs) h = let more = last_of (y ∷ xs) (omega arith) in (mor
 pub filled_end : (older : Marks) (mark : SessionMark) → 0 < length (older ++ mark ∷ [])
 filled_end older mark = simp length-append (omega arith)
 
--- what stands where a row ends
+-- the mark at the end of a row
 pub end_at : (front older : Marks) (mark : SessionMark) (back : Marks) (i : ℕ) → i ≡ length front + length older → slice_get (front ++ ((older ++ mark ∷ []) ++ back)) i ≡ Some mark
 end_at [] [] mark back zero e = refl
 end_at [] [] mark back (suc i) e = absurd (omega arith)
@@ -140,7 +140,7 @@ newest_at rows place row marks places has at =
       ends = end.1;
     }
 
--- ---- the rows are what is cut at the places of their last marks
+-- ---- cutting at the places of the last marks gives the rows
 
 pub length_cut : (n : ℕ) (places : List ℕ) (marks : Marks) → length (cut n places marks) ≡ length places
 length_cut n [] marks = refl
@@ -159,7 +159,7 @@ cut_is rows marks places has = rw (has.joins, has.ends) (cut_back 0 rows has.fil
 pub cut_has : (rows : List Marks) (marks : Marks) (places : List ℕ) → HasRows rows marks places → HasRows (cut 0 places marks) marks places
 cut_has rows marks places has = subst (λ r. HasRows r marks places) (sym (cut_is rows marks places has)) has
 
--- ---- a vector of marks with the places of the last ones, whose rows are these
+-- ---- a list of marks and the places of the last ones, for these rows
 
 row_at : (rows : List Marks) (place : ℕ) → place < length rows → (row : Marks) × (slice_get rows place ≡ Some row)
 row_at [] place h = absurd (omega arith)
@@ -177,7 +177,7 @@ places_below n limit (row ∷ rows) f h =
     (omega (arith, f.0), places_below (n + length row) limit rows f.1 (omega arith))
 
 module _ (rows : List Marks) (marks : Marks) (places : List ℕ) (has : HasRows rows marks places) where
-  -- all places can be counted on
+  -- all places are in range
   pub places_small : length marks < 2 ^ 64 → AllByRecursion (λ p. p + 1 < 2 ^ 64) places
   places_small h =
       rw has.ends (all_weaker (λ p. p < length marks) (λ p. p + 1 < 2 ^ 64) (λ p (below : p < length marks). omega arith) (last_places 0 rows)
@@ -215,7 +215,7 @@ module _ (rows : List Marks) (marks : Marks) (places : List ℕ) (has : HasRows 
         same_Some at (0 + length a.front + length row - 1)
         (sym (placed_at (slice_get_within rows place row is)) ∙ (ap (λ l. slice_get l place) has.ends ∙ a.last_at 0))
 
-    -- the last mark of a row is another
+    -- the last mark of a row is replaced
     puts : (older : Marks) (last mark : SessionMark) → slice_get rows place ≡ Some (older ++ last ∷ []) → HasRows (set rows place (older ++ mark ∷ [])) (set marks at mark) places
     puts older last mark is =
         let a = around rows place (older ++ last ∷ []) has.filled is in
@@ -248,7 +248,7 @@ module _ (rows : List Marks) (marks : Marks) (places : List ℕ) (has : HasRows 
     pub put_width : (mark : SessionMark) → length (cut 0 places (set marks at mark)) ≡ length rows
     put_width mark = length_cut 0 places (set marks at mark) ∙ same_length
 
-    -- a row has one mark more
+    -- a row gets one more mark
     opens : (row : Marks) (mark : SessionMark) → slice_get rows place ≡ Some row → HasRows (set rows place (row ++ mark ∷ [])) (insert marks (at + 1) mark) (shifted place places)
     opens row mark is =
         let a = around rows place row has.filled is in
@@ -299,7 +299,7 @@ firsts_filled (x ∷ xs) = (omega arith, firsts_filled xs)
 pub firsts_has : (near : List ℕ) (marks : Marks) (places : List ℕ) → marks ≡ joined (map first near) → places ≡ last_places 0 (map first near) → HasRows (map first near) marks places
 firsts_has near marks places joins ends = record { joins = joins; ends = ends; filled = firsts_filled near }
 
--- ---- a value and its fields
+-- ---- a value equals the record of its fields
 
 pub rows_of : (value : MarkRows) (near : List ℕ) (marks : Marks) (places : List ℕ) → AreKept near marks places → record { near = near; rows = cut 0 places marks } ≡ value → HasRows value.rows marks places
 rows_of value near marks places kept is = subst (λ (r : MarkRows). HasRows r.rows marks places) is kept.has

@@ -1,9 +1,9 @@
--- Numbers that are one more from a place on.
+-- Numbers that are raised by one from a place on.
 use Rattle.std.proofs.Common.{◌≡◌, ℕ, zero, suc, ◌+◌, ◌<◌, ◌≤◌, List, [], ◌∷◌, length, get_or, set, refl, sym, ap, arith}
 use Rattle.std.specs.List.{AllByRecursion}
 use Rattle.trigger_log.specs.Rows.{shifted}
 
--- so many numbers from this place on are one more
+-- n numbers from this place on are one more
 abbrev pub shifted_by : ℕ → ℕ → List ℕ → List ℕ
 shifted_by n m [] = []
 shifted_by zero zero (x ∷ xs) = x ∷ xs
@@ -36,7 +36,7 @@ shifted_length zero zero (x ∷ xs) = refl
 shifted_length zero (suc m) (x ∷ xs) = ap suc (shifted_length zero m xs)
 shifted_length (suc n) m (x ∷ xs) = ap suc (shifted_length n m xs)
 
--- a number behind those that are one more is as it was
+-- a number behind the raised ones is as it was
 pub shifted_below : (n m i d limit : ℕ) (xs : List ℕ) → AllByRecursion (λ p. p + 1 < limit) xs → i ≡ n + m → i < length xs → get_or (shifted_by n m xs) i d + 1 < limit
 shifted_below n m i d limit [] all e h = absurd (omega arith)
 shifted_below zero zero zero d limit (x ∷ xs) all e h = all.0

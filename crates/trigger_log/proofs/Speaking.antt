@@ -1,4 +1,4 @@
--- What an entry says to one neighbour.
+-- What an entry tells one neighbour.
 use Rattle.std.proofs.Common.{ℕ, zero, suc, ◌+◌, ◌<◌, ◌≤◌, Bool, true, false, not, cond, ◌==◌, ◌&&◌, Option, Some, None, List, [], ◌∷◌, ◌++◌, ◌≡◌, refl, sym, ◌∙◌, ap, subst, arith, length, map, filter}
 use Rattle.std.specs.Prelude.{if◌then◌else◌, is_some, is_none}
 use Rattle.std.specs.List.{range_with_len}
@@ -60,7 +60,7 @@ pub ready_mark : (h : List Entry) (w n : ℕ) (mark : SessionMark) → Fits h �
 ready_mark h w n mark fits says =
     ready_of (held (reads h) w) (opened (reads h) w) (is_none mark.down) mark.opened (last (reads h) w) (held_mark h w n mark fits says) says.is_opened
 
--- ---- where w is ready after an entry, it held the session before, and knows the offers unless it is ready by the entry
+-- ---- if w is ready after an entry, it held the session before, and knows the offers unless the entry made it ready
 
 abbrev Knew : List Entry → Cause → ℕ → ℕ → Type 0
 Knew h cause w s = (held (reads h) w ≡ Some s) × (is_some (ready (reads h) w) ≡ not (readies cause w))
@@ -99,7 +99,7 @@ knew_by h scope (Ready v t) w s f c e =
 pub knew : (k : Entry) (h : List Entry) (w s : ℕ) → Fits (k ∷ h) → ready (k.read ∷ reads h) w ≡ Some s → Knew h k.read.cause w s
 knew k h w s f e = knew_by h k.read.scope k.read.cause w s f.1 f.0 e
 
--- ---- the updates over the places of the scope are those of all prefixes whose offer changed
+-- ---- the updates over the scope's prefixes are those of all prefixes whose offer changed
 
 filter_none : (f : ℕ → Bool) (xs : List ℕ) → ((p : ℕ) → f p ≡ false) → filter f xs ≡ []
 filter_none f [] none = refl
@@ -109,7 +109,7 @@ filter_none f (x ∷ xs) none = rw (none x) (filter_none f xs none)
 abbrev pub moved_to : Making → ℕ → List Update
 moved_to m w = map (update_of m w) (filter (changed m.rules m.net m.node (m.entry.read ∷ reads m.before) w) (places m.net))
 
--- there is none where it changed no offer
+-- there is none if the entry changed no offer
 none_moved : (m : Making) (w : ℕ) → ((p : ℕ) → changed m.rules m.net m.node (m.entry.read ∷ reads m.before) w p ≡ false) → moved_to m w ≡ []
 none_moved m w none =
     ap (map (update_of m w)) (filter_none (changed m.rules m.net m.node (m.entry.read ∷ reads m.before) w) (places m.net) none)
@@ -139,7 +139,7 @@ pub flush_moves : (rules : Rules) (net : Net) (u : ℕ) (h : List Entry) (k : En
 flush_moves rules net u h k v w fits is =
     none_moved (making rules net u h k) w (λ p. other_prefix rules net u (reads h) k.read w p (scoped (k ∷ h) fits) (flush_off k h v p fits (ap (λ c. flushes c v) is ∙ same_self v)))
 
--- all prefixes of the scope are asked for where no session is opened and nothing is flushed
+-- all prefixes of the scope are asked for, unless a session is opened or flushed
 pub asked_all : (net : Net) (scope : Scope) (cause : Cause) → ((v s : ℕ) → cause ≡ Up v s → ⊥) → ((v : ℕ) → cause ≡ Flush v → ⊥) → asked net scope cause ≡ places_of net scope
 asked_all net scope Originate other no_flush = refl
 asked_all net scope Withdraw other no_flush = refl
@@ -192,7 +192,7 @@ module _ (rules : Rules) (net : Net) (u : ℕ) (h : List Entry) (k : Entry) (w s
       ap (map (update_of (making rules net u h k) w))
       (filter_same (differs (making rules net u h k) (is_some (ready (reads h) w)) w) moved moves (places_of net k.read.scope) ∙ passing k.read.scope refl placed)
 
-  -- so are those over the prefixes that are asked for
+  -- the updates over the prefixes that are asked for are all updates, too
   pub over_asked : IsPlaced net k.read.scope → updates_over (making rules net u h k) (is_some (ready (reads h) w)) w (asked net k.read.scope k.read.cause) ≡ moved_to (making rules net u h k) w
   over_asked placed = by_cause k.read.cause refl
     where
@@ -279,7 +279,7 @@ module _ (rules : Rules) (net : Net) (u : ℕ) (h : List Entry) (k : Entry) (w :
       let same : t ≡ s = held_is_last (k.read ∷ reads h) w t e in
       count_held rules net u k h w s (e ∙ ap (λ n. Some n) same) ∙ (ap (λ (l : List Update). sent_count rules net u h w s + length l) none ∙ omega arith)
 
-  -- it says nothing
+  -- it tells nothing
   pub spoken_silent : (count : ℕ) (speech : Speech) → count ≡ sent_count rules net u h w (last (k.read ∷ reads h) w) → ends_with k.read.cause w ≡ false → news rules net u h k w ≡ []
       → Spoken (making rules net u h k) w (last (k.read ∷ reads h) w) speech speech count
   spoken_silent count speech so_far open_still none = record {

@@ -1,4 +1,4 @@
--- What an entry changes in the marks of sessions.
+-- How an entry changes the marks of sessions.
 use Rattle.std.proofs.Common.{ℕ, suc, ◌+◌, ◌<◌, true, false, cond, ◌==◌, ◌&&◌, Option, Some, None, List, [], ◌∷◌, ◌++◌, ◌≡◌, ◌≢◌, refl, sym, ◌∙◌, ap, subst, arith, length, length-append, set, slice_get}
 use Rattle.std.specs.Prelude.{if◌then◌else◌}
 use Rattle.std.specs.List.{AllZip}
@@ -206,7 +206,7 @@ module _ (triggers : List Trigger) (scope : Scope) (h : List Entry) (w n : ℕ) 
       subst (λ c. Fits (after c) → names c ≡ Some w → Says (after c) w newest n (record mark { opened = true })) (sym is)
       (λ f by. ready_says v t f (named_is v w by) was) f by
 
--- an entry that came of no update
+-- an entry that is not an update
 pub made_here : (cause : Cause) → ((v t seq : ℕ) (path : Option (List ℕ)) → cause ≡ Recv v t seq path → ⊥) → hears cause ≡ false
 made_here Originate other = refl
 made_here Withdraw other = refl
@@ -250,7 +250,7 @@ module _ (rules : Rules) (net : Net) (u : ℕ) (h : List Entry) (k : Entry) (fit
   pub other_row : (w : ℕ) (row : List SessionMark) → (names k.read.cause ≡ Some w → ⊥) → AreMarks rules net u h w row → AreMarked (making rules net u h k) w row
   other_row w row other was = spared_row w row (opens_none k.read.cause w other) other was
 
-  -- the last mark of a row as it was, and the row with another
+  -- the last mark of a row stays, or is replaced
   pub turned_row : (w : ℕ) (older : List SessionMark) (mark new : SessionMark) → opens_by k.read.cause w ≡ [] → AreMarks rules net u h w (older ++ mark ∷ [])
       → (Says h w (last (reads h) w) (sent_count rules net u h w (last (reads h) w)) mark → Says (k ∷ h) w (last (reads h) w) (sent_count rules net u h w (last (reads h) w)) new)
       → AreMarked (making rules net u h k) w (older ++ new ∷ [])
@@ -264,7 +264,7 @@ module _ (rules : Rules) (net : Net) (u : ℕ) (h : List Entry) (k : Entry) (fit
       ends.older older ends.below parts.0)
       (turn parts.1))
 
--- a session more, in which nothing was said
+-- one more session, with nothing sent or received
 module _ (rules : Rules) (net : Net) (u : ℕ) (h : List Entry) (triggers : List Trigger) (w s : ℕ) (fits : Fits (entry triggers All (Up w s) ∷ h)) where
   abbrev opening : Entry
   opening = entry triggers All (Up w s)
@@ -342,7 +342,7 @@ module _ (rules : Rules) (net : Net) (u : ℕ) (h : List Entry) (rows : List (Li
   not_up (Flush v) w other = refl
   not_up (Up v t) w other = absurd (other v t refl)
 
-  -- the last mark of the row of v is another
+  -- the last mark of the row of v is replaced
   marked_end : (k : Entry) (v i : ℕ) (older : List SessionMark) (mark turned : SessionMark) (new : List (List SessionMark)) → Fits (k ∷ h) → ((v s : ℕ) → k.read.cause ≡ Up v s → ⊥) → names k.read.cause ≡ Some v
       → slice_get (neighbours net u) i ≡ Some v → slice_get rows i ≡ Some (older ++ mark ∷ [])
       → ((n : ℕ) → Says h v (last (reads h) v) n mark → Says (k ∷ h) v (last (reads h) v) n turned) → new ≡ set rows i (older ++ turned ∷ []) → AreAllMarked (making rules net u h k) new

@@ -1,4 +1,4 @@
--- One update more to a listener.
+-- One more update to a listener.
 use Rattle.std.proofs.Common.{ℕ, zero, suc, not, subst, Option, None, option_map, slice_index_or, ◌+◌, ◌<◌, Bool, true, false, List, [], ◌∷◌, ◌++◌, ◌≡◌, refl, sym, ◌∙◌, ap, map, filter, take, length, length-append, slice_get, Some, append_assoc, arith}
 use Rattle.std.specs.Prelude.{if◌then◌else◌}
 use Rattle.std.specs.List.{AllByRecursion}
@@ -66,7 +66,7 @@ filter-one p (y ∷ xs) x =
     ]
 
 module _ (rules : Rules) (net : Net) (u : ℕ) (h : List Entry) (k : Entry) (knows : Bool) (w : ℕ) where
-  -- the updates over one prefix more
+  -- the updates over one more prefix
   over_more : (ps : List ℕ) (i p : ℕ) → slice_get ps i ≡ Some p → i < length ps
       → updates_over (making rules net u h k) knows w (take (i + 1) ps)
       ≡ updates_over (making rules net u h k) knows w (take i ps) ++ (if differs (making rules net u h k) knows w p then update_of (making rules net u h k) w p ∷ [] else [])

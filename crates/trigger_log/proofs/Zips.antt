@@ -1,4 +1,4 @@
--- Two lists place by place.
+-- Properties of two lists, place by place.
 use Rattle.std.proofs.Common.{ℕ, zero, suc, true, false, not, ◌==◌, Some, List, [], ◌∷◌, ◌++◌, ◌≡◌, ◌≢◌, refl, sym, ◌∙◌, ap, subst, arith, fold, length, set, slice_get}
 use Rattle.std.specs.List.{AllZip, AllByRecursion}
 use Rattle.std.proofs.lemmas.Option.{same_Some}
@@ -29,7 +29,7 @@ zip_split R [] ys zs z = ([], zs, refl, tt, z)
 zip_split R (x ∷ xs) ys [] z = absurd z
 zip_split R (x ∷ xs) ys (c ∷ zs) z = let more = zip_split R xs ys zs z.1 in (c ∷ more.0, more.1, ap (λ l. c ∷ l) more.2, (z.0, more.3), more.4)
 
--- what comes of two lists, one behind the other
+-- two pairs of lists, one after the other
 pub fold_append : {A B : Type 0} (f : B → A → B) (b : B) (xs ys : List A) → fold f b (xs ++ ys) ≡ fold f (fold f b xs) ys
 fold_append f b [] ys = refl
 fold_append f b (x ∷ xs) ys = fold_append f (f b x) xs ys
@@ -46,7 +46,7 @@ zip_map R S step [] (y ∷ ys) all = absurd all
 zip_map R S step (x ∷ xs) [] all = absurd all
 zip_map R S step (x ∷ xs) (y ∷ ys) all = (step x y all.0, zip_map R S step xs ys all.1)
 
--- what stands at a place of both
+-- the elements at the same place of both
 pub zip_at : {A B : Type 0} (R : A → B → Type 0) (xs : List A) (ys : List B) (i : ℕ) (x : A) → AllZip R xs ys → slice_get xs i ≡ Some x → (y : B) × (slice_get ys i ≡ Some y) × R x y
 zip_at R [] ys i x all at = absurd (cc at)
 zip_at R (a ∷ xs) [] i x all at = absurd all

@@ -1,4 +1,4 @@
--- What a log keeps of what its node holds back.
+-- What a log stores of the updates that its node holds back.
 use Rattle.std.specs.Prelude.{ℕ, ◌<◌, ◌≡◌, List, [], ◌∷◌, filter, length, map, take, if◌then◌else◌}
 use Rattle.std.specs.List.{AllByRecursion}
 use Rattle.topology.specs.declared.names.Trigger.{Trigger}
@@ -14,20 +14,20 @@ use Rattle.trigger_log.specs.Making.{Making}
 use Rattle.trigger_log.specs.Pending.{empties, pending, pending_rows}
 use Rattle.trigger_log.specs.Putting.{is_to, rows_over}
 
--- the neighbours from which node u holds back what it would send, and what it holds back after these entries
+-- the neighbours from which node u holds back, and the updates that it holds back after these entries
 pub record HoldsBack (rules : Rules) (net : Net) (u : ℕ) (h : List Entry) (held : HeldBack) : Type 0 where
   pub from : held.from.items ≡ filter (holds_back net u) (neighbours net u)
   pub rows : held.rows ≡ pending_rows rules net u h
 
--- what is held back while entry k is made after h: what the entry sends or ends is gone, and what it changes for the
--- first n neighbours is there
+-- what is held back from w of p while entry k is made after h: for the first n neighbours as after k; for the others as
+-- before it, but emptied if k empties it
 abbrev pub held_part : Making → ℕ → ℕ → ℕ → List Trigger
 held_part m n w p =
     if has (take n (neighbours m.net m.node)) w then pending m.rules m.net m.node (m.entry ∷ m.before) w p
     else if empties m.entry.read.cause w then []
     else pending m.rules m.net m.node m.before w p
 
--- these are the rows of that
+-- the rows say this
 pub record HoldsPart (m : Making) (n : ℕ) (held : HeldBack) : Type 0 where
   pub from : held.from.items ≡ filter (holds_back m.net m.node) (neighbours m.net m.node)
   pub rows : held.rows ≡ rows_over m.net (held_part m n) (held_now (m.entry.read ∷ reads m.before)) (neighbours m.net m.node)
@@ -36,7 +36,7 @@ pub record HoldsPart (m : Making) (n : ℕ) (held : HeldBack) : Type 0 where
 abbrev pub ArePlacedRows : Net → List Pending → Type 0
 ArePlacedRows net rows = AllByRecursion (λ (row : Pending). row.prefix < length net.prefixes) rows
 
--- the update of a row: what is offered to w after these entries, for the triggers of the row
+-- the update of a row: what w is offered after these entries, for the triggers of the row
 abbrev pub row_update : Rules → Net → ℕ → History → Pending → ℕ → Update
 row_update rules net u now row w = record { prefix = row.prefix; triggers = row.triggers; path = offer rules net u now row.prefix w }
 

@@ -1,4 +1,4 @@
--- What a log keeps of its entries: those behind the ones that it dropped, and the routes after these.
+-- What a log keeps of its entries: those after the dropped ones, and the routes after the dropped ones.
 use Rattle.std.specs.Prelude.{ℕ, suc, ◌≡◌, ◌≤◌, ◌-◌, List, ◌∷◌, length, drop}
 use Rattle.std.specs.List.{AllZip}
 use Rattle.topology.specs.Net.{Net}
@@ -11,7 +11,7 @@ use Rattle.trigger_log.specs.Dropping.{trimmed, base_of}
 use Rattle.trigger_log.specs.Entered.{all_entered, Shows}
 use Rattle.trigger_log.specs.Entries.{Entry, reads}
 
--- the entry as routing reads it, behind those before it
+-- the entry, as routing reads it, after those before it
 abbrev pub taken : History → Shown → History
 taken past shown = change shown.scope shown.cause ∷ past
 
@@ -19,8 +19,8 @@ taken past shown = change shown.scope shown.cause ∷ past
 abbrev pub dropped_before : {P : Type 0} → KeptEntries P → ℕ
 dropped_before kept = kept.from - 1
 
--- they are those of node u's log in this net, which has these entries: the entries behind the dropped ones, and the routes after
--- the dropped ones
+-- of the entries of node u's log in this net, these are the ones after the dropped ones, with the routes after the
+-- dropped ones
 pub record KeepsEntries {P : Type 0} (policy : P) (rules : Rules) (net : Net) (u : ℕ) (kept : KeptEntries P) (h : List Entry) : Type 0 where
   pub counted : 1 ≤ kept.from
   pub next : kept.next ≡ suc (length h)

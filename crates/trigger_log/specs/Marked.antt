@@ -1,4 +1,5 @@
--- The sessions of a node while it makes an entry: what the entry changes in them is marked, and then what it says is counted.
+-- The sessions of a node while it makes an entry. First the changes of the entry are marked, then the items that it
+-- sends are counted.
 use Rattle.std.specs.Prelude.{ℕ, suc, ◌≡◌, ◌<◌, ◌≤◌, ◌==◌, Bool, true, false, Some, List, ◌∷◌, ◌++◌, length, map, flat_map, take, slice_get}
 use Rattle.std.specs.List.{AllZip}
 use Rattle.topology.specs.declared.names.Trigger.{Trigger}
@@ -25,31 +26,31 @@ abbrev pub ends_with : Cause → ℕ → Bool
 ends_with (Down v s) w = v == w
 ends_with other w = false
 
--- a session with w is ready by the cause
+-- the cause makes a session with w ready
 abbrev pub readies : Cause → ℕ → Bool
 readies (Ready v s) w = v == w
 readies other w = false
 
--- the cause is an update that was received
+-- the cause is a received update
 abbrev pub hears : Cause → Bool
 hears (Recv v s seq path) = true
 hears other = false
 
--- the marks of w after the entry, with the items that were sent before it
+-- the marks of w after the entry, with the item counts from before it
 abbrev pub AreMarked : Making → ℕ → List SessionMark → Type 0
 AreMarked m w marks =
     AllZip (λ s mark. Says (m.entry ∷ m.before) w s (sent_count m.rules m.net m.node m.before w s) mark)
     (ever (m.entry ∷ m.before) w) marks
 
--- so are those of each neighbour
+-- the marks of every neighbour are
 abbrev pub AreAllMarked : Making → List (List SessionMark) → Type 0
 AreAllMarked m rows = AllZip (AreMarked m) (neighbours m.net m.node) rows
 
--- the close of the session that this mark shows, for these triggers
+-- the close of the session of this mark, for these triggers
 abbrev pub close_row : List Trigger → SessionMark → Sent
 close_row triggers mark = record { to = mark.nbr; session = mark.session; seq = suc mark.sent; triggers = triggers }
 
--- the routes and the turn are those of the entry, which fits
+-- the routes and the turn are those of the entry, and the entry fits
 pub record Enters {P : Type 0} (policy : P) (m : Making) (routes : RouteState P) (turn : Turn) : Type 0 where
   pub stands : RoutesStandFor policy m.net m.node routes (m.entry.read ∷ reads m.before)
   pub fitting : Fits (m.entry ∷ m.before)
@@ -60,7 +61,7 @@ pub record Enters {P : Type 0} (policy : P) (m : Making) (routes : RouteState P)
   pub before : AreChosen m.rules m.net m.node (reads m.before) turn.before.now
   pub after : AreChosen m.rules m.net m.node (m.entry.read ∷ reads m.before) turn.after.now
 
--- what the entry says to w is listed and goes out, and count items were sent in session s then
+-- what the entry tells w is listed and goes out; count is the number of items then sent in session s
 pub record Spoken (m : Making) (w s : ℕ) (before after : Speech) (count : ℕ) : Type 0 where
   pub counts : count ≡ sent_count m.rules m.net m.node (m.entry ∷ m.before) w s
   pub sent : after.sent ≡ before.sent ++ sent_to m.rules m.net m.node m.before m.entry w

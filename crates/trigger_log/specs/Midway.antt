@@ -1,4 +1,4 @@
--- A log while it makes an entry: its routes took it, and then all else of the log does.
+-- A log in the middle of an entry: the routes have taken it, and the rest of the log has not.
 use Rattle.std.specs.Prelude.{◌≡◌, List, ◌∷◌, map}
 use Rattle.path_vector.specs.Kept.{IsOfNeighbour}
 use Rattle.path_vector.specs.declared.state.RouteState.{RouteState}
@@ -12,7 +12,8 @@ use Rattle.trigger_log.specs.Making.{Making}
 use Rattle.trigger_log.specs.Offered.{AreChosen, Covers, IsPlaced, prefixes_of}
 use Rattle.trigger_log.specs.Standing.{StandsFor}
 
--- with its routes from before the entry, the log is that of the entries before, which the entry may follow; its routes took it
+-- with the routes from before the entry, the log stands for the entries before; the entry may follow them, and the
+-- routes have taken it
 pub record IsMidway {P : Type 0} (policy : P) (m : Making) (before : RouteState P) (log : NodeLog P) : Type 0 where
   pub was : StandsFor policy m.rules m.net m.node (record log { routes = before }) m.before
   pub near : IsOfNeighbour m.net m.node m.entry.read.cause
@@ -27,7 +28,7 @@ pub record AreOffers (m : Making) (before after : List Offer) : Type 0 where
   pub chosen_before : AreChosen m.rules m.net m.node (reads m.before) before
   pub chosen_after : AreChosen m.rules m.net m.node (m.entry.read ∷ reads m.before) after
 
--- the log is that of the entries with the new one, and what it said is what goes out with that
+-- the log stands for the entries with the new one, and what it said is what goes out with that entry
 pub record IsMade {P : Type 0} (policy : P) (m : Making) (log : NodeLog P) : Type 0 where
   pub stands : StandsFor policy m.rules m.net m.node log (m.entry ∷ m.before)
   pub goes : map going_of log.said.outgoing.items ≡ going_by m.rules m.net m.node m.before m.entry

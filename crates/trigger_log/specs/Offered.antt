@@ -1,4 +1,4 @@
--- The best routes of the prefixes of a scope, as they are kept while an entry is made.
+-- The best routes of the prefixes of a scope, as they are held while an entry is made.
 use Rattle.std.specs.Prelude.{ℕ, ◌<◌, ◌≡◌, ◌↔◌, ◌==◌, Bool, false, IsTrue, not, Option, Some, None, List, [], ◌∷◌, is_some, length, map, filter, if◌then◌else◌}
 use Rattle.std.specs.List.{AllByRecursion}
 use Rattle.topology.specs.declared.names.Scope.{Scope}
@@ -23,13 +23,13 @@ IsPlaced net (One p) = p < length net.prefixes
 IsPlaced net All = Unit {0}
 IsPlaced net Nothing = Unit {0}
 
--- the places of the prefixes of the scope, in file order
+-- the prefixes of the scope, in file order
 abbrev pub places_of : Net → Scope → List ℕ
 places_of net (One p) = p ∷ []
 places_of net All = places net
 places_of net Nothing = []
 
--- the prefixes whose routes an entry may change: none where it opens a session, or sends what is held back
+-- the prefixes whose routes an entry may change: none for an Up or a Flush
 abbrev pub asked : Net → Scope → Cause → List ℕ
 asked net scope Originate = places_of net scope
 asked net scope Withdraw = places_of net scope
@@ -44,7 +44,7 @@ asked net scope (Flush v) = []
 abbrev pub prefixes_of : List Offer → List ℕ
 prefixes_of offers = map (λ (o : Offer). o.prefix) offers
 
--- each of the routes is the best one of its prefix after these entries
+-- each route is the best one of its prefix after these entries
 abbrev pub AreChosen : Rules → Net → ℕ → History → List Offer → Type 0
 AreChosen rules net u h offers =
     AllByRecursion (λ (o : Offer). Copies net u o.chosen (best rules net u h o.prefix)) offers
@@ -69,11 +69,11 @@ AreSame [] [] [] = Unit {0}
 AreSame (b ∷ before) (a ∷ after) (flag ∷ flags) = (IsTrue flag ↔ (b ≡ a)) × AreSame before after flags
 AreSame before after flags = ⊥
 
--- the path that w knows of before the entry: nothing, where it knows nothing
+-- the path that w knows before the entry, or None if it knows no offer
 abbrev pub known_path : Making → Bool → ℕ → ℕ → Option (List ℕ)
 known_path m knows w p = if knows then offer m.rules m.net m.node (reads m.before) p w else None
 
--- w is offered another path of p after the entry than it knows of
+-- after the entry w is offered a path of p that differs from the one it knows
 abbrev pub differs : Making → Bool → ℕ → ℕ → Bool
 differs m knows w p =
     not (same_path (offer m.rules m.net m.node (m.entry.read ∷ reads m.before) p w) (known_path m knows w p))
@@ -82,7 +82,8 @@ differs m knows w p =
 abbrev pub updates_over : Making → Bool → ℕ → List ℕ → List Update
 updates_over m knows w prefixes = map (update_of m w) (filter (differs m knows w) prefixes)
 
--- whoever is ready after the entry is told as much of these prefixes as of all that it may change
+-- for each neighbour that is ready after the entry, the updates over these prefixes are those over all prefixes that
+-- the entry may change
 abbrev pub Covers : Making → List ℕ → Type 0
 Covers m prefixes =
     (w s : ℕ) → ready (m.entry.read ∷ reads m.before) w ≡ Some s →

@@ -1,4 +1,4 @@
--- What entries hold back.
+-- The updates that entries hold back.
 use Rattle.std.specs.Prelude.{ℕ, Bool, true, false, ◌==◌, Option, Some, None, List, [], ◌∷◌, map, filter, flat_map, if◌then◌else◌}
 use Rattle.std.specs.List.{list_any}
 use Rattle.topology.specs.declared.names.Trigger.{Trigger}
@@ -12,13 +12,13 @@ use Rattle.path_vector.specs.History.{held}
 use Rattle.path_vector.specs.Offers.{changed}
 use Rattle.trigger_log.specs.Entries.{Entry, reads}
 
--- after it nothing is held back from w: it sends that, or ends the session
+-- after this cause nothing is held back from w: it is a flush, or ends the session
 abbrev pub empties : Cause → ℕ → Bool
 empties (Flush v) w = v == w
 empties (Down v s) w = v == w
 empties other w = false
 
--- the triggers of the entries that changed the offer of p to w since the last one that empties what is held back
+-- the triggers of the entries that changed the offer of p to w since the last entry that emptied what is held back
 unfoldable pub gathered : Rules → Net → ℕ → List Entry → ℕ → ℕ → List Trigger
 gathered rules net u [] w p = []
 gathered rules net u (k ∷ h) w p =
@@ -26,11 +26,11 @@ gathered rules net u (k ∷ h) w p =
     else if changed rules net u (k.read ∷ reads h) w p then union k.triggers (gathered rules net u h w p)
     else gathered rules net u h w p
 
--- the triggers for which an update of p is held back from w: none where u holds back nothing from w
+-- the triggers for which an update of p is held back from w; none unless u holds back from w
 abbrev pub pending : Rules → Net → ℕ → List Entry → ℕ → ℕ → List Trigger
 pending rules net u h w p = if holds_back net u w then gathered rules net u h w p else []
 
--- there is one at least
+-- the list is not empty
 abbrev pub is_some_trigger : List Trigger → Bool
 is_some_trigger [] = false
 is_some_trigger (t ∷ ts) = true
@@ -39,7 +39,7 @@ is_some_trigger (t ∷ ts) = true
 abbrev pub is_pending : Rules → Net → ℕ → List Entry → ℕ → ℕ → Bool
 is_pending rules net u h w p = is_some_trigger (pending rules net u h w p)
 
--- an update of some prefix is
+-- an update of some prefix is held back from w
 abbrev pub holds_some : Rules → Net → ℕ → List Entry → ℕ → Bool
 holds_some rules net u h w = list_any (is_pending rules net u h w) (places net)
 
@@ -47,19 +47,19 @@ holds_some rules net u h w = list_any (is_pending rules net u h w) (places net)
 unfoldable pub all_pending : Rules → Net → ℕ → List Entry → ℕ → List Trigger
 all_pending rules net u h w = all_of (map (pending rules net u h w) (places net))
 
--- that an update of p is held back from w in session s, for the triggers that p has
+-- the row of p and w in session s, with the triggers of p
 abbrev pub pending_row : (ℕ → List Trigger) → ℕ → ℕ → ℕ → Pending
 pending_row triggers w s p = record { to = w; prefix = p; session = s; triggers = triggers p }
 
--- a row of w in the session for each prefix that has triggers, in file order; none where there is no session
+-- the rows of w in its session, in file order, one for each prefix that has triggers; none where no session is held
 abbrev pub rows_to : Net → (ℕ → List Trigger) → ℕ → Option ℕ → List Pending
 rows_to net triggers w None = []
 rows_to net triggers w (Some s) = map (pending_row triggers w s) (filter (λ p. is_some_trigger (triggers p)) (places net))
 
--- what is held back from w, in the session that is held with it: by prefix in file order
+-- the rows of w, in the session held with it
 abbrev pub pending_to : Rules → Net → ℕ → List Entry → ℕ → Option ℕ → List Pending
 pending_to rules net u h w session = rows_to net (pending rules net u h w) w session
 
--- all that is held back: by neighbour, ascending, then by prefix in file order
+-- all rows: by neighbour, ascending, then by prefix in file order
 unfoldable pub pending_rows : Rules → Net → ℕ → List Entry → List Pending
 pending_rows rules net u h = flat_map (λ w. pending_to rules net u h w (held (reads h) w)) (neighbours net u)

@@ -1,4 +1,4 @@
--- One update more that is held back.
+-- One more update that is held back.
 use Rattle.std.specs.Prelude.{ℕ, Bool, true, ◌≡◌, ◌==◌, ◌&&◌, ◌||◌, not, nat_lt, Option, Some, None, List, [], ◌∷◌, filter, flat_map, map, if◌then◌else◌}
 use Rattle.std.specs.List.{AllByRecursion}
 use Rattle.topology.specs.declared.names.Trigger.{Trigger}
@@ -11,20 +11,20 @@ use Rattle.trigger_log.specs.Entries.{Update}
 use Rattle.trigger_log.specs.Pending.{rows_to}
 use Rattle.trigger_log.specs.HeldLists.{is_row}
 
--- the row stands behind that of prefix p to w
+-- the row belongs behind that of prefix p and w
 abbrev pub is_behind : ℕ → ℕ → Pending → Bool
 is_behind w p row = nat_lt w row.to || (w == row.to && nat_lt p row.prefix)
 
--- each row stands before those that come after it in the list
+-- each row belongs before all that follow it
 abbrev pub RowsRise : List Pending → Type 0
 RowsRise [] = Unit {0}
 RowsRise (row ∷ rows) = AllByRecursion (λ (later : Pending). is_behind row.to row.prefix later ≡ true) rows × RowsRise rows
 
--- the row with these triggers besides
+-- the row with these triggers added
 abbrev pub with_more : List Trigger → Pending → Pending
 with_more triggers row = record row { triggers = union triggers row.triggers }
 
--- the triggers of x come to those of the row of its neighbour and prefix; where there is none, x is put in its place
+-- the triggers of x are added to the row of the same neighbour and prefix; if there is none, x is inserted
 abbrev pub put_row : Pending → List Pending → List Pending
 put_row x [] = x ∷ []
 put_row x (row ∷ rows) =
@@ -36,7 +36,7 @@ put_row x (row ∷ rows) =
 abbrev pub row_of : ℕ → ℕ → Update → Pending
 row_of w s x = record { to = w; prefix = x.prefix; session = s; triggers = x.triggers }
 
--- these updates to w in session s come to what is held back
+-- the updates to w in session s are added one by one
 abbrev pub put_all : ℕ → ℕ → List Update → List Pending → List Pending
 put_all w s [] rows = rows
 put_all w s (x ∷ xs) rows = put_all w s xs (put_row (row_of w s x) rows)
@@ -49,7 +49,7 @@ is_to w row = row.to == w
 abbrev pub rows_without : ℕ → List Pending → List Pending
 rows_without w rows = filter (λ row. not (is_to w row)) rows
 
--- the triggers for which anything is held back from w, as the rows tell
+-- the triggers of all updates held back from w, read from the rows
 abbrev pub triggers_to : ℕ → List Pending → List Trigger
 triggers_to w rows = all_of (map (λ (row : Pending). row.triggers) (filter (is_to w) rows))
 
@@ -57,7 +57,7 @@ triggers_to w rows = all_of (map (λ (row : Pending). row.triggers) (filter (is_
 abbrev pub rows_over : Net → (ℕ → ℕ → List Trigger) → (ℕ → Option ℕ) → List ℕ → List Pending
 rows_over net triggers session ws = flat_map (λ w. rows_to net (triggers w) w (session w)) ws
 
--- the neighbour from which nothing is held back any more after the cause
+-- the neighbour whose rows the cause removes
 abbrev pub emptied : Cause → Option ℕ
 emptied (Down v s) = Some v
 emptied (Flush v) = Some v

@@ -1,4 +1,4 @@
--- The entries that say nothing to any neighbour.
+-- Entries that tell no neighbour anything.
 use Rattle.std.specs.Prelude.{ℕ, ◌≡◌, Bool, true, false, List, [], ◌∷◌}
 use Rattle.topology.specs.Net.{Net}
 use Rattle.path_vector.specs.declared.causes.Cause.{Cause}
@@ -9,7 +9,7 @@ use Rattle.trigger_log.specs.declared.listeners.Turn.{Turn}
 use Rattle.trigger_log.specs.Entries.{Entry, reads}
 use Rattle.trigger_log.specs.Offered.{asked}
 
--- the cause ends a session, makes one ready, or sends what is held back in one
+-- the cause ends a session, makes one ready, or flushes one
 abbrev pub turns_session : Cause → Bool
 turns_session Originate = false
 turns_session Withdraw = false
@@ -20,7 +20,7 @@ turns_session (Ready v s) = true
 turns_session (Prefer v x) = false
 turns_session (Flush v) = true
 
--- the entry turns no session, and the best routes after it are those before it
+-- the entry turns no session, and leaves all best routes as they were
 abbrev pub IsQuiet : Turn → Type 0
 IsQuiet turn = (turns_session turn.cause.now ≡ false) × (turn.before.now ≡ turn.after.now)
 

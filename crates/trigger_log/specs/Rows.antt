@@ -1,23 +1,23 @@
--- Rows of marks that are kept as one list.
+-- Rows of marks, stored as one list.
 use Rattle.std.specs.Prelude.{ℕ, zero, suc, ◌≡◌, ◌<◌, ◌+◌, ◌-◌, List, [], ◌∷◌, ◌++◌, length, flat_map, take, drop}
 use Rattle.std.specs.List.{AllByRecursion}
 use Rattle.trigger_log.specs.declared.sessions.SessionMark.{SessionMark}
 
--- the rows one after the other
+-- the rows one after another
 abbrev pub joined : List (List SessionMark) → List SessionMark
 joined rows = flat_map (λ row. row) rows
 
--- the places of the last marks of the rows, where n marks stand before them
+-- the places of the last marks of the rows, if n marks come before them
 abbrev pub last_places : ℕ → List (List SessionMark) → List ℕ
 last_places n [] = []
 last_places n (row ∷ rows) = (n + length row - 1) ∷ last_places (n + length row) rows
 
--- the rows that end at these places, where n marks stand before the first
+-- the marks cut into rows that end at these places, if n marks come before the first
 abbrev pub cut : ℕ → List ℕ → List SessionMark → List (List SessionMark)
 cut n [] marks = []
 cut n (place ∷ places) marks = take (suc place - n) marks ∷ cut (suc place) places (drop (suc place - n) marks)
 
--- the marks are those of the rows, none of which is empty, and the places those of their last marks
+-- marks are the rows one after another, no row is empty, and places are those of the last marks
 pub record HasRows (rows : List (List SessionMark)) (marks : List SessionMark) (places : List ℕ) : Type 0 where
   pub joins : marks ≡ joined rows
   pub ends : places ≡ last_places 0 rows
@@ -37,7 +37,7 @@ pub record AreKept (near : List ℕ) (marks : List SessionMark) (places : List �
 abbrev pub EndsWith : List SessionMark → SessionMark → Type 0
 EndsWith row mark = (older : List SessionMark) × (row ≡ older ++ mark ∷ [])
 
--- each number from this place on is one more
+-- each number from place n on is one more
 abbrev pub shifted : ℕ → List ℕ → List ℕ
 shifted n [] = []
 shifted zero (x ∷ xs) = suc x ∷ shifted zero xs

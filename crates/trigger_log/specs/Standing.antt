@@ -1,4 +1,5 @@
--- When a log stands for a list of entries: all that it keeps is what is read of the list, and of how many it dropped.
+-- When a log stands for a list of entries: all that it stores is what is read from the list, and from the number of
+-- dropped entries.
 use Rattle.std.specs.Prelude.{ℕ, suc, ◌≡◌, List}
 use Rattle.topology.specs.Net.{Net, neighbours}
 use Rattle.path_vector.specs.Rules.{Rules}

@@ -8,12 +8,12 @@ use Rattle.trigger_log.specs.Entries.{Update}
 use Rattle.trigger_log.specs.Sending.{sent_from}
 use Rattle.trigger_log.specs.Going.{Going, News, going_of, going_to, numbered}
 
--- what an entry says: the items that it lists, and what goes out with it
+-- what an entry tells: the items that it lists, and the messages that go out
 pub record Speech : Type 0 where
   pub sent : List Sent
   pub out : List Outgoing
 
--- what was said, as definitions see it
+-- what was told, as the definitions see it
 abbrev pub speech_of : Said → Speech
 speech_of said = record { sent = said.sent.items; out = said.outgoing.items }
 
@@ -25,7 +25,7 @@ silence = record { sent = []; out = [] }
 abbrev pub update_going : Listener → ℕ → Update → Going
 update_going listener seq update = record { to = listener.nbr; session = listener.session; item = News seq update }
 
--- the listener is told these updates: they are listed and go out, numbered on from those that it was sent
+-- the listener is told these updates: they are listed and go out, numbered on after the items that it was sent before
 pub record TellsUpdates (listener : Listener) (list : List Update) (before after : Speech) (count : ℕ) : Type 0 where
   pub counts : count ≡ listener.sent + length list
   pub sent : after.sent ≡ before.sent ++ sent_from listener.nbr listener.session (suc listener.sent) list

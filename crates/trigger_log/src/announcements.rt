@@ -1,4 +1,4 @@
-//! What an entry says to all neighbours.
+//! What a new entry tells all neighbours.
 ghost use Rattle.std.specs.Prelude.{ℕ, ◌≡◌, ◌<◌, ◌+◌, ◌∷◌, ◌++◌, [], suc, false, true, Some, List, length, map, slice_get, IfOk, OnOk, if◌then◌else◌};
 ghost use Rattle.topology.specs.Lists.{has};
 ghost use Rattle.topology.specs.Triggers.{union};
@@ -34,7 +34,7 @@ fn ends_with(cause: &Cause, with: NodeId) -> bool
     }
 }
 
-/// Whether a session with the neighbour is ready from the entry on.
+/// Whether the entry makes a session with the neighbour ready.
 pub fn readies(cause: &Cause, with: NodeId) -> bool
     ensures { result ≡ readies cause.now with }
 {
@@ -44,7 +44,7 @@ pub fn readies(cause: &Cause, with: NodeId) -> bool
     }
 }
 
-// Whether the entry sends the neighbour what is held back from it.
+// Whether the entry sends the neighbour what was held back from it.
 fn flushes(cause: &Cause, with: NodeId) -> bool
     ensures { result ≡ flushes cause.now with }
 {
@@ -54,8 +54,8 @@ fn flushes(cause: &Cause, with: NodeId) -> bool
     }
 }
 
-// Lists the close of a session, where the other end had opened it, and answers how many items were sent in it then. The
-// close lists the triggers of the entry, and those for which anything is held back from the neighbour.
+// Lists the close of a session, if the other end had opened it. Returns how many items were then sent in the session.
+// The close lists the triggers of the entry, and those of all updates held back from the neighbour.
 fn close(
     held: &HeldBack,
     mark: &SessionMark,
@@ -80,8 +80,8 @@ fn close(
     Ok(seq)
 }
 
-// Lists what is held back from a neighbour, where the entry sends that, and answers how many items were sent in its
-// session then.
+// If the entry flushes, lists the updates that were held back from the neighbour. Returns how many items were then sent
+// in its session.
 fn speak_held<P: Policy + Copy>(
     routes: &RouteState<P>,
     held: &HeldBack,
@@ -108,8 +108,7 @@ fn speak_held<P: Policy + Copy>(
     Ok(tell_held(routes, held.rows(), &listener, said)?)
 }
 
-// Lists what the entry says in the newest session with a neighbour, and answers how many items were
-// sent in it then.
+// Lists what the entry tells the neighbour in its newest session. Returns how many items were then sent in it.
 fn speak<P: Policy + Copy>(
     routes: &RouteState<P>,
     held: &HeldBack,
@@ -143,7 +142,7 @@ fn speak<P: Policy + Copy>(
     Ok(tell(routes, turn, &listener, said)?)
 }
 
-// Lists what the entry says to the neighbour at this place, and counts it.
+// Lists what the entry tells the neighbour at this place, and counts the items.
 fn tell_at<P: Policy + Copy>(
     routes: &RouteState<P>,
     sessions: &mut Sessions,
@@ -168,7 +167,7 @@ fn tell_at<P: Policy + Copy>(
     Ok(())
 }
 
-// Lists what the entry says to each neighbour, ascending, and counts it.
+// Lists what the entry tells each neighbour, in ascending order, and counts the items.
 fn tell_each<P: Policy + Copy>(
     routes: &RouteState<P>,
     sessions: &mut Sessions,
@@ -190,8 +189,8 @@ fn tell_each<P: Policy + Copy>(
     Ok(())
 }
 
-/// What the entry says to each neighbour, ascending: it is counted in their sessions. It stands in the memory of what was
-/// said before. Nothing is looked at where the entry has nothing to say.
+/// Lists what the entry tells each neighbour, in ascending order, and counts the items in their sessions. The lists are
+/// those of the last entry, used again. If the entry has nothing to tell, no neighbour is looked at.
 pub fn tell_all<P: Policy + Copy>(
     routes: &RouteState<P>,
     sessions: &mut Sessions,

@@ -1,4 +1,4 @@
-//! Entries, as a log keeps them.
+//! Entries as a log stores them.
 use path_vector::Cause;
 use topology::{Scope, SentItems, Triggers};
 

@@ -1,4 +1,4 @@
-//! What a node holds back from its neighbours.
+//! The updates that a node holds back from its neighbours.
 ghost use Rattle.std.specs.Prelude.{◌≡◌, ◌==◌, [], filter, length, IfOk, OnOk};
 ghost use Rattle.std.specs.List.{list_any};
 ghost use Rattle.topology.specs.Lists.{has};
@@ -10,9 +10,9 @@ use crate::pending_list::{PendingList, is_to};
 use std::alloc::Global;
 use topology::{NoMemory, NodeId, Pending, PrefixId, Session, Topology, Triggers};
 
-/// The neighbours from which a node holds back what it would send, ascending, and what it holds back: a row for each of
-/// them and each prefix of which an update is held back, by neighbour, then by prefix in file order. Where it holds back
-/// from nobody there are no rows, and none is looked at.
+/// The neighbours from which a node holds back updates, ascending, and the updates that it holds back now: a row for
+/// each neighbour and prefix, by neighbour, then by prefix in file order. If the node holds back from nobody, there are
+/// no rows, and none is looked for.
 #[derive(Drop)]
 pub struct HeldBack {
     alloc: Global,
@@ -21,7 +21,7 @@ pub struct HeldBack {
 }
 
 impl HeldBack {
-    /// Of a node that has entered nothing.
+    /// The value before the first entry.
     pub fn new(alloc: Global, topology: &Topology, node: NodeId) -> Result<HeldBack, NoMemory>
         ensures from { IfOk result (λ held. held.from.items ≡ filter (holds_back topology.now node) (neighbours topology.now node)) }
         ensures rows { IfOk result (λ held. held.rows ≡ []) }
@@ -48,7 +48,7 @@ impl HeldBack {
         self.from.is_empty()
     }
 
-    /// Whether the node holds back what it would send to this neighbour.
+    /// Whether the node holds back its updates to this neighbour.
     #[inline(always)]
     pub fn holds(&self, nbr: NodeId) -> bool
         ensures { result ≡ has self.now.from.items nbr }
@@ -56,14 +56,14 @@ impl HeldBack {
         self.from.contains(&nbr)
     }
 
-    /// What is held back.
+    /// The updates that are held back.
     pub fn rows(&self) -> &[Pending]
         ensures { result.now ≡ self.now.rows }
     {
         self.rows.as_slice()
     }
 
-    /// Whether anything is held back from the neighbour.
+    /// Whether any update is held back from the neighbour.
     pub fn has_some(&self, nbr: NodeId) -> bool
         ensures { result ≡ list_any (is_to nbr) self.now.rows }
     {
@@ -75,7 +75,7 @@ impl HeldBack {
         false
     }
 
-    // The triggers for which anything is held back from the neighbour.
+    // The triggers of all updates held back from the neighbour.
     fn triggers_to(&self, nbr: NodeId) -> Result<Triggers, NoMemory>
         ensures { IfOk result (λ triggers. triggers ≡ triggers_to nbr self.now.rows) }
     {
@@ -91,7 +91,7 @@ impl HeldBack {
         Ok(all)
     }
 
-    /// These triggers, and those for which anything is held back from the neighbour.
+    /// These triggers, together with those of all updates held back from the neighbour.
     pub fn united(&self, triggers: &Triggers, nbr: NodeId) -> Result<Triggers, NoMemory>
         ensures { IfOk result (λ all. all ≡ union triggers.now (triggers_to nbr self.now.rows)) }
     {
@@ -99,7 +99,7 @@ impl HeldBack {
         Ok(triggers.union(self.alloc, &waiting)?)
     }
 
-    /// Nothing is held back from the neighbour any more.
+    /// Removes the rows of the neighbour.
     pub fn forget(&mut self, nbr: NodeId)
         ensures rows { self.new.rows ≡ rows_without nbr self.old.rows }
         ensures from { self.new.from ≡ self.old.from }
@@ -107,7 +107,7 @@ impl HeldBack {
         self.rows.forget(nbr);
     }
 
-    /// An update of the prefix is held back from the neighbour, for these triggers besides.
+    /// Adds that an update of the prefix is held back from the neighbour for these triggers.
     pub fn put(
         &mut self,
         to: NodeId,

@@ -1,4 +1,4 @@
-//! What an entry changes in what its node holds back.
+//! How an entry changes what its node holds back.
 ghost use Rattle.std.specs.Prelude.{ℕ, ◌≡◌, ◌<◌, ◌+◌, ◌∷◌, true, Some, None, List, length, slice_get, if◌then◌else◌, OnOk};
 ghost use Rattle.topology.specs.Lists.{has};
 ghost use Rattle.topology.specs.Net.{Net, neighbours};
@@ -21,7 +21,7 @@ use crate::sessions::Sessions;
 use path_vector::{Cause, Policy, RouteState};
 use topology::{NoMemory, NodeId};
 
-// The neighbour from which nothing is held back any more after the entry.
+// The neighbour whose rows the entry removes.
 fn emptied(cause: &Cause) -> Option<NodeId>
     ensures { result ≡ emptied cause.now }
 {
@@ -32,7 +32,7 @@ fn emptied(cause: &Cause) -> Option<NodeId>
     }
 }
 
-// Nothing is held back any more of whom the entry sends all, or with whom it ends the session.
+// Removes the rows of the neighbour that the entry flushes, or whose session it ends.
 fn let_go(cause: &Cause, held: &mut HeldBack)
     ensures none { emptied cause.now ≡ None → held.new.rows ≡ held.old.rows }
     ensures some { (v : ℕ) → emptied cause.now ≡ Some v → held.new.rows ≡ rows_without v held.old.rows }
@@ -43,7 +43,7 @@ fn let_go(cause: &Cause, held: &mut HeldBack)
     }
 }
 
-// Whether the neighbour is offered another path of the prefix at this place than it knows.
+// Whether the neighbour is offered a path of the prefix at this place that differs from the one it knows.
 fn is_moved<P: Policy + Copy>(
     routes: &RouteState<P>,
     turn: &Turn<'_>,
@@ -67,7 +67,7 @@ fn is_moved<P: Policy + Copy>(
     !same(offered, known(routes, &turn.before[place], listener))
 }
 
-// Holds back an update of each prefix of which the neighbour is offered another path than it knows.
+// Holds back an update of each prefix whose offer to the neighbour differs from the path that it knows.
 fn gather<P: Policy + Copy>(
     routes: &RouteState<P>,
     turn: &Turn<'_>,
@@ -100,7 +100,7 @@ fn gather<P: Policy + Copy>(
     Ok(())
 }
 
-// Holds back what changes for the neighbour at this place, where the node holds back from it.
+// Holds back what changes for the neighbour at this place, if the node holds back from it.
 fn gather_at<P: Policy + Copy>(
     routes: &RouteState<P>,
     sessions: &Sessions,
@@ -130,7 +130,7 @@ fn gather_at<P: Policy + Copy>(
         sent: mark.sent,
         knows: !readies(turn.cause, mark.nbr),
     };
-    // they rise, which the list of a new row has to
+    // the triggers ascend, as the list of a new row must
     let _rising = turn.triggers.as_slice();
     Ok(gather(routes, turn, &listener, held)?)
 }
@@ -155,8 +155,9 @@ fn gather_all<P: Policy + Copy>(
     Ok(())
 }
 
-/// What is held back after the entry: nothing of whom the entry sends all, or with whom it ends the session; of the
-/// others also what it changes for them. Nothing is looked at where the node holds back from nobody.
+/// Updates what is held back after an entry. The rows of the neighbour that the entry flushes, or whose session it
+/// ends, are removed; for the other neighbours the changes of the entry are added. If the node holds back from nobody,
+/// nothing is looked at.
 pub fn hold_back<P: Policy + Copy>(
     routes: &RouteState<P>,
     sessions: &Sessions,

@@ -1,4 +1,4 @@
-//! The entries that a log keeps, and the routes after those that it dropped.
+//! The entries that a log keeps, and the routes after the entries that it dropped.
 ghost use Rattle.std.specs.Prelude.{ℕ, suc, ◌≡◌, ◌≤◌, ◌-◌, [], ◌∷◌, ◌++◌, List, drop, fold, length, IfOk, OnOk, OnErr};
 ghost use Rattle.topology.specs.Net.{Net};
 ghost use Rattle.path_vector.specs.History.{History, change};
@@ -16,22 +16,22 @@ use std::alloc::Global;
 use topology::limits::MOST_ENTRIES;
 use topology::{NoMemory, NodeId, Topology};
 
-// The room that a log is made with: as many entries as a node may make, so that a log that grows is not copied. Memory
-// that is not touched costs nothing.
+// The initial room of a log: as many entries as a node may make, so that a growing log is never copied. Memory that is
+// not touched costs nothing.
 const ROOM: usize = MOST_ENTRIES as usize;
 
-/// The entries of a log from a place on, the oldest first, and the routes after the entries before that place, which the
-/// log has dropped. Places count from 1.
+/// The entries of a log from some place on, the oldest first, and the routes after the earlier entries, which the log
+/// has dropped. Places count from 1.
 #[derive(Drop)]
 pub struct KeptEntries<P: Policy + Copy> {
     base: RouteState<P>,
-    // The place of the first entry that is kept, and that of the next one to come.
+    // The place of the first entry that is kept, and that of the next entry.
     from: u32,
     next: u32,
     entries: Vec<Entry>,
 }
 
-// Moves the routes on by the entries.
+// Applies the entries to the routes.
 fn take_all<P: Policy + Copy>(routes: &mut RouteState<P>, entries: &[Entry]) -> Result<(), NoMemory>
     ensures { OnOk result ((policy : P) (net : Net) (u : ℕ) (past : History) →
         RoutesStandFor policy net u routes.old past → Accepted (fold taken past entries.now) →
@@ -44,7 +44,7 @@ fn take_all<P: Policy + Copy>(routes: &mut RouteState<P>, entries: &[Entry]) -> 
 }
 
 impl<P: Policy + Copy> KeptEntries<P> {
-    /// Of the node's log, which is empty.
+    /// The kept entries of an empty log.
     pub(crate) fn new(
         alloc: Global,
         topology: &Topology,
@@ -83,7 +83,7 @@ impl<P: Policy + Copy> KeptEntries<P> {
         self.next
     }
 
-    /// How many entries there were, those that were dropped among them.
+    /// The number of entries ever made, dropped entries included.
     #[inline(always)]
     pub(crate) fn count(&self) -> u32
         ensures { result ≡ self.now.next - 1 }
@@ -109,15 +109,15 @@ impl<P: Policy + Copy> KeptEntries<P> {
         ensures from { self.new.from ≡ self.old.from }
     {
         let next = next_number(self.next)?;
-        // Room first, and then nothing can fail: a push that may fail would copy the entry, to give it back.
+        // Reserve first, so that nothing can fail later. A push that may fail would copy the entry to give it back.
         self.entries.reserve(1)?;
         self.entries.push_reserved(entry);
         self.next = next;
         Ok(())
     }
 
-    /// Drops the entries before the place, which is at most one past the last one. After want of memory the routes may
-    /// be in the midst of them.
+    /// Drops the entries before the place, which is at most one past the last. After `NoMemory` the routes may have
+    /// taken only some of them.
     pub(crate) fn drop_before(&mut self, place: u32) -> Result<(), NoMemory>
         ensures kept { OnOk result ((policy : P) (net : Net) (u : ℕ) (h : List Logged) →
             KeepsEntries policy (P.rules policy) net u self.old h → Fits h →
@@ -135,7 +135,7 @@ impl<P: Policy + Copy> KeptEntries<P> {
         Ok(())
     }
 
-    /// Drops all entries: these are the routes after them. A copy of the routes costs less than to take all entries again.
+    /// Drops all entries; `live` are the routes after them. Copying these costs less than applying all entries again.
     pub(crate) fn drop_all(&mut self, live: &RouteState<P>) -> Result<(), NoMemory>
         ensures kept { OnOk result ((policy : P) (net : Net) (u : ℕ) (h : List Logged) →
             KeepsEntries policy (P.rules policy) net u self.old h → RoutesStandFor policy net u live.now (reads h) →

@@ -1,4 +1,4 @@
-//! The log of a node: what it entered, for which triggers, and what each entry sent.
+//! The log of a node: its entries, their triggers, and the items that each entry sent.
 #![tactic(auto)]
 
 mod announcements;

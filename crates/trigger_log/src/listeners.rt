@@ -1,4 +1,4 @@
-//! What an entry makes a node tell one neighbour.
+//! What an entry tells one neighbour.
 ghost use Rattle.std.specs.Prelude.{ℕ, suc, ◌≡◌, ◌<◌, ◌∷◌, [], ◌++◌, true, None, length, map, option_map, if◌then◌else◌, List, IfOk};
 ghost use Rattle.std.specs.Option.{option_copied};
 ghost use Rattle.topology.specs.Lists.{has, same_nodes, same_path};
@@ -35,7 +35,7 @@ fn same_slice(a: &[NodeId], b: &[NodeId]) -> bool
     }
 }
 
-/// Whether both are the same path, or both none.
+/// Whether both are the same path, or both are `None`.
 pub fn same(a: Option<&Path>, b: Option<&Path>) -> bool
     ensures { result ≡ same_path (option_copied a.entry) (option_copied b.entry) }
 {
@@ -56,8 +56,8 @@ fn copy(path: Option<&Path>) -> Result<Option<Path>, NoMemory>
     }
 }
 
-/// What an entry says: the items that it lists, and what goes out with it. The memory of both lists is used again for
-/// the next entry.
+/// What an entry tells: the items that it lists, and the messages that go out. The memory of both lists is used again
+/// for the next entry.
 #[derive(Drop)]
 pub struct Said {
     pub sent: Vec<Sent>,
@@ -65,7 +65,7 @@ pub struct Said {
 }
 
 impl Said {
-    /// Nothing. Takes no memory.
+    /// Empty lists. Takes no memory.
     pub fn new(alloc: Global) -> Said
         ensures { speech_of result ≡ silence }
     {
@@ -75,7 +75,7 @@ impl Said {
         }
     }
 
-    /// Nothing again, whatever was said before.
+    /// Empties both lists.
     pub fn clear(&mut self)
         ensures { speech_of self.new ≡ silence }
     {
@@ -84,8 +84,8 @@ impl Said {
     }
 }
 
-/// A neighbour, as an entry finds it: the session that is ready with it after the entry, how many
-/// items were sent in that, and whether it knows what was offered before.
+/// A neighbour while an entry is made: the session that is ready with it after the entry, how many items were sent in
+/// that session, and whether the neighbour knows the offers from before the entry.
 #[derive(Clone, Copy)]
 pub struct Listener {
     pub nbr: NodeId,
@@ -94,8 +94,8 @@ pub struct Listener {
     pub knows: bool,
 }
 
-/// The triggers and the cause of an entry, the best routes of its prefixes before and after it, and of each prefix whether
-/// its best route is the same after the entry as before.
+/// An entry while it is made: its triggers and cause, the best routes of its prefixes before and after it, and for each
+/// prefix whether the best route stays the same.
 #[derive(Drop)]
 pub struct Turn<'a> {
     pub triggers: &'a Triggers,
@@ -105,7 +105,7 @@ pub struct Turn<'a> {
     pub same: &'a [bool],
 }
 
-/// The path that the neighbour knows of: none where it knows nothing.
+/// The path that the neighbour knows; `None` if it knows no offer.
 pub fn known<'a, P: Policy + Copy>(
     routes: &RouteState<P>,
     before: &'a Offer,
@@ -123,7 +123,7 @@ pub fn known<'a, P: Policy + Copy>(
     routes.offered_path(&before.chosen, listener.nbr)
 }
 
-// Lists one update more, and answers its number.
+// Lists one more update. Returns its number.
 fn say(
     listener: &Listener,
     count: u32,
@@ -142,7 +142,7 @@ fn say(
     let path = copy(path)?;
     let listed = triggers.copy()?;
     let carried = triggers.copy()?;
-    // Room first, as where an entry is kept.
+    // Reserve first, as in `KeptEntries::push`.
     said.sent.reserve(1)?;
     said.sent.push_reserved(Sent {
         to: listener.nbr,
@@ -164,8 +164,8 @@ fn say(
     Ok(seq)
 }
 
-/// Lists an update of each prefix of which the neighbour is offered another path than it knows,
-/// and answers how many items were sent in its session then.
+/// Lists an update of each prefix whose offer differs from the path that the neighbour knows. Returns how many items
+/// were then sent in its session.
 pub fn tell<P: Policy + Copy>(
     routes: &RouteState<P>,
     turn: &Turn<'_>,
@@ -198,7 +198,7 @@ pub fn tell<P: Policy + Copy>(
     Ok(count)
 }
 
-// Lists what is held back of one row, and answers its number.
+// Lists the update of one row that was held back. Returns its number.
 fn tell_row<P: Policy + Copy>(
     routes: &RouteState<P>,
     row: &Pending,
@@ -219,8 +219,8 @@ fn tell_row<P: Policy + Copy>(
     Ok(say(listener, count, row.prefix, &row.triggers, offered, said)?)
 }
 
-/// Lists an update of each row of the neighbour, what is offered for the triggers of the row, and answers how many items
-/// were sent in its session then.
+/// Lists an update for each row of the neighbour: what is offered now, for the triggers of the row. Returns how many
+/// items were then sent in its session.
 pub fn tell_held<P: Policy + Copy>(
     routes: &RouteState<P>,
     rows: &[Pending],

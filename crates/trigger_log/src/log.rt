@@ -43,9 +43,9 @@ use topology::{
     NoMemory, NodeId, Pending, PrefixId, Scope, SentItems, Session, Topology, Trigger, Triggers,
 };
 
-/// What a node entered, the oldest entry first, and what it needs to make the next one: its routes,
-/// its sessions, what it holds back, the number of its entries and the counter of its next trigger. A log may drop its
-/// first entries. It counts them all the same, each entry keeps its place, and the routes after the dropped ones are kept.
+/// The entries of a node, the oldest first, and what the node needs to make the next one: its routes, its sessions,
+/// what it holds back, the number of its entries and the counter of its next trigger. A log may drop its first entries.
+/// It still counts them, the other entries keep their places, and the routes after the dropped entries are kept.
 #[derive(Drop)]
 pub struct NodeLog<P: Policy + Copy> {
     alloc: Global,
@@ -55,7 +55,7 @@ pub struct NodeLog<P: Policy + Copy> {
     held_back: HeldBack,
     kept: KeptEntries<P>,
     next_count: u32,
-    // What an entry says, in lists that are used again for each: what is in them means nothing.
+    // The lists of what an entry tells, used again for each entry. Between two entries their contents mean nothing.
     said: Said,
 }
 
@@ -66,7 +66,7 @@ fn copied(scope: &Scope) -> Scope
     *scope
 }
 
-// The count of the next trigger after an entry, which took one where it is a local one.
+// The counter of the next trigger after an entry. A local entry uses up one number.
 fn counted(count: u32, cause: &Cause) -> Result<u32, NoMemory>
     ensures { IfOk result (λ counted. counted ≡ (if is_local cause.now then suc count else count)) }
 {
@@ -78,7 +78,7 @@ fn counted(count: u32, cause: &Cause) -> Result<u32, NoMemory>
 }
 
 impl<P: Policy + Copy> NodeLog<P> {
-    /// The log of a node that has entered nothing.
+    /// The log of a node without entries.
     pub fn new(
         alloc: Global,
         topology: &Topology,
@@ -100,10 +100,10 @@ impl<P: Policy + Copy> NodeLog<P> {
         })
     }
 
-    /// Whether an entry may follow the entries so far: an update is the next one of the held
-    /// session, a `Down` ends the held session, an `Up` opens a higher one where none is held, a
-    /// `Ready` is the first of the held one, an `Originate` or `Withdraw` changes the origin, a
-    /// `Flush` finds something held back. The scope is that of the cause.
+    /// Whether an entry may follow the entries so far: an update is the next one of the held session, a `Down` ends the
+    /// held session, an `Up` opens a higher session where none is held, a `Ready` is the first of the held session, an
+    /// `Originate` or `Withdraw` changes the origin, and a `Flush` finds something held back. The scope must be that of
+    /// the cause.
     pub fn fits(&self, scope: Scope, cause: &Cause) -> bool
         ensures { (policy : P) (net : Net) (u : ℕ) (h : List Logged) →
             StandsFor policy (P.rules policy) net u self.now h → IsOfNeighbour net u cause.now →
@@ -116,8 +116,9 @@ impl<P: Policy + Copy> NodeLog<P> {
         }
     }
 
-    /// The log with one more entry, and what goes out with it. It has to fit the entries before, and to list something but
-    /// where its scope is `Nothing`, where it lists nothing: of a log with another entry nothing is promised.
+    /// Adds one entry to the log, and returns the log and the messages that go out. The entry has to fit the entries
+    /// before it. It lists at least one trigger, or none if its scope is `Nothing`. After any other entry nothing is
+    /// promised of the log.
     pub fn append(
         self,
         topology: &Topology,
@@ -145,9 +146,8 @@ impl<P: Policy + Copy> NodeLog<P> {
         Ok((log, outgoing))
     }
 
-    /// The same of a log behind a box. The log stays where it is: nothing of it is copied. What goes out stands in the
-    /// list, in the place of whatever was in it. The entry has to fit and to list as there: of a log with another entry
-    /// nothing is promised.
+    /// As `append`, for a log in a box: the log stays in its place, and nothing of it is copied. The messages that go
+    /// out replace the contents of `outgoing`. The conditions on the entry are those of `append`.
     pub fn append_boxed(
         log: Box<NodeLog<P>>,
         topology: &Topology,
@@ -187,10 +187,10 @@ impl<P: Policy + Copy> NodeLog<P> {
         }
     }
 
-    /// The log without the entries before the place, which is at least that of the first entry that is kept, and at most
-    /// one past that of the last entry: of another place nothing is promised. The routes move on by the dropped entries,
-    /// and their memory is freed. What is counted or read of the log stays as it is, but that the dropped entries are
-    /// shown no more. Takes time in proportion to the entries that were kept.
+    /// Drops the entries before `place`. The place must lie between that of the first kept entry and one past the last
+    /// entry; else nothing is promised. The base routes take the dropped entries, whose memory is freed. All readings
+    /// of the log stay as they were, except that dropped entries are no longer shown. Takes time in proportion to the
+    /// number of kept entries.
     pub fn drop_before(self, topology: &Topology, place: u32) -> Result<NodeLog<P>, NoMemory>
         ensures log { IfOk result (λ log. (policy : P) (u : ℕ) (h : List Logged) →
             StandsFor policy (P.rules policy) topology.now u self h →
@@ -203,7 +203,7 @@ impl<P: Policy + Copy> NodeLog<P> {
         Ok(log)
     }
 
-    /// The same of a log behind a box, which stays where it is.
+    /// As `drop_before`, for a log in a box, which stays in its place.
     pub fn drop_before_boxed(log: Box<NodeLog<P>>, place: u32) -> Result<Box<NodeLog<P>>, NoMemory>
         ensures log { IfOk result (λ shorter. (policy : P) (net : Net) (u : ℕ) (h : List Logged) →
             StandsFor policy (P.rules policy) net u log.value h →
@@ -216,7 +216,7 @@ impl<P: Policy + Copy> NodeLog<P> {
         Ok(shorter)
     }
 
-    // Drops the entries before the place. Where all are dropped, the routes after them are those that the log has.
+    // Drops the entries before the place. If all are dropped, the new base is a copy of the live routes.
     fn shorten(&mut self, place: u32) -> Result<(), NoMemory>
         ensures log { OnOk result ((policy : P) (net : Net) (u : ℕ) (h : List Logged) →
             StandsFor policy (P.rules policy) net u self.old h →
@@ -235,7 +235,7 @@ impl<P: Policy + Copy> NodeLog<P> {
         Ok(())
     }
 
-    /// How many entries were made, those that were dropped among them.
+    /// The number of entries ever made, dropped entries included.
     pub fn len(&self) -> u32
         ensures { (policy : P) (net : Net) (u : ℕ) (h : List Logged) →
             StandsFor policy (P.rules policy) net u self.now h → result ≡ length h }
@@ -243,15 +243,15 @@ impl<P: Policy + Copy> NodeLog<P> {
         self.kept.count()
     }
 
-    /// The place of the first entry that is kept, from 1: one past the last where all were dropped. A log is never so long
-    /// that its next entry has no place.
+    /// The place of the first entry that is kept, from 1; one past the last place if all were dropped. A log is never
+    /// so long that its next entry would have no place.
     pub fn kept_from(&self) -> u32
         ensures place { (policy : P) (net : Net) (u : ℕ) (h : List Logged) →
             StandsFor policy (P.rules policy) net u self.now h → result ≡ suc (dropped_of self.now) }
         ensures few { (policy : P) (net : Net) (u : ℕ) (h : List Logged) →
             StandsFor policy (P.rules policy) net u self.now h → suc (length h) < 2 ^ 32 }
     {
-        // the next entry has a place, which is a number of four bytes
+        // the next entry has a place, a number of four bytes
         let _next = self.kept.next();
         self.kept.from()
     }
@@ -265,7 +265,7 @@ impl<P: Policy + Copy> NodeLog<P> {
         self.kept.base()
     }
 
-    /// The entry of an index, from 1. None exactly where there is none, and where it was dropped.
+    /// The entry at an index, from 1. The answer is `None` exactly where there is no such entry, or it was dropped.
     pub fn entry(&self, index: u32) -> Option<&Entry>
         ensures some { IfSome result (λ shown. (policy : P) (net : Net) (u : ℕ) (h : List Logged) →
             StandsFor policy (P.rules policy) net u self.now h →
@@ -278,7 +278,7 @@ impl<P: Policy + Copy> NodeLog<P> {
         self.kept.as_slice().get(place as usize)
     }
 
-    /// All entries that are kept, the oldest first.
+    /// All kept entries, the oldest first.
     pub fn entries(&self) -> &[Entry]
         ensures { (policy : P) (net : Net) (u : ℕ) (h : List Logged) →
             StandsFor policy (P.rules policy) net u self.now h →
@@ -287,7 +287,7 @@ impl<P: Policy + Copy> NodeLog<P> {
         self.kept.as_slice()
     }
 
-    /// How many items the entries list for a neighbour in a session, its `close` included.
+    /// How many items the entries list for a neighbour in a session, the `close` included.
     pub fn sent_count(&self, nbr: NodeId, session: Session) -> u32
         ensures { (policy : P) (net : Net) (u : ℕ) (h : List Logged) →
             StandsFor policy (P.rules policy) net u self.now h → has (neighbours net u) nbr ≡ true →
@@ -311,7 +311,7 @@ impl<P: Policy + Copy> NodeLog<P> {
         }
     }
 
-    /// How many updates were received from a neighbour in a session, where that is the one that is held with it.
+    /// How many updates were received from a neighbour in a session; `None` unless that session is held with it.
     #[inline(always)]
     pub fn received_in_held(&self, nbr: NodeId, session: Session) -> Option<u32>
         ensures { (policy : P) (net : Net) (u : ℕ) (h : List Logged) →
@@ -356,8 +356,8 @@ impl<P: Policy + Copy> NodeLog<P> {
         &self.routes
     }
 
-    /// One mark for each session that was ever held, session 1 with every neighbour among them:
-    /// ascending by neighbour, then by session.
+    /// One mark for each session that was ever held, by neighbour, then by session. Session 1 with each neighbour
+    /// counts as held from the start.
     pub fn sessions(&self) -> &[SessionMark]
         ensures { (policy : P) (net : Net) (u : ℕ) (h : List Logged) →
             StandsFor policy (P.rules policy) net u self.now h →
@@ -366,9 +366,9 @@ impl<P: Policy + Copy> NodeLog<P> {
         self.sessions.marks()
     }
 
-    /// What is held back: a row for each neighbour and each prefix of which an update is held back from it, by neighbour,
-    /// ascending, then by prefix in file order. A row lists the triggers of the entries whose updates it holds, also of
-    /// entries that were dropped.
+    /// What is held back: a row for each neighbour and prefix of which an update is held back, by ascending neighbour,
+    /// then by prefix in file order. A row lists the triggers of the entries whose updates it holds, including entries
+    /// that were dropped.
     pub fn pending(&self) -> &[Pending]
         ensures { (policy : P) (net : Net) (u : ℕ) (h : List Logged) →
             StandsFor policy (P.rules policy) net u self.now h →
@@ -377,7 +377,7 @@ impl<P: Policy + Copy> NodeLog<P> {
         self.held_back.rows()
     }
 
-    // The same in place. After want of memory the log may be in the midst of the entry.
+    // Adds one entry in place. After `NoMemory` the log may have taken only a part of the entry.
     #[inline(always)]
     fn enter(
         &mut self,
@@ -408,7 +408,7 @@ impl<P: Policy + Copy> NodeLog<P> {
         Ok(())
     }
 
-    // An entry that has nothing to tell.
+    // Adds an entry that tells nobody anything.
     #[inline(always)]
     fn enter_quietly(
         &mut self,
@@ -435,7 +435,7 @@ impl<P: Policy + Copy> NodeLog<P> {
         Ok(())
     }
 
-    // An entry of which each neighbour is told what changes for it.
+    // Adds an entry, and tells each neighbour what changes for it.
     #[inline(always)]
     fn enter_aloud(
         &mut self,
@@ -461,7 +461,7 @@ impl<P: Policy + Copy> NodeLog<P> {
         }
     }
 
-    // An entry of one prefix, of which each neighbour is told what changes for it.
+    // Adds an entry of one prefix, and tells each neighbour what changes for it.
     #[inline(always)]
     fn enter_one(
         &mut self,
@@ -491,7 +491,7 @@ impl<P: Policy + Copy> NodeLog<P> {
         Ok(self.finish(triggers, Scope::One(prefix), cause, offers)?)
     }
 
-    // An entry of all prefixes, of which each neighbour is told what changes for it.
+    // Adds an entry of all prefixes, and tells each neighbour what changes for it.
     fn enter_all(
         &mut self,
         topology: &Topology,
@@ -526,7 +526,7 @@ impl<P: Policy + Copy> NodeLog<P> {
         Ok(self.finish(triggers, Scope::All, cause, offers)?)
     }
 
-    // A session is ready. That changes no best route: those after the entry are those before it, too.
+    // Makes a session ready. This changes no best route, so the routes after the entry are also those before it.
     fn enter_ready(
         &mut self,
         topology: &Topology,
@@ -556,7 +556,7 @@ impl<P: Policy + Copy> NodeLog<P> {
         Ok(self.finish(triggers, Scope::All, cause, offers)?)
     }
 
-    // A session ends. That may change the best routes that went by its neighbour, and no other: only those are compared.
+    // Ends a session. This can change only the best routes that went by its neighbour, so only those are compared.
     fn enter_down(
         &mut self,
         topology: &Topology,
@@ -587,7 +587,7 @@ impl<P: Policy + Copy> NodeLog<P> {
         Ok(self.finish(triggers, Scope::All, cause, offers)?)
     }
 
-    // An entry that concerns no prefix: it changes no route.
+    // Adds an entry that concerns no prefix. It changes no route.
     fn enter_nothing(&mut self, triggers: Triggers, cause: Cause) -> Result<(), NoMemory>
         ensures log { OnOk result ((policy : P) (net : Net) (u : ℕ) (h : List Logged) →
             StandsFor policy (P.rules policy) net u self.old h → IsOfNeighbour net u cause →
@@ -608,7 +608,8 @@ impl<P: Policy + Copy> NodeLog<P> {
         Ok(self.finish(triggers, Scope::Nothing, cause, offers)?)
     }
 
-    // The rest of an entry that the routes took already: its sessions are marked, each neighbour is told, and it is kept.
+    // Does the rest of an entry that the routes took already: marks its sessions, tells each neighbour, and keeps the
+    // entry.
     #[inline(always)]
     fn finish(
         &mut self,
@@ -706,7 +707,7 @@ impl<P: Policy + Copy> NodeLog<P> {
         }
     }
 
-    // Whether an entry of no prefix may follow: it sends a neighbour what is held back from it.
+    // Whether an entry of no prefix may follow: something is held back from its neighbour.
     fn fits_nothing(&self, cause: &Cause) -> bool
         ensures { (policy : P) (net : Net) (u : ℕ) (h : List Logged) →
             StandsFor policy (P.rules policy) net u self.now h → IsOfNeighbour net u cause.now →
@@ -718,7 +719,7 @@ impl<P: Policy + Copy> NodeLog<P> {
         }
     }
 
-    // The newest session with a neighbour.
+    // The mark of the newest session with a neighbour.
     #[inline(always)]
     fn newest(&self, nbr: NodeId) -> Option<&SessionMark>
         ensures some { IfSome result (λ mark. (policy : P) (net : Net) (u : ℕ) (h : List Logged) →
@@ -731,7 +732,7 @@ impl<P: Policy + Copy> NodeLog<P> {
         Some(self.sessions.newest(place))
     }
 
-    // The mark of a session with a neighbour: mostly that of the newest one.
+    // The mark of a session with a neighbour. It mostly is that of the newest session, which is looked at first.
     fn mark_of(&self, nbr: NodeId, session: Session) -> Option<&SessionMark>
         ensures some { IfSome result (λ mark. (policy : P) (net : Net) (u : ℕ) (h : List Logged) →
             StandsFor policy (P.rules policy) net u self.now h → has (neighbours net u) nbr ≡ true →
@@ -747,7 +748,7 @@ impl<P: Policy + Copy> NodeLog<P> {
         self.sessions.find(nbr, session)
     }
 
-    // Whether the session is held with the neighbour.
+    // Whether this session is held with the neighbour.
     fn holds(&self, nbr: NodeId, session: Session) -> bool
         ensures { (policy : P) (net : Net) (u : ℕ) (h : List Logged) →
             StandsFor policy (P.rules policy) net u self.now h → has (neighbours net u) nbr ≡ true →
@@ -771,7 +772,7 @@ impl<P: Policy + Copy> NodeLog<P> {
         }
     }
 
-    // Whether no session is held with the neighbour, and all so far are below this one.
+    // Whether no session is held with the neighbour, and this one is above all so far.
     fn may_open(&self, nbr: NodeId, session: Session) -> bool
         ensures { (policy : P) (net : Net) (u : ℕ) (h : List Logged) →
             StandsFor policy (P.rules policy) net u self.now h → has (neighbours net u) nbr ≡ true →

@@ -1,4 +1,4 @@
-//! The best routes before and after an entry, of which each neighbour is offered what export allows.
+//! Best routes before and after an entry. Export decides which neighbours are offered them.
 ghost use Rattle.std.specs.Prelude.{ℕ, ◌≡◌, ◌<◌, filter, length, IfOk};
 ghost use Rattle.topology.specs.declared.names.Scope.TheVariants.{All};
 ghost use Rattle.topology.specs.Net.{Net, places};
@@ -12,14 +12,14 @@ use path_vector::{Best, Cause, Chosen, Policy, RouteState};
 use std::alloc::Global;
 use topology::{NoMemory, NodeId, PrefixId, Topology};
 
-/// The best route of a prefix, which is not yet an offer to anybody.
+/// The best route of a prefix, not yet filtered by export.
 #[derive(Drop)]
 pub struct Offer {
     pub prefix: PrefixId,
     pub chosen: Chosen,
 }
 
-/// The best routes of some prefixes, before an entry and after it, and of each whether it is the same.
+/// The best routes of some prefixes before and after an entry, and for each whether it stayed the same.
 #[derive(Clone, Copy)]
 pub struct Offers<'a> {
     pub before: &'a [Offer],
@@ -100,7 +100,7 @@ pub fn offers_by<P: Policy + Copy>(
     Ok(offers)
 }
 
-/// The best routes of the prefixes of these, as they are by now.
+/// The best routes now, for the prefixes of the given ones.
 pub fn offers_again<P: Policy + Copy>(
     alloc: Global,
     routes: &RouteState<P>,
@@ -118,8 +118,8 @@ pub fn offers_again<P: Policy + Copy>(
     Ok(again)
 }
 
-/// The best routes that an entry of all prefixes may change: none where it opens a session, which leaves all offers
-/// as they were, and none of an entry that sends what is held back, which is of no prefix.
+/// The best routes that an entry of all prefixes may change. There are none for an entry that opens a session, which
+/// leaves all offers as they were, and none for a flush, which concerns no prefix.
 pub fn offers_for<P: Policy + Copy>(
     alloc: Global,
     routes: &RouteState<P>,

@@ -1,4 +1,4 @@
-//! The rows of what is held back, in their order.
+//! The rows of held-back updates, in order.
 ghost use Rattle.std.specs.Prelude.{ℕ, ◌≡◌, ◌<◌, ◌≤◌, [], ◌∷◌, length, slice_set, slice_index_or, IfOk, IfErr, OnOk, OnErr};
 ghost use Rattle.std.specs.List.{insert};
 ghost use Rattle.topology.specs.declared.items.Pending.{Pending};
@@ -9,7 +9,7 @@ use std::alloc::Global;
 use std::marker::Model;
 use topology::{NoMemory, NodeId, Pending, PrefixId, Session, Triggers};
 
-/// The updates that are held back: a row for each neighbour and each prefix of which one is, by neighbour, then by prefix
+/// The held-back updates: a row for each neighbour and prefix of which one is held back, by neighbour, then by prefix
 /// in file order.
 #[derive(Drop)]
 pub struct PendingList {
@@ -28,28 +28,28 @@ impl Model for PendingList {
     ghost invariant = { λ r. RowsRise r.list.items };
 }
 
-// Whether the row is of the prefix, held back from the neighbour.
+// Whether the row is that of the prefix and the neighbour.
 fn is_row(row: &Pending, to: NodeId, prefix: PrefixId) -> bool
     ensures { result ≡ is_row to prefix row.now }
 {
     row.to == to && row.prefix == prefix
 }
 
-// Whether the row stands behind that of the prefix and the neighbour.
+// Whether the row belongs behind that of the prefix and the neighbour.
 fn is_behind(row: &Pending, to: NodeId, prefix: PrefixId) -> bool
     ensures { result ≡ is_behind to prefix row.now }
 {
     to < row.to || (to == row.to && prefix < row.prefix)
 }
 
-/// Whether the row is of the neighbour.
+/// Whether the row is one of the neighbour.
 pub fn is_to(row: &Pending, to: NodeId) -> bool
     ensures { result ≡ is_to to row.now }
 {
     row.to == to
 }
 
-// Where the row of the prefix and the neighbour stands, or where one would be put.
+// The place of the row of the prefix and the neighbour, or the place where it would be inserted.
 fn place_for(rows: &[Pending], to: NodeId, prefix: PrefixId) -> Result<usize, usize>
     requires rise { RowsRise rows.now }
     ensures there { IfOk result (λ place. (place < length rows.now) × ((x : Pending) → x.to ≡ to → x.prefix ≡ prefix →
@@ -74,7 +74,7 @@ fn place_for(rows: &[Pending], to: NodeId, prefix: PrefixId) -> Result<usize, us
     Err(low)
 }
 
-// An update of the prefix is held back from the neighbour, for these triggers besides.
+// Adds that an update of the prefix is held back from the neighbour for these triggers.
 fn put_in(
     list: &mut Vec<Pending>,
     to: NodeId,
@@ -125,14 +125,14 @@ impl PendingList {
         &self.list
     }
 
-    /// Without the rows of the neighbour.
+    /// Removes the rows of the neighbour.
     pub fn forget(&mut self, nbr: NodeId)
         ensures { self.new ≡ rows_without nbr self.old }
     {
         self.list.retain(|row| !is_to(row, nbr));
     }
 
-    /// An update of the prefix is held back from the neighbour, for these triggers besides.
+    /// Adds that an update of the prefix is held back from the neighbour for these triggers.
     pub fn put(
         &mut self,
         to: NodeId,

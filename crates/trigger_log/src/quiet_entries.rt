@@ -1,4 +1,4 @@
-//! Which entries say nothing to any neighbour.
+//! Entries that tell no neighbour anything.
 ghost use Rattle.std.specs.Prelude.{ℕ, ◌≡◌, ◌∷◌, ◌↔◌, List, IsTrue, IfOk};
 ghost use Rattle.topology.specs.declared.names.Trigger.{Trigger};
 ghost use Rattle.topology.specs.Net.{Net};
@@ -13,7 +13,7 @@ use path_vector::{Cause, Policy, RouteState};
 use std::alloc::Global;
 use topology::{NoMemory, Scope};
 
-// Whether the entry ends a session, makes one ready, or sends what is held back in one.
+// Whether the entry ends a session, makes one ready, or flushes.
 fn turns_session(cause: &Cause) -> bool
     ensures { result ≡ turns_session cause.now }
 {
@@ -35,7 +35,7 @@ pub fn same_offer(a: &Offer, b: &Offer) -> bool
     same(a.chosen.path.as_ref(), b.chosen.path.as_ref())
 }
 
-/// Of each best route, whether it is the same before and after.
+/// For each best route, whether it is the same before and after.
 pub fn same_offers(alloc: Global, before: &[Offer], after: &[Offer]) -> Result<Vec<bool>, NoMemory>
     requires same_prefixes { prefixes_of before.now ≡ prefixes_of after.now }
     ensures { IfOk result (λ same. AreSame before.now after.now same.items) }
@@ -47,8 +47,8 @@ pub fn same_offers(alloc: Global, before: &[Offer], after: &[Offer]) -> Result<V
     Ok(same)
 }
 
-/// Whether an entry leaves all best routes and the readiness of all sessions as they were: there is
-/// nothing to tell then.
+/// Whether an entry leaves all best routes and the readiness of all sessions as they were. Then there is nothing to
+/// tell.
 pub fn is_quiet(turn: &Turn<'_>) -> bool
     requires same { AreSame turn.now.before.now turn.now.after.now turn.now.same.now }
     ensures { IsTrue result ↔ IsQuiet turn.now }
@@ -56,8 +56,8 @@ pub fn is_quiet(turn: &Turn<'_>) -> bool
     !turns_session(turn.cause) && !turn.same.contains(&false)
 }
 
-/// Whether an entry is an update that leaves the best route of its prefix as it is: there is nothing
-/// to tell then, and nothing need be compared.
+/// Whether an entry is an update that leaves the best route of its prefix as it is. Then there is nothing to tell, and
+/// nothing has to be compared.
 pub fn stays<P: Policy + Copy>(routes: &RouteState<P>, scope: &Scope, cause: &Cause) -> bool
     ensures { (policy : P) (net : Net) (u : ℕ) (h : List Entry) (triggers : List Trigger) →
         StandsFor policy net u routes.now (reads h) → IsPlaced net scope.now → IsTrue result →

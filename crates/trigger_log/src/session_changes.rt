@@ -1,4 +1,4 @@
-//! What an entry changes in the sessions of its node.
+//! How an entry changes the sessions of its node.
 ghost use Rattle.std.specs.Prelude.{ℕ, ◌≡◌, ◌∷◌, false, Some, List, slice_get, OnOk};
 ghost use Rattle.topology.specs.declared.names.Scope.{Scope};
 ghost use Rattle.topology.specs.Lists.{has};
@@ -16,7 +16,7 @@ use crate::sessions::{SessionMark, Sessions};
 use path_vector::Cause;
 use topology::{NoMemory, NodeId, Triggers};
 
-// The neighbour that an entry is about.
+// The neighbour that an entry names.
 fn named(cause: &Cause) -> Option<NodeId>
     ensures { result ≡ names cause.now }
 {
@@ -32,7 +32,7 @@ fn named(cause: &Cause) -> Option<NodeId>
     }
 }
 
-// The mark of a session that the entry ends: it keeps the first of the triggers.
+// The mark of a session after the entry that ends it. The mark keeps the first trigger of the entry.
 fn ended(mark: &SessionMark, triggers: &Triggers) -> SessionMark
     ensures { result ≡ record mark.now { down = slice_get triggers.now 0 } }
 {
@@ -42,7 +42,7 @@ fn ended(mark: &SessionMark, triggers: &Triggers) -> SessionMark
     }
 }
 
-// The newest mark of the neighbour that the entry names, after it. The entry is no update.
+// The newest mark of the neighbour that the entry names, after the entry. The entry is not an update.
 #[inline(always)]
 fn turned(mark: &SessionMark, triggers: &Triggers, cause: &Cause) -> SessionMark
     ensures { (h : List Entry) (scope : Scope) (w n : ℕ) →
@@ -60,7 +60,7 @@ fn turned(mark: &SessionMark, triggers: &Triggers, cause: &Cause) -> SessionMark
     }
 }
 
-/// Marks what the entry changes in the sessions. What it says is not yet counted.
+/// Marks in the sessions what the entry changes. The items that the entry sends are not counted here.
 #[inline(always)]
 pub fn mark(sessions: &mut Sessions, triggers: &Triggers, cause: &Cause) -> Result<(), NoMemory>
     ensures marked { OnOk result ((rules : Rules) (net : Net) (u : ℕ) (h : List Entry) (scope : Scope) →

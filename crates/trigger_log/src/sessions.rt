@@ -17,18 +17,18 @@ use topology::{NoMemory, NodeId, Session, Trigger};
 pub struct SessionMark {
     pub nbr: NodeId,
     pub session: Session,
-    /// The other end has opened it too.
+    /// Whether the other end has opened the session too.
     pub opened: bool,
-    /// How many items the node has sent in it, its `close` included.
+    /// How many items the node has sent in the session, the `close` included.
     pub sent: u32,
-    /// How many updates it has received in it.
+    /// How many updates the node has received in the session.
     pub received: u32,
-    /// The trigger of the entry that ended it.
+    /// The trigger of the entry that ended the session.
     pub down: Option<Trigger>,
 }
 
 impl SessionMark {
-    /// The session that is held: none where it is ended.
+    /// The session if it is held; `None` if it has ended.
     pub fn held(&self) -> Option<Session>
         ensures { result ≡ (if is_none self.now.down then Some self.now.session else None) }
     {
@@ -38,7 +38,7 @@ impl SessionMark {
         }
     }
 
-    /// It is held, and the other end has opened it too.
+    /// Whether the session is held and the other end has opened it too.
     pub fn is_ready(&self) -> bool
         ensures { result ≡ (is_none self.now.down && self.now.opened) }
     {
@@ -46,8 +46,8 @@ impl SessionMark {
     }
 }
 
-/// The sessions of a node: a row of marks for each neighbour, by its place, the oldest first. The
-/// rows stand one after the other in one list, and `newest` has the place of the last mark of each.
+/// The sessions of a node: for each neighbour, by place, a row of marks, the oldest first. All rows stand in one list,
+/// one after the other, and `newest` has the place of the last mark of each row.
 #[derive(Drop)]
 pub struct Sessions {
     near: Vec<NodeId>,
@@ -76,7 +76,7 @@ fn shift(places: &mut Vec<usize>, from: usize)
     }
 }
 
-// An equal list.
+// A copy of the list.
 fn copy_of(alloc: Global, near: &[NodeId]) -> Result<Vec<NodeId>, NoMemory>
     ensures { IfOk result (λ copy. copy.items ≡ near.now) }
 {
@@ -91,7 +91,7 @@ fn is_at(near: &[NodeId], place: usize, nbr: NodeId) -> bool
 }
 
 impl Sessions {
-    /// One row for each neighbour, with the session that both ends hold from the start.
+    /// One row for each neighbour, with session 1, which both ends hold from the start.
     pub fn new(alloc: Global, near: &[NodeId]) -> Result<Sessions, NoMemory>
         ensures near { IfOk result (λ sessions. sessions.near ≡ near.now) }
         ensures rows { IfOk result (λ sessions. sessions.rows
@@ -125,7 +125,7 @@ impl Sessions {
         self.newest.len()
     }
 
-    /// The place of a neighbour, which is mostly the likely one.
+    /// The place of a neighbour. The guess is tried first, and is mostly right.
     pub fn place_of(&self, nbr: NodeId) -> Option<usize>
         ensures some { (net : Net) (u : ℕ) → IsValid net → self.now.near ≡ neighbours net u →
             IfSome result (λ place. slice_get (neighbours net u) place ≡ Some nbr) }
@@ -166,7 +166,7 @@ impl Sessions {
         &self.marks[self.newest[place]]
     }
 
-    /// Puts this mark in the place of the last one of the row.
+    /// Replaces the last mark of the row.
     pub fn put(&mut self, place: usize, mark: SessionMark)
         requires { place < length self.old.rows }
         ensures put { (older : List SessionMark) (last : SessionMark) → slice_get self.old.rows place ≡ Some (older ++ last ∷ []) →
@@ -178,7 +178,7 @@ impl Sessions {
         self.marks[last] = mark;
     }
 
-    /// So many items were sent in the last session of the row.
+    /// Sets how many items were sent in the last session of the row.
     pub fn count(&mut self, place: usize, sent: u32)
         requires { place < length self.old.rows }
         ensures count { (older : List SessionMark) (last : SessionMark) → slice_get self.old.rows place ≡ Some (older ++ last ∷ []) →
@@ -190,7 +190,7 @@ impl Sessions {
         self.marks[last].sent = sent;
     }
 
-    /// One update more was received in the last session of the row.
+    /// Counts one more update received in the last session of the row.
     pub fn hear(&mut self, place: usize) -> Result<(), NoMemory>
         requires { place < length self.old.rows }
         ensures ok { OnOk result ((older : List SessionMark) (last : SessionMark) → slice_get self.old.rows place ≡ Some (older ++ last ∷ []) →
@@ -205,7 +205,7 @@ impl Sessions {
         Ok(())
     }
 
-    /// Adds a session to the end of the row, in which nothing was said.
+    /// Adds a new session to the end of the row, with nothing sent or received.
     pub fn open(&mut self, place: usize, nbr: NodeId, session: Session) -> Result<(), NoMemory>
         requires { place < length self.old.rows }
         ensures ok { OnOk result ((row : List SessionMark) → slice_get self.old.rows place ≡ Some row →
@@ -227,7 +227,7 @@ impl Sessions {
         Ok(())
     }
 
-    /// The mark of a session. None where it was never held.
+    /// The mark of a session; `None` if it was never held.
     pub fn find(&self, nbr: NodeId, session: Session) -> Option<&SessionMark>
         ensures some { IfSome result (λ mark. (mark.now.nbr ≡ nbr) × (mark.now.session ≡ session) ×
             Among mark.now (joined self.now.rows)) }

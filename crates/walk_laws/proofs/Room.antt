@@ -34,20 +34,21 @@ differ_turned (x ∷ xs) n apart =
     (not_false (x == n || has xs n) (or_none (x == n) (has xs n) (same_sym x n ∙ or_right (has xs x) (n == x) off) (not_true (has xs n) (and_left (not (has xs n)) (differ xs) rest))))
     (and_both (not (has xs x)) (differ xs) (not_false (has xs x) (or_left (has xs x) (n == x) off)) (and_right (not (has xs n)) (differ xs) rest))
 
--- without its last one a list is no longer
+-- a list without its last element is no longer
 but_last_is_short : (xs : List ℕ) → length (but_last xs) ≤ length xs
 but_last_is_short [] = omega arith
 but_last_is_short (x ∷ []) = omega arith
 but_last_is_short (x ∷ y ∷ rest) = let less = but_last_is_short (y ∷ rest) in omega (arith, less)
 
--- the way back of a packet at u is shorter than 64; its nodes are nodes, and they and u differ, until the packet was at the node of the detour
+-- the way back of a packet at u is shorter than 64; until the packet was at the node of the detour, its nodes are in
+-- the network, and they and u differ
 pub record Roomy (net : Net) (before : List Visit) (u : ℕ) (packet : Packet) : Type 0 where
   pub read : Read net before u packet
   pub short : length packet.trail < 64
   pub nodes : (x : ℕ) → has packet.trail x ≡ true → has net.nodes x ≡ true
   pub apart : packet.reached ≡ false → differ (u ∷ packet.trail) ≡ true
 
--- a node that deflects was not behind the node of the detour
+-- a packet that is deflected has not reached the node of the detour
 not_reached : (s : Scheme) (packet : Packet) (view : Sight) (walk : List Visit) → deflects s packet view ≡ true → packet.reached ≡ reached s walk → packet.reached ≡ false
 not_reached scheme.Deflect packet view walk does is = is
 not_reached (scheme.Detour n) packet view walk does is = not_true packet.reached (and_left (not packet.reached) (not (view.at == n)) does)
@@ -55,7 +56,7 @@ not_reached scheme.Backup packet view walk does is = is
 
 module _ (net : Net) (packet : Packet) (view : Sight) (before : List Visit) (off : packet.mode ≡ Transient) (nodes : (x : ℕ) → has view.up x ≡ true → has net.nodes x ≡ true)
     (own : (x : ℕ) → has view.up x ≡ true → has net.nodes view.at ≡ true) (few : length net.nodes ≤ 64) (old : Roomy net before view.at packet) where
-  -- what there is of it after a move, beside that the packet is what is read of its walk
+  -- what is needed after a move, besides that the fields can be read from the walk
   abbrev HasRoom : ℕ → Packet → Type 0
   HasRoom w q = (length q.trail < 64) × ((x : ℕ) → has q.trail x ≡ true → has net.nodes x ≡ true) × (q.reached ≡ false → differ (w ∷ q.trail) ≡ true)
 
@@ -85,7 +86,7 @@ module _ (net : Net) (packet : Packet) (view : Sight) (before : List Visit) (off
             | false ↦ λ e. refl
           ]) refl
 
-      -- the longer way back is one of nodes
+      -- the longer way back has only nodes
       on_it : (w x : ℕ) → has view.up w ≡ true → has (packet.trail ++ view.at ∷ []) x ≡ true → has net.nodes x ≡ true
       on_it w x up there =
           (elim (has packet.trail x) as (λ t. has packet.trail x ≡ t → (t || view.at == x) ≡ true → has net.nodes x ≡ true) [
@@ -102,7 +103,7 @@ module _ (net : Net) (packet : Packet) (view : Sight) (before : List Visit) (off
       let whole : differ (but_last packet.trail ++ w ∷ []) ≡ true = ap differ (last_at_end packet.trail w end) ∙ and_right (not (has packet.trail view.at)) (differ packet.trail) stack in
       (omega (arith, less, short), λ x there. old.nodes x (but_last_is_there packet.trail x there), λ none. differ_turned (but_last packet.trail) w whole)
 
-  -- where the way back stays
+  -- the way back stays the same
   same_way : (w : ℕ) (q : Packet) → q.trail ≡ packet.trail → (q.reached ≡ false → packet.trail ≡ []) → HasRoom w q
   same_way w q same none =
       (subst (λ (l : List ℕ). length l < 64) (sym same) old.short, λ x there. old.nodes x (ap (λ l. has l x) (sym same) ∙ there), λ off. ap (λ l. differ (w ∷ l)) (same ∙ none off))

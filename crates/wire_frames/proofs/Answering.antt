@@ -1,4 +1,4 @@
--- What an answer says of the spelling of frames.
+-- What a `Decoded` answer says about the spelling of frames.
 use Rattle.std.proofs.Common.{◌≡◌, ℕ, List, length, take, sym, ap, subst, ◌∙◌, arith}
 use Rattle.std.proofs.lemmas.List.{take_at, length-append}
 use Rattle.wire_frames.specs.declared.frames.Frame.{Frame}

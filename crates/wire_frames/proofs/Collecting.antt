@@ -1,11 +1,11 @@
--- Reading elements one after the other into memory, as a loop does.
+-- Reading elements into memory one after another, as a loop does.
 use Rattle.std.proofs.Common.{◌≡◌, ℕ, suc, ◌-◌, ◌+◌, ◌≤◌, ◌<◌, true, List, [], ◌∷◌, ◌++◌, Result, Ok, Err, refl, sym, ap, ◌∙◌, append_assoc, arith}
 use Rattle.std.proofs.lemmas.List.{append-nil}
 use Rattle.topology.specs.declared.frame_faults.FrameKind.{FrameKind}
 use Rattle.wire_frames.specs.Formats.{Format, ◌>>=◌, Series, many_at, reached}
 use Rattle.wire_frames.proofs.Formats.{IsFormat, ok_is}
 
--- what was read before, and what is still read
+-- what was read before, and what is still to be read
 abbrev pub with_front : {A : Type 0} → List A → Result (List A × List ℕ) FrameKind → Result (List A × List ℕ) FrameKind
 with_front {A} front read = read >>= λ (x : List A × List ℕ). Ok (front ++ x.0, x.1)
 
@@ -27,12 +27,12 @@ all_read {S} {A} series front count i s bytes total le so_far =
     let one : with_front front (many_at series s (count - i) bytes) ≡ Ok (front, bytes) = rw k (ap (λ (ys : List A). Ok (ys, bytes)) (append-nil front)) in
     sym so_far ∙ one
 
--- what counts behind one more element
+-- the state after one more element
 pub reached_more : {S A : Type 0} (series : Series S A) (s : S) (front : List A) (x : A) → reached series s (front ++ x ∷ []) ≡ series.step (reached series s front) x
 reached_more series s [] x = refl
 reached_more series s (y ∷ ys) x = reached_more series (series.step s y) ys x
 
--- what is read where a value is spelled is that value
+-- where a value is spelled, this value is read
 pub read_back : {A : Type 0} (f : Format A) → IsFormat f → (bytes rest : List ℕ) (x y : A) → f.reads bytes ≡ Ok (x, rest) → f.fits y ≡ true → bytes ≡ f.spells y → x ≡ y
 read_back {A} f law bytes rest x y read fit spelled =
     let again : f.reads bytes ≡ Ok (y, []) = ap f.reads (spelled ∙ sym (append-nil (f.spells y))) ∙ law.again y [] fit in

@@ -31,7 +31,7 @@ apart_from seen xs n y new old later = go (n == y) refl
     go true e = let same : n ≡ y = eqb-true n y e in absurd (let both : false ≡ true = sym new ∙ ap (has seen) same ∙ old in cc)
     go false e = later
 
--- nodes that are read so differ, and are none of those before
+-- nodes that are read like this differ from each other and from those before
 pub many_differ : (seen xs : List ℕ) (n : ℕ) (b rest : List ℕ) → many_at different seen n b ≡ Ok (xs, rest) → (differ xs ≡ true) × ((y : ℕ) → has seen y ≡ true → has xs y ≡ false)
 many_differ seen xs zero b rest e =
     let same = ok_is ([], b) (xs, rest) e in

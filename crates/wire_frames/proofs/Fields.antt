@@ -1,4 +1,4 @@
--- Each field reads what it spells, and nothing else.
+-- Each format reads exactly what it spells.
 use Rattle.std.proofs.Common.{◌≡◌, ℕ, zero, suc, ◌^◌, ◌+◌, ◌<◌, ◌≤◌, Bool, true, false, ◌&&◌, ◌||◌, not, List, [], ◌∷◌, Option, Some, None, length, refl, sym, ap, arith, inl, inr}
 use Rattle.std.specs.Prelude.{◌==◌, nat_lt, nat_le, if◌then◌else◌}
 use Rattle.std.specs.Int.{w8, w16, w32, w64}
@@ -157,7 +157,7 @@ unfolding scope
 scope_law = meant_law (tested w16 (λ n. nat_le n 255 || n == 65535)) scope_meaning (tested_law w16 (2 ^ 16) (λ n. nat_le n 255 || n == 65535) wide16 scope_small)
     (record { back = scope_back; there = λ n h. scope_there n; good = scope_good })
 
--- ---- names of several numbers
+-- ---- names made of several numbers
 
 pub trigger_law : IsFormat trigger
 unfolding trigger

@@ -1,4 +1,4 @@
--- What is read is spelled so, and what is spelled so is read.
+-- What is read was spelled like that, and what is spelled is read back.
 use Rattle.std.proofs.Common.{◌≡◌, ℕ, zero, suc, ◌+◌, ◌^◌, ◌<◌, ◌≤◌, Bool, true, false, ◌&&◌, cond, ltb, List, [], ◌∷◌, ◌++◌, length, take, drop, Option, Some, None, Result, Ok, Err, refl, sym, ap, subst, ◌∙◌, append_assoc, arith, inl, inr}
 use Rattle.std.specs.Prelude.{nat_le}
 use Rattle.std.specs.List.{flat_map}
@@ -52,7 +52,7 @@ pub record Takes (bytes text rest : List ℕ) : Type 0 where
 pub Takes-then : (a x b y c : List ℕ) → Takes a x b → Takes b y c → Takes a (x ++ y) c
 Takes-then a x b y c p q = record { parts = p.parts ∙ ap (λ (t : List ℕ). x ++ t) q.parts ∙ sym (append_assoc x y c); rest_fits = q.rest_fits }
 
--- what is read is spelled so and has a spelling; what is spelled so is read, whatever follows
+-- what is read was spelled like that and has a spelling; what is spelled is read back, whatever follows
 pub record IsFormat {A : Type 0} (f : Format A) : Type 0 where
   pub takes : (bytes : List ℕ) (x : A) (rest : List ℕ) → IsBytes bytes → f.reads bytes ≡ Ok (x, rest) → Takes bytes (f.spells x) rest × (f.fits x ≡ true)
   pub again : (x : A) (rest : List ℕ) → f.fits x ≡ true → f.reads (f.spells x ++ rest) ≡ Ok (x, rest)
@@ -170,7 +170,7 @@ led_law {A} {B} f g law_f law_g = record {
       ap (led f g).reads (append_assoc (f.spells x.0) ((g x.0).spells x.1) rest) ∙ rw (law_f.again x.0 ((g x.0).spells x.1 ++ rest) p.0, (law_g x.0).again x.1 rest p.1) refl;
 }
 
--- reading and back come to the same
+-- reading and the way back are inverse
 pub record IsMeaning {A B : Type 0} (f : Format A) (m : Meaning A B) : Type 0 where
   pub back : (y : B) → m.only y ≡ true → m.make (m.parts y) ≡ y
   pub there : (x : A) → f.fits x ≡ true → m.parts (m.make x) ≡ x

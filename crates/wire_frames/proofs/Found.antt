@@ -1,4 +1,4 @@
--- What stands at the front of bytes is a frame exactly where they begin with its spelling.
+-- A frame is found at the front of bytes exactly where they begin with its spelling.
 use Rattle.std.proofs.Common.{◌≡◌, ℕ, suc, ◌+◌, ◌^◌, ◌<◌, ◌≤◌, Bool, true, false, ◌&&◌, cond, ltb, List, [], ◌∷◌, ◌++◌, length, take, drop, Option, Some, None, Result, Ok, Err, refl, sym, ap, ap₂, ◌∙◌, append_assoc, arith}
 use Rattle.std.specs.Prelude.{nat_le, ◌==◌, find}
 use Rattle.std.specs.Int.{w32, to_be_bytes}
@@ -57,7 +57,7 @@ number_tag ListedUpdate = refl
 number_tag ListedReport = refl
 number_tag Flush = refl
 
--- each kind stands in one of the two versions
+-- each kind exists in one of the two versions
 pub version_is : (tag : Tag) → is_version (version_of tag) ≡ true
 version_is ListedUpdate = refl
 version_is ListedReport = refl
@@ -68,7 +68,7 @@ pub limit_small : (tag : Tag) → limit_of tag ≤ 1048576
 limit_small Report = omega arith
 limit_small _ = omega arith
 
--- ---- what is found is spelled
+-- ---- what is found was spelled
 
 -- the bytes begin with the frame's spelling of this length
 pub record BeginsWith (bytes : List ℕ) (f : Frame) (n : ℕ) : Type 0 where
@@ -160,14 +160,14 @@ pub fit_fields : (f : Frame) → fits f ≡ true → fields_fit f ≡ true
 unfolding fits
 fit_fields f fit = (and_parts (fields_fit f) (nat_le (length (body f)) (limit_of (tag_of f))) fit).0
 
--- no body that has a spelling is longer than a mebibyte
+-- no body with a spelling is longer than a mebibyte
 pub short_body : (f : Frame) → fits f ≡ true → length (body f) ≤ 1048576
 unfolding fits
 short_body f fit =
     let small : length (body f) ≤ limit_of (tag_of f) = leb-true _ _ (and_parts (fields_fit f) (nat_le (length (body f)) (limit_of (tag_of f))) fit).1 in
     omega (arith, limit_small (tag_of f))
 
--- no spelling is a front of another
+-- no spelling is the beginning of another
 pub no_front : (f g : Frame) (rest : List ℕ) → fits f ≡ true → fits g ≡ true → spell f ++ rest ≡ spell g → (f ≡ g) × (rest ≡ [])
 no_front f g rest fit fit_g e =
     let one = spelled_found f rest fit in

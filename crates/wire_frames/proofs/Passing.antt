@@ -1,4 +1,4 @@
--- Fields that are gone over, or cut out, are read.
+-- Fields that are skipped or cut out can be read.
 use Rattle.std.proofs.Common.{◌≡◌, ℕ, ◌-◌, true, false, List, [], ◌∷◌, ◌++◌, length, take, Result, Ok, Err, refl, ap, ◌∙◌, arith}
 use Rattle.std.specs.Borrow.{Bor}
 use Rattle.std.proofs.lemmas.List.{take_at, length-append}
@@ -11,7 +11,7 @@ use Rattle.wire_frames.specs.Shown.{Gives, Passes, Cuts}
 use Rattle.wire_frames.proofs.Formats.{IsFormat}
 use Rattle.wire_frames.proofs.Skipping.{skipped_ok, skipped_err, passed_ok, passed_err}
 
--- a count, and so many elements that were gone over, are a list
+-- a count and that many skipped elements are a list
 pub list_passes : {S A T : Type 0} (count : Format ℕ) (series : Series S A) (s t : S) (n : ℕ) (b0 b1 b2 : List ℕ) (r : Result T FrameKind) → count.reads b0 ≡ Ok (n, b1) → Gives (λ _. (t, b2)) r (skipped series s n b1)
     → Passes (listed count series s) b0 r b2
 list_passes count series s t n b0 b1 b2 (Ok x) counted gone =
@@ -23,7 +23,7 @@ pub list_fails : {S A : Type 0} (count : Format ℕ) (series : Series S A) (s : 
     → (listed count series s).reads b0 ≡ Err wrong
 list_fails count series s n b0 b1 wrong counted gone = rw (counted, skipped_err series s n b1 wrong gone) refl
 
--- the same, where the bytes that are left are told alone
+-- the same, if only the rest of the bytes is known
 pub list_passed : {S A T : Type 0} (count : Format ℕ) (series : Series S A) (s : S) (n : ℕ) (b0 b1 b2 : List ℕ) (r : Result T FrameKind) → count.reads b0 ≡ Ok (n, b1) → Gives (λ _. b2) r (passed series s n b1)
     → Passes (listed count series s) b0 r b2
 list_passed count series s n b0 b1 b2 (Ok x) counted gone =
@@ -40,7 +40,7 @@ pub meant_passes : {A B T : Type 0} (f : Format A) (m : Meaning A B) (b0 b2 : Li
 meant_passes f m b0 b2 (Ok y) gone = (m.make gone.0, rw gone.1 refl)
 meant_passes f m b0 b2 (Err wrong) gone = rw gone refl
 
--- the front that was gone over spells what is read
+-- the skipped front spells what is read
 pub part_is : {A : Type 0} (f : Format A) → IsFormat f → (b0 b1 : List ℕ) (text : Bor (List ℕ)) (y : A) → IsBytes b0 → f.reads b0 ≡ Ok (y, b1) → text.now ≡ take (length b0 - length b1) b0
     → Cuts f b0 (Ok text) b1
 part_is f law b0 b1 text y are read cut =

@@ -1,4 +1,4 @@
--- A report of version 2 that is gone over, field by field.
+-- A report of version 2 that is skipped field by field.
 use Rattle.std.proofs.Common.{◌≡◌, ℕ, Bool, true, false, not, ◌&&◌, List, length, Ok, Err, refl, sym, ap, ap₂, ◌∙◌}
 use Rattle.std.specs.Prelude.{◌==◌}
 use Rattle.std.specs.List.{list_all}
@@ -17,14 +17,14 @@ use Rattle.wire_frames.proofs.Versions.{rows_reach}
 abbrev pub report_made : ℕ → ℕ → List Row → List SessionRow → List Pending → TheReport
 report_made n e rows sessions pending = record { node = n; epoch = e; rows = rows; sessions = sessions; pending = pending }
 
--- the fields that were read, one behind the other
+-- the fields that were read, one after another
 pub parts_read : (n e : ℕ) (rows : List Row) (sessions : List SessionRow) (pending : List Pending) (b0 b1 b2 b3 b4 b5 : List ℕ) → node.reads b0 ≡ Ok (n, b1) → epoch.reads b1 ≡ Ok (e, b2)
     → (listed (many MOST_ENTRIES) listed_rows no_rows).reads b2 ≡ Ok (rows, b3) → (listed (many MOST_SESSIONS) session_rows (0, 0)).reads b3 ≡ Ok (sessions, b4)
     → (listed (many MOST_PENDING) pending_rows (nothing_pending (reached listed_rows no_rows rows).marks)).reads b4 ≡ Ok (pending, b5)
     → any_report.reads b0 ≡ Ok (report_made n e rows sessions pending, b5)
 parts_read n e rows sessions pending b0 b1 b2 b3 b4 b5 h0 h1 h2 h3 h4 = rw (h0, h1, h2, h3, h4) refl
 
--- whether a report of these parts is plain is told by what counts behind its rows
+-- whether a report of these parts is plain follows from the state after its rows
 pub plain_is : (n e : ℕ) (rows : List Row) (sessions : List SessionRow) (pending : List Pending) (s : RowsSoFar) (count : ℕ) → s ≡ reached listed_rows no_rows rows → count ≡ length pending
     → is_plain (report_made n e rows sessions pending) ≡ (s.plain && count == 0)
 plain_is n e rows sessions pending s count is long =

@@ -1,4 +1,4 @@
--- Triggers that are read, each behind the one before it, ascend.
+-- Triggers that are read in order ascend.
 use Rattle.std.proofs.Common.{◌≡◌, ℕ, zero, suc, true, List, [], ◌∷◌, Ok, sym, ap, subst, ◌∙◌}
 use Rattle.topology.specs.Triggers.{earlier, Ascend}
 use Rattle.topology.specs.declared.names.Trigger.{Trigger}
@@ -8,7 +8,7 @@ use Rattle.wire_frames.specs.Formats.{◌>>=◌, held, many_at}
 use Rattle.wire_frames.specs.Fields.{trigger, rising_triggers}
 use Rattle.wire_frames.proofs.Formats.{bind_ok, held_ok, ok_is}
 
--- they ascend, and each stands behind the last one before them
+-- they ascend, and each is above the last one before them
 pub rises : (last : Trigger) (n : ℕ) (bytes : List ℕ) (x : List Trigger × List ℕ) → many_at rising_triggers last n bytes ≡ Ok x → AllAfter last x.0 × Ascend x.0
 rises last zero bytes x e =
     let made : List Trigger × List ℕ = ([], bytes) in

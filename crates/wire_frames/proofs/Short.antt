@@ -1,4 +1,4 @@
--- No body but that of a report can be longer than its kind allows.
+-- Only the body of a report can be longer than its kind allows.
 use Rattle.std.proofs.Common.{◌≡◌, ℕ, suc, ◌+◌, ◌*◌, ◌≤◌, ◌<◌, Bool, true, false, ◌&&◌, cond, List, [], ◌∷◌, ◌++◌, length, Option, Some, None, get_or, take, inl, inr, refl, sym, ap, ◌∙◌, arith}
 use Rattle.std.specs.Prelude.{nat_le, min}
 use Rattle.std.specs.List.{flat_map}
@@ -22,7 +22,7 @@ use Rattle.wire_frames.specs.declared.tags.Tag.{Tag}
 use Rattle.wire_frames.specs.declared.tags.Tag.TheVariants.{Report, ListedReport}
 use Rattle.wire_frames.specs.Frames.{limit_of, update, listed_update, promise, accept, decision, hop, forward, published, tag_of, fields_fit, body}
 
--- what has a spelling has one of so many bytes at most
+-- everything with a spelling takes at most this many bytes
 pub record IsShort {A : Type 0} (f : Format A) (most : ℕ) : Type 0 where
   pub short : (x : A) → f.fits x ≡ true → length (f.spells x) ≤ most
 
@@ -225,7 +225,7 @@ update_in_time a b c ts e f false one fit =
     let text : length (listed_update.spells (a, (b, (c, (ts, (e, f)))))) ≤ 49295 = listed_update_short.short (a, (b, (c, (ts, (e, f))))) (rw one at fit) in
     rw one (at_most_limit 49295 65536 text (omega arith))
 
--- a body of fields that fit is no longer than its kind allows, but for that of a report
+-- a body of fitting fields is no longer than its kind allows, unless it is that of a report
 pub short_unless_report : (f : Frame) → ((n : ℕ) (r : TheReport) → f ≡ frame.Report n r → ⊥) → fields_fit f ≡ true → length (body f) ≤ limit_of (tag_of f)
 unfolding body node prefix positive epoch epoch_or_none preference any32 end trigger ballot
 short_unless_report (frame.Originate a) other fit = omega arith
@@ -253,7 +253,7 @@ short_unless_report (frame.Flush a) other fit = omega arith
 
 -- ---- reports
 
--- how many bytes an item of a row with one trigger takes, and how many such a row
+-- how many bytes an item of a row with one trigger takes, and such a row
 pub item_wide : (x : Sent) → length (items.spells x) ≡ 10
 unfolding sent node positive
 item_wide x = refl
@@ -262,7 +262,7 @@ pub row_wide : (r : Row) → length ((row 0).spells r) ≡ length (flat_map item
 unfolding row trigger scope node positive more_items
 row_wide r = omega arith
 
--- how many bytes what lists any number of triggers takes: an item, a row and a pending row
+-- how many bytes an item, a row and a pending row take with any number of triggers
 pub listed_item_wide : (x : Sent) → length ((item 0).spells x) ≡ length (flat_map trigger.spells x.triggers) + 12
 unfolding item triggers more_triggers node positive
 listed_item_wide x = omega arith
@@ -289,7 +289,7 @@ pub session_down : (r : SessionRow) (t : Trigger) → r.down ≡ Some t → leng
 unfolding trigger node positive
 session_down r t e = session_wide r ∙ ap (λ (o : Option Trigger). 10 + length (spelled_behind trigger.spells o)) e
 
--- one more element, where the length stops at the highest number
+-- one more element, where the sum stops at the highest number
 pub grow : {A : Type 0} (spells : A → List ℕ) (list : List A) (i n total : ℕ) (x : A) → i < length list → x ≡ get_or list i x → min n 18446744073709551615 ≡ min (length (spells x)) 18446744073709551615
     → total ≡ min (length (flat_map spells (take i list))) 18446744073709551615 → min (total + min n 18446744073709551615) 18446744073709551615 ≡ min (length (flat_map spells (take (i + 1) list))) 18446744073709551615
 grow {A} spells list i n total x lt is one so_far =
@@ -315,7 +315,7 @@ listed_wide r =
     let second = length-append (to_be_bytes w16 (length r.sessions) ++ flat_map (session_row (0, 0)).spells r.sessions) pending in
     omega arith
 
--- the tests of a report are that of its body
+-- the tests of a report are those of its body
 pub plain_test : (r : TheReport) (rows sessions : ℕ) → is_plain r ≡ true → rows ≡ min (length (flat_map (row 0).spells r.rows)) 18446744073709551615 → sessions ≡ min (length (flat_map (session_row (0, 0)).spells r.sessions)) 18446744073709551615
     → nat_le (min (rows + sessions) 18446744073709551615) 1048564 ≡ nat_le (2 + length (spelled_report r)) 1048576
 plain_test r rows sessions plain first second =

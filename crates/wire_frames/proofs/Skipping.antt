@@ -1,4 +1,4 @@
--- Going over elements one after the other, as a loop does.
+-- Skipping elements one after another, as a loop does.
 use Rattle.std.proofs.Common.{◌≡◌, ℕ, zero, suc, ◌-◌, ◌+◌, ◌≤◌, ◌<◌, List, [], ◌∷◌, length, Result, Ok, Err, refl, sym, ap, ap₂, subst, ◌∙◌, arith}
 use Rattle.topology.specs.declared.frame_faults.FrameKind.{FrameKind}
 use Rattle.wire_frames.specs.Formats.{Format, ◌>>=◌, Series, many_at, listed, stepped, reached, skipped, passed}
@@ -30,7 +30,7 @@ is_done series count i s bytes total le so_far =
     let one : skipped series s (count - i) bytes ≡ Ok (s, bytes) = rw k refl in
     sym so_far ∙ one
 
--- what counts behind elements, and the bytes behind them
+-- the state after elements, and the bytes after them
 abbrev with_state : {S A : Type 0} → Series S A → S → List A × List ℕ → Result (S × List ℕ) FrameKind
 with_state series s xs = Ok (reached series s xs.0, xs.1)
 
@@ -55,7 +55,7 @@ step_after : {S A : Type 0} (series : Series S A) (s : S) (n : ℕ) (r : Result 
 step_after series s n (Ok x) later = later (series.step s x.0) x.1 ∙ put_state series s x.0 (many_at series (series.step s x.0) n x.1)
 step_after series s n (Err wrong) later = refl
 
--- what counts and what is left behind elements is what counts and is left where they are read
+-- skipping elements gives the same state and the same rest as reading them
 pub skipped_many : {S A : Type 0} (series : Series S A) (s : S) (n : ℕ) (bytes : List ℕ) → skipped series s n bytes ≡ (many_at series s n bytes >>= with_state series s)
 skipped_many series s zero bytes = refl
 skipped_many series s (suc n) bytes = step_after series s n ((series.at s).reads bytes) (λ t rest. skipped_many series t n rest)
@@ -85,7 +85,7 @@ state_err : {S A : Type 0} (series : Series S A) (s : S) (m : Result (List A × 
 state_err series s (Ok x) wrong e = absurd cc
 state_err series s (Err other) wrong e = let same : other ≡ wrong = cc in ap (λ (w : FrameKind). Err w) same
 
--- elements that were gone over are read
+-- skipped elements can be read
 pub record AreRead {S A : Type 0} (series : Series S A) (s t : S) (n : ℕ) (bytes rest : List ℕ) : Type 0 where
   pub list : List A
   pub read : many_at series s n bytes ≡ Ok (list, rest)
@@ -97,11 +97,11 @@ skipped_ok series s t n bytes rest e =
     let a = state_ok series s t (many_at series s n bytes) rest (sym (skipped_many series s n bytes) ∙ e) in
     record { list = a.0; read = a.1; long = length_many series s n bytes (a.0, rest) a.1; comes = a.2 }
 
--- what is wrong with elements that are gone over is wrong where they are read
+-- a fault of skipped elements is a fault where they are read
 pub skipped_err : {S A : Type 0} (series : Series S A) (s : S) (n : ℕ) (bytes : List ℕ) (wrong : FrameKind) → skipped series s n bytes ≡ Err wrong → many_at series s n bytes ≡ Err wrong
 skipped_err series s n bytes wrong e = state_err series s (many_at series s n bytes) wrong (sym (skipped_many series s n bytes) ∙ e)
 
--- the same of the bytes behind elements alone
+-- the same for the rest of the bytes alone
 pub passed_ok : {S A : Type 0} (series : Series S A) (s : S) (n : ℕ) (bytes rest : List ℕ) → passed series s n bytes ≡ Ok rest → (t : S) × (skipped series s n bytes ≡ Ok (t, rest))
 passed_ok {S} series s n bytes rest e =
     let a = bind_ok (skipped series s n bytes) (λ (x : S × List ℕ). Ok x.1) rest e in
@@ -145,7 +145,7 @@ unfolding listed_row
 listed_row_goes_wrong s n ts whole b0 b1 b2 b3 wrong first second third fourth =
     rw (first, second, third, skipped_err listed_items (begun s.marks ts) n b3 wrong fourth) refl
 
--- what counts behind a row whose items were read
+-- the state after a row whose items were read
 pub row_counts : (s : RowsSoFar) (n : ℕ) (ts : List Trigger) (start row : RowSoFar) (xs ys : List Sent) → row ≡ reached listed_items start ys → start ≡ begun s.marks ts → xs ≡ ys → length ys ≡ n
     → with_row s n row ≡ with_row s (length xs) (reached listed_items (begun s.marks ts) xs)
 row_counts s n ts start row xs ys is at same long =

@@ -1,4 +1,5 @@
--- A body reads as the frame that it spells, and what stands at the front of bytes is a frame exactly where they begin with its spelling.
+-- A body reads as the frame that it spells, and a frame is found at the front of bytes exactly where they begin with
+-- its spelling.
 use Rattle.std.proofs.Common.{◌≡◌, ℕ, Bool, true, false, ◌&&◌, Option, List, [], ◌∷◌, ◌++◌, Ok, refl, sym, ap, subst, ◌∙◌}
 use Rattle.std.proofs.lemmas.List.{append-nil}
 use Rattle.std.proofs.lemmas.Bool.{and_parts}
@@ -108,7 +109,7 @@ whole_again {A} f make x law fit =
     let read : f.reads (f.spells x) ≡ Ok (x, []) = ap f.reads (sym (append-nil (f.spells x))) ∙ law.again x [] fit in
     rw read refl
 
--- the test of the triggers, among those of the fields of an update
+-- the test of the triggers, within the fields of an update
 listed_fit : (a b c d e : Bool) → (a && (b && (c && (d && e)))) ≡ true → d ≡ true
 listed_fit a b c d e h =
     (and_parts d e (and_parts c (d && e) (and_parts b (c && (d && e)) (and_parts a (b && (c && (d && e))) h).1).1).1).0

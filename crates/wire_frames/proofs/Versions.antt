@@ -1,4 +1,4 @@
--- Which updates and reports version 1 spells.
+-- Which updates and reports have a spelling in version 1.
 use Rattle.std.proofs.Common.{◌≡◌, ◌≢◌, ◌⊎◌, inl, inr, arith, cond, ◌+◌, ℕ, Bool, true, false, not, ◌&&◌, List, [], ◌∷◌, Option, Some, None, length, refl, sym, ap, ◌∙◌}
 use Rattle.std.specs.Prelude.{◌==◌}
 use Rattle.std.specs.List.{list_all}
@@ -63,12 +63,12 @@ report_is_plain r h =
     let t = and_parts ((listed (many MOST_ENTRIES) rows 0).fits r.rows) ((listed (many MOST_SESSIONS) session_rows (0, 0)).fits r.sessions) s.1 in
     and_from (list_all is_plain_row r.rows) (length r.pending == 0) (rows_plain 0 r.rows (and_parts ((many MOST_ENTRIES).fits (length r.rows)) (many_fit rows 0 r.rows) t.0).1) p.0
 
--- what version 2 spells is not
+-- what version 2 spells is not plain
 pub listed_is_not_plain : (r : TheReport) → listed_report.fits r ≡ true → is_plain r ≡ false
 unfolding listed_report
 listed_is_not_plain r h = not-true (is_plain r) (and_parts (any_report.fits r) (not (is_plain r)) h).1
 
--- ---- what counts behind rows
+-- ---- the state after rows
 
 and_grouped : (a b c : Bool) → ((a && b) && c) ≡ (a && (b && c))
 and_grouped true b c = refl

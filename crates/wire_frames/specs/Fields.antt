@@ -30,7 +30,7 @@ node = number w16 1 HIGHEST_NODE
 unfoldable pub prefix : Format ℕ
 prefix = number w16 0 255
 
--- a session, a number of an update, a counter, a round or the number of a packet
+-- a session, the number of an update or a packet, a counter, or a round
 unfoldable pub positive : Format ℕ
 positive = number w32 1 4294967295
 
@@ -68,15 +68,15 @@ many most = number w16 0 most
 
 -- ---- choices
 
--- the value tells itself
+-- every value may be used
 abbrev pub each : {B : Type 0} → B → Bool
 each y = true
 
--- 1 for true
+-- 1 means true
 abbrev pub flag_meaning : Meaning ℕ Bool
 flag_meaning = record { make = λ n. n == 1; parts = λ b. if b then 1 else 0; only = each }
 
--- 1 for true
+-- 1 means true
 unfoldable pub flag : Format Bool
 flag = meant (number w8 0 1) flag_meaning
 
@@ -86,7 +86,7 @@ scope_number (One p) = p
 scope_number All = 65535
 scope_number Nothing = 65534
 
--- the scope has a prefix, at a place that prefixes may have, or all
+-- the scope is a prefix at a possible place, or all
 abbrev pub is_scope : Scope → Bool
 is_scope (One p) = nat_le p 255
 is_scope All = true
@@ -105,11 +105,11 @@ abbrev pub mode_number : Mode → ℕ
 mode_number Stable = 0
 mode_number Transient = 1
 
--- the number of a mode
+-- a mode as its number
 abbrev pub mode_meaning : Meaning ℕ Mode
 mode_meaning = record { make = λ n. if n == 0 then Stable else Transient; parts = mode_number; only = each }
 
--- how a packet goes on
+-- the mode of a packet
 unfoldable pub mode : Format Mode
 mode = meant (number w8 0 1) mode_meaning
 
@@ -119,15 +119,15 @@ end_number Delivered = 1
 end_number Expired = 2
 end_number Stuck = 3
 
--- the number of an end
+-- an end as its number
 abbrev pub end_meaning : Meaning ℕ End
 end_meaning = record { make = λ n. if n == 1 then Delivered else if n == 2 then Expired else Stuck; parts = end_number; only = each }
 
--- how a walk ended
+-- the end of a walk
 unfoldable pub end : Format End
 end = meant (number w8 1 3) end_meaning
 
--- ---- names of several numbers
+-- ---- names made of several numbers
 
 -- a node and a counter
 abbrev pub trigger_meaning : Meaning (ℕ × ℕ) Trigger
@@ -137,11 +137,11 @@ trigger_meaning = record { make = λ p. record { node = p.0; count = p.1 }; part
 unfoldable pub trigger : Format Trigger
 trigger = meant (pair node positive) trigger_meaning
 
--- before all triggers
+-- a value below all triggers
 abbrev pub no_trigger : Trigger
 no_trigger = record { node = 0; count = 0 }
 
--- the trigger that a list begins with
+-- the first trigger of a list
 abbrev pub first_of : List Trigger → Trigger
 first_of [] = no_trigger
 first_of (t ∷ ts) = t
@@ -152,17 +152,17 @@ is_one [] = false
 is_one (t ∷ []) = true
 is_one (t ∷ s ∷ ts) = false
 
--- the list has this trigger and no other
+-- the list has exactly this trigger
 abbrev pub is_alone : Trigger → List Trigger → Bool
 is_alone t [] = false
 is_alone t (s ∷ []) = same_trigger s t
 is_alone t (s ∷ u ∷ ts) = false
 
--- a trigger stands for the list of it alone
+-- a trigger as the list that has just it
 abbrev pub one_meaning : Meaning Trigger (List Trigger)
 one_meaning = record { make = λ t. t ∷ []; parts = first_of; only = is_one }
 
--- a list of one trigger; no other list has a spelling of this form
+-- a list of one trigger; other lists have no spelling in this format
 unfoldable pub one_trigger : Format (List Trigger)
 one_trigger = meant trigger one_meaning
 
@@ -174,7 +174,7 @@ ballot_meaning = record { make = λ p. record { round = p.0; node = p.1 }; parts
 unfoldable pub ballot : Format Ballot
 ballot = meant (pair positive node) ballot_meaning
 
--- the neighbour, the session and the number of an item that lists the trigger alone
+-- the neighbour, the session and the number of an item that lists exactly this trigger
 abbrev pub sent_meaning : Trigger → Meaning (ℕ × (ℕ × ℕ)) Sent
 sent_meaning t = record {
   make = λ p. record { to = p.0; session = p.1.0; seq = p.1.1; triggers = t ∷ [] };
@@ -182,7 +182,7 @@ sent_meaning t = record {
   only = λ item. is_alone t item.triggers;
 }
 
--- an item that was sent by an entry with the trigger: the neighbour, the session and the number
+-- an item of an entry with this trigger: the neighbour, the session and the number
 unfoldable pub sent : Trigger → Format Sent
 sent t = meant (pair node (pair positive positive)) (sent_meaning t)
 
@@ -196,7 +196,7 @@ in_any_order = record { at = λ s. node; step = λ s n. s; spells = node.spells 
 abbrev pub rising : Series ℕ ℕ
 rising = record { at = λ last. ordered node (nat_lt last); step = λ last n. n; spells = node.spells }
 
--- no node is there twice
+-- no node occurs twice
 abbrev pub different : Series (List ℕ) ℕ
 different = record { at = λ seen. ordered node (λ n. not (has seen n)); step = λ seen n. seen ++ n ∷ []; spells = node.spells }
 
@@ -208,7 +208,7 @@ nodes = listed (few MOST_TRAIL) (in_any_order {S = ℕ}) 0
 unfoldable pub links : Format (List ℕ)
 links = listed (few 63) rising 0
 
--- no nodes are no path
+-- an empty list of nodes means no path
 abbrev pub path_of : List ℕ → Option (List ℕ)
 path_of [] = None
 path_of (n ∷ ns) = Some (n ∷ ns)
@@ -218,13 +218,13 @@ abbrev pub nodes_of : Option (List ℕ) → List ℕ
 nodes_of None = []
 nodes_of (Some ns) = ns
 
--- a path has a node
+-- a path has at least one node
 abbrev pub is_path : Option (List ℕ) → Bool
 is_path None = true
 is_path (Some []) = false
 is_path (Some (n ∷ ns)) = true
 
--- no nodes are no path
+-- a path as its nodes
 abbrev pub path_meaning : Meaning (List ℕ) (Option (List ℕ))
 path_meaning = record { make = path_of; parts = nodes_of; only = is_path }
 
@@ -232,7 +232,7 @@ path_meaning = record { make = path_of; parts = nodes_of; only = is_path }
 unfoldable pub path : Format (Option (List ℕ))
 path = meant (listed (few MOST_NODES) different []) path_meaning
 
--- paths, one behind the other
+-- paths, one after another
 abbrev pub paths_in_order : {S : Type 0} → Series S (Option (List ℕ))
 paths_in_order = record { at = λ s. path; step = λ s p. s; spells = path.spells }
 
@@ -242,7 +242,7 @@ paths = listed (many MOST_PREFIXES) (paths_in_order {S = ℕ}) 0
 
 -- ---- values
 
--- each trigger stands behind the one before it
+-- each trigger is above the one before it
 abbrev pub rising_triggers : Series Trigger Trigger
 rising_triggers = record { at = λ last. ordered trigger (earlier last); step = λ last t. t; spells = trigger.spells }
 
@@ -254,7 +254,7 @@ value_meaning = record {
   only = each;
 }
 
--- what is agreed on: the nodes that responded, and the incomplete triggers
+-- a value: the nodes that responded, and the incomplete triggers
 unfoldable pub value : Format Value
 value = meant (pair (listed (few MOST_NODES) rising 0) (listed (many MOST_TRIGGERS) rising_triggers no_trigger)) value_meaning
 
@@ -264,7 +264,7 @@ named = optional (pair ballot value)
 
 -- ---- reports
 
--- the items of an entry with the trigger, one behind the other
+-- the items of an entry with this trigger, one after another
 abbrev pub items : Series Trigger Sent
 items = record { at = sent; step = λ t item. t; spells = (sent no_trigger).spells }
 
@@ -276,15 +276,15 @@ row_meaning = record {
   only = λ r. is_one r.triggers;
 }
 
--- how many items a row has, where the rows before it have so many
+-- how many items a row has, after rows with `before` items in all; together at most 16384
 unfoldable pub more_items : ℕ → Format ℕ
 more_items before = tested w16 (λ n. nat_le (before + n) MOST_UPDATES)
 
--- an entry of the cut, behind rows that have so many items
+-- an entry of the cut, after rows with `before` items in all
 unfoldable pub row : ℕ → Format Row
 row before = meant (led trigger (λ t. pair scope (listed (more_items before) items t))) row_meaning
 
--- rows: what counts of those before is how many items they have
+-- rows; the state is the number of items so far
 abbrev pub rows : Series ℕ Row
 rows = record { at = row; step = λ before r. before + length r.sent; spells = (row 0).spells }
 
@@ -292,7 +292,7 @@ rows = record { at = row; step = λ before r. before + length r.sent; spells = (
 abbrev pub session_key : Format (ℕ × ℕ)
 session_key = pair node positive
 
--- by neighbour, then by number
+-- a is below b: by neighbour, then by number
 abbrev pub above : (ℕ × ℕ) → (ℕ × ℕ) → Bool
 above a b = nat_lt a.0 b.0 || (a.0 == b.0 && nat_lt a.1 b.1)
 
@@ -304,7 +304,7 @@ session_row_meaning = record {
   only = each;
 }
 
--- a session that was ever held, behind the one before it
+-- a session that was ever held, which must be above the last one
 unfoldable pub session_row : (ℕ × ℕ) → Format SessionRow
 session_row last = meant (pair (ordered session_key (above last)) (pair any32 (optional trigger))) session_row_meaning
 
@@ -312,7 +312,7 @@ session_row last = meant (pair (ordered session_key (above last)) (pair any32 (o
 abbrev pub session_rows : Series (ℕ × ℕ) SessionRow
 session_rows = record { at = session_row; step = λ last r. (r.nbr, r.session); spells = (session_row (0, 0)).spells }
 
--- the node, the epoch, the rows and the sessions of a report of which nothing is pending
+-- the node, the epoch, the rows and the sessions of a report without pending rows
 abbrev pub report_meaning : Meaning (ℕ × (ℕ × (List Row × List SessionRow))) Report
 report_meaning = record {
   make = λ p. record { node = p.0; epoch = p.1.0; rows = p.1.1.0; sessions = p.1.1.1; pending = [] };
@@ -320,13 +320,13 @@ report_meaning = record {
   only = λ r. length r.pending == 0;
 }
 
--- the report of a cut whose rows list one trigger each
+-- the report of a cut whose rows each list one trigger
 unfoldable pub report : Format Report
 report = meant (pair node (pair epoch (pair (listed (many MOST_ENTRIES) rows 0) (listed (many MOST_SESSIONS) session_rows (0, 0))))) report_meaning
 
 -- ---- packets
 
--- what a packet carries behind its mode
+-- what a packet carries after its mode
 abbrev pub carried : Format (ℕ × (Bool × (ℕ × (List ℕ × List ℕ))))
 carried = pair any16 (pair flag (pair any64 (pair nodes nodes)))
 

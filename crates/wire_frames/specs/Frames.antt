@@ -1,4 +1,4 @@
--- The kinds of frames, and the one spelling of each frame.
+-- The kinds of frames, and the only spelling of each frame.
 use Rattle.std.specs.Prelude.{ℕ, Bool, true, ◌&&◌, ◌==◌, nat_le, List, [], ◌∷◌, ◌++◌, length, Option, find, if◌then◌else◌}
 use Rattle.std.specs.Int.{w32, to_be_bytes, is_in_range}
 use Rattle.topology.specs.declared.names.Trigger.{Trigger}
@@ -42,7 +42,7 @@ number_of ListedUpdate = 8
 number_of ListedReport = 11
 number_of Flush = 22
 
--- the version in which each kind stands: updates and reports in both
+-- the version in which each kind exists; updates and reports exist in both
 abbrev pub version_of : Tag → ℕ
 version_of ListedUpdate = 2
 version_of ListedReport = 2
@@ -60,7 +60,7 @@ tags =
 unfoldable pub tag_in : ℕ → ℕ → Option Tag
 tag_in version byte = find (λ tag. version_of tag == version && number_of tag == byte) tags
 
--- how long the body of each kind may be: the kinds that carry reports and values have more room
+-- the most bytes of a body of each kind; the kinds with reports and values have more room
 abbrev pub limit_of : Tag → ℕ
 limit_of Report = 1048576
 limit_of Promise = 1048576
@@ -99,15 +99,15 @@ hello = pair node (pair positive epoch_or_none)
 abbrev pub reported : Format (ℕ × TheReport)
 reported = pair node report
 
--- the peer and a report that version 1 does not spell
+-- the peer and a report that has no spelling in version 1
 abbrev pub listed_reported : Format (ℕ × TheReport)
 listed_reported = pair node listed_report
 
--- what asks for a ballot, and what answers that the value of a ballot is accepted
+-- the peer, the epoch and the ballot: of a Prepare, or of an Accepted
 abbrev pub in_ballot : Format (ℕ × (ℕ × Ballot))
 in_ballot = pair node (pair epoch ballot)
 
--- the peer, the epoch, the ballot, and what is named
+-- the peer, the epoch, the ballot, and the pair that is named
 abbrev pub promise : Format (ℕ × (ℕ × (Ballot × Option (Ballot × Value))))
 promise = pair node (pair epoch (pair ballot named))
 
@@ -141,7 +141,7 @@ injected = pair positive prefix
 
 -- ---- the spelling of a frame
 
--- the kind of a frame: that of version 1 where it has one there
+-- the kind of a frame, in version 1 if it has a kind there
 abbrev pub tag_of : Frame → Tag
 tag_of (frame.Originate p) = Originate
 tag_of (frame.Withdraw p) = Withdraw
@@ -166,7 +166,7 @@ tag_of (frame.Published e ps) = Published
 tag_of (frame.Inject i p) = Inject
 tag_of (frame.Flush n) = Flush
 
--- the spelling of each field of a frame, in their order
+-- the spelling of each field of a frame, in order
 abbrev pub fields : Frame → List (List ℕ)
 fields (frame.Originate p) = prefix.spells p ∷ []
 fields (frame.Withdraw p) = prefix.spells p ∷ []
@@ -191,7 +191,7 @@ fields (frame.Published e ps) = epoch.spells e ∷ paths.spells ps ∷ []
 fields (frame.Inject i p) = positive.spells i ∷ prefix.spells p ∷ []
 fields (frame.Flush n) = node.spells n ∷ []
 
--- each field of the frame is in its range, and each list in its order
+-- each field of the frame is in its range, and each list in order
 abbrev pub fields_fit : Frame → Bool
 fields_fit (frame.Originate p) = prefix.fits p
 fields_fit (frame.Withdraw p) = prefix.fits p
@@ -216,7 +216,7 @@ fields_fit (frame.Published e ps) = published.fits (e, ps)
 fields_fit (frame.Inject i p) = injected.fits (i, p)
 fields_fit (frame.Flush n) = node.fits n
 
--- the lists, one behind the other
+-- the lists, one after another
 abbrev pub joined : List (List ℕ) → List ℕ
 joined [] = []
 joined (text ∷ []) = text
@@ -240,10 +240,10 @@ kind_number (frame.Update n s q ts p ns) = 8
 kind_number (frame.Report n r) = 11
 kind_number f = number_of (tag_of f)
 
--- the body of a frame whose kind has one of these numbers, nothing for others
+-- the body of a frame if the number of its kind is in this range, else nothing
 unfoldable pub body_within : ℕ → ℕ → Frame → List ℕ
 body_within low high f = if is_in_range low high (kind_number f) then body f else []
 
--- the fields of a frame fit, if its kind has one of these numbers
+-- the fields of a frame fit if the number of its kind is in this range
 unfoldable pub fit_within : ℕ → ℕ → Frame → Bool
 fit_within low high f = if is_in_range low high (kind_number f) then fields_fit f else true

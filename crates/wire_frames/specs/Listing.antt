@@ -1,4 +1,4 @@
--- The fields of version 2: lists of triggers, and reports whose rows and items list any number of them.
+-- The fields of version 2: lists of triggers, and reports whose rows and items may list any number of them.
 use Rattle.std.specs.Prelude.{ℕ, Bool, true, false, not, ◌&&◌, ◌||◌, ◌==◌, ◌+◌, nat_lt, nat_le, List, [], ◌∷◌, length, Option, Some, None, if◌then◌else◌}
 use Rattle.std.specs.List.{list_all}
 use Rattle.std.specs.Int.{w16, is_in_range}
@@ -17,11 +17,12 @@ use Rattle.wire_frames.specs.Fields.{node, prefix, positive, epoch, many, each, 
 
 -- ---- lists of triggers
 
--- how many triggers a list has, at least low, where the lists before it have so many
+-- how many triggers a list has: at least `low` and at most 8192; with the lists before it, which have `before`
+-- triggers, at most 65536
 unfoldable pub more_triggers : ℕ → ℕ → Format ℕ
 more_triggers low before = tested w16 (λ n. is_in_range low MOST_TRIGGERS n && nat_le (before + n) MOST_MARKS)
 
--- triggers, each behind the one before it: at least low of them, behind lists that have so many
+-- triggers in ascending order, at least `low` of them, after lists with `before` triggers in all
 unfoldable pub triggers : ℕ → ℕ → Format (List Trigger)
 triggers low before = listed (more_triggers low before) rising_triggers no_trigger
 
@@ -39,13 +40,13 @@ update_version ts = if is_one ts then 1 else 2
 
 -- ---- which reports are spelled in version 1
 
--- the only trigger of a list
+-- the trigger of a list if it has just one
 abbrev pub only_of : List Trigger → Option Trigger
 only_of [] = None
 only_of (t ∷ []) = Some t
 only_of (t ∷ s ∷ ts) = None
 
--- the list has this trigger and no other
+-- the list has exactly this trigger
 abbrev pub has_alone : Option Trigger → List Trigger → Bool
 has_alone None ts = false
 has_alone (Some t) ts = is_alone t ts
@@ -60,14 +61,14 @@ is_plain r = list_all is_plain_row r.rows && length r.pending == 0
 
 -- ---- items
 
--- what counts of a row and those of its items that were read: the only trigger of the row, how many triggers are listed so
--- far, and whether the row lists one trigger and so do these items
+-- the state while the items of a row are read: the only trigger of the row, if it has just one; how many triggers are
+-- listed so far; and whether the row and its items so far list the same one trigger
 pub record RowSoFar : Type 0 where
   pub only : Option Trigger
   pub marks : ℕ
   pub plain : Bool
 
--- before the items of a row with these triggers, behind rows that list so many
+-- the state before the items of a row with these triggers, after rows that list `before` triggers
 abbrev pub begun : ℕ → List Trigger → RowSoFar
 begun before ts = record { only = only_of ts; marks = before + length ts; plain = is_one ts }
 
@@ -79,11 +80,11 @@ item_meaning = record {
   only = each;
 }
 
--- an item, behind lists that have so many triggers
+-- an item, after lists with `before` triggers in all
 unfoldable pub item : ℕ → Format Sent
 item before = meant (pair node (pair positive (pair positive (triggers 1 before)))) item_meaning
 
--- what counts behind an item with these triggers
+-- the state after an item with these triggers
 abbrev pub behind_item : RowSoFar → List Trigger → RowSoFar
 behind_item s ts = record { only = s.only; marks = s.marks + length ts; plain = s.plain && has_alone s.only ts }
 
@@ -93,18 +94,19 @@ listed_items = record { at = λ s. item s.marks; step = λ s x. behind_item s x.
 
 -- ---- rows
 
--- what counts of the rows that were read: how many items they have, how many triggers they and their items list, and whether
--- each lists one trigger that its items list too
+-- the state while rows are read: how many items they have, how many triggers they and their items list, and whether
+-- each row lists one trigger that its items list too
 pub record RowsSoFar : Type 0 where
   pub items : ℕ
   pub marks : ℕ
   pub plain : Bool
 
--- before the first row
+-- the state before the first row
 abbrev pub no_rows : RowsSoFar
 no_rows = record { items = 0; marks = 0; plain = true }
 
--- the test of a scope's number beside triggers, or beside none: nothing is concerned exactly where no trigger is listed
+-- the number of a scope may stand with no triggers (true), or with some; the scope is Nothing exactly where no trigger
+-- is listed
 abbrev pub may_stand : Bool → ℕ → Bool
 may_stand true n = n == 65534
 may_stand false n = nat_le n 255 || n == 65535
@@ -113,17 +115,17 @@ may_stand false n = nat_le n 255 || n == 65535
 abbrev pub scope_of : ℕ → Scope
 scope_of n = if n == 65535 then All else if n == 65534 then Nothing else One n
 
--- the number tells a scope that is no prefix with the number of another scope
+-- the scope has a number of its own: a prefix must be a possible place
 abbrev pub is_told : Scope → Bool
 is_told (One p) = nat_le p 255
 is_told All = true
 is_told Nothing = true
 
--- the number of a scope
+-- a scope as its number
 abbrev pub any_scope_meaning : Meaning ℕ Scope
 any_scope_meaning = record { make = scope_of; parts = scope_number; only = is_told }
 
--- the scope of a row, beside no triggers or beside some
+-- the scope of a row, with no triggers or with some
 unfoldable pub scope_beside : Bool → Format Scope
 scope_beside none = meant (tested w16 (may_stand none)) any_scope_meaning
 
@@ -135,15 +137,15 @@ listed_row_meaning = record {
   only = each;
 }
 
--- what stands behind the triggers of a row: its scope and its items
+-- what follows the triggers of a row: its scope and its items
 abbrev pub behind_triggers : RowsSoFar → List Trigger → Format (Scope × List Sent)
 behind_triggers s ts = pair (scope_beside (length ts == 0)) (listed (more_items s.items) listed_items (begun s.marks ts))
 
--- an entry of the cut, behind these rows
+-- an entry of the cut, after these rows
 unfoldable pub listed_row : RowsSoFar → Format Row
 listed_row s = meant (led (triggers 0 s.marks) (behind_triggers s)) listed_row_meaning
 
--- what counts behind a row whose items have come to this
+-- the state after a row whose items ended in this state
 abbrev pub with_row : RowsSoFar → ℕ → RowSoFar → RowsSoFar
 with_row s n row = record { items = s.items + n; marks = row.marks; plain = s.plain && row.plain }
 
@@ -157,17 +159,17 @@ listed_rows = record {
 
 -- ---- pending rows
 
--- what counts of the pending rows that were read: the neighbour and the prefix of the last, and how many triggers the report
--- lists so far
+-- the state while pending rows are read: the neighbour and prefix of the last, and how many triggers the report lists
+-- so far
 pub record PendingSoFar : Type 0 where
   pub last : ℕ × ℕ
   pub marks : ℕ
 
--- before the first pending row, behind lists that have so many triggers
+-- the state before the first pending row, after lists with `before` triggers in all
 abbrev pub nothing_pending : ℕ → PendingSoFar
 nothing_pending before = record { last = (0, 0); marks = before }
 
--- by neighbour, then by prefix
+-- the neighbour and the prefix, by which pending rows are ordered
 abbrev pub pending_key : Format (ℕ × ℕ)
 pending_key = pair node prefix
 
@@ -179,11 +181,11 @@ pending_meaning = record {
   only = each;
 }
 
--- what is held back, behind these pending rows
+-- a held-back update, after these pending rows
 unfoldable pub pending_row : PendingSoFar → Format Pending
 pending_row s = meant (pair (ordered pending_key (above s.last)) (pair positive (triggers 1 s.marks))) pending_meaning
 
--- what counts behind a pending row with this key and these triggers
+-- the state after a pending row with this key and these triggers
 abbrev pub behind_pending : PendingSoFar → ℕ × ℕ → List Trigger → PendingSoFar
 behind_pending s key ts = record { last = key; marks = s.marks + length ts }
 
@@ -197,7 +199,7 @@ pending_rows = record {
 
 -- ---- reports
 
--- what stands behind the rows of a report that list so many triggers: the session rows and the pending rows
+-- what follows the rows of a report that list `marks` triggers: the session rows and the pending rows
 abbrev pub behind_rows : ℕ → Format (List SessionRow × List Pending)
 behind_rows marks = pair (listed (many MOST_SESSIONS) session_rows (0, 0)) (listed (many MOST_PENDING) pending_rows (nothing_pending marks))
 
@@ -209,15 +211,15 @@ listed_report_meaning = record {
   only = each;
 }
 
--- the report of a cut, whatever its rows list
+-- the report of any cut
 abbrev pub any_report : Format Report
 any_report = meant (pair node (pair epoch (led (listed (many MOST_ENTRIES) listed_rows no_rows) (λ rows. behind_rows (reached listed_rows no_rows rows).marks)))) listed_report_meaning
 
--- the report of a cut that version 1 does not spell
+-- the report of a cut that has no spelling in version 1
 unfoldable pub listed_report : Format Report
 listed_report = guarded fault.Value any_report (λ r. not (is_plain r))
 
--- the spelling of a report, in version 1 where it has one there
+-- the spelling of a report, in version 1 if it has one there
 abbrev pub spelled_report : Report → List ℕ
 spelled_report r = if is_plain r then report.spells r else listed_report.spells r
 
@@ -225,6 +227,6 @@ spelled_report r = if is_plain r then report.spells r else listed_report.spells 
 abbrev pub report_fits : Report → Bool
 report_fits r = if is_plain r then report.fits r else listed_report.fits r
 
--- the version in which a report is spelled
+-- the version of a report's spelling
 abbrev pub report_version : Report → ℕ
 report_version r = if is_plain r then 1 else 2

@@ -1,4 +1,4 @@
--- What stands at the front of some bytes: a frame, what may become one, or the first thing that is wrong.
+-- What is at the front of some bytes: a frame, the beginning of one, or the first fault.
 use Rattle.std.specs.Prelude.{ℕ, ◌+◌, ◌==◌, ◌||◌, Bool, nat_lt, List, [], ◌∷◌, length, take, Option, Some, None, Result, Ok, Err, if◌then◌else◌}
 use Rattle.std.specs.Int.{w32}
 use Rattle.topology.specs.declared.frame_faults.FrameKind.{FrameKind}
@@ -11,16 +11,16 @@ use Rattle.wire_frames.specs.Formats.{Format, ◌>>=◌, word_at}
 use Rattle.wire_frames.specs.Fields.{node, prefix, epoch}
 use Rattle.wire_frames.specs.Frames.{tag_in, limit_of, preferred, session_opened, update, listed_update, marker, hello, reported, listed_reported, in_ballot, promise, accept, decision, hop, forward, ended, published, injected}
 
--- nothing is left over behind the last field
+-- no bytes are left over after the last field
 abbrev pub all_read : {A : Type 0} → A → List ℕ → Result A FrameKind
 all_read x [] = Ok x
 all_read x (b ∷ bytes) = Err fault.Length
 
--- the frame of these fields, which are all of the body
+-- the frame of these fields, which must be the whole body
 abbrev pub whole : {A : Type 0} → Format A → (A → Frame) → List ℕ → Result Frame FrameKind
 whole f make bytes = f.reads bytes >>= λ x. all_read (make x.0) x.1
 
--- the frame of the kind that this body spells, or what is wrong with the body first
+-- the frame of this kind that the body spells, or the first fault of the body
 unfoldable pub body_at : Tag → List ℕ → Result Frame FrameKind
 body_at Originate bytes = whole prefix (λ p. frame.Originate p) bytes
 body_at Withdraw bytes = whole prefix (λ p. frame.Withdraw p) bytes
@@ -47,35 +47,35 @@ body_at ListedUpdate bytes = whole listed_update (λ x. frame.Update x.0 x.1.0 x
 body_at ListedReport bytes = whole listed_reported (λ x. frame.Report x.0 x.1) bytes
 body_at Flush bytes = whole node (λ n. frame.Flush n) bytes
 
--- what is found: a frame of so many bytes, a frame that is not all there, or what is wrong
+-- what is found: a frame of so many bytes, an incomplete frame, or a fault
 pub data Found : Type 0 where
   Whole : Frame → ℕ → Found
   Partial : Found
   Wrong : FrameKind → Found
 
--- what the body, all there, makes of it; version, kind and length are six bytes
+-- what is found for a complete body of n bytes; version, kind and length are six bytes
 abbrev pub found_by : ℕ → Result Frame FrameKind → Found
 found_by n (Ok f) = Whole f (n + 6)
 found_by n (Err wrong) = Wrong wrong
 
--- behind the length
+-- after the length
 abbrev pub sized : Tag → ℕ → List ℕ → Found
 sized tag n bytes =
     if nat_lt (limit_of tag) n then Wrong fault.Length
     else if nat_lt (length bytes) n then Partial
     else found_by n (body_at tag (take n bytes))
 
--- behind the kind: a length that is not all there may still come
+-- after the kind; a length that is incomplete may still come
 abbrev pub behind_kind : Tag → Result (ℕ × List ℕ) FrameKind → Found
 behind_kind tag (Ok x) = sized tag x.0 x.1
 behind_kind tag (Err wrong) = Partial
 
--- behind the byte of the kind
+-- after the byte of the kind
 abbrev pub of_kind : Option Tag → List ℕ → Found
 of_kind None bytes = Wrong fault.Kind
 of_kind (Some tag) bytes = behind_kind tag (word_at w32 bytes)
 
--- behind this version
+-- after the byte of the version
 abbrev pub behind_version : ℕ → List ℕ → Found
 behind_version v [] = Partial
 behind_version v (b ∷ bytes) = of_kind (tag_in v b) bytes
@@ -84,7 +84,7 @@ behind_version v (b ∷ bytes) = of_kind (tag_in v b) bytes
 abbrev pub is_version : ℕ → Bool
 is_version v = v == 1 || v == 2
 
--- what stands at the front of the bytes
+-- what is at the front of the bytes
 unfoldable pub found : List ℕ → Found
 found [] = Partial
 found (v ∷ bytes) = if is_version v then behind_version v bytes else Wrong fault.Version

@@ -1,4 +1,4 @@
--- Frames that lie in bytes, and what answers come to.
+-- Frames that are still in bytes, and the meaning of answers.
 use Rattle.std.specs.Prelude.{◌≡◌, ◌≤◌, ℕ, true, length, take, List, [], ◌∷◌, Option, Some, None, Result, Ok, Err}
 use Rattle.std.specs.Borrow.{Bor}
 use Rattle.topology.specs.declared.names.Trigger.{Trigger}
@@ -19,34 +19,34 @@ use Rattle.wire_frames.specs.Listing.{spelled_triggers, update_version, spelled_
 use Rattle.wire_frames.specs.Frames.{fits, spell}
 use Rattle.wire_frames.specs.Reading.{Found, Whole, Partial, Wrong}
 
--- what was returned, as view sees it, is what is read
+-- the answer, through the view, is what is read
 abbrev pub Gives : {X Y : Type 0} → (X → Y) → Result X FrameKind → Result Y FrameKind → Type 0
 Gives view (Ok x) read = read ≡ Ok (view x)
 Gives view (Err wrong) read = read ≡ Err wrong
 
--- what was returned tells whether a value is read, and what is left are the bytes behind it
+-- the answer says whether a value is read, and `rest` are the bytes after it
 abbrev pub Passes : {A T : Type 0} → Format A → List ℕ → Result T FrameKind → List ℕ → Type 0
 Passes {A} f bytes (Ok x) rest = (y : A) × (f.reads bytes ≡ Ok (y, rest))
 Passes f bytes (Err wrong) rest = f.reads bytes ≡ Err wrong
 
--- what was returned is what the view shows of the value that is read, and what is left are the bytes behind it
+-- the answer is the view of the value that is read, and `rest` are the bytes after it
 abbrev pub PassesAs : {A T : Type 0} → (A → T) → Format A → List ℕ → Result T FrameKind → List ℕ → Type 0
 PassesAs {A} view f bytes (Ok x) rest = (y : A) × (f.reads bytes ≡ Ok (y, rest)) × (x ≡ view y)
 PassesAs view f bytes (Err wrong) rest = f.reads bytes ≡ Err wrong
 
--- what was returned is the part that spells the value which is read and has a spelling, and what is left are the bytes behind it
+-- the answer is the part that spells the value that is read, which has a spelling, and `rest` are the bytes after it
 abbrev pub Cuts : {A : Type 0} → Format A → List ℕ → Result (Bor (List ℕ)) FrameKind → List ℕ → Type 0
 Cuts {A} f bytes (Ok text) rest = (y : A) × (f.reads bytes ≡ Ok (y, rest)) × (text.now ≡ f.spells y) × (f.fits y ≡ true)
 Cuts f bytes (Err wrong) rest = f.reads bytes ≡ Err wrong
 
--- a ballot and the part that spells a value name this ballot and this value; nothing names nothing
+-- the ballot and the part that spells a value name this ballot and this value; or both sides name nothing
 abbrev pub NamesSame : Option (Ballot × Bor (List ℕ)) → Option (Ballot × Value) → Type 0
 NamesSame None None = Unit {0}
 NamesSame None (Some y) = ⊥
 NamesSame (Some x) None = ⊥
 NamesSame (Some x) (Some y) = (x.0 ≡ y.0) × (x.1.now ≡ value.spells y.1)
 
--- the frame that lies in bytes is this one: of the same kind, with the same numbers, and each part spells its field
+-- the frame in bytes is this frame: of the same kind, with the same numbers, and each part spells its field
 abbrev pub IsFrame : FrameRef → Frame → Type 0
 IsFrame (part.Originate p) f = f ≡ frame.Originate p
 IsFrame (part.Withdraw p) f = f ≡ frame.Withdraw p
@@ -73,7 +73,7 @@ IsFrame (part.Published e text) f = (ps : List (Option (List ℕ))) × (f ≡ fr
 IsFrame (part.Inject i p) f = f ≡ frame.Inject i p
 IsFrame (part.Flush n) f = f ≡ frame.Flush n
 
--- what was returned is what is read of a body
+-- the answer is what is read from a body
 abbrev pub Shows : Result FrameRef FrameKind → Result Frame FrameKind → Type 0
 Shows (Ok r) read = (f : Frame) × (read ≡ Ok f) × IsFrame r f
 Shows (Err wrong) read = read ≡ Err wrong
@@ -84,13 +84,13 @@ Answers (decoded.Frame r n) there = (f : Frame) × (there ≡ Whole f n) × IsFr
 Answers decoded.More there = there ≡ Partial
 Answers (decoded.Bad wrong) there = there ≡ Wrong wrong
 
--- the answer is this frame, of so many bytes
+-- the answer is this frame, with m bytes
 abbrev pub Decodes : Decoded → Frame → ℕ → Type 0
 Decodes (decoded.Frame r n) f m = (n ≡ m) × IsFrame r f
 Decodes decoded.More f m = ⊥
 Decodes (decoded.Bad wrong) f m = ⊥
 
--- the first so many bytes are the spelling of the frame that lies there
+-- the first n bytes are the spelling of the frame in them
 pub record IsSpelled (bytes : List ℕ) (n : ℕ) (r : FrameRef) : Type 0 where
   pub frame : Frame
   pub fit : fits frame ≡ true
@@ -98,7 +98,7 @@ pub record IsSpelled (bytes : List ℕ) (n : ℕ) (r : FrameRef) : Type 0 where
   pub spelled : take n bytes ≡ spell frame
   pub same : IsFrame r frame
 
--- where the answer is a frame, the front of the bytes spells it
+-- if the answer is a frame, the front of the bytes spells it
 abbrev pub Spelled : List ℕ → Decoded → Type 0
 Spelled bytes (decoded.Frame r n) = IsSpelled bytes n r
 Spelled bytes decoded.More = Unit {0}

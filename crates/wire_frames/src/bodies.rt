@@ -1,4 +1,4 @@
-//! The bodies of frames, one call for each kind. Takes no memory.
+//! The bodies of frames, with one function for each kind. Nothing here takes memory.
 ghost use Rattle.std.specs.Prelude.{◌≡◌, [], Err, MatchResult};
 ghost use Rattle.wire_frames.specs.Reading.{all_read, body_at};
 ghost use Rattle.wire_frames.specs.Shown.{Shows, Cuts};
@@ -10,7 +10,7 @@ use crate::tags::Tag;
 use crate::{FrameKind, FrameRef};
 
 impl<'a> Fields<'a> {
-    /// Nothing is left over.
+    /// Checks that no bytes are left over.
     pub(crate) fn finish(&self) -> Result<(), FrameKind>
         ensures { MatchResult result (λ _. self.now ≡ []) (λ wrong. (f : AnyFrame)
             → all_read f self.now ≡ Err wrong) }
@@ -357,7 +357,7 @@ fn flush(body: &[u8]) -> Result<FrameRef<'_>, FrameKind>
     Ok(FrameRef::Flush { nbr })
 }
 
-/// The frame of the kind that the body spells, or what is wrong first.
+/// The frame of this kind that the body spells, or the first fault of the body.
 pub(crate) fn read_body(tag: Tag, body: &[u8]) -> Result<FrameRef<'_>, FrameKind>
     ensures { Shows result (body_at tag body.now) }
 {

@@ -10,7 +10,7 @@ use crate::plain::is_plain;
 use crate::series::{ReportRows, ReportSessions, length_many};
 use incomplete_closure::Report;
 
-// What happens at the node: kinds 1 to 7.
+// Inputs of the node itself: kinds 1 to 7.
 #[tactic(auto, unfolding(crate::specs::Frames::fit_within))]
 fn input_fits(frame: &Frame) -> bool
     ensures { result ≡ fit_within 1 7 frame.now }
@@ -27,7 +27,7 @@ fn input_fits(frame: &Frame) -> bool
     }
 }
 
-// What goes over a session: kinds 8 to 10.
+// Items of a session: kinds 8 to 10.
 #[tactic(auto, unfolding(crate::specs::Frames::fit_within))]
 fn session_frame_fits(frame: &Frame) -> bool
     ensures { result ≡ fit_within 8 10 frame.now }
@@ -60,7 +60,7 @@ fn session_frame_fits(frame: &Frame) -> bool
     }
 }
 
-// What goes to a proposer, or from it: kinds 11 to 13.
+// Messages to and from a proposer: kinds 11 to 13.
 #[tactic(auto, unfolding(crate::specs::Frames::fit_within))]
 fn proposal_fits(frame: &Frame) -> bool
     ensures { result ≡ fit_within 11 13 frame.now }
@@ -82,7 +82,7 @@ fn proposal_fits(frame: &Frame) -> bool
     }
 }
 
-// What goes about a value: kinds 14 to 16.
+// Messages about a value: kinds 14 to 16.
 #[tactic(auto, unfolding(crate::specs::Frames::fit_within))]
 fn choice_fits(frame: &Frame) -> bool
     ensures { result ≡ fit_within 14 16 frame.now }
@@ -106,7 +106,7 @@ fn choice_fits(frame: &Frame) -> bool
     }
 }
 
-// Packets, tables and what is not held back any longer: kinds 17 to 22.
+// Packets, tables and flushes: kinds 17 to 22.
 #[tactic(auto, unfolding(crate::specs::Frames::fit_within))]
 fn packet_frame_fits(frame: &Frame) -> bool
     ensures { result ≡ fit_within 17 22 frame.now }
@@ -122,7 +122,7 @@ fn packet_frame_fits(frame: &Frame) -> bool
     }
 }
 
-// Each field is in its range, and each list in its order.
+// Whether each field is in its range, and each list in order.
 fn all_fit(frame: &Frame) -> bool
     ensures { result ≡ fields_fit frame.now }
 {
@@ -141,7 +141,7 @@ fn all_fit(frame: &Frame) -> bool
     packet_frame_fits(frame)
 }
 
-// The report is no longer than its kind allows, behind two bytes that name the peer.
+// Whether the report is no longer than its kind allows, after the two bytes of the peer.
 fn report_is_short(report: &Report) -> bool
     ensures { result ≡ nat_le (2 + length (spelled_report report.now)) 1048576 }
 {
@@ -155,7 +155,7 @@ fn report_is_short(report: &Report) -> bool
     rows.saturating_add(sessions).saturating_add(pending) <= 1_048_562
 }
 
-// The body is no longer than its kind allows. Only that of a report can be.
+// Whether the body is no longer than its kind allows. Only the body of a report can be longer.
 fn is_short(frame: &Frame) -> bool
     ensures { fields_fit frame.now ≡ true → result
         ≡ nat_le (length (body frame.now)) (limit_of (tag_of frame.now)) }
@@ -166,8 +166,8 @@ fn is_short(frame: &Frame) -> bool
     }
 }
 
-/// Whether the frame has a spelling: each field is in its range, each list in its order, and the body no
-/// longer than its kind allows. Takes no memory.
+/// Whether the frame has a spelling: each field is in its range, each list is in order, and the body is no longer than
+/// its kind allows. Takes no memory.
 #[tactic(auto, unfolding(crate::specs::Frames::fits))]
 pub fn has_spelling(frame: &Frame) -> bool
     ensures { result ≡ fits frame.now }

@@ -1,4 +1,4 @@
-//! What stands at the front of some bytes.
+//! Finds the frame at the front of some bytes.
 ghost use Rattle.std.specs.Prelude.{◌≡◌, ◌++◌, List, ℕ, true, length};
 ghost use Rattle.wire_frames.specs.declared.frames.Frame.{Frame as AnyFrame};
 ghost use Rattle.wire_frames.specs.Frames.{fits, spell};
@@ -13,7 +13,7 @@ use crate::reading::{are_bytes, u32_at};
 use crate::tags::Tag;
 use crate::{Decoded, FrameKind};
 
-// Behind the byte of the kind.
+// What follows the byte of the kind.
 fn behind_kind(tag: Tag, bytes: &[u8]) -> Decoded<'_>
     ensures { Answers result (found_behind_kind tag (word_at w32 bytes.now)) }
 {
@@ -34,7 +34,7 @@ fn behind_kind(tag: Tag, bytes: &[u8]) -> Decoded<'_>
     }
 }
 
-// Behind this version.
+// What follows the byte of this version.
 fn behind_version(version: u8, bytes: &[u8]) -> Decoded<'_>
     ensures { Answers result (found_behind_version version bytes.now) }
 {
@@ -47,7 +47,7 @@ fn behind_version(version: u8, bytes: &[u8]) -> Decoded<'_>
     }
 }
 
-// What stands at the front of the input.
+// What is at the front of the input.
 #[tactic(auto, unfolding(crate::specs::Reading::found))]
 fn front(input: &[u8]) -> Decoded<'_>
     ensures { Answers result (found input.now) }
@@ -60,8 +60,8 @@ fn front(input: &[u8]) -> Decoded<'_>
     }
 }
 
-/// What stands at the front of the input: a frame and how many bytes it has, what may become one if
-/// more bytes come, or what is wrong first, from left to right. Takes no memory.
+/// What is at the front of the input: a frame and its number of bytes, the beginning of a possible frame, or the first
+/// fault from left to right. Takes no memory.
 pub fn decode(input: &[u8]) -> Decoded<'_>
     ensures answer { Answers result (found input.now) }
     ensures frame { Spelled input.now result }

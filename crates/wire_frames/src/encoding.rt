@@ -1,4 +1,4 @@
-//! Frames as bytes.
+//! Writes frames as bytes.
 ghost use Rattle.std.specs.Prelude.{◌≡◌, ◌++◌, true, OnOk, IfOk, if◌then◌else◌};
 ghost use Rattle.wire_frames.specs.declared.tags.Tag.TheVariants as of;
 ghost use Rattle.wire_frames.specs.Fields.{is_one};
@@ -33,7 +33,7 @@ fn report_tag(report: &Report) -> Tag
 }
 
 impl Tag {
-    /// The kind of a frame: that of version 1 where it has one there.
+    /// The kind of a frame, in version 1 if it has a kind there.
     pub fn of(frame: &Frame) -> Tag
         ensures { result ≡ tag_of frame.now }
     {
@@ -64,7 +64,7 @@ impl Tag {
     }
 }
 
-// What happens at the node: kinds 1 to 7.
+// Inputs of the node itself: kinds 1 to 7.
 #[tactic(auto, unfolding(crate::specs::Frames::body, crate::specs::Frames::body_within))]
 fn put_input(out: &mut Vec<u8>, frame: &Frame) -> Result<(), NoMemory>
     ensures { OnOk result (out.new.items ≡ out.old.items ++ body_within 1 7 frame.now) }
@@ -87,7 +87,7 @@ fn put_input(out: &mut Vec<u8>, frame: &Frame) -> Result<(), NoMemory>
     }
 }
 
-// What goes over a session: kinds 8 to 10.
+// Items of a session: kinds 8 to 10.
 #[tactic(auto, unfolding(crate::specs::Frames::body, crate::specs::Frames::body_within))]
 fn put_session_frame(out: &mut Vec<u8>, frame: &Frame) -> Result<(), NoMemory>
     ensures { OnOk result (out.new.items ≡ out.old.items ++ body_within 8 10 frame.now) }
@@ -130,7 +130,7 @@ fn put_session_frame(out: &mut Vec<u8>, frame: &Frame) -> Result<(), NoMemory>
     }
 }
 
-// What goes to a proposer, or from it: kinds 11 to 13.
+// Messages to and from a proposer: kinds 11 to 13.
 #[tactic(auto, unfolding(crate::specs::Frames::body, crate::specs::Frames::body_within))]
 fn put_proposal(out: &mut Vec<u8>, frame: &Frame) -> Result<(), NoMemory>
     ensures { OnOk result (out.new.items ≡ out.old.items ++ body_within 11 13 frame.now) }
@@ -164,7 +164,7 @@ fn put_proposal(out: &mut Vec<u8>, frame: &Frame) -> Result<(), NoMemory>
     }
 }
 
-// What goes about a value: kinds 14 to 16.
+// Messages about a value: kinds 14 to 16.
 #[tactic(auto, unfolding(crate::specs::Frames::body, crate::specs::Frames::body_within))]
 fn put_choice(out: &mut Vec<u8>, frame: &Frame) -> Result<(), NoMemory>
     ensures { OnOk result (out.new.items ≡ out.old.items ++ body_within 14 16 frame.now) }
@@ -199,7 +199,7 @@ fn put_choice(out: &mut Vec<u8>, frame: &Frame) -> Result<(), NoMemory>
     }
 }
 
-// Packets, tables and what is not held back any longer: kinds 17 to 22.
+// Packets, tables and flushes: kinds 17 to 22.
 #[tactic(auto, unfolding(crate::specs::Frames::body, crate::specs::Frames::body_within, crate::specs::Fields::links, crate::specs::Fields::few))]
 fn put_packet_frame(out: &mut Vec<u8>, frame: &Frame) -> Result<(), NoMemory>
     ensures { OnOk result (out.new.items ≡ out.old.items ++ body_within 17 22 frame.now) }
@@ -230,7 +230,7 @@ fn put_packet_frame(out: &mut Vec<u8>, frame: &Frame) -> Result<(), NoMemory>
     }
 }
 
-// The body of a frame: one of these writes it, and the others nothing.
+// Writes the body of a frame. One of these functions writes it, and the others write nothing.
 fn put_body(out: &mut Vec<u8>, frame: &Frame) -> Result<(), NoMemory>
     ensures { OnOk result (out.new.items ≡ out.old.items ++ body frame.now) }
 {
@@ -241,7 +241,7 @@ fn put_body(out: &mut Vec<u8>, frame: &Frame) -> Result<(), NoMemory>
     put_packet_frame(out, frame)
 }
 
-/// The spelling of a frame: that of version 1 where it has one there.
+/// The spelling of a frame, in version 1 if it has one there.
 #[tactic(auto, unfolding(crate::specs::Frames::spell))]
 pub fn encode(alloc: Global, frame: &Frame) -> Result<Vec<u8>, NoMemory>
     requires { fits frame.now ≡ true }

@@ -1,12 +1,12 @@
-//! Why a part of a frame is not read.
+//! Why a part of a frame cannot be read.
 use std::alloc::{AllocError, AllocFailed};
 use topology::{FrameKind, NoMemory};
 
-// Why a part of a frame is not read into memory.
+// Why a part of a frame cannot be read into memory.
 #[derive(Clone, Copy, Debug, PartialEq, Eq)]
 pub(crate) enum ReadError {
     NoMemory,
-    // It spells nothing. Parts of frames that were decoded spell something.
+    // The part is not a spelling. Parts of decoded frames always are.
     Bad(FrameKind),
 }
 

@@ -1,4 +1,4 @@
-//! Which fields have a spelling. Takes no memory.
+//! Tests of which fields have a spelling. Nothing here takes memory.
 ghost use Rattle.std.specs.Prelude.{◌≡◌, ◌≤◌, ◌+◌, ◌==◌, [], List, length, Some, IsTrue};
 ghost use Rattle.wire_frames.specs.Formats.{fits_behind, many_fit, listed, ordered};
 ghost use Rattle.wire_frames.specs.Fields.{node, prefix, positive, epoch, epoch_or_none, preference, any16, any32, any64, few, many, more_items, flag, scope, mode, end, trigger, first_of, is_alone, one_trigger, ballot, sent, different, in_any_order, rising, rising_triggers, no_trigger, nodes, links, path, paths, value, named, row, rows, items, session_key, above, session_row, session_rows, report, carried, packet};
@@ -107,7 +107,7 @@ pub(crate) fn trigger_fits(named_trigger: Trigger) -> bool
     node_fits(named_trigger.node) && positive_fits(named_trigger.count)
 }
 
-/// The trigger that the list begins with.
+/// The first trigger of the list.
 pub(crate) fn first_of(triggers: &Triggers) -> Trigger
     ensures { result ≡ first_of triggers.now }
 {
@@ -130,7 +130,7 @@ pub(crate) fn one_trigger_fits(triggers: &Triggers) -> bool
     }
 }
 
-// Whether the list has this trigger and no other.
+// Whether the list has exactly this trigger.
 fn stands_alone(triggers: &Triggers, trigger: Trigger) -> bool
     ensures { result ≡ is_alone trigger triggers.now }
 {
@@ -171,7 +171,7 @@ pub(crate) fn links_fits(list: &[NodeId]) -> bool
     list.len() <= 63 && fit_many(&mut Rising::first(), list)
 }
 
-// Whether the nodes are nodes, and none is there twice.
+// Whether all numbers are those of nodes, and none occurs twice.
 fn different_fit(list: &[NodeId]) -> bool
     ensures { result ≡ many_fit different [] list.now }
 {
@@ -300,7 +300,7 @@ fn sessions_fits(list: &[SessionRow]) -> bool
     list.len() <= MOST_SESSIONS as usize && fit_many(&mut ReportSessions::first(), list)
 }
 
-/// Whether the triggers are a list of at least `low`, behind lists that have so many.
+/// Whether the list is in order, has at least `low` triggers, and may follow lists with `before` triggers in all.
 #[tactic(auto, unfolding(crate::specs::Listing::triggers, crate::specs::Listing::more_triggers))]
 pub(crate) fn list_fits(list: &[Trigger], low: u16, before: u32) -> bool
     ensures fits { result ≡ (triggers_from low before).fits list.now }
@@ -327,7 +327,7 @@ pub(crate) fn update_triggers_fit(triggers: &Triggers) -> bool
     }
 }
 
-/// Whether the item may stand behind lists that have so many triggers.
+/// Whether the item may follow lists with `before` triggers in all.
 #[tactic(auto, unfolding(crate::specs::Listing::item))]
 pub(crate) fn item_fits(one: &Sent, before: u32) -> bool
     ensures fits { result ≡ (item before).fits one.now }
@@ -339,7 +339,7 @@ pub(crate) fn item_fits(one: &Sent, before: u32) -> bool
         && list_fits(one.triggers.as_slice(), 1, before)
 }
 
-/// Whether the items may stand in a row, behind rows that have so many items.
+/// Whether the items may stand in a row, after rows with `before` items in all.
 #[tactic(auto, unfolding(crate::specs::Fields::more_items))]
 pub(crate) fn items_fit(row: &mut ListedItems, list: &[Sent], before: u32) -> bool
     ensures fits { result ≡ (listed (more_items before) listed_items row.old).fits list.now }
@@ -352,7 +352,7 @@ pub(crate) fn items_fit(row: &mut ListedItems, list: &[Sent], before: u32) -> bo
     fit_many(row, list)
 }
 
-/// Whether the scope may stand in a row that lists no triggers, or some.
+/// Whether the scope may stand in a row; `none` says that the row lists no triggers.
 #[tactic(auto, unfolding(crate::specs::Listing::scope_beside))]
 pub(crate) fn scope_fits_beside(whole: Scope, none: bool) -> bool
     ensures { result ≡ (scope_beside none).fits whole }
@@ -373,8 +373,7 @@ fn pending_key_fits(next: NodeId, place: PrefixId, nbr: NodeId, prefix: PrefixId
     nbr < next || (nbr == next && prefix < place)
 }
 
-/// Whether the pending row may stand behind the one of this neighbour and prefix, and behind lists that have so many
-/// triggers.
+/// Whether the pending row may follow the one of this neighbour and prefix, and lists with `before` triggers in all.
 #[tactic(auto, unfolding(crate::specs::Listing::pending_row))]
 pub(crate) fn pending_fits(row: &Pending, nbr: NodeId, prefix: PrefixId, before: u32) -> bool
     ensures fits { result ≡ (pending_row (record { last = (nbr, prefix); marks = before })).fits row.now }
@@ -403,7 +402,7 @@ fn pending_rows_fit(list: &[Pending], before: u32) -> bool
     list.len() <= MOST_PENDING as usize && fit_many(&mut PendingRun::behind(before), list)
 }
 
-// A report that version 1 does not spell.
+// Whether the report may stand in a frame of version 2. Version 1 has no spelling for it.
 #[tactic(auto, unfolding(crate::specs::Listing::listed_report))]
 fn listed_report_fits(told: &Report) -> bool
     ensures { result ≡ listed_report.fits told.now }

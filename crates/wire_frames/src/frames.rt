@@ -1,4 +1,4 @@
-//! Frames, and how much of one stands at the front of some bytes.
+//! Frames, and what can be found at the front of some bytes.
 use crate::FrameKind;
 use crate::paths::Paths;
 use epoch_packet::{End, NodeList, Packet};
@@ -103,8 +103,8 @@ pub enum Frame {
     },
 }
 
-/// A frame that lies in bytes: each path, report, value, packet and list is the part that spells it. `version`
-/// is that of a frame whose kind stands in both.
+/// A frame that is still in bytes: each path, report, value, packet and list is the part of the bytes that spells it.
+/// `version` is the version of a frame whose kind exists in both versions.
 #[derive(Clone, Copy, Debug, PartialEq, Eq)]
 pub enum FrameRef<'a> {
     Originate {
@@ -204,13 +204,13 @@ pub enum FrameRef<'a> {
     },
 }
 
-/// What stands at the front of some bytes.
+/// What is at the front of some bytes.
 #[derive(Clone, Copy, Debug, PartialEq, Eq)]
 pub enum Decoded<'a> {
-    /// A frame, and how many bytes it has.
+    /// A frame, and its number of bytes.
     Frame(FrameRef<'a>, usize),
-    /// What may become a frame, if more bytes come.
+    /// The beginning of a possible frame: more bytes are needed.
     More,
-    /// No frame, whatever comes.
+    /// No frame, whatever bytes follow.
     Bad(FrameKind),
 }

@@ -1,7 +1,7 @@
-//! The frames that a process and its peers send each other, read from bytes and written as bytes.
+//! The frames that a process and its peers send to each other: reading them from bytes, and writing them as bytes.
 //!
-//! A frame is a byte version, 1 or 2, a byte kind, four bytes length n, and n bytes of body. Numbers have their
-//! highest byte first. n is at most 65,536, and 1,048,576 for the kinds 11, 13, 14 and 16. Version 1:
+//! A frame is one byte version, 1 or 2, one byte kind, four bytes length n, and n bytes of body. Numbers have the
+//! highest byte first. n is at most 65,536, or 1,048,576 for the kinds 11, 13, 14 and 16. Version 1:
 //!
 //! | Kind | Frame | Body |
 //! |---|---|---|
@@ -15,7 +15,7 @@
 //! | 9, 10 | marker, hello | peer, session, epoch (0 in a hello for none) |
 //! | 11 | report | peer, report |
 //! | 12, 15 | prepare, accepted | peer, epoch, ballot |
-//! | 13 | promise | peer, epoch, ballot, a flag, and behind 1 a ballot and a value |
+//! | 13 | promise | peer, epoch, ballot, a flag, and after flag 1 a ballot and a value |
 //! | 14 | accept | peer, epoch, ballot, value |
 //! | 16 | decision | peer, epoch, value |
 //! | 17 | hop | packet, up to 63 nodes ascending |
@@ -24,23 +24,23 @@
 //! | 20 | published | epoch, in two bytes how many paths, up to 256, the paths |
 //! | 21 | inject | packet number, prefix |
 //!
-//! A node is two bytes, from 1; a prefix two bytes up to 255; session, number, counter and round four bytes,
-//! from 1; an epoch four bytes from 1 to 32. A trigger is a node and a counter, a ballot a round and a node.
-//! A path is a byte count up to 64 and that many different nodes; without nodes it is none. Reports, values
-//! and packets are told in `specs/Fields.antt`.
+//! A node is two bytes, from 1; a prefix two bytes, up to 255; a session, number, counter or round four bytes, from 1;
+//! an epoch four bytes, from 1 to 32. A trigger is a node and a counter, a ballot a round and a node. A path is a byte
+//! count, up to 64, and that many different nodes; with no nodes it means no path. `specs/Fields.antt` describes
+//! reports, values and packets.
 //!
-//! Version 2 spells what version 1 does not:
+//! Version 2 spells the frames that version 1 cannot:
 //!
 //! | Kind | Frame | Body |
 //! |---|---|---|
-//! | 8 | update | peer, session, number, two triggers or more, prefix, path |
+//! | 8 | update | peer, session, number, two or more triggers, prefix, path |
 //! | 11 | report | peer, report |
 //! | 22 | flush | node |
 //!
-//! Triggers are two bytes count up to 8192 and that many triggers, ascending by node, then counter. An update
-//! of version 1 has one trigger. A report of version 1 lists one trigger in each row, its items list the same
-//! one, and nothing is pending; the lists of any other report are told in `specs/Listing.antt`. A frame that
-//! version 1 spells has no spelling in version 2.
+//! A list of triggers is two bytes count, up to 8192, and that many triggers, ascending by node, then by counter. An
+//! update of version 1 has one trigger. In a report of version 1 each row lists one trigger, its items list the same
+//! one, and nothing is pending; `specs/Listing.antt` describes the lists of all other reports. A frame with a spelling
+//! in version 1 has none in version 2.
 #![tactic(auto)]
 
 mod bodies;

@@ -1,4 +1,4 @@
-//! The items, the rows and the pending rows of reports whose lists have any number of triggers.
+//! The items, rows and pending rows of reports whose lists may have any number of triggers.
 ghost use Rattle.std.specs.Prelude.{◌≡◌, ◌+◌, ◌≤◌, List, length};
 ghost use Rattle.topology.specs.declared.limits.TheConstants.{MOST_MARKS, MOST_UPDATES};
 ghost use Rattle.topology.specs.declared.names.Trigger.{Trigger as AnyTrigger};
@@ -17,8 +17,8 @@ use std::alloc::Global;
 use std::marker::Model;
 use topology::{NoMemory, NodeId, Pending, PrefixId, Sent, SentItems, Trigger};
 
-/// The items of a row: the only trigger of the row, how many triggers the report lists so far, and whether the row
-/// lists one trigger and so do the items before.
+/// What must be known while the items of a row are read: the only trigger of the row, if it has just one; how many
+/// triggers the report has listed so far; and whether the row and the items so far list the same one trigger.
 #[derive(Drop)]
 pub(crate) struct ListedItems {
     only: Option<Trigger>,
@@ -35,7 +35,7 @@ impl Model for ListedItems {
 }
 
 impl ListedItems {
-    /// Before the items of a row with these triggers, behind rows that list so many.
+    /// The value before the items of a row with these triggers, after rows that list `before` triggers.
     pub(crate) fn begun(before: u32, triggers: &[Trigger]) -> ListedItems
         requires { before + length triggers.now ≤ MOST_MARKS }
         ensures { result ≡ begun before triggers.now }
@@ -48,7 +48,7 @@ impl ListedItems {
         }
     }
 
-    /// The same behind a list of so many triggers, whose only one is told.
+    /// The value after a list of `count` triggers; `only` is its trigger if it has just one.
     fn behind(before: u32, count: u32, only: Option<Trigger>) -> ListedItems
         requires { before + count ≤ MOST_MARKS }
         ensures { (ts : List AnyTrigger) → count ≡ length ts → only ≡ only_of ts → result
@@ -118,8 +118,8 @@ impl Run for ListedItems {
     }
 }
 
-/// The rows of a report: how many items and how many triggers those before have, and whether each of them and its
-/// items list the same one trigger.
+/// What must be known while the rows of a report are read: how many items and triggers the rows so far have, and
+/// whether each row and its items list the same one trigger.
 #[derive(Drop)]
 pub(crate) struct ListedRows {
     items: u32,
@@ -136,7 +136,7 @@ impl Model for ListedRows {
 }
 
 impl ListedRows {
-    /// Before the first row.
+    /// The value before the first row.
     pub(crate) fn first() -> ListedRows
         ensures { result ≡ no_rows }
     {
@@ -147,7 +147,7 @@ impl ListedRows {
         }
     }
 
-    // Goes past a row with so many items.
+    // Counts a row with so many items.
     fn pass(&mut self, items: u32, row: &ListedItems)
         requires { self.old.items + items ≤ MOST_UPDATES }
         ensures { self.new ≡ with_row self.old items row.now }
@@ -237,7 +237,8 @@ impl Run for ListedRows {
     }
 }
 
-/// The pending rows of a report, each behind the one before it, and how many triggers the report lists so far.
+/// What must be known while pending rows are read: the key of the last row, and how many triggers the report has listed
+/// so far. The keys must ascend.
 #[derive(Drop)]
 pub(crate) struct PendingRun {
     nbr: NodeId,
@@ -254,7 +255,7 @@ impl Model for PendingRun {
 }
 
 impl PendingRun {
-    /// Before the first pending row, behind lists that have so many triggers.
+    /// The value before the first pending row, after lists with `marks` triggers in all.
     pub(crate) fn behind(marks: u32) -> PendingRun
         ensures { result ≡ nothing_pending marks }
     {

@@ -1,4 +1,4 @@
-//! Frames that lie in bytes, read into memory.
+//! Reads frames that are still in bytes into memory.
 ghost use Rattle.std.specs.Prelude.{◌≡◌, true, IfOk, Option};
 ghost use Rattle.topology.specs.declared.ballots.Ballot.{Ballot as AnyBallot};
 ghost use Rattle.incomplete_closure.specs.declared.values.Value.{Value as AnyValue};
@@ -16,7 +16,7 @@ use incomplete_closure::Value;
 use std::alloc::Global;
 use topology::{Ballot, NoMemory};
 
-// The ballot and the value that a promise names, or none.
+// The ballot and the value that a promise names, if any.
 fn owned_named(
     alloc: Global,
     accepted: &Option<(Ballot, &[u8])>,
@@ -33,7 +33,7 @@ fn owned_named(
     }
 }
 
-// Of these kinds, and those that come behind.
+// Frames of these kinds, which are the last ones.
 fn owned_rest(alloc: Global, frame: &FrameRef<'_>) -> Result<Frame, ReadError>
     ensures { IfOk result (λ owned. (f : AnyFrame) → fields_fit f ≡ true → IsFrame frame.now f
         → owned ≡ f) }
@@ -56,7 +56,7 @@ fn owned_rest(alloc: Global, frame: &FrameRef<'_>) -> Result<Frame, ReadError>
     }
 }
 
-// Of these kinds, and those that come behind.
+// Frames of these kinds; the others go to the function above.
 fn owned_packet_frame(alloc: Global, frame: &FrameRef<'_>) -> Result<Frame, ReadError>
     ensures { IfOk result (λ owned. (f : AnyFrame) → fields_fit f ≡ true → IsFrame frame.now f
         → owned ≡ f) }
@@ -86,7 +86,7 @@ fn owned_packet_frame(alloc: Global, frame: &FrameRef<'_>) -> Result<Frame, Read
     }
 }
 
-// Of these kinds, and those that come behind.
+// Frames of these kinds; the others go to the function above.
 fn owned_accept(alloc: Global, frame: &FrameRef<'_>) -> Result<Frame, ReadError>
     ensures { IfOk result (λ owned. (f : AnyFrame) → fields_fit f ≡ true → IsFrame frame.now f
         → owned ≡ f) }
@@ -119,7 +119,7 @@ fn owned_accept(alloc: Global, frame: &FrameRef<'_>) -> Result<Frame, ReadError>
     }
 }
 
-// Of these kinds, and those that come behind.
+// Frames of these kinds; the others go to the function above.
 fn owned_promise(alloc: Global, frame: &FrameRef<'_>) -> Result<Frame, ReadError>
     ensures { IfOk result (λ owned. (f : AnyFrame) → fields_fit f ≡ true → IsFrame frame.now f
         → owned ≡ f) }
@@ -143,7 +143,7 @@ fn owned_promise(alloc: Global, frame: &FrameRef<'_>) -> Result<Frame, ReadError
     }
 }
 
-// Of these kinds, and those that come behind.
+// Frames of these kinds; the others go to the function above.
 fn owned_report_frame(alloc: Global, frame: &FrameRef<'_>) -> Result<Frame, ReadError>
     ensures { IfOk result (λ owned. (f : AnyFrame) → fields_fit f ≡ true → IsFrame frame.now f
         → owned ≡ f) }
@@ -173,7 +173,7 @@ fn owned_report_frame(alloc: Global, frame: &FrameRef<'_>) -> Result<Frame, Read
     }
 }
 
-// Of these kinds, and those that come behind.
+// Frames of these kinds; the others go to the function above.
 fn owned_opening(alloc: Global, frame: &FrameRef<'_>) -> Result<Frame, ReadError>
     ensures { IfOk result (λ owned. (f : AnyFrame) → fields_fit f ≡ true → IsFrame frame.now f
         → owned ≡ f) }
@@ -201,7 +201,7 @@ fn owned_opening(alloc: Global, frame: &FrameRef<'_>) -> Result<Frame, ReadError
     }
 }
 
-// Of these kinds, and those that come behind.
+// Frames of these kinds; the others go to the function above.
 fn owned_update(alloc: Global, frame: &FrameRef<'_>) -> Result<Frame, ReadError>
     ensures { IfOk result (λ owned. (f : AnyFrame) → fields_fit f ≡ true → IsFrame frame.now f
         → owned ≡ f) }
@@ -231,7 +231,7 @@ fn owned_update(alloc: Global, frame: &FrameRef<'_>) -> Result<Frame, ReadError>
     }
 }
 
-// What happens at the node, and all others.
+// Inputs of the node itself; all others go to the function above.
 fn owned_input(alloc: Global, frame: &FrameRef<'_>) -> Result<Frame, ReadError>
     ensures { IfOk result (λ owned. (f : AnyFrame) → fields_fit f ≡ true → IsFrame frame.now f
         → owned ≡ f) }
@@ -254,8 +254,8 @@ fn owned_input(alloc: Global, frame: &FrameRef<'_>) -> Result<Frame, ReadError>
     }
 }
 
-/// The frame that lies in the bytes, with the same fields. A frame that `decode` answers spells one; where some
-/// other one has a part that spells nothing, the answer is that of want of memory.
+/// Reads the frame into memory, with the same fields. A frame that `decode` returned can always be read. If some other
+/// value has a part that spells nothing, the call fails with `NoMemory`.
 pub fn to_owned(alloc: Global, frame: &FrameRef<'_>) -> Result<Frame, NoMemory>
     ensures { IfOk result (λ owned. (f : AnyFrame) → fits f ≡ true → IsFrame frame.now f
         → owned ≡ f) }

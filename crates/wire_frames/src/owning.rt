@@ -1,4 +1,4 @@
-//! Parts of frames, read into memory.
+//! Reads parts of frames into memory.
 ghost use Rattle.std.specs.Prelude.{◌≡◌, ◌+◌, ◌≤◌, [], ℕ, List, Option, length, true, IfOk};
 ghost use Rattle.topology.specs.declared.limits.TheConstants.{MOST_MARKS};
 ghost use Rattle.topology.specs.declared.names.Trigger.{Trigger as AnyTrigger};
@@ -26,7 +26,7 @@ use topology::limits::{
 };
 use topology::{NodeId, Path, Triggers};
 
-// Reads so many nodes, none of which is there twice.
+// Reads `count` different nodes.
 fn read_different(
     alloc: Global,
     count: u16,
@@ -137,7 +137,7 @@ fn read_report(alloc: Global, fields: &mut Fields<'_>) -> Result<Report, ReadErr
     })
 }
 
-/// Reads a list of triggers, at least `low`, behind lists that have so many.
+/// Reads a list of at least `low` triggers, after lists with `before` triggers in all.
 #[tactic(auto, unfolding(crate::specs::Listing::triggers))]
 pub(crate) fn read_triggers(
     alloc: Global,
@@ -153,7 +153,7 @@ pub(crate) fn read_triggers(
     Ok(Triggers::from_ascending(list)?)
 }
 
-// Reads rows into memory, and tells how many triggers they and their items list.
+// Reads rows into memory. Returns how many triggers they and their items list, too.
 fn read_listed_rows(alloc: Global, fields: &mut Fields<'_>) -> Result<(Rows, u32), ReadError>
     ensures { IfOk result (λ x. ((listed (many MOST_ENTRIES) listed_rows no_rows).reads fields.old
         ≡ Ok (x.0, fields.new)) × (x.1 ≡ (reached listed_rows no_rows x.0).marks)) }
@@ -177,7 +177,7 @@ fn read_pending(
     Ok(PendingRows::new(list))
 }
 
-// A report that version 1 does not spell.
+// Reads a report of version 2.
 fn read_listed_report(alloc: Global, fields: &mut Fields<'_>) -> Result<Report, ReadError>
     ensures { IfOk result (λ x. listed_report.reads fields.old ≡ Ok (x, fields.new)) }
 {
@@ -234,7 +234,7 @@ fn read_packet(alloc: Global, fields: &mut Fields<'_>) -> Result<Packet, ReadErr
     })
 }
 
-/// What is spelled by a part that spells a path, or none.
+/// The path, or none, that the part spells.
 pub(crate) fn owned_path(alloc: Global, part: &[u8]) -> Result<Option<Path>, ReadError>
     ensures { IfOk result (λ x. (y : Option (List ℕ)) → path.fits y ≡ true → part.now
         ≡ path.spells y → x ≡ y) }
@@ -243,7 +243,7 @@ pub(crate) fn owned_path(alloc: Global, part: &[u8]) -> Result<Option<Path>, Rea
     read_path(alloc, &mut fields)
 }
 
-/// What is spelled by a part that spells a value.
+/// The value that the part spells.
 pub(crate) fn owned_value(alloc: Global, part: &[u8]) -> Result<Value, ReadError>
     ensures { IfOk result (λ x. (y : AnyValue) → value.fits y ≡ true → part.now
         ≡ value.spells y → x ≡ y) }
@@ -260,7 +260,7 @@ fn read_one_trigger(fields: &mut Fields<'_>) -> Result<Triggers, ReadError>
     Ok(Triggers::one(fields.trigger()?))
 }
 
-/// What is spelled by a part that spells the triggers of an update of this version.
+/// The triggers of an update of this version that the part spells.
 pub(crate) fn owned_triggers(alloc: Global, version: u8, part: &[u8]) -> Result<Triggers, ReadError>
     ensures { IfOk result (λ x. (ts : List AnyTrigger) → triggers_fit ts ≡ true → version
         ≡ update_version ts → part.now ≡ spelled_triggers ts → x ≡ ts) }
@@ -272,7 +272,7 @@ pub(crate) fn owned_triggers(alloc: Global, version: u8, part: &[u8]) -> Result<
     read_triggers(alloc, 2, 0, &mut fields)
 }
 
-/// What is spelled by a part that spells a report of this version.
+/// The report of this version that the part spells.
 pub(crate) fn owned_report(alloc: Global, version: u8, part: &[u8]) -> Result<Report, ReadError>
     ensures { IfOk result (λ x. (y : AnyReport) → report_fits y ≡ true → version
         ≡ report_version y → part.now ≡ spelled_report y → x ≡ y) }
@@ -284,7 +284,7 @@ pub(crate) fn owned_report(alloc: Global, version: u8, part: &[u8]) -> Result<Re
     read_listed_report(alloc, &mut fields)
 }
 
-/// What is spelled by a part that spells a packet.
+/// The packet that the part spells.
 pub(crate) fn owned_packet(alloc: Global, part: &[u8]) -> Result<Packet, ReadError>
     ensures { IfOk result (λ x. (y : AnyPacket) → packet.fits y ≡ true → part.now
         ≡ packet.spells y → x ≡ y) }
@@ -293,7 +293,7 @@ pub(crate) fn owned_packet(alloc: Global, part: &[u8]) -> Result<Packet, ReadErr
     read_packet(alloc, &mut fields)
 }
 
-/// What is spelled by a part that spells the links that are up.
+/// The links that the part spells.
 pub(crate) fn owned_links(alloc: Global, part: &[u8]) -> Result<NodeList, ReadError>
     ensures { IfOk result (λ x. (y : List ℕ) → links.fits y ≡ true → part.now ≡ links.spells y
         → x ≡ y) }
@@ -302,7 +302,7 @@ pub(crate) fn owned_links(alloc: Global, part: &[u8]) -> Result<NodeList, ReadEr
     read_links(alloc, &mut fields)
 }
 
-/// What is spelled by a part that spells the paths of a table.
+/// The paths of a table that the part spells.
 pub(crate) fn owned_paths(alloc: Global, part: &[u8]) -> Result<Paths, ReadError>
     ensures { IfOk result (λ x. (y : List (Option (List ℕ))) → paths.fits y ≡ true → part.now
         ≡ paths.spells y → x ≡ y) }

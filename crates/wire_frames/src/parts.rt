@@ -1,4 +1,4 @@
-//! The parts of a body that spell paths, reports, values, packets and lists. Takes no memory.
+//! Cuts out the parts of a body that spell paths, reports, values, packets and lists. Nothing here takes memory.
 ghost use Rattle.std.specs.Prelude.{◌≡◌, ◌≤◌, ◌+◌, ◌-◌, ◌==◌, ◌&&◌, [], List, IfOk, length, take};
 ghost use Rattle.topology.specs.declared.limits.TheConstants.{MOST_MARKS};
 ghost use Rattle.topology.specs.declared.names.Trigger.{Trigger as AnyTrigger};
@@ -18,7 +18,7 @@ use topology::limits::{
 };
 use topology::{NodeId, Trigger};
 
-// Goes over so many nodes, none of which is there twice.
+// Skips `count` different nodes.
 pub(crate) fn skip_different(count: u16, fields: &mut Fields<'_>) -> Result<(), FrameKind>
     requires { count ≤ MOST_NODES }
     ensures { Gives (λ _. fields.new) result (passed different [] count fields.old) }
@@ -35,7 +35,7 @@ pub(crate) fn skip_different(count: u16, fields: &mut Fields<'_>) -> Result<(), 
     Ok(())
 }
 
-// The bytes in front of the rest.
+// The bytes before the rest.
 fn front_of<'a>(bytes: &'a [u8], rest: &[u8]) -> &'a [u8]
     ensures { result.now ≡ take (length bytes.now - length rest.now) bytes.now }
 {
@@ -50,7 +50,7 @@ fn are_plain(rows: &ListedRows, pending: u16) -> bool
     rows.are_plain() && pending == 0
 }
 
-// The only trigger of a list of so many, whose last one is told.
+// The trigger of a list if it has just one; `last` is the list's last trigger.
 fn only_seen(count: u16, last: Trigger) -> Option<Trigger>
     ensures { (ts : List AnyTrigger) → length ts ≡ count
         → reached rising_triggers no_trigger ts ≡ last → result ≡ only_of ts }
@@ -140,8 +140,8 @@ impl<'a> Fields<'a> {
         Ok(())
     }
 
-    /// Goes over a list of triggers, at least `low`, behind lists that have so many: how many it has, and its only
-    /// one.
+    /// Skips a list of at least `low` triggers, after lists with `before` triggers in all. Returns how many it has, and
+    /// its trigger if it has just one.
     #[tactic(auto, unfolding(crate::specs::Listing::triggers))]
     pub(crate) fn skip_triggers(
         &mut self,
@@ -168,7 +168,7 @@ impl<'a> Fields<'a> {
         Ok(rows)
     }
 
-    // The pending rows, behind lists that have so many triggers: how many rows there are.
+    // Skips the pending rows, after lists with `marks` triggers in all. Returns how many rows there are.
     fn skip_pending(&mut self, marks: u32) -> Result<u16, FrameKind>
         ensures { PassesAs length (listed (many MOST_PENDING) pending_rows (nothing_pending marks))
             self.old result self.new }
@@ -201,7 +201,7 @@ impl<'a> Fields<'a> {
         skip_many(&mut PathRun, count, self)
     }
 
-    // What a packet carries behind its mode.
+    // Skips what a packet carries after its mode.
     fn skip_carried(&mut self) -> Result<(), FrameKind>
         ensures { Passes carried self.old result self.new }
     {
@@ -295,7 +295,7 @@ impl<'a> Fields<'a> {
         Ok(front_of(before, self.rest()))
     }
 
-    /// The part that spells a report which version 1 does not spell.
+    /// The part that spells a report of version 2.
     pub(crate) fn listed_report_part(&mut self) -> Result<&'a [u8], FrameKind>
         ensures { Cuts listed_report self.old result self.new }
     {

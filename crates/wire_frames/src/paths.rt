@@ -19,7 +19,7 @@ impl Model for Paths {
 }
 
 impl Paths {
-    /// These paths. Takes no memory.
+    /// Paths from a list. Takes no memory.
     pub fn new(list: Vec<Option<Path>>) -> Paths
         ensures { result ≡ list.items }
     {

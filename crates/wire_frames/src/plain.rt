@@ -1,4 +1,4 @@
-//! Which lists and reports version 1 spells. Takes no memory.
+//! Which lists and reports have a spelling in version 1. Nothing here takes memory.
 ghost use Rattle.std.specs.Prelude.{◌≡◌, Some, List};
 ghost use Rattle.std.specs.List.{list_all};
 ghost use Rattle.topology.specs.declared.items.Sent.{Sent as AnySent};
@@ -8,7 +8,7 @@ ghost use Rattle.wire_frames.specs.Listing.{only_of, has_alone, is_plain_row, is
 use incomplete_closure::{Report, Row};
 use topology::{Sent, Trigger};
 
-/// The only trigger of a list.
+/// The trigger of a list if it has just one.
 pub(crate) fn only_of(triggers: &[Trigger]) -> Option<Trigger>
     ensures { result ≡ only_of triggers.now }
 {
@@ -19,7 +19,7 @@ pub(crate) fn only_of(triggers: &[Trigger]) -> Option<Trigger>
     }
 }
 
-/// Whether a list whose only trigger is told has this trigger and no other.
+/// Whether the second list has exactly the named trigger; `only` is its trigger if it has just one.
 pub(crate) fn stands_alone(named_trigger: Option<Trigger>, only: Option<Trigger>) -> bool
     ensures { (ts : List AnyTrigger) → only ≡ only_of ts → result ≡ has_alone named_trigger ts }
 {
@@ -32,7 +32,7 @@ pub(crate) fn stands_alone(named_trigger: Option<Trigger>, only: Option<Trigger>
     }
 }
 
-// Whether each item lists this trigger and no other.
+// Whether each item lists exactly this trigger.
 fn are_alone(named_trigger: Trigger, items: &[Sent]) -> bool
     ensures { result ≡ list_all (λ (item : AnySent). has_alone (Some named_trigger) item.triggers) items.now }
 {

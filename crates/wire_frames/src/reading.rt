@@ -1,4 +1,4 @@
-//! The fields of frames, read from the front of bytes. Takes no memory.
+//! Reads the fields of frames from the front of bytes. Nothing here takes memory.
 ghost use Rattle.std.specs.Prelude.{◌≡◌, ◌+◌, ◌≤◌, IfOk};
 ghost use Rattle.std.specs.Int.{w8, w16, w32, w64};
 ghost use Rattle.wire_frames.specs.Shown.{Gives};
@@ -15,8 +15,7 @@ use topology::limits::{
 };
 use topology::{Ballot, Epoch, NodeId, PrefixId, Scope, Sent, Session, Trigger, Triggers};
 
-/// The bytes that are left of a body. Each call takes its field off the front, or answers what is wrong
-/// there first.
+/// The rest of a body. Each call takes its field from the front, or returns the first fault there.
 #[derive(Drop)]
 pub(crate) struct Fields<'a> {
     rest: &'a [u8],
@@ -30,7 +29,7 @@ impl<'a> Model for Fields<'a> {
     ghost view = { λ f. f.rest.now };
 }
 
-// The type says it, and the clause hands it on.
+// The type says this; the contract passes it on.
 pub(crate) fn are_bytes(bytes: &[u8])
     ensures { IsBytes bytes.now }
 {
@@ -234,7 +233,7 @@ impl<'a> Fields<'a> {
         Ok(number)
     }
 
-    /// How many triggers a list has, at least `low`, behind lists that have so many.
+    /// How many triggers a list has: at least `low`, after lists with `before` triggers in all.
     #[tactic(auto, unfolding(crate::specs::Listing::more_triggers))]
     pub(crate) fn more_triggers(&mut self, low: u16, before: u32) -> Result<u16, FrameKind>
         ensures number { Gives (λ x. (x, self.new)) result ((more_triggers low before).reads self.old) }
@@ -273,7 +272,7 @@ impl<'a> Fields<'a> {
         Ok(Scope::One(PrefixId::new(number)))
     }
 
-    /// The scope of a row that lists no triggers, or some.
+    /// The scope of a row; `none` says that the row lists no triggers.
     #[tactic(auto, unfolding(crate::specs::Listing::scope_beside))]
     pub(crate) fn scope_beside(&mut self, none: bool) -> Result<Scope, FrameKind>
         ensures { Gives (λ x. (x, self.new)) result ((scope_beside none).reads self.old) }
@@ -337,7 +336,7 @@ impl<'a> Fields<'a> {
         Ok(Ballot { round, node })
     }
 
-    /// An item of an entry that lists the trigger alone.
+    /// An item that lists exactly this trigger.
     #[tactic(auto, unfolding(crate::specs::Fields::sent))]
     pub(crate) fn sent(&mut self, trigger: Trigger) -> Result<Sent, FrameKind>
         ensures { Gives (λ x. (x, self.new)) result ((sent trigger).reads self.old) }
@@ -353,7 +352,7 @@ impl<'a> Fields<'a> {
         })
     }
 
-    // The neighbour and the number of a session, behind those of another one.
+    // The neighbour and the number of a session, which must be above those of the last one.
     fn key_behind(&mut self, nbr: NodeId, session: Session) -> Result<(NodeId, Session), FrameKind>
         ensures { Gives (λ x. (x, self.new)) result
             ((ordered session_key (above (nbr, session))).reads self.old) }
@@ -375,7 +374,7 @@ impl<'a> Fields<'a> {
         Ok(Some(self.trigger()?))
     }
 
-    /// A session row behind that of another session.
+    /// A session row, whose session must be above the last one.
     #[tactic(auto, unfolding(crate::specs::Fields::session_row))]
     pub(crate) fn session_row(
         &mut self,
@@ -395,7 +394,7 @@ impl<'a> Fields<'a> {
         })
     }
 
-    /// The neighbour and the number of the session of such a row.
+    /// Skips such a session row. Returns its neighbour and session.
     #[tactic(auto, unfolding(crate::specs::Fields::session_row))]
     pub(crate) fn skip_session_row(
         &mut self,
@@ -410,7 +409,7 @@ impl<'a> Fields<'a> {
         Ok((nbr, session))
     }
 
-    /// The neighbour and the prefix of a pending row, behind those of another one.
+    /// The neighbour and the prefix of a pending row, which must be above those of the last one.
     pub(crate) fn pending_key(
         &mut self,
         nbr: NodeId,

@@ -1,4 +1,4 @@
-//! The elements of lists, one behind the other.
+//! The elements of lists, read and written one after another.
 ghost use Rattle.std.specs.Prelude.{◌≡◌, ◌++◌, ◌-◌, ◌^◌, OnOk, IfOk, IsTrue, length, min};
 ghost use Rattle.std.specs.List.{flat_map};
 ghost use Rattle.wire_frames.specs.Shown.{Gives};
@@ -16,13 +16,13 @@ use std::alloc::Global;
 use std::marker::Model;
 use topology::{NoMemory, NodeId, Path, Sent, SentItems, Session, Trigger, Triggers};
 
-/// Elements of one sort. A value tells what counts of those before.
+/// Elements of one kind. The value holds what must be known of the elements before.
 pub(crate) trait Run {
     type Item: Drop;
 
     ghost series: { Series Self Self.Item };
 
-    /// Goes over one element. Takes no memory.
+    /// Skips one element. Takes no memory.
     fn skip(&mut self, fields: &mut Fields<'_>) -> Result<(), FrameKind>
         ensures { Gives (λ _. (self.new, fields.new)) result (stepped series self.old fields.old) };
 
@@ -32,7 +32,7 @@ pub(crate) trait Run {
             ≡ Ok (x, fields.new)) }
         ensures step { IfOk result (λ x. self.new ≡ series.step self.old x) };
 
-    /// Whether the element has a spelling behind those before it. Takes no memory.
+    /// Whether the element has a spelling after those before it. Takes no memory.
     fn fits(&mut self, item: &Self::Item) -> bool
         ensures fits { result ≡ (series.at self.old).fits item.now }
         ensures step { IsTrue result → self.new ≡ series.step self.old item.now };
@@ -42,14 +42,14 @@ pub(crate) trait Run {
         ensures { OnOk result (out.new.items ≡ out.old.items ++ series.spells item.now) };
 }
 
-/// Elements whose lengths are added up.
+/// Elements whose lengths can be added up.
 pub(crate) trait Measured: Run {
-    /// How many bytes the element takes, up to the highest number.
+    /// The number of bytes of the element, up to the highest number.
     fn length(item: &Self::Item) -> usize
         ensures { result ≡ min (length (Self.series.spells item.now)) (2 ^ 64 - 1) };
 }
 
-/// Reads so many elements into memory.
+/// Reads `count` elements into memory.
 pub(crate) fn read_many<R: Run>(
     run: &mut R,
     alloc: Global,
@@ -68,7 +68,7 @@ pub(crate) fn read_many<R: Run>(
     Ok(list)
 }
 
-/// Whether the elements have a spelling, one behind the other. Takes no memory.
+/// Whether the elements have a spelling, one after another. Takes no memory.
 pub(crate) fn fit_many<R: Run>(run: &mut R, items: &[R::Item]) -> bool
     ensures fits { result ≡ many_fit R.series run.old items.now }
     ensures reached { IsTrue result → run.new ≡ reached R.series run.old items.now }
@@ -81,7 +81,7 @@ pub(crate) fn fit_many<R: Run>(run: &mut R, items: &[R::Item]) -> bool
     true
 }
 
-/// Writes the elements at the end, one behind the other.
+/// Writes the elements at the end, one after another.
 pub(crate) fn write_many<R: Run>(items: &[R::Item], out: &mut Vec<u8>) -> Result<(), NoMemory>
     ensures { OnOk result (out.new.items ≡ out.old.items ++ flat_map R.series.spells items.now) }
 {
@@ -91,7 +91,7 @@ pub(crate) fn write_many<R: Run>(items: &[R::Item], out: &mut Vec<u8>) -> Result
     Ok(())
 }
 
-/// How many bytes the elements take, up to the highest number.
+/// The number of bytes of the elements, up to the highest number.
 pub(crate) fn length_many<R: Measured>(items: &[R::Item]) -> usize
     ensures { result ≡ min (length (flat_map R.series.spells items.now)) (2 ^ 64 - 1) }
 {
@@ -102,7 +102,7 @@ pub(crate) fn length_many<R: Measured>(items: &[R::Item]) -> usize
     total
 }
 
-/// Goes over so many elements. Takes no memory.
+/// Skips `count` elements. Takes no memory.
 pub(crate) fn skip_many<R: Run>(
     run: &mut R,
     count: u16,
@@ -154,7 +154,7 @@ impl Run for AnyOrder {
     }
 }
 
-/// Nodes, each above the one before it.
+/// Nodes in strictly ascending order.
 #[derive(Drop)]
 pub(crate) struct Rising {
     last: NodeId,
@@ -169,7 +169,7 @@ impl Model for Rising {
 }
 
 impl Rising {
-    /// Before the first node.
+    /// The value before the first node.
     pub(crate) fn first() -> Rising
         ensures { result ≡ 0 }
     {
@@ -217,7 +217,7 @@ impl Run for Rising {
     }
 }
 
-/// Triggers, each behind the one before it.
+/// Triggers in strictly ascending order.
 #[derive(Drop)]
 pub(crate) struct RisingTriggers {
     last: Trigger,
@@ -232,7 +232,7 @@ impl Model for RisingTriggers {
 }
 
 impl RisingTriggers {
-    /// Before the first trigger.
+    /// The value before the first trigger.
     pub(crate) fn first() -> RisingTriggers
         ensures { result ≡ no_trigger }
     {
@@ -302,7 +302,7 @@ impl Run for RisingTriggers {
     }
 }
 
-/// Items that were sent by an entry that lists the trigger alone.
+/// Items of an entry, each of which lists exactly this trigger.
 #[derive(Drop)]
 pub(crate) struct Items {
     trigger: Trigger,
@@ -317,7 +317,7 @@ impl Model for Items {
 }
 
 impl Items {
-    /// Those of an entry with the trigger.
+    /// The value for an entry with this trigger.
     pub(crate) fn of(trigger: Trigger) -> Items
         ensures { result ≡ trigger }
     {
@@ -372,7 +372,7 @@ impl Model for ReportRows {
 }
 
 impl ReportRows {
-    /// Before the first row.
+    /// The value before the first row.
     pub(crate) fn first() -> ReportRows
         ensures { result ≡ 0 }
     {
@@ -431,7 +431,7 @@ impl Run for ReportRows {
     }
 }
 
-/// The session rows of a report, each behind the one before it.
+/// The session rows of a report, in strictly ascending order.
 #[derive(Drop)]
 pub(crate) struct ReportSessions {
     nbr: NodeId,
@@ -447,7 +447,7 @@ impl Model for ReportSessions {
 }
 
 impl ReportSessions {
-    /// Before the first row.
+    /// The value before the first row.
     pub(crate) fn first() -> ReportSessions
         ensures { result ≡ (0, 0) }
     {
@@ -512,7 +512,7 @@ impl Run for ReportSessions {
     }
 }
 
-/// Paths, or none in their places.
+/// Paths, each of which may be none.
 #[derive(Drop)]
 pub(crate) struct PathRun;
 

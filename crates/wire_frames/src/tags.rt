@@ -2,7 +2,7 @@
 ghost use Rattle.std.specs.Prelude.{◌≡◌};
 ghost use Rattle.wire_frames.specs.Frames.{number_of, version_of, tag_in, limit_of};
 
-/// Which kind of frame it is.
+/// The kind of a frame.
 #[derive(Clone, Copy, Debug, PartialEq, Eq)]
 pub enum Tag {
     Originate,
@@ -28,7 +28,7 @@ pub enum Tag {
     Inject,
     /// An update with several triggers.
     ListedUpdate,
-    /// A report that version 1 does not spell.
+    /// A report that has no spelling in version 1.
     ListedReport,
     Flush,
 }
@@ -66,7 +66,7 @@ impl Tag {
         }
     }
 
-    /// The version in which the kind stands.
+    /// The version in which the kind exists.
     pub fn version(self) -> u8
         ensures { result ≡ version_of self }
     {
@@ -132,7 +132,7 @@ impl Tag {
         }
     }
 
-    /// How long its body may be.
+    /// The most bytes of a body of this kind.
     pub fn limit(self) -> u32
         ensures { result ≡ limit_of self }
     {

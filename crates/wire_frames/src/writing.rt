@@ -1,4 +1,4 @@
-//! The fields of frames, written at the end of bytes.
+//! Writes the fields of frames at the end of bytes.
 ghost use Rattle.std.specs.Prelude.{◌≡◌, ◌++◌, length, OnOk};
 ghost use Rattle.std.specs.Int.{w8, w16, w32, w64, to_be_bytes};
 ghost use Rattle.std.specs.List.{flat_map};
@@ -20,7 +20,7 @@ use topology::{
     Triggers,
 };
 
-/// The bytes of a frame, as far as they are written. Each call puts its field at the end.
+/// The bytes of a frame, as far as they are written. Each call adds its field at the end.
 
 pub(crate) fn put_u8(out: &mut Vec<u8>, number: u8) -> Result<(), NoMemory>
     ensures { OnOk result (out.new.items ≡ out.old.items ++ to_be_bytes w8 number) }
@@ -179,14 +179,14 @@ pub(crate) fn put_sent(out: &mut Vec<u8>, item: &Sent) -> Result<(), NoMemory>
     put_positive(out, item.seq)
 }
 
-// A count in one byte. What has a spelling has fewer elements than that byte can tell.
+// A count in one byte. Everything with a spelling has few enough elements.
 pub(crate) fn put_few(out: &mut Vec<u8>, count: usize) -> Result<(), NoMemory>
     ensures { OnOk result (out.new.items ≡ out.old.items ++ to_be_bytes w8 count) }
 {
     put_u8(out, (count % 256) as u8)
 }
 
-// A count in two bytes, likewise.
+// A count in two bytes, in the same way.
 pub(crate) fn put_many(out: &mut Vec<u8>, count: usize) -> Result<(), NoMemory>
     ensures { OnOk result (out.new.items ≡ out.old.items ++ to_be_bytes w16 count) }
 {
@@ -345,7 +345,7 @@ fn put_pending_rows(out: &mut Vec<u8>, list: &[Pending]) -> Result<(), NoMemory>
     write_many::<PendingRun>(list, out)
 }
 
-// A report that version 1 does not spell.
+// Writes a report of version 2.
 #[tactic(auto, unfolding(crate::specs::Listing::listed_report, crate::specs::Fields::many))]
 fn put_listed_report(out: &mut Vec<u8>, told: &Report) -> Result<(), NoMemory>
     ensures { OnOk result (out.new.items ≡ out.old.items ++ listed_report.spells told.now) }
@@ -376,7 +376,7 @@ fn put_plain_report(out: &mut Vec<u8>, told: &Report) -> Result<(), NoMemory>
     put_session_rows(out, told.sessions.as_slice())
 }
 
-// What a packet carries behind its mode.
+// What a packet carries after its mode.
 #[tactic(auto, unfolding(crate::specs::Fields::any16, crate::specs::Fields::any64, crate::specs::Fields::nodes, crate::specs::Fields::few))]
 fn put_carried(out: &mut Vec<u8>, of: &Packet) -> Result<(), NoMemory>
     ensures { OnOk result (out.new.items ≡ out.old.items
@@ -400,7 +400,7 @@ pub(crate) fn put_packet(out: &mut Vec<u8>, of: &Packet) -> Result<(), NoMemory>
     put_carried(out, of)
 }
 
-// The ballot and the value that a promise names, or none.
+// The ballot and the value that a promise names, if any.
 #[tactic(auto, unfolding(crate::specs::Fields::named))]
 pub(crate) fn put_named(
     out: &mut Vec<u8>,

@@ -1,5 +1,5 @@
-//! One node that keeps its frames on a disk in memory: it is started twice, by the words of the program and by the calls for one
-//! node, and each call of the disk fails in turn.
+//! One node that keeps its frames on a disk in memory. It is started twice, by the words of the program and by the
+//! calls for one node, and each call of the disk fails in turn.
 use super::{sink_of, words_of};
 use acceptor_journal::MemDisk;
 use route_io::{MemLink, MemSource};
@@ -18,23 +18,23 @@ link 1 2 any
 prefix 10.0.0.0/8
 ";
 
-// Node 2 is to announce the prefix, and in its second run to take it back.
+// Asks node 2 to announce the prefix, and in its second run to withdraw it.
 const ANNOUNCE: &[u8] = b"\x01\x01\x00\x00\x00\x02\x00\x00";
 
 const TAKE_BACK: &[u8] = b"\x01\x02\x00\x00\x00\x02\x00\x00";
 
-// What it tells node 1 then: two updates of one session.
+// What it then tells node 1: two updates of one session.
 const ANNOUNCED: &[u8] =
     b"\x01\x08\x00\x00\x00\x15\x00\x01\x00\x00\x00\x01\x00\x00\x00\x01\x00\x02\x00\x00\x00\x01\x00\x00\x01\x00\x02";
 
 const TAKEN_BACK: &[u8] =
     b"\x01\x08\x00\x00\x00\x13\x00\x01\x00\x00\x00\x01\x00\x00\x00\x02\x00\x02\x00\x00\x00\x02\x00\x00\x00";
 
-// The file behind the two runs.
+// The file after the two runs.
 const BOTH_KEPT: &[u8] =
     b"\x01\x00\x00\x00\x08\x01\x01\x00\x00\x00\x02\x00\x00\x01\x00\x00\x00\x08\x01\x02\x00\x00\x00\x02\x00\x00\x00";
 
-// How many calls of the disk the first run makes, and both.
+// How many calls of the disk the first run makes, and how many both runs make.
 const FIRST_CALLS: u64 = 10;
 
 const BOTH_CALLS: u64 = 22;
@@ -59,7 +59,7 @@ enum Way {
 
 const WAYS: [Way; 2] = [Way::Words, Way::Calls];
 
-// The status of a run of the node with this number.
+// The status of a run of the node with this number, by the words of the program.
 fn status_by_words(
     alloc: Global,
     node: &str,
@@ -103,7 +103,7 @@ fn status_by_calls(alloc: Global, link: &mut MemLink, disk: &mut MemDisk) -> Res
     Ok(serve_kept(alloc, kept, network, link, disk))
 }
 
-// Whether node 2 on this disk, to which these bytes come, ends so and sends those.
+// Whether node 2 on this disk, given these bytes, ends like this and sends those bytes.
 fn comes_to(
     alloc: Global,
     way: &Way,
@@ -128,13 +128,13 @@ fn goes_on(alloc: Global, way: &Way) -> Result<bool, Fail> {
     Ok(first && second && disk.content() == BOTH_KEPT)
 }
 
-// Whether the first run answers nothing where this call of the disk fails.
+// Whether the first run answers nothing if this call of the disk fails.
 fn fails_first(alloc: Global, way: &Way, call: u64) -> Result<bool, Fail> {
     let mut disk = disk_of(alloc, b"", &[call])?;
     comes_to(alloc, way, ANNOUNCE, &mut disk, Status::DiskFault, b"")
 }
 
-// Whether the second run does so, behind a first one that is done.
+// Whether the second run does so, after a first run that succeeded.
 fn fails_second(alloc: Global, way: &Way, call: u64) -> Result<bool, Fail> {
     let mut disk = disk_of(alloc, b"", &[call])?;
     let done = comes_to(alloc, way, ANNOUNCE, &mut disk, Status::Done, ANNOUNCED)?;
@@ -165,8 +165,8 @@ fn ends_where_a_call_of_the_disk_fails(rt: HostRuntime) -> Result<(), Fail> {
     Ok(())
 }
 
-// Files whose first record is refused, and the fault: a record without bytes, one with a byte behind its frame, a frame that is cut
-// off, one that goes from a node alone, and a prefix that is none.
+// Files whose first record is refused, and the fault: a record without bytes, one with a byte after its frame, a frame
+// that is cut off, a frame that only nodes send, and a prefix that does not exist.
 const REFUSED: [(&[u8], FrameFault); 5] = [
     (b"\x01\x00\x00\x00\x00\x00", FrameFault::Length),
     (
@@ -187,7 +187,7 @@ const REFUSED: [(&[u8], FrameFault); 5] = [
     ),
 ];
 
-// Whether the file is refused for this at its first record, and left as it was.
+// Whether the file is refused at its first record with this fault, and left unchanged.
 fn refuses(alloc: Global, way: &Way, file: &[u8], fault: FrameFault) -> Result<bool, Fail> {
     let mut disk = disk_of(alloc, file, &[])?;
     let status = Status::BadJournal(0, fault);
@@ -206,7 +206,8 @@ fn leaves_a_file_that_is_refused_as_it_was(rt: HostRuntime) -> Result<(), Fail> 
     Ok(())
 }
 
-// Whether a run of the node with this number, whose dial may fail, ends so, and leaves this of a file with a gate that is torn.
+// Whether a run of the node with this number, whose dial may fail, ends like this, and leaves this of a file with a
+// torn gate.
 fn leaves(
     alloc: Global,
     node: &str,

@@ -1,4 +1,4 @@
-//! Runs of one node over a link in memory that fails, or has little room.
+//! Runs of one node over a link in memory that fails or has little room.
 use super::{no_disk, sink_of, words_of};
 use route_io::{MemLink, MemSink, MemSource, PlainLink, PlainSource};
 use route_node::attend_plain;
@@ -16,22 +16,22 @@ link 2 3 any
 prefix 10.0.0.0/8
 ";
 
-// Node 2 is to announce the prefix.
+// Asks node 2 to announce the prefix.
 const ANNOUNCE: &[u8] = b"\x01\x01\x00\x00\x00\x02\x00\x00";
 
-// What node 2 of three tells its neighbours then.
+// What node 2 of three nodes then tells its neighbours.
 const TOLD: &[u8] =
     b"\x01\x08\x00\x00\x00\x15\x00\x01\x00\x00\x00\x01\x00\x00\x00\x01\x00\x02\x00\x00\x00\x01\x00\x00\x01\x00\x02\x01\x08\x00\x00\x00\x15\x00\x03\x00\x00\x00\x01\x00\x00\x00\x01\x00\x02\x00\x00\x00\x01\x00\x00\x01\x00\x02";
 
-// Whether the dial fails, the reads and writes of the link that fail, and what goes over it: in the last, the first write of
-// the withdrawal fails.
+// Whether the dial fails, the reads and writes of the link that fail, and what is sent over it. In the last row, the
+// first write for the withdrawal fails.
 const FAULTS: [(bool, &[u64], &[u64], &[u8]); 3] = [
     (true, &[], &[], b""),
     (false, &[1], &[], b""),
     (false, &[], &[3], TOLD),
 ];
 
-// Node 2 announces the prefix and takes it back.
+// Asks node 2 to announce the prefix and to withdraw it.
 const THERE_AND_BACK: &[u8] = b"\x01\x01\x00\x00\x00\x02\x00\x00\x01\x02\x00\x00\x00\x02\x00\x00";
 
 fn link_of(
@@ -48,7 +48,7 @@ fn link_of(
     Ok(MemLink::new(incoming, room, dial, reads, writes))
 }
 
-// The status of a run of this node of the file's network over the link. The notes have what was noted.
+// The status of a run of this node of the file's network over the link. The notes are added to `notes`.
 fn status_over(
     alloc: Global,
     file: &str,

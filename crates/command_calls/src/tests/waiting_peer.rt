@@ -21,20 +21,20 @@ link 2 3 any
 prefix 10.0.0.0/8
 ";
 
-// Node 2 is to announce the prefix; then it is to take it back.
+// Asks node 2 to announce the prefix, and then to withdraw it.
 const ANNOUNCE: &[u8] = b"\x01\x01\x00\x00\x00\x02\x00\x00";
 
 const TAKE_BACK: &[u8] = b"\x01\x02\x00\x00\x00\x02\x00\x00";
 
-// An update for each neighbour, with the path; and one for each, without.
+// An update with the path for each neighbour, and then one without a path for each.
 const ANSWERS: &[u8] =
     b"\x01\x08\x00\x00\x00\x15\x00\x01\x00\x00\x00\x01\x00\x00\x00\x01\x00\x02\x00\x00\x00\x01\x00\x00\x01\x00\x02\x01\x08\x00\x00\x00\x15\x00\x03\x00\x00\x00\x01\x00\x00\x00\x01\x00\x02\x00\x00\x00\x01\x00\x00\x01\x00\x02\x01\x08\x00\x00\x00\x13\x00\x01\x00\x00\x00\x01\x00\x00\x00\x02\x00\x02\x00\x00\x00\x02\x00\x00\x00\x01\x08\x00\x00\x00\x13\x00\x03\x00\x00\x00\x01\x00\x00\x00\x02\x00\x02\x00\x00\x00\x02\x00\x00\x00";
 
-// So many of these bytes answer the first frame.
+// How many of these bytes answer the first frame.
 const OWED: usize = 54;
 
-// Sends `first` at once, and `next` when it has what is owed for the first. A read before that fails. It tells nothing
-// but its faults.
+// Sends `first` at once, and `next` when it has received all that is owed for the first. An earlier read fails. It
+// tells nothing but its faults.
 #[derive(Drop)]
 struct WaitingPeer {
     first: MemLink,

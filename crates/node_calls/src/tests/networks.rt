@@ -14,7 +14,7 @@ link 1 2 any
 prefix 0.0.0.0/0
 ";
 
-/// The same, where the first is the only consolidator.
+/// The same, with the first node as the only consolidator.
 pub const PAIR_CONSOLIDATED: &str = "\
 node 1 consolidator
 node 2
@@ -40,7 +40,7 @@ prefix 0.0.0.0/0
 prefix 0.0.0.0/1
 ";
 
-/// The same, where the second node holds back from the first.
+/// The same; the second node holds back from the first.
 pub const HOLDING_LINE: &str = "\
 node 1
 node 2
@@ -52,7 +52,7 @@ prefix 0.0.0.0/1
 hold 2 1
 ";
 
-/// Two nodes with a link, of which the first holds back from the second, and a prefix.
+/// Two nodes with a link, the first of which holds back from the second, and a prefix.
 pub const HOLDING_PAIR: &str = "\
 node 1
 node 2

@@ -1,9 +1,9 @@
-//! The words of a line, and what they name.
+//! The words of a line, and the values that they name.
 use std::alloc::Global;
 use std::test::Fail;
 use topology::{Ballot, Epoch, NodeId, PrefixId, Session};
 
-/// The words of a text, with a space between each two.
+/// The words of a text, which stand one space apart.
 pub fn words_of<'a>(alloc: Global, text: &'a str) -> Result<Vec<&'a str>, Fail> {
     Ok(text.split(' ').collect(alloc)?)
 }
@@ -42,7 +42,7 @@ pub fn ballot(words: &[&str], place: usize) -> Result<Ballot, Fail> {
     })
 }
 
-/// Nodes below 10, each by its digit; `-` for none.
+/// Nodes below 10, each as one digit; `-` for none.
 pub fn nodes(alloc: Global, words: &[&str], place: usize) -> Result<Vec<NodeId>, Fail> {
     let mut nodes = Vec::new(alloc);
     let digits = word(words, place)?;

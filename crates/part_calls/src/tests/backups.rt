@@ -7,7 +7,7 @@ use std::process::Abort;
 use std::test::Fail;
 use topology::{NodeId, Path, Topology};
 
-// The second node of the backup that a packet takes which visited these nodes; 0 for none.
+// The second node of the backup that a packet takes after it visited these nodes; 0 if it takes none.
 fn taken(net: &Topology, backups: &[Path], walk: &[NodeId], up: &[NodeId]) -> u32 {
     let mut visited = 0;
     for node in walk {
@@ -22,9 +22,9 @@ fn taken(net: &Topology, backups: &[Path], walk: &[NodeId], up: &[NodeId]) -> u3
     }
 }
 
-// The nodes that the packet visited, the neighbours to which the link of node 1 is up, and the second node of the backup
-// that it takes, or 0. First by rank: the node itself was visited, and is no hindrance. Then with a backup that leads over a
-// visited node, as its second or later. By hand.
+// The nodes that the packet visited, the neighbours whose link to node 1 is up, and the second node of the backup that
+// it takes, or 0. In turn: the first backup by rank, although node 1 itself was visited; then backups with a visited
+// node, as the second node or later. By hand.
 const CASES: &str = "1 2,3,4 2
 1 3,4 3
 1 4 4

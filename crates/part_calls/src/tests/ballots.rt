@@ -1,10 +1,10 @@
-//! Calls of `paxos_core`: an acceptor and a proposer, each on its happy path, with ample memory.
+//! Calls of `paxos_core`: an acceptor and a proposer, each without failures and with enough memory.
 use super::making::ballot;
 use paxos_core::{Acceptor, Prepared, Proposer, Tally, Took};
 use std::process::Abort;
 use topology::{Ballot, NoMemory, NodeId};
 
-// Round and node of two ballots, and whether the first one is below.
+// Round and node of two ballots, and whether the first is below the second.
 const PAIRS: [((u32, u16), (u32, u16), bool); 5] = [
     ((1, 2), (1, 2), false),
     ((1, 2), (1, 3), true),
@@ -63,7 +63,7 @@ fn shown(tally: Result<Tally<u32>, NoMemory>) -> (&'static str, Option<u32>) {
     }
 }
 
-// A promise of one of five members, which names a value that was accepted, and what comes of it.
+// Gives the proposer a promise of one of five members, which names an accepted value, and checks the answer.
 fn hears(
     rt: &impl Abort,
     proposer: &mut Proposer<u32>,
@@ -91,7 +91,7 @@ fn a_proposer_goes_to_a_majority(rt: HostRuntime) {
     hears(&rt, &mut proposer, 4, mine, None, ("counted", None));
 }
 
-// What comes of the own acceptance, where the node is alone.
+// Gives the node its own acceptance, where it is the only member, and checks the answer.
 fn accepts(rt: &impl Abort, proposer: &mut Proposer<u32>, of: &Ballot, wanted: &str) {
     let word = match proposer.on_accepted(NodeId::new(1), *of, 1) {
         Ok(Tally::Stale) => "stale",

@@ -8,9 +8,9 @@ use std::rc::Rc;
 use std::test::Fail;
 use topology::{Ballot, Epoch, NodeId, Reason, Topology, Triggers};
 
-// Nodes 1, 2 and 3 are consolidators, node 4 is none. What comes to node 1, what it replies, and the
-// decision of epoch 1 that it knows then. A message is its sender or its addressees, its kind, its epoch,
-// and the rest; a value is the nodes that responded. By hand.
+// Nodes 1, 2 and 3 are consolidators, node 4 is not. Each line has a message that arrives at node 1, its reply, and the
+// decision of epoch 1 that it then knows. A message is its sender or its addressees, its kind, its epoch, and the rest;
+// a value is the list of nodes that responded. By hand.
 const CONSOLIDATOR: &str = "propose 1 | idle no-report |
 2 report 1 2 | |
 3 report 2 3 | |
@@ -61,7 +61,7 @@ propose 2 | 1,2,3 prepare 2 1/1 | 2
 2 prepare 2 4294967295/2 | 2 promise 2 4294967295/2 | 2
 propose 2 | idle no-round 4294967295/2 | 2";
 
-// The same of node 4.
+// The same for node 4.
 const OTHER: &str = "propose 1 | idle no-consolidator |
 1 report 1 1 | idle no-consolidator |
 1 prepare 1 1/1 | idle no-consolidator |
@@ -72,7 +72,7 @@ const OTHER: &str = "propose 1 | idle no-consolidator |
 1 decision 1 1,2 | idle decided | 2
 crash | | 2";
 
-// The same of node 1 as an acceptor, where nodes 1 and 2 are all there is.
+// The same for node 1 as an acceptor, in a network of only nodes 1 and 2.
 const ACCEPTOR: &str = "2 prepare 1 1/1 | 2 promise 1 1/1 |
 2 accept 1 1/1 1 | 2 accepted 1 1/1 |
 2 prepare 1 1/1 | idle promised 1/1 |
@@ -186,7 +186,7 @@ fn reply(alloc: Global, text: &str) -> Result<Reply, Fail> {
     Ok(Reply::Sent(Outbox::new(list)))
 }
 
-// What the consolidator replies to what comes.
+// The consolidator's reply to a message.
 fn reply_of(
     alloc: Global,
     net: &Topology,
@@ -276,7 +276,7 @@ fn plays(
     Ok(())
 }
 
-// Nodes 1 and 2 are consolidators, and in a network of four 3 is one too.
+// Nodes 1 and 2 are consolidators; in a network of four nodes node 3 is one too.
 fn fill(net: &mut Topology, of_four: bool) -> Result<(), Fail> {
     net.add_node(NodeId::new(1), true)?;
     net.add_node(NodeId::new(2), true)?;

@@ -1,11 +1,11 @@
-//! Logs of nodes, and entries in them.
+//! Makes logs of nodes, and adds entries to them.
 use path_vector::{Cause, Policy};
 use std::alloc::Global;
 use std::test::Fail;
 use topology::{NodeId, Scope, Topology, Trigger, Triggers};
 use trigger_log::{NodeLog, Outgoing};
 
-/// The log of a node at its start.
+/// The log of a node before its first entry.
 pub(super) fn log_of<P: Policy + Copy>(
     alloc: Global,
     net: &Topology,
@@ -16,7 +16,7 @@ pub(super) fn log_of<P: Policy + Copy>(
     Ok(Box::new(alloc, log)?)
 }
 
-/// The log with one entry more, which lists this trigger, and what goes out.
+/// The log with one more entry, which lists this trigger, and what goes out.
 pub(super) fn appended<P: Policy + Copy>(
     alloc: Global,
     net: &Topology,

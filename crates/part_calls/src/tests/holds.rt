@@ -1,4 +1,4 @@
-//! Calls of `trigger_log` and `epoch_report`: what a node holds back, and what a flush and a close make of it.
+//! Calls of `trigger_log` and `epoch_report`: what a node holds back, and how a flush and a close change it.
 use super::entering::{appended, flushed, log_of};
 use super::making::{network, trigger};
 use epoch_report::report_of;
@@ -17,7 +17,7 @@ fn first() -> NodeId {
     NodeId::new(1)
 }
 
-// Node 2 holds back from node 1, and not from node 3.
+// Node 2 holds back from node 1, but not from node 3.
 fn line(alloc: Global) -> Result<Box<Topology>, Fail> {
     let links = [(2, 1, Relation::Any), (2, 3, Relation::Any)];
     let mut net = network(alloc, &[1, 2, 3], &links, 2)?;
@@ -25,7 +25,7 @@ fn line(alloc: Global) -> Result<Box<Topology>, Fail> {
     Ok(net)
 }
 
-// Node 2 begins to announce a prefix, or ceases to.
+// Node 2 starts or stops announcing a prefix.
 fn turn(alloc: Global, net: &Topology, log: Log, prefix: u16, begins: bool) -> Result<Log, Fail> {
     let cause = if begins {
         Cause::Originate
@@ -41,7 +41,7 @@ fn turn(alloc: Global, net: &Topology, log: Log, prefix: u16, begins: bool) -> R
     Ok(log)
 }
 
-// It announces the second prefix, then the first one, which it gives up again: triggers 2.1, 2.2 and 2.3.
+// It announces the second prefix, then the first one, which it withdraws again: triggers 2.1, 2.2 and 2.3.
 fn three_changes(alloc: Global, net: &Topology) -> Result<Log, Fail> {
     let log = log_of(alloc, net, 2, ShortestAll)?;
     let log = turn(alloc, net, log, 1, true)?;
@@ -80,7 +80,7 @@ fn is_told(rt: &impl Abort, told: &Outgoing, place: (u16, u32), list: &[Trigger]
     }
 }
 
-// The newest entry lists nothing, and so many items.
+// The newest entry lists no trigger, and this many items.
 fn lists_nothing(rt: &impl Abort, log: &Log, items: usize) {
     match log.entry(log.len()) {
         None => assert!(rt; false),
@@ -92,7 +92,7 @@ fn lists_nothing(rt: &impl Abort, log: &Log, items: usize) {
     }
 }
 
-// A flush fits once: it tells the prefix that is gone, which was never told, and then the other one.
+// A flush fits only once. It withdraws the first prefix, which was never told, and then tells the second one.
 fn flushes(rt: &impl Abort, alloc: Global, net: &Topology, log: Log) -> Result<(), Fail> {
     let flush = Cause::Flush { nbr: first() };
     assert!(rt; log.fits(Scope::Nothing, &flush));
@@ -109,7 +109,7 @@ fn flushes(rt: &impl Abort, alloc: Global, net: &Topology, log: Log) -> Result<(
     Ok(())
 }
 
-// A close lists its own trigger, and all for which something was held back.
+// A close lists its own trigger, and those of all updates that were held back.
 fn closes(rt: &impl Abort, alloc: Global, net: &Topology, log: Log) -> Result<(), Fail> {
     let session = Session::new(1);
     let cause = Cause::Down {
@@ -132,7 +132,7 @@ fn closes(rt: &impl Abort, alloc: Global, net: &Topology, log: Log) -> Result<()
     Ok(())
 }
 
-// 2.1 to 2.4.
+// The triggers 2.1 to 2.4.
 fn counted(alloc: Global) -> Result<Vec<Trigger>, Fail> {
     let mut list = Vec::new(alloc);
     for count in 1..5 {

@@ -1,4 +1,4 @@
-//! Calls of `link_model`: what is on its way over links that fail and come up.
+//! Calls of `link_model`: what is on its way over links that fail and come up again.
 use super::making::network;
 use link_model::{LinkState, Links, WaySet};
 use std::alloc::Global;
@@ -6,16 +6,16 @@ use std::process::Abort;
 use std::test::Fail;
 use topology::{Epoch, Item, NodeId, Relation, Session};
 
-// What is done to the links, and what comes of it.
+// An act on the links, with its expected answer.
 #[derive(Clone, Copy)]
 enum LinkAct {
     // from one node to another, in a session, an item with this number: whether it is queued
     Push(u16, u16, u32, u32, bool),
     // the number of the oldest item from one node to another
     Front(u16, u16, Option<u32>),
-    // the same, and the item is taken
+    // the same, and the item is removed
     Take(u16, u16, Option<u32>),
-    // whether it did anything
+    // whether the call did anything
     Fail(u16, u16, bool),
     Restore(u16, u16, bool),
     // whether the link of two nodes is up, and its session
@@ -38,13 +38,13 @@ const ACTS: [LinkAct; 41] = [
     LinkAct::Push(2, 1, 1, 20, true),
     LinkAct::Push(2, 3, 1, 30, true),
     LinkAct::Push(1, 2, 2, 12, false),
-    // in their order
+    // in order
     LinkAct::Front(1, 2, Some(10)),
     LinkAct::Take(1, 2, Some(10)),
     LinkAct::Front(1, 2, Some(11)),
     LinkAct::Busy(1, 2, true),
     LinkAct::Busy(2, 1, true),
-    // a failure loses both ways of its link, once, and both ends see it
+    // a failure loses what is on both ways of its link, happens only once, and both ends see it
     LinkAct::Fail(2, 1, true),
     LinkAct::Fail(1, 2, false),
     LinkAct::State(1, 2, false, 1),
@@ -55,7 +55,7 @@ const ACTS: [LinkAct; 41] = [
     LinkAct::Busy(2, 1, false),
     LinkAct::Push(1, 2, 1, 13, false),
     LinkAct::Front(2, 3, Some(30)),
-    // the next session, once, without what was lost
+    // the next session, only once, without what was lost
     LinkAct::Restore(1, 2, true),
     LinkAct::Restore(2, 1, false),
     LinkAct::State(1, 2, true, 2),
@@ -69,7 +69,7 @@ const ACTS: [LinkAct; 41] = [
     LinkAct::Take(2, 1, Some(21)),
     LinkAct::Busy(2, 1, false),
     LinkAct::Take(2, 1, None),
-    // the other link knew nothing of it
+    // the other link is not affected
     LinkAct::State(2, 3, true, 1),
     LinkAct::Busy(2, 3, true),
     LinkAct::Take(2, 3, Some(30)),

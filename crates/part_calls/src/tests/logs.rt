@@ -8,9 +8,9 @@ use std::test::Fail;
 use topology::{NodeId, PrefixId, Relation, Scope, Session, Topology, Trigger};
 use trigger_log::NodeLog;
 
-// What happens at node 2: it hears of the first prefix from a neighbour in a session, for a trigger
-// with this counter of the neighbour, begins to originate the second one, or a session ends, is
-// opened, is opened at the other end too.
+// What happens at node 2: it receives an update of the first prefix from a neighbour in a session, for a trigger of the
+// neighbour with this counter; it starts to originate the second prefix; a session ends; it opens a session; the other
+// end opens it too.
 #[derive(Clone, Copy)]
 enum LogAct {
     Hear(u16, u32, u32),
@@ -20,10 +20,10 @@ enum LogAct {
     Greet(u16, u32),
 }
 
-// Node 2 has the peers 1 and 3 and the customer 4. Each act with what it sends, where peers are
-// told nothing of peers, and where all are told everything. Number by number, by hand.
+// Node 2 has the peers 1 and 3 and the customer 4. Each act has the items that it sends: first if peers are told
+// nothing of peers, then if everybody is told everything. Worked out by hand.
 const ACTS: [(LogAct, Items, Items); 9] = [
-    // the path of a peer: to the customer alone, or to all
+    // the path of a peer: only to the customer, or to all
     (
         LogAct::Hear(1, 1, 1),
         &[(4, 1, 1)],
@@ -35,7 +35,7 @@ const ACTS: [(LogAct, Items, Items); 9] = [
         &[(1, 1, 1), (3, 1, 1), (4, 1, 2)],
         &[(1, 1, 2), (3, 1, 2), (4, 1, 2)],
     ),
-    // the session ends with a close, and the path of the peer is withdrawn from whoever knew it
+    // the session ends with a close, and the path of the peer is withdrawn from everybody who knew it
     (
         LogAct::Close(1, 1),
         &[(1, 1, 2), (4, 1, 3)],
@@ -55,7 +55,7 @@ const ACTS: [(LogAct, Items, Items); 9] = [
         &[(1, 2, 3), (3, 1, 5), (4, 1, 5)],
     ),
     (LogAct::Open(1, 3), &[], &[]),
-    // nobody else had opened it: no close
+    // nobody else had opened it, so there is no close
     (LogAct::Close(1, 3), &[], &[]),
 ];
 
@@ -68,7 +68,7 @@ fn star(alloc: Global) -> Result<Box<Topology>, Fail> {
     network(alloc, &[1, 2, 3, 4], &links, 2)
 }
 
-// A path that is heard has its neighbour alone, which is the origin.
+// The path of an update is just its neighbour, which is the origin.
 fn cause_of(alloc: Global, act: LogAct) -> Result<(Scope, Cause), Fail> {
     let (from, session) = match act {
         LogAct::Begin => return Ok((Scope::One(PrefixId::new(1)), Cause::Originate)),
@@ -97,7 +97,7 @@ fn cause_of(alloc: Global, act: LogAct) -> Result<(Scope, Cause), Fail> {
     Ok((Scope::All, cause))
 }
 
-// An update brings its trigger, any other entry gets the next one.
+// An update brings its own trigger; any other entry gets the next one.
 fn trigger_of<P: Policy + Copy>(log: &NodeLog<P>, act: LogAct) -> Trigger {
     match act {
         LogAct::Hear(from, _, count) => trigger(from, count),
@@ -116,7 +116,7 @@ fn is_last<P: Policy + Copy>(rt: &impl Abort, log: &NodeLog<P>, trigger: &Trigge
     }
 }
 
-// The act fits, and its entry lists these items; each item but a close goes out.
+// The act fits, and its entry lists these items; all of them except a close go out.
 fn enter<P: Policy + Copy>(
     rt: &impl Abort,
     alloc: Global,
@@ -147,7 +147,7 @@ fn counts<P: Policy + Copy>(rt: &impl Abort, log: &NodeLog<P>, sent: u32) {
     assert!(rt; log.next_trigger() == trigger(2, 8));
 }
 
-// The first two entries go: the others keep their places, and the routes after those two are the base.
+// The first two entries are dropped. The others keep their places, and the base is the routes after those two.
 fn drops(rt: &impl Abort, log: &NodeLog<GaoRexford>) {
     let nbr = NodeId::new(1);
     let heard = PrefixId::new(0);
@@ -176,7 +176,7 @@ fn plays<P: Policy + Copy>(
     Ok(log)
 }
 
-// Behind all acts, where peers are told nothing of peers.
+// After all acts, if peers are told nothing of peers.
 fn plays_to_few(rt: &impl Abort, alloc: Global, net: &Topology) -> Result<(), Fail> {
     let log = log_of(alloc, net, 2, GaoRexford)?;
     let log = plays(rt, alloc, net, log, false)?;
@@ -186,7 +186,7 @@ fn plays_to_few(rt: &impl Abort, alloc: Global, net: &Topology) -> Result<(), Fa
     Ok(())
 }
 
-// Behind all acts, where all are told everything.
+// After all acts, if everybody is told everything.
 fn plays_to_all(rt: &impl Abort, alloc: Global, net: &Topology) -> Result<(), Fail> {
     let log = log_of(alloc, net, 2, ShortestAll)?;
     let log = plays(rt, alloc, net, log, true)?;

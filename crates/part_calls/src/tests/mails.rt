@@ -7,7 +7,7 @@ use std::process::Abort;
 use std::test::Fail;
 use topology::{Epoch, NodeId};
 
-// What is done to the messages, and what is seen of them.
+// An act on the messages, or a reading of them.
 #[derive(Clone, Copy)]
 enum MailAct {
     // from one node to another, about an epoch
@@ -32,7 +32,7 @@ const DELIVERIES: [MailAct; 40] = [
     MailAct::Next(None),
     MailAct::Missing(0),
     MailAct::Missing(1),
-    // numbered from 1 in their order
+    // numbered from 1 in order
     MailAct::Post(1, 2, 10),
     MailAct::Post(1, 3, 11),
     MailAct::Post(3, 2, 12),
@@ -42,7 +42,7 @@ const DELIVERIES: [MailAct; 40] = [
     MailAct::Kept(1, 1, 2, 10, 0),
     MailAct::Kept(3, 3, 2, 12, 0),
     MailAct::Missing(5),
-    // out of their order
+    // out of order
     MailAct::Deliver(2),
     MailAct::Next(Some(1)),
     MailAct::Deliver(1),
@@ -66,7 +66,7 @@ const DELIVERIES: [MailAct; 40] = [
     MailAct::Kept(3, 3, 2, 12, 1),
     MailAct::Deliver(5),
     MailAct::Next(None),
-    // what waits waits on
+    // the messages that wait keep waiting
     MailAct::Restart(2),
     MailAct::Next(Some(4)),
     MailAct::Deliver(4),
@@ -75,7 +75,7 @@ const DELIVERIES: [MailAct; 40] = [
     MailAct::Next(None),
 ];
 
-// The same nodes; node 9 is none of the network.
+// The same nodes; node 9 is not in the network.
 const CRASHES: [MailAct; 26] = [
     MailAct::Crashed(1, false),
     MailAct::Crashed(9, false),

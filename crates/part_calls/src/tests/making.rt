@@ -1,4 +1,4 @@
-//! Small networks, and what stands in the tests of several libraries.
+//! Makes small networks and other values for the tests of several libraries.
 use std::alloc::Global;
 use std::process::Abort;
 use std::test::Fail;
@@ -9,7 +9,7 @@ use topology::{
 /// Neighbour, session and number of each item.
 pub(super) type Items = &'static [(u16, u32, u32)];
 
-/// Two nodes, and what the second one is to the first.
+/// Two nodes, and the relation of the second to the first.
 pub(super) type AnyLink = (u16, u16, Relation);
 
 /// The links of node 2 with its neighbours.
@@ -74,12 +74,12 @@ pub(super) fn ids(alloc: Global, numbers: &[u16]) -> Result<Vec<NodeId>, Fail> {
     Ok(nodes)
 }
 
-/// The path of these nodes; none of no nodes.
+/// The path of these nodes; none if there are no nodes.
 pub(super) fn path_of(alloc: Global, numbers: &[u16]) -> Result<Option<Path>, Fail> {
     Ok(Path::new(ids(alloc, numbers)?)?)
 }
 
-/// The paths of these nodes, of which there are some, and which differ.
+/// The paths of these lists, each of which has nodes, all different.
 pub(super) fn paths(alloc: Global, lists: &[&[u16]]) -> Result<Vec<Path>, Fail> {
     let mut paths = Vec::new(alloc);
     for numbers in lists {
@@ -102,7 +102,7 @@ pub(super) fn ballot(round: u32, node: u16) -> Ballot {
     }
 }
 
-/// The text before the mark, and the text behind it.
+/// The text before the mark, and the text after it.
 pub(super) fn split(text: &str, mark: char) -> Result<(&str, &str), Fail> {
     Ok(text.split_once(mark).ok_or("a further word")?)
 }
@@ -126,7 +126,7 @@ pub(super) fn nodes_in(alloc: Global, word: &str) -> Result<Vec<NodeId>, Fail> {
     Ok(nodes)
 }
 
-/// The list is this trigger alone.
+/// Checks that the list has exactly this trigger.
 pub(super) fn is_alone(rt: &impl Abort, triggers: &Triggers, trigger: &Trigger) {
     assert!(rt; triggers.as_slice() == [*trigger].as_slice());
 }
@@ -148,7 +148,7 @@ fn is_item(
     }
 }
 
-/// What was sent is these items, each for this trigger.
+/// Checks that these items were sent, each for this trigger.
 pub(super) fn are_items(rt: &impl Abort, sent: &SentItems, items: Items, trigger: &Trigger) {
     let laid_out = sent.laid_out();
     let sent = laid_out.as_slice();

@@ -1,4 +1,4 @@
-//! Calls of `transient_mode`: where a packet goes that has left the stable tables.
+//! Calls of `transient_mode`: where a packet off the stable tables goes.
 use super::making::{network, paths};
 use epoch_packet::{End, Packet, stamp};
 use std::alloc::Global;
@@ -7,7 +7,7 @@ use std::test::Fail;
 use topology::{NoMemory, NodeId, Path, PrefixId, Scheme, Topology};
 use transient_mode::{Move, View, transient_hop};
 
-// The nodes 1 to 4, where a packet has three moves under this scheme.
+// The nodes 1 to 4; a packet has three moves under this scheme.
 fn three_moves(alloc: Global, scheme: Scheme) -> Result<Box<Topology>, Fail> {
     let mut net = network(alloc, &[1, 2, 3, 4], &[], 0)?;
     net.set_hops(3);
@@ -20,7 +20,7 @@ fn packet_at_one(alloc: Global, net: &Topology) -> Packet {
     stamp(alloc, net, 1, PrefixId::new(0), NodeId::new(1), None)
 }
 
-// What a node sees that is no origin and published nothing.
+// The view of a node that is no origin and published nothing.
 fn sees<'a>(at: u16, order: &'a [NodeId], up: &'a [NodeId]) -> View<'a> {
     View {
         at: NodeId::new(at),
@@ -32,7 +32,7 @@ fn sees<'a>(at: u16, order: &'a [NodeId], up: &'a [NodeId]) -> View<'a> {
     }
 }
 
-// What node 1 sees that published these backups.
+// The view of node 1, which published these backups.
 fn sees_backups<'a>(up: &'a [NodeId], backups: &'a [Path]) -> View<'a> {
     View {
         at: NodeId::new(1),
@@ -70,14 +70,14 @@ fn ends(
     Ok(packet)
 }
 
-// How many moves are left, which nodes were visited, and the last of the way back.
+// How many moves are left, which nodes were visited, and the last node of the way back.
 fn is(packet: &Packet, budget: u16, visited: u64, last: Option<u16>) -> bool {
     packet.budget == budget
         && packet.visited == visited
         && packet.trail.last() == last.map(|node| NodeId::new(node))
 }
 
-// 1@t 3@t 1@t 2@t: the better neighbour first, back from there, then the other one.
+// 1@t 3@t 1@t 2@t: the better neighbour first, back from there, and then the other one.
 fn is_deflected(rt: &impl Abort, net: &Topology, packet: Packet) -> Result<Packet, NoMemory> {
     let [one, two, three] = [NodeId::new(1), NodeId::new(2), NodeId::new(3)];
     let (order, up, back) = ([three, two], [two, three], [one]);
@@ -89,7 +89,7 @@ fn is_deflected(rt: &impl Abort, net: &Topology, packet: Packet) -> Result<Packe
     goes(rt, net, packet, sees(1, &order, &up), 2)
 }
 
-// No move is left at node 2: there it has expired, but at an origin it is delivered.
+// No move is left at node 2. There the packet has expired, but at an origin it is delivered.
 fn is_at_its_end(rt: &impl Abort, net: &Topology, packet: Packet) -> Result<(), NoMemory> {
     let back = [NodeId::new(1)];
     let packet = ends(rt, net, packet, sees(2, &back, &back), End::Expired)?;
@@ -139,7 +139,7 @@ fn a_detour_follows_the_path_of_its_node(rt: HostRuntime) -> Result<(), Fail> {
     Ok(())
 }
 
-// 1@t 3@t 4@t: it takes the backup 1 3 4 2, since the link to 2 is down, and goes along it.
+// 1@t 3@t 4@t: it takes the backup 1 3 4 2, because the link to 2 is down, and goes along it.
 fn goes_by_backup(
     rt: &impl Abort,
     net: &Topology,

@@ -6,13 +6,13 @@ use std::process::Abort;
 use std::test::Fail;
 use topology::{Epoch, NoMemory, NodeId, PrefixId, Relation, Scheme, Topology};
 
-// The line 5 2 9, so that the nodes ascend as 2 5 9.
+// The line 5 2 9; in ascending order the nodes are 2 5 9.
 fn line(alloc: Global) -> Result<Box<Topology>, Fail> {
     let links = [(5, 2, Relation::Any), (2, 9, Relation::Any)];
     network(alloc, &[5, 2, 9], &links, 0)
 }
 
-// What a node does that has this path of the table, where the links to these neighbours are up.
+// What a node does if this is its path in the table, and the links to these neighbours are up.
 fn hops(
     rt: &impl Abort,
     alloc: Global,
@@ -65,7 +65,7 @@ fn goes_and_turns(rt: &impl Abort, alloc: Global, net: &Topology, hops: u16, vis
     assert!(rt; is(&packet, Mode::Transient, 2, hops, visited));
 }
 
-// The walk 5@t where nothing was published, and which nodes it visited.
+// The walk 5@t where nothing was published, and the nodes that it visited.
 fn is_off_at_once(rt: &impl Abort, alloc: Global, net: &Topology, hops: u16) {
     let packet = stamp(alloc, net, 2, PrefixId::new(0), NodeId::new(5), None);
     assert!(rt; is(&packet, Mode::Transient, 0, hops, 0b010));
@@ -74,7 +74,7 @@ fn is_off_at_once(rt: &impl Abort, alloc: Global, net: &Topology, hops: u16) {
     }
 }
 
-// Under backups the whole walk counts.
+// Under backups all nodes of the walk count.
 fn goes_under_backups(rt: &impl Abort, alloc: Global, net: &mut Topology) -> Result<(), Fail> {
     net.set_hops(3);
     net.set_scheme(Scheme::Backup)?;
@@ -90,7 +90,7 @@ fn a_packet_carries_what_it_did(rt: HostRuntime) -> Result<(), Fail> {
     goes_under_backups(&rt, rt.alloc(), &mut net)
 }
 
-// Nodes are put at the end, and taken off at both ends.
+// Nodes are added at the end, and removed at both ends.
 fn change(nodes: &mut NodeList) -> Result<(), NoMemory> {
     nodes.replace(&[NodeId::new(1), NodeId::new(2)])?;
     nodes.push(NodeId::new(3))?;

@@ -10,9 +10,9 @@ use std::test::Fail;
 use topology::{Epoch, NodeId, PrefixId, Relation, Scope, Session, Topology};
 use trigger_log::NodeLog;
 
-// Trigger, whether one prefix is concerned, and the items of each row. Node 2 begins to originate the
-// prefix and tells both neighbours; its session with 1 ends, with a close, and is opened again; then
-// it hears from 3, which changes nothing. By hand.
+// The trigger, whether the row concerns one prefix, and the items of each row. Node 2 starts to originate the prefix
+// and tells both neighbours; its session with 1 ends, with a close, and is opened again; then it hears from 3, which
+// changes nothing. By hand.
 const ROWS: [(u16, u32, bool, Items); 4] = [
     (2, 1, true, &[(1, 1, 1), (3, 1, 1)]),
     (2, 2, false, &[(1, 1, 2)]),
@@ -64,7 +64,7 @@ fn scope(one: bool) -> Scope {
 
 type Log = Box<NodeLog<ShortestAll>>;
 
-// The row of this place is entered.
+// Enters the row at this place.
 fn enter(
     alloc: Global,
     net: &Topology,
@@ -121,7 +121,7 @@ fn shows(rt: &impl Abort, report: &Report) {
     assert!(rt; report.pending.as_slice().is_empty());
 }
 
-// What node 2 reports.
+// The report of node 2.
 fn report(alloc: Global, net: &Topology) -> Result<Report, Fail> {
     let log = log_of(alloc, net, 2, ShortestAll)?;
     let log = play(alloc, net, log)?;

@@ -1,4 +1,4 @@
-//! Calls of `path_vector`: which route a node takes, and what it tells of it.
+//! Calls of `path_vector`: which route a node takes, and what it offers its neighbours.
 use super::making::{network, path_of};
 use path_vector::{Best, Cause, Chosen, GaoRexford, Policy, RouteState};
 use std::alloc::Global;
@@ -9,7 +9,7 @@ use topology::{NodeId, PrefixId, Relation, Scope, Session, Topology};
 mod histories;
 mod paths_told_again;
 
-// The state of a node at its start.
+// The state of a node before its first entry.
 fn state_of<P: Policy + Copy>(
     alloc: Global,
     net: &Topology,
@@ -20,7 +20,8 @@ fn state_of<P: Policy + Copy>(
     Ok(Box::new(alloc, state)?)
 }
 
-// Nodes 1, 2 and 3 with a link each: 2 and 3 are customers of 1, and peers of each other. The state of node 2.
+// The state of node 2 in a network of nodes 1, 2 and 3, all linked: 2 and 3 are customers of 1, and peers of each
+// other.
 fn of_two(alloc: Global) -> Result<Box<RouteState<GaoRexford>>, Fail> {
     let links = [
         (1, 2, Relation::Customer),
@@ -31,7 +32,7 @@ fn of_two(alloc: Global) -> Result<Box<RouteState<GaoRexford>>, Fail> {
     state_of(alloc, &net, 2, GaoRexford)
 }
 
-// Takes an update of the first session.
+// Applies an update of the first session.
 fn hear(
     state: &mut RouteState<GaoRexford>,
     alloc: Global,
@@ -48,7 +49,7 @@ fn hear(
     Ok(())
 }
 
-// Node 2 goes to 3 by 3, and tells 1 nothing of its peer.
+// Node 2 takes its peer 3 as the way to 3, and tells 1 nothing of its peer.
 fn goes_by_its_peer(rt: &impl Abort, state: &RouteState<GaoRexford>, chosen: &Chosen) {
     match state.best(PrefixId::new(0)) {
         Best::Via(nbr, rest) => {
@@ -61,7 +62,7 @@ fn goes_by_its_peer(rt: &impl Abort, state: &RouteState<GaoRexford>, chosen: &Ch
     assert!(rt; state.held(NodeId::new(1)) == Some(Session::new(1)));
 }
 
-// A copy tries the peer first.
+// A copy of the state tries the peer first.
 fn tries_its_peer_first(rt: &impl Abort, state: &RouteState<GaoRexford>) -> Result<(), Fail> {
     let again = state.copy()?;
     let order = again.order(PrefixId::new(0))?;

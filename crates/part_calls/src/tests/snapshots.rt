@@ -9,7 +9,7 @@ use std::test::Fail;
 use topology::{Epoch, NodeId, Scope, Session, Topology};
 use trigger_log::NodeLog;
 
-// What happens at node 2, and what is read of its snapshots.
+// What happens at node 2, or what is read from its snapshots.
 #[derive(Clone, Copy)]
 enum SnapshotAct {
     // the session with a neighbour ends, or is opened
@@ -23,7 +23,7 @@ enum SnapshotAct {
     // the epoch, and how many entries the cut of an epoch has
     Epoch(u32),
     Cut(u32, Option<u32>),
-    // for an epoch and a neighbour: the session, the first number, how many, and whether it is done
+    // for an epoch and a neighbour: the session, the first number, how many, and whether the recording is finished
     Recorded(u32, u16, u32, u32, u32, bool),
     // there is no recording of the epoch with the neighbour
     Nothing(u32, u16),
@@ -57,7 +57,7 @@ const ACTS: [SnapshotAct; 49] = [
     SnapshotAct::Recorded(1, 1, 1, 2, 1, false),
     SnapshotAct::Update(1, 1, 3),
     SnapshotAct::Recorded(1, 1, 1, 2, 2, false),
-    // a mark of a lower epoch ends nothing, nor does anything of another session
+    // a mark of a lower epoch ends nothing, and neither does anything in another session
     SnapshotAct::Mark(1, 1, 0),
     SnapshotAct::Recorded(1, 1, 1, 2, 2, false),
     SnapshotAct::Mark(4, 1, 1),
@@ -73,11 +73,11 @@ const ACTS: [SnapshotAct; 49] = [
     SnapshotAct::Nothing(2, 1),
     // a session that the cut does not hold is not recorded
     SnapshotAct::Nothing(3, 3),
-    // an update counts in each recording that is not done
+    // an update counts in each unfinished recording
     SnapshotAct::Update(1, 1, 4),
     SnapshotAct::Recorded(1, 1, 1, 2, 3, false),
     SnapshotAct::Recorded(3, 1, 1, 4, 1, false),
-    // a mark of a higher epoch ends the recordings of lower ones, and no others
+    // a mark of a higher epoch ends the recordings of lower epochs, and no others
     SnapshotAct::Mark(1, 1, 2),
     SnapshotAct::Update(1, 1, 5),
     SnapshotAct::Recorded(1, 1, 1, 2, 3, true),

@@ -1,4 +1,4 @@
-//! Calls of `deflect_delivery`: whole walks over networks that do not move.
+//! Calls of `deflect_delivery`: whole walks over networks that do not change.
 use super::making::{AnyLink, network, node, nodes_in, split};
 use deflect_delivery::{Orders, Still, StillWalk, UpLinks, still_walk};
 use epoch_packet::{End, NodeList};
@@ -7,7 +7,7 @@ use std::process::Abort;
 use std::test::Fail;
 use topology::{NodeId, PrefixId, Relation, Topology};
 
-// A star around node 1; node 5 is alone.
+// A star around node 1; node 5 has no link.
 const LINKS: [AnyLink; 3] = [
     (1, 2, Relation::Any),
     (1, 3, Relation::Any),
@@ -81,22 +81,22 @@ fn walks(rt: &impl Abort, alloc: Global, text: &str, visits: &str, end: End) -> 
     is(rt, alloc, &walk, visits, end)
 }
 
-// The owner is tried last, behind a way back.
+// The owner is tried last, after a way back.
 #[test]
 fn a_walk_is_delivered(rt: HostRuntime) -> Result<(), Fail> {
     let still = "2:1,1:3,1:4 4 2,3,4 1 1 1 -";
     walks(&rt, rt.alloc(), still, "2,1,3,1,4", End::Delivered)
 }
 
-// The link to one owner is down, and the other one has none: the walk ends where it began.
+// The link to one owner is down, and the other owner has no link: the walk ends where it began.
 #[test]
 fn a_walk_is_stuck(rt: HostRuntime) -> Result<(), Fail> {
     let still = "2:1,1:3 4,5 4,3,2 1 1 1 -";
     walks(&rt, rt.alloc(), still, "2,1,3,1,2", End::Stuck)
 }
 
-// Whether it fits, and the links, the owners and the orders. In turn: two that fit; a link that is none of the network; an
-// owner that is no node of it; orders of node 1 that leave a neighbour out, or have one twice; an order too few.
+// Whether the value fits, and its links, owners and orders. In turn: two that fit; a link that is not in the network;
+// an owner that is not in it; orders of node 1 that leave out a neighbour, or have one twice; one order too few.
 const WORLDS: &str = "yes 2:1 4 4,2,3 1 1 1 -
 yes - - 2,3,4 1 1 1 -
 no 2:3 4 2,3,4 1 1 1 -

@@ -11,12 +11,11 @@ use std::test::Fail;
 use topology::{Epoch, NodeId, Path, PrefixId, Scope, Session, Topology, Triggers};
 use trigger_log::NodeLog;
 
-// How many entries the cut has, the nodes that responded, the counter of the incomplete trigger of node
-// 9, or 0; and what the table has: the path of the first prefix, its backups one after the other, and
-// the path of the second one, which node 2 originates after all updates. In turn: two updates; four of
-// them; without the fourth; 4 did not respond, so there is no path, but the other candidates; after the
-// withdrawal, with the own prefix; 2 did not respond. By hand: fewer nodes are better, then the lower
-// neighbour.
+// How many entries the cut has, the nodes that responded, and the counter of the incomplete trigger of node 9, or 0;
+// then what the table has: the path of the first prefix, its backups one after another, and the path of the second
+// prefix, which node 2 originates after all updates. In turn: two updates; four updates; without the fourth; node 4 did
+// not respond, so there is no path, but the other candidates are backups; after the withdrawal, with the own prefix;
+// node 2 did not respond. By hand: fewer nodes are better, then the lower neighbour.
 const CASES: &str = "2 1,2,3,4,9 0 2,1,9 2,1,9,2,3,9 -
 4 1,2,3,4,9 0 2,3 2,3,2,4,2,1,9 -
 4 1,2,3,4,9 4 2,4 2,4,2,1,9,2,3,9 -
@@ -24,16 +23,16 @@ const CASES: &str = "2 1,2,3,4,9 0 2,1,9 2,1,9,2,3,9 -
 6 1,2,3,4,9 4 2,4 2,4,2,3,9 2
 6 1,3,4,9 4 - - -";
 
-// The same of a log that has dropped its first three entries: the second one is complete, though its trigger is not; so
-// is all of the whole log.
+// The same for a log that has dropped its first three entries. The second entry counts as complete, although its
+// trigger is not; so does the whole log.
 const DROPPED: &str = "4 1,2,3,4,9 2 2,3 2,3,2,4,2,1,9 -
 4 1,2,3,4,9 4 2,4 2,4,2,1,9,2,3,9 -
 6 1,2,3,4,9 0 2,3 2,3,2,4 2";
 
-// What is published in turn at node 2: the epoch, the entries of the cut and the counter as above; then
-// the newest epoch so far where it is refused, the newest epoch now, and for the epochs 1 to 6 the node
-// to which a table sends what goes to the first prefix, where there is such a table. The second prefix
-// goes nowhere: no table but the last has a path of it, and that one ends where it begins.
+// The tables that node 2 publishes in turn: the epoch, the entries of the cut and the counter as above; then the newest
+// epoch so far if the table is refused, the newest epoch now, and for the epochs 1 to 6 the next node for the first
+// prefix, if there is a table. The second prefix has no next node: only the last table has a path for it, which ends
+// where it begins.
 const PUBLISHED: &str = "2 2 0: - 2 -1----
 5 4 0: - 5 -1--3-
 4 4 4: 5 5 -1--3-
@@ -51,8 +50,8 @@ fn update(alloc: Global, from: &str, seq: &str, path: &str) -> Result<Cause, Fai
 
 type Log = Box<NodeLog<ShortestAll>>;
 
-// Node 2 hears of the first prefix: from which neighbour, with which number, which path (none: a
-// withdrawal), and the counter of the trigger, which is one of node 9.
+// Node 2 receives an update of the first prefix: the neighbour, the number, the path (none for a withdrawal), and the
+// counter of the trigger, which is one of node 9.
 fn hear(alloc: Global, net: &Topology, log: Log, line: &str) -> Result<Log, Fail> {
     let (from, rest) = split(line, ' ')?;
     let (seq, rest) = split(rest, ' ')?;
@@ -116,7 +115,7 @@ fn has_backups(rt: &impl Abort, alloc: Global, table: &Table, backups: &str) -> 
     Ok(())
 }
 
-// The path of the first prefix, its backups, and the path of the second one.
+// Checks the path of the first prefix, its backups, and the path of the second one.
 fn has(rt: &impl Abort, alloc: Global, table: &Table, wanted: &str) -> Result<(), Fail> {
     let (path, rest) = split(wanted, ' ')?;
     let (backups, own) = split(rest, ' ')?;
@@ -175,8 +174,8 @@ fn show_all(
     Ok(())
 }
 
-// The place before which entries may go, where the cut is the whole log: the first incomplete entry ends what may, and none goes
-// where a node did not respond.
+// The place before which entries may be dropped, if the cut is the whole log. The first incomplete entry ends them, and
+// none may be dropped if a node did not respond.
 fn place(
     alloc: Global,
     net: &Topology,
@@ -229,7 +228,7 @@ fn node_in(digit: u8) -> Option<NodeId> {
     Some(NodeId::new(u16::from(number)))
 }
 
-// Whether there is a table of the epoch, and where it sends what goes to the two prefixes.
+// Whether there is a table of the epoch, and its next node for each of the two prefixes.
 fn sends(rt: &impl Abort, tables: &TwoTables, epoch: Epoch, hop: Option<NodeId>) {
     assert!(rt; tables.of(epoch).is_some() == hop.is_some());
     assert!(rt; tables.next_hop(epoch, PrefixId::new(0)) == hop);
@@ -255,7 +254,7 @@ fn publishes(rt: &impl Abort, tables: &mut TwoTables, table: Rc<Table>, refused:
     assert!(rt; kept == epoch_in(refused));
 }
 
-// The table of which the line says the epoch, the entries of the cut and the counter.
+// The table whose epoch, cut and counter the line gives.
 fn made_in(
     alloc: Global,
     net: &Topology,
@@ -328,7 +327,7 @@ fn show_and_publish(
     publish_all(rt, alloc, net, log)
 }
 
-// The log of node 2 of which tables are made.
+// The log of node 2 from which tables are made.
 fn begun(alloc: Global, net: &Topology) -> Result<Log, Fail> {
     let log = log_of(alloc, net, 2, ShortestAll)?;
     let log = play(alloc, net, log)?;

@@ -1,4 +1,4 @@
-//! Which reads and writes a link or a sink has made, for promises alone.
+//! The reads and writes of a link or a sink, recorded for contracts only.
 ghost use Rattle.std.specs.Prelude.{◌≡◌, ◌≤◌, List, [], ◌∷◌, None, Some, length, IfOk};
 ghost use Rattle.std.specs.Borrow.{ftrue};
 ghost use Rattle.std.specs.Io.{ReadsAtMost};
@@ -9,7 +9,7 @@ ghost use Rattle.route_io.specs.Views.{StreamAct, Read, Write};
 use crate::outside::Failed;
 use std::marker::Model;
 
-/// The reads and writes of a link or a sink, the newest first. It has no bytes: only clauses read it.
+/// The reads and writes of a link or a sink, the newest first. The value has no bytes: only contracts read it.
 #[derive(Drop)]
 pub struct StreamActs {
     pub ghost list: { List StreamAct },
@@ -20,14 +20,14 @@ impl Model for StreamActs {
 }
 
 impl StreamActs {
-    /// None was made yet.
+    /// No reads and writes.
     pub fn new() -> StreamActs
         ensures { result.list ≡ [] }
     {
         StreamActs {}
     }
 
-    /// A read has answered this, and filled the front of the buffer.
+    /// Adds a read with this answer, which filled the front of the buffer.
     pub fn read(&self, read: Result<usize, Failed>, buf: &[u8]) -> StreamActs
         requires { ReadsAtMost read buf.now }
         ensures { result.list ≡ Read (brought_by read buf.now) ∷ self.now.list }
@@ -38,7 +38,7 @@ impl StreamActs {
         }
     }
 
-    /// A write of the piece has answered this.
+    /// Adds a write of the piece with this answer.
     pub fn write(&self, piece: &[u8], written: Result<usize, Failed>) -> StreamActs
         requires { IfOk written (λ n. n ≤ length piece.now) }
         ensures { result.list ≡ Write piece.now (result_ok written) ∷ self.now.list }

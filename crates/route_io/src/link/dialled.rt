@@ -1,10 +1,10 @@
-//! Which addresses were dialled, for promises alone.
+//! The addresses that were dialled, recorded for contracts only.
 ghost use Rattle.std.specs.Prelude.{◌≡◌, ℕ, List, [], ◌∷◌};
 ghost use Rattle.std.specs.Borrow.{ftrue};
 
 use std::marker::Model;
 
-/// The addresses that were dialled, the newest first. It has no bytes: only clauses read it.
+/// The addresses that were dialled, the newest first. The value has no bytes: only contracts read it.
 #[derive(Drop)]
 pub struct Dialled {
     pub ghost addresses: { List (List ℕ) },
@@ -15,14 +15,14 @@ impl Model for Dialled {
 }
 
 impl Dialled {
-    /// None was dialled yet.
+    /// No addresses.
     pub fn new() -> Dialled
         ensures { result.addresses ≡ [] }
     {
         Dialled {}
     }
 
-    /// One more was dialled.
+    /// Adds an address.
     pub fn then(&self, _address: &[u8]) -> Dialled
         ensures { result.addresses ≡ _address.now ∷ self.now.addresses }
     {

@@ -15,7 +15,7 @@ use crate::link::dialled::Dialled;
 use crate::memory::{MemSink, MemSource};
 use crate::outside::{Failed, Sink, Source};
 
-/// What comes from a peer and what goes to it, in memory. No call takes memory.
+/// A link in memory. No call takes memory.
 #[derive(Drop)]
 pub struct MemLink {
     source: MemSource,
@@ -27,9 +27,9 @@ pub struct MemLink {
 }
 
 impl MemLink {
-    /// All of `incoming` is to come. Nothing was taken, and as many bytes can be taken as `room`
-    /// is long. No address was dialled. Each dial fails where `fail_dial` says so, and so do the reads and writes whose
-    /// numbers stand in `fail_reads` and `fail_writes`, each kind counted from 1.
+    /// A new link with all of `incoming` still to come. It can take as many bytes as `room` has. Every dial fails if
+    /// `fail_dial` says so. Reads and writes fail if their numbers are in `fail_reads` and `fail_writes`; each kind is
+    /// counted from 1.
     pub fn new(
         incoming: Vec<u8>,
         room: Vec<u8>,

@@ -1,4 +1,4 @@
-//! A link in memory with no call that is listed to fail.
+//! A link in memory without calls that are listed to fail.
 ghost use Rattle.std.specs.Prelude.{◌≡◌, ◌<◌, ◌↔◌, min, length, [], ◌∷◌, None, Some, true, IfOk, IsOk, IsErr, is_err};
 ghost use Rattle.std.specs.Io.{ReadsAtMost};
 ghost use Rattle.std.specs.Io.KnownBytes.{ReadConsumes, WriteAppends};
@@ -14,8 +14,8 @@ use crate::link::dialled::Dialled;
 use crate::outside::{Failed, Sink, Source};
 use crate::plain::{PlainSink, PlainSource};
 
-/// What comes from a peer and what goes to it, in memory. No dial and no read fails, and a write
-/// fails exactly where it finds nothing free. No call takes memory.
+/// A link in memory. No dial and no read fails, and a write fails exactly where there is no room for a byte of its
+/// piece. No call takes memory.
 #[derive(Drop)]
 pub struct PlainLink {
     source: PlainSource,
@@ -25,8 +25,7 @@ pub struct PlainLink {
 }
 
 impl PlainLink {
-    /// All of `incoming` is to come. Nothing was taken, and as many bytes can be taken as `room`
-    /// is long. No address was dialled.
+    /// A new link with all of `incoming` still to come. It can take as many bytes as `room` has.
     pub fn new(incoming: Vec<u8>, room: Vec<u8>) -> PlainLink
         ensures { ⟦<PlainLink as Link>⟧.seen result ≡ record {
           incoming = Some incoming.items;

@@ -1,7 +1,7 @@
 //! The trusted edge: a link over TCP.
 //!
-//! What the system gives and takes is told by no contract, so it tells no content, and not what
-//! was dialled.
+//! No contract says what the system sends and receives. So the link tells no content, and not which addresses were
+//! dialled.
 ghost use Rattle.std.specs.Prelude.{◌≡◌, ◌<◌, ◌≤◌, length, None, Some, false, true, IfOk, IsOk, IsErr, OnErr, is_err};
 ghost use Rattle.std.specs.Io.{ReadsAtMost};
 ghost use Rattle.std.specs.Io.KnownBytes.{ReadConsumes, WriteAppends};
@@ -16,15 +16,15 @@ use std::io::Read;
 use std::net::{Net, OpenStream, Shutdown, TcpStream};
 use std::time::Duration;
 
-// How many bytes of a piece are read at once when a link is closed, how many pieces, and how long each is waited for.
+// For closing a link: how many bytes one read asks for, how many reads there are, and how long each may wait.
 const PIECE: usize = 16_384;
 
 const PIECES: usize = 64;
 
 const PAUSE_MILLIS: u64 = 250;
 
-/// A peer over TCP. Each error that the system answers is counted, and so is a read or a write
-/// before a dial has reached the peer, and a write that takes nothing of a piece.
+/// A peer over TCP. Each error of the system is counted as a fault. So are a read or write before the peer was reached,
+/// and a write that takes no byte of its piece.
 #[derive(Drop)]
 pub struct TcpLink<'a, R: Net> {
     net: &'a R,
@@ -33,7 +33,7 @@ pub struct TcpLink<'a, R: Net> {
 }
 
 impl<'a, R: Net> TcpLink<'a, R> {
-    /// No call was made yet, and no peer is reached.
+    /// A link that is not connected.
     pub fn new(net: &'a R) -> TcpLink<'a, R>
         ensures { result.faults ≡ 0 }
     {
@@ -44,9 +44,10 @@ impl<'a, R: Net> TcpLink<'a, R> {
         }
     }
 
-    /// Closes the connection so that the peer gets all that was written. It ends the own side first, and then reads and
-    /// forgets what the peer still sends, up to a megabyte, until the peer closes or is silent for a quarter of a second.
-    /// A system that closes a connection with bytes unread resets it, and a peer that is reset loses what it has not read.
+    /// Closes the connection so that the peer gets all that was written. First it ends its own side. Then it reads and
+    /// drops what the peer still sends, up to a megabyte, until the peer closes or is silent for a quarter of a second.
+    /// A system that closes a connection with unread bytes resets it, and then the peer would lose what it has not
+    /// read.
     pub fn close(self) {
         let Some(mut stream) = self.stream else {
             return;
@@ -131,7 +132,7 @@ impl<'a, R: Net> Link for TcpLink<'a, R> {
     }
 }
 
-// What is written goes out at once, and waits for no answer to what went before.
+// Writes are sent at once (`TCP_NODELAY`), without waiting for earlier ones to be acknowledged.
 fn connect<R: Net>(net: &R, address: &str) -> io::Result<R::Stream> {
     let stream = TcpStream::connect(net, address)?;
     stream.set_nodelay(true)?;
@@ -173,7 +174,7 @@ mod tests {
         assert_eq!(rt; link.faults, 3);
         Ok(())
     }
-    // What the peer had sent and nobody read does not cost it the answers.
+    // The peer gets the answers even if it had sent bytes that nobody read.
     #[test]
     fn a_link_that_is_closed_loses_no_answer(rt: HostRuntime) -> Result<(), Fail> {
         let listener = TcpListener::bind(&rt, SocketAddr::from((Ipv4Addr::LOCALHOST, 0)))?;

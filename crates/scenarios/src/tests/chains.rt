@@ -1,4 +1,5 @@
-//! A chain of triggers through many reports: a closure that went over all rows in rounds would follow one link in each.
+//! A chain of triggers through many reports. A closure that went over all rows in rounds would follow one link in each
+//! round.
 ghost use Rattle.std.specs.Prelude.{◌≡◌, map, IfOk};
 ghost use Rattle.std.specs.Rc.{rc_value};
 ghost use Rattle.incomplete_closure.specs.Together.{OfOneEpoch};
@@ -9,13 +10,13 @@ use std::rc::Rc;
 use std::test::Fail;
 use topology::{Epoch, NodeId, PrefixId, Scope, Sent, SentItems, Session, Trigger, Triggers};
 
-// So many reports there are, of the nodes from 1 on.
+// How many reports there are, of the nodes from 1 on.
 const REPORTS: u16 = 64;
 
-// So many links of the chain stand in each.
+// How many links of the chain each report has.
 const LINKS: u32 = 256;
 
-// So many rows stand before them, of a trigger that nothing blocks.
+// How many rows come before them, with a trigger that nothing blocks.
 const ROWS_BEFORE: u32 = 1_536;
 
 fn trigger(node: u16, count: u32) -> Trigger {
@@ -25,7 +26,7 @@ fn trigger(node: u16, count: u32) -> Trigger {
     }
 }
 
-// The items of the row with which a link begins: the first link has one, which nobody received.
+// The items of the row with which a link begins. The first link has one, which nobody received.
 fn items(alloc: Global, link: u32) -> Result<SentItems, Fail> {
     if link != 1 {
         return Ok(SentItems::none());
@@ -47,7 +48,8 @@ fn row(trigger: Trigger, prefix: u16, sent: SentItems) -> Row {
     }
 }
 
-// A link leads from a trigger of node 1 to the next one: two rows of a prefix, one behind the other. No other link of the
+// A link leads from a trigger of node 1 to the next one, by two rows of one prefix. No other link of the report has
+// that prefix.
 // report is of that prefix.
 fn push_link(alloc: Global, rows: &mut Vec<Row>, link: u32) -> Result<(), Fail> {
     let prefix = (link.saturating_sub(1) % LINKS) as u16;
@@ -58,7 +60,7 @@ fn push_link(alloc: Global, rows: &mut Vec<Row>, link: u32) -> Result<(), Fail> 
     Ok(())
 }
 
-// The rows before the links, and so many links up to this one, the last first.
+// The rows before the links, and the links up to this one, the last first.
 fn rows(alloc: Global, last: u32) -> Result<Rows, Fail> {
     let mut rows = Vec::new(alloc);
     for _place in 0..ROWS_BEFORE {
@@ -103,7 +105,7 @@ fn all_nodes(alloc: Global) -> Result<Vec<NodeId>, Fail> {
     Ok(nodes)
 }
 
-// The triggers of node 1: 64 times 256 links join one more.
+// The triggers of node 1: 64 times 256 links connect one more trigger than that.
 fn whole_chain(alloc: Global) -> Result<Vec<Trigger>, Fail> {
     let mut triggers = Vec::new(alloc);
     for before in 0..16_385 {
@@ -119,7 +121,7 @@ fn a_long_chain(rt: HostRuntime) -> Result<(), Fail> {
     let value = uncounted_closure(alloc, &reports)?;
     let (nodes, triggers) = (all_nodes(alloc)?, whole_chain(alloc)?);
     assert_eq!(rt; value.responding.as_slice(), nodes.as_slice());
-    // a list of all triggers would be too long to be told
+    // a list of all triggers would be too long for a trigger list
     let incomplete = value.incomplete.as_slice();
     assert_eq!(rt; incomplete.len(), triggers.len());
     assert!(rt; incomplete == triggers.as_slice());

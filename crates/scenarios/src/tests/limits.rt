@@ -5,7 +5,7 @@ use std::process::Abort;
 use std::test::Fail;
 use topology::{LimitKind, Status};
 
-// Behind this front, these two lines in turn, so many in all, and then one line more.
+// A file of this front, `count` lines that alternate between these two, and one more line.
 fn busy(
     alloc: Global,
     front: &str,
@@ -22,7 +22,7 @@ fn busy(
     Ok(file)
 }
 
-// A run of so many of these lines ends so, and what was written before a limit stays written.
+// A run of so many of these lines ends like this, and what was written before a limit stays written.
 fn check_busy(
     rt: &impl Abort,
     alloc: Global,
@@ -40,7 +40,7 @@ fn check_busy(
     Ok(())
 }
 
-// Lines that make an entry each, in turn.
+// Two lines that alternate; each makes an entry.
 const TURNS: (&str, &str) = ("originate 1 10.0.0.0/8\n", "withdraw 1 10.0.0.0/8\n");
 
 const ALONE: &str = "node 1\nprefix 10.0.0.0/8\nbegin\nwithdraw 1 10.0.0.0/8\n";
@@ -85,7 +85,7 @@ fn sends_as_many_items_as_the_limit_says(rt: HostRuntime) -> Result<(), Fail> {
     let cases = [
         (1023, "", Status::Done),
         (1024, "", Status::Done),
-        // the close of one session is one item more
+        // the close of a session is one more item
         (
             1024,
             "fail 1 2\nnotice 1 2\n",
@@ -97,7 +97,7 @@ fn sends_as_many_items_as_the_limit_says(rt: HostRuntime) -> Result<(), Fail> {
     check_busy(&rt, alloc, front.as_str(), TURNS, &cases, "")
 }
 
-// Nodes that make so many triggers, each 2048 at most, behind a line that does nothing.
+// Nodes that make so many triggers, at most 2048 each, after a line that does nothing.
 fn many_triggers(alloc: Global, triggers: u32) -> Result<String, Fail> {
     let mut file = String::from_str(
         alloc,
@@ -134,7 +134,7 @@ fn gives_as_many_triggers_as_the_limit_says(rt: HostRuntime) -> Result<(), Fail>
 
 #[test]
 fn takes_as_many_events_as_the_limit_says(rt: HostRuntime) -> Result<(), Fail> {
-    // an idle event counts, and a probe is none
+    // an idle event counts as an event, a probe does not
     let front =
         "node 1\nnode 2\nlink 1 2 any\nprefix 10.0.0.0/8\nbegin\nprobe 1 10.0.0.0/8\nrestore 1 2\n";
     let lines = ("fail 1 2\n", "restore 1 2\n");
@@ -150,7 +150,8 @@ fn takes_as_many_events_as_the_limit_says(rt: HostRuntime) -> Result<(), Fail> {
     )
 }
 
-// One node that begins a ballot for each line: so many control messages behind the first, its report.
+// One node that starts a ballot for each line. Each ballot sends one control message; the first message is the node's
+// report.
 const BALLOTS: &str = "node 1 consolidator\nbegin\nsnap 1\nctl 1\n";
 
 #[test]
@@ -162,7 +163,7 @@ fn sends_as_many_control_messages_as_the_limit_says(rt: HostRuntime) -> Result<(
         (16_383, "", Status::Done),
         (16_384, "", Status::Limit(LimitKind::Control, 16_384)),
         (16_383, "crash 1\n", Status::Done),
-        // the answer to a ballot is one more
+        // the answer to a ballot is one more message
         (16_383, "ctl 2\n", Status::Limit(LimitKind::Control, 16_384)),
     ];
     check_busy(&rt, alloc, BALLOTS, propose, &cases, "")?;

@@ -1,9 +1,9 @@
-//! How packets go on that have left the stable tables, as a topology keeps it.
+//! The settings of a topology for packets off the stable tables.
 use std::process::Abort;
 use std::test::Fail;
 use topology::{BuildError, NodeId, Scheme, Topology};
 
-// Each number of moves can be set, and the last one counts.
+// Each number of moves can be set, and the last setting counts.
 fn check_hops(rt: &impl Abort, topology: &mut Topology) {
     assert_eq!(rt; topology.hops(), 128);
     for hops in [0, 1, 65_535] {
@@ -17,7 +17,7 @@ fn detour(number: u16) -> Scheme {
     Scheme::Detour(NodeId::new(number))
 }
 
-// Each scheme can be set, but no detour by a node that is unknown.
+// Each scheme can be set, except a detour by an unknown node.
 fn check_schemes(rt: &impl Abort, topology: &mut Topology) {
     assert_eq!(rt; topology.scheme(), Scheme::Deflect);
     let cases = [

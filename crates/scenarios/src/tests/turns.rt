@@ -1,4 +1,4 @@
-//! The text of a directive is written before the next one is taken.
+//! The text of a directive is written before the next directive runs.
 use route_io::{MemSink, MemSource};
 use route_replay::replay;
 use std::alloc::Global;
@@ -34,7 +34,7 @@ rib 2 10.0.0.0/8: none
 rib 3 10.0.0.0/8: 3 2 1
 ";
 
-// How the run ends where the write of this number fails, and what was written.
+// How the run ends if the write with this number fails, and what was written.
 fn cut_at(alloc: Global, failing: u64) -> Result<(Status, String), Fail> {
     let content = Vec::from_slice(alloc, FILE.as_bytes())?;
     let mut source = MemSource::new(content, Vec::new(alloc));

@@ -5,9 +5,9 @@ use std::process::Abort;
 use std::test::Fail;
 use topology::Status;
 
-// Three peers in a ring round one customer, which is the origin. Each prefers what the next peer tells
-// it to the customer's own path, and tells its peers only of the latter: so each that takes the next
-// peer's path takes its own away from the one before, and so on without end.
+// Three peers in a ring around one customer, which is the origin. Each peer prefers what the next peer tells it to the
+// customer's own path, but tells its peers only the customer's path. So a peer that takes the next peer's path takes
+// its own path away from the peer before it, and so on without end.
 const RING: &str = "\
 node 1
 node 2
@@ -32,7 +32,7 @@ fn count_lines(text: &str, words: &str) -> usize {
     text.lines().filter(|line| line.contains(words)).count()
 }
 
-// A drain makes as many deliveries as it may, each of which is an entry.
+// A drain makes as many deliveries as it may, and each makes an entry.
 fn check_drain(rt: &impl Abort, alloc: Global, times: usize) -> Result<(), Fail> {
     let mut file = String::from_str(alloc, RING)?;
     write!(file, "drain {times}\nshow log\n")?;

@@ -1,4 +1,4 @@
-//! Printed tables: their rows alone, and whole texts.
+//! Printed tables: the check of rows alone, and audits of whole texts.
 use super::ends::{sink_of, source_of};
 use std::alloc::Global;
 use std::process::Abort;
@@ -6,7 +6,7 @@ use std::test::Fail;
 use table_audit::{Verdict, audit, check_rows, read_rows};
 use topology::{AuditKind, Status};
 
-// Rows in the lines 3, 5 and 6.
+// Rows on the lines 3, 5 and 6.
 const CONTINUED: &str = "\
 7: idle empty channel
 table 3 1: unpublished
@@ -16,7 +16,7 @@ table 2 1 0.0.0.0/0: 2 1
 table 1 1 0.0.0.0/0: 1
 ";
 
-// The same, and rows in the lines 9 and 10.
+// The same, and rows on the lines 9 and 10.
 const BROKEN: &str = "\
 7: idle empty channel
 table 3 1: unpublished
@@ -30,7 +30,7 @@ table 1 1 0.0.0.0/0: 1 4
 table 5 1 0.0.0.0/0: 5 5
 ";
 
-// What is said of the rows of a text; None where they are not read.
+// The verdict on the rows of a text; `None` if they cannot be read.
 fn judged(rt: &impl Abort, alloc: Global, text: &str) -> Option<Verdict> {
     assert!(rt; text.len() < 1000);
     let rows = read_rows(alloc, text.as_bytes()).ok()?;
@@ -52,7 +52,7 @@ fn the_first_bad_row_is_named(rt: HostRuntime) {
     assert!(rt; judged(&rt, rt.alloc(), BROKEN) == Some(wanted));
 }
 
-// The audit of a text ends so, and writes this.
+// The audit of a text ends like this, and writes this.
 fn ends(
     rt: &impl Abort,
     alloc: Global,

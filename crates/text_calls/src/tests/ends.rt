@@ -1,4 +1,4 @@
-//! Both ends of a program over memory.
+//! A source and a sink over memory.
 use route_io::{PlainSink, PlainSource};
 use std::alloc::{AllocError, Global};
 

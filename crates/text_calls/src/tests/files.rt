@@ -1,4 +1,3 @@
-//! Files, lines and what they say, worked out from the rules of the format by hand. Many more stand in the crate
-//! `scenarios`.
+//! Files, lines and what they say, worked out by hand from the rules of the format. Many more are in the crate `cases`.
 mod refusals;
 mod schedules;

@@ -1,10 +1,10 @@
-//! Bytes worked by hand from the format, one row for each kind and each thing that can be wrong.
+//! Bytes worked out by hand from the format, one row for each kind and each fault.
 use std::alloc::Global;
 use std::test::Fail;
 use topology::NoMemory;
 use wire_frames::{Decoded, FrameKind, decode, encode, has_spelling, to_owned};
 
-// The bytes are one frame, and are written again as they were.
+// Whether the bytes are one frame, and are written again as they were.
 pub(super) fn comes_back(alloc: Global, bytes: &[u8]) -> Result<bool, NoMemory> {
     match decode(bytes) {
         Decoded::Frame(frame, length) => {
@@ -125,7 +125,7 @@ fn a_head_tells_first(rt: HostRuntime) {
         assert!(rt; waits(input));
     }
     assert!(rt; wrong(&[3]) == Some(FrameKind::Version));
-    // the kind is wrong already, though the length is still to come
+    // the kind is wrong already, although the length is still to come
     assert!(rt; wrong(&[1, 0]) == Some(FrameKind::Kind));
     assert!(rt; wrong(&[1, 22]) == Some(FrameKind::Kind));
     assert!(rt; wrong(&[1, 6, 0, 1, 0, 1]) == Some(FrameKind::Length));
@@ -134,7 +134,7 @@ fn a_head_tells_first(rt: HostRuntime) {
 
 #[test]
 fn the_first_fault_of_a_body_is_named(rt: HostRuntime) {
-    // left over, gone past, out of range
+    // bytes left over, a field past the end, a value out of range
     assert!(rt; wrong(&[1, 6, 0, 0, 0, 1, 9]) == Some(FrameKind::Length));
     assert!(rt; wrong(&[1, 1, 0, 0, 0, 1, 0]) == Some(FrameKind::Length));
     assert!(rt; wrong(&[1, 1, 0, 0, 0, 2, 1, 0]) == Some(FrameKind::Value));

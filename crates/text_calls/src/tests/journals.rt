@@ -7,13 +7,13 @@ use std::test::Fail;
 // The record: a frame of six bytes.
 const FRAME: [u8; 6] = [1, 6, 0, 0, 0, 0];
 
-// The file with this record alone.
+// The file with just this record.
 const ONE: [u8; 12] = [1, 0, 0, 0, 6, 1, 6, 0, 0, 0, 0, 0];
 
-// The calls of the disk that append a record to an empty file.
+// How many calls of the disk append a record to an empty file.
 const CALLS: u64 = 10;
 
-// Reads to the end of a file with at most two records, and answers how many there were with the journal behind them.
+// Reads to the end of a file with at most two records. Returns the journal, and how many records there were.
 fn finish_all<D: Disk>(mut reader: Reader, disk: &mut D) -> Result<(Journal, usize), JournalEnd> {
     for count in 0..3 {
         let None = reader.next(disk)? else {
@@ -24,7 +24,7 @@ fn finish_all<D: Disk>(mut reader: Reader, disk: &mut D) -> Result<(Journal, usi
     Err(JournalEnd::Full)
 }
 
-// Opens the file of a journal, appends the record, and answers how many there were.
+// Opens the file of a journal, appends the record, and returns how many records there were.
 fn append_once<D: Disk>(alloc: Global, disk: &mut D, name: &str) -> Result<usize, JournalEnd> {
     let reader = open_journal(alloc, disk, name)?;
     let (journal, count) = finish_all(reader, disk)?;
@@ -66,7 +66,7 @@ fn a_record_is_read_back(rt: HostRuntime) -> Result<(), Fail> {
     Ok(())
 }
 
-// Whether an append ends with a fault where this call of the disk is to fail, and how many records two further ones find.
+// Whether an append ends with a fault if this call of the disk fails, and how many records two further appends find.
 fn after_fault(alloc: Global, call: u64) -> Result<(bool, usize, usize), Fail> {
     let mut disk = MemDisk::new(alloc, Vec::new(alloc), vec![in alloc; call]?);
     let faulted = matches!(
@@ -78,7 +78,7 @@ fn after_fault(alloc: Global, call: u64) -> Result<(bool, usize, usize), Fail> {
     Ok((faulted, first, second))
 }
 
-// How many records an append finds where only a call behind its own is to fail.
+// How many records an append finds if only a later call fails.
 fn found_before(alloc: Global, call: u64) -> Result<usize, Fail> {
     let mut disk = MemDisk::new(alloc, Vec::new(alloc), vec![in alloc; call]?);
     Ok(append_once(alloc, &mut disk, "journal")?)
@@ -87,7 +87,7 @@ fn found_before(alloc: Global, call: u64) -> Result<usize, Fail> {
 #[test]
 fn each_call_of_the_disk_may_fail(rt: HostRuntime) -> Result<(), Fail> {
     for call in 1..=CALLS {
-        // Only the last sync comes behind the write of the gate.
+        // Only the last sync comes after the write of the gate.
         let there = usize::from(call == CALLS);
         let (faulted, first, second) = after_fault(rt.alloc(), call)?;
         assert!(rt; faulted, "call {call}");

@@ -47,7 +47,7 @@ fn a_leader_gets_a_value_chosen(rt: HostRuntime) {
     assert!(rt; world.chosen(Epoch::new(1)) == None);
 }
 
-/// Delivers each next message, up to so many.
+/// Delivers the next message, at most so many times.
 fn deliver_all(mut world: LeadWorld, times: u32) -> Result<LeadWorld, LeadStop>
     ensures { IfOk result (λ later. later.members ≡ world.members) }
 {
@@ -102,7 +102,7 @@ fn a_second_leader_goes_on_with_the_value_of_the_first(rt: HostRuntime) {
     assert!(rt; world.chosen(Epoch::new(3)) == Some(9));
 }
 
-// The run of a script ends so, and writes this.
+// The run of a script ends like this, and writes this.
 fn runs(
     rt: &impl Abort,
     alloc: Global,

@@ -1,4 +1,4 @@
-//! Lines, words and numbers that were cut by hand, and a caller that goes over a whole text.
+//! Lines, words and numbers cut by hand, and a caller that goes through a whole text.
 ghost use Rattle.std.specs.Prelude.{◌≡◌, ◌+◌, ◌-◌, ◌≤◌, ◌<◌, ◌^◌, length, map, slice_range, sum_by, IfOk};
 ghost use Rattle.text_lines.specs.Lines.{lines_of, left_of};
 ghost use Rattle.text_lines.specs.Words.{words_of};
@@ -44,7 +44,7 @@ const WORDS: [(&[u8], &[&[u8]]); 9] = [
     (b"\xff\x80 \xa0", &[b"\xff\x80", b"\xa0"]),
 ];
 
-// Words, the largest number that is wanted, and the number that they are.
+// Words, the largest number that is allowed, and the number that they spell.
 const NUMBERS: [(&[u8], u32, Option<u32>); 18] = [
     (b"0", u32::MAX, Some(0)),
     (b"00", u32::MAX, None),
@@ -111,7 +111,7 @@ fn tokens_of(alloc: Global, text: &[u8], line: Line) -> Result<Vec<Token>, Alloc
     Ok(tokens)
 }
 
-// The next line has this number and these bytes.
+// Checks that the next line has this number and these bytes.
 fn check_line(rt: &impl Abort, text: &[u8], line: Option<Line>, number: usize, left: &[u8]) {
     let line = line.expect(rt, "a line is missing");
     assert!(rt; line.number as usize == number, "{number} in {text:?}");
@@ -147,7 +147,7 @@ fn check_words(rt: &impl Abort, alloc: Global, text: &[u8], want: &[&[u8]]) -> R
     Ok(())
 }
 
-// The lines of a text with four words, as spans.
+// Checks the lines of a text with four words, as spans.
 fn check_spans(rt: &impl Abort, text: &[u8]) {
     assert!(rt; text.len() < 1000);
     assert!(rt; words_in_all(text) == 4);

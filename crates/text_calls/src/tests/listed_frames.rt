@@ -1,4 +1,4 @@
-//! Frames of version 2, worked by hand from the format.
+//! Frames of version 2, worked out by hand from the format.
 use super::frames::{comes_back, waits, wrong};
 use std::test::Fail;
 use wire_frames::FrameKind;
@@ -11,7 +11,7 @@ fn lists_come_back(rt: HostRuntime) -> Result<(), Fail> {
             2, 8, 0, 0, 0, 27, 0, 2, 0, 0, 0, 1, 0, 0, 0, 1, 0, 2, 0, 1, 0, 0, 0, 1, 0, 1, 0, 0, 0,
             2, 0, 0, 0,
         ],
-        // what is held back from node 2 is to be sent
+        // node 2 is flushed: it should be sent what is held back from it
         &[2, 22, 0, 0, 0, 2, 0, 2],
         // node 2: a row of 1.1 and 1.2, a row of 1.2 with an item, and a session with node 1
         &[
@@ -46,7 +46,7 @@ fn each_version_has_kinds_of_its_own(rt: HostRuntime) {
 #[test]
 fn a_list_has_one_spelling(rt: HostRuntime) {
     let rows: [(&[u8], FrameKind); 8] = [
-        // an update for one trigger, and a report without rows, which version 1 spells
+        // an update for one trigger, and a report without rows; both have a spelling in version 1
         (
             &[
                 2, 8, 0, 0, 0, 21, 0, 2, 0, 0, 0, 1, 0, 0, 0, 1, 0, 1, 0, 1, 0, 0, 0, 1, 0, 0, 0,
@@ -57,7 +57,7 @@ fn a_list_has_one_spelling(rt: HostRuntime) {
             &[2, 11, 0, 0, 0, 14, 0, 1, 0, 1, 0, 0, 0, 1, 0, 0, 0, 0, 0, 0],
             FrameKind::Value,
         ),
-        // triggers that descend, and a trigger twice
+        // triggers that descend, and a trigger that occurs twice
         (
             &[
                 2, 8, 0, 0, 0, 27, 0, 2, 0, 0, 0, 1, 0, 0, 0, 1, 0, 2, 0, 1, 0, 0, 0, 2, 0, 1, 0,
@@ -72,7 +72,7 @@ fn a_list_has_one_spelling(rt: HostRuntime) {
             ],
             FrameKind::Order,
         ),
-        // a row of a prefix that lists nothing, and a row of nothing that lists a trigger
+        // a row of a prefix that lists no trigger, and a row of nothing that lists one
         (
             &[
                 2, 11, 0, 0, 0, 20, 0, 1, 0, 1, 0, 0, 0, 1, 0, 1, 0, 0, 0, 0, 0, 0, 0, 0, 0, 0,
@@ -86,7 +86,7 @@ fn a_list_has_one_spelling(rt: HostRuntime) {
             ],
             FrameKind::Value,
         ),
-        // an item that lists nothing
+        // an item that lists no trigger
         (
             &[
                 2, 11, 0, 0, 0, 38, 0, 1, 0, 1, 0, 0, 0, 1, 0, 1, 0, 1, 0, 1, 0, 0, 0, 1, 0, 0, 0,

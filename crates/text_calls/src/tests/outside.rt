@@ -1,5 +1,5 @@
-//! Sources, sinks and links over memory, and what is received over one. What counts faults, over `std`, is tested in
-//! `route_io` itself.
+//! Sources, sinks and links over memory, and what is received over a link. The counts of faults over `std` are tested
+//! in `route_io` itself.
 ghost use Rattle.std.specs.Prelude.{◌≡◌, ◌<◌, ◌≤◌, length, None, IfOk, IsErrOf, OnErr};
 ghost use Rattle.std.specs.Io.{ReadsAtMost};
 ghost use Rattle.std.specs.Io.KnownBytes.{ReadConsumes, WriteAppends};
@@ -14,7 +14,7 @@ use std::alloc::{AllocError, Global};
 use std::process::Abort;
 use std::test::Fail;
 
-// Over a plain link a write fails only where the bytes are more than the room.
+// Over a plain link a write fails only if the bytes exceed the room.
 fn write_over_link(link: &mut PlainLink, piece: &[u8]) -> Result<(), Failed>
     ensures { OnErr result
         (ExceedsRoom (as_sink (⟦<PlainLink as Link>⟧.seen link.old)) piece.now) }
@@ -22,7 +22,7 @@ fn write_over_link(link: &mut PlainLink, piece: &[u8]) -> Result<(), Failed>
     link.write_all(piece)
 }
 
-// All that comes over the link is `hello`.
+// The link brings `hello`, and nothing else.
 fn reads(rt: &impl Abort, link: &mut PlainLink) {
     let mut buf = [0u8; 4];
     assert!(rt; link.read(&mut buf) == Ok(4));
@@ -43,7 +43,7 @@ fn plain_link_ends(rt: HostRuntime) -> Result<(), Fail> {
     Ok(())
 }
 
-// A link whose read or write of this number is to fail.
+// A link whose read or write with this number fails.
 fn failing(alloc: Global, dial: bool, read: u64, write: u64) -> Result<MemLink, AllocError> {
     Ok(MemLink::new(
         b"hello".to_vec(alloc)?,
@@ -54,7 +54,7 @@ fn failing(alloc: Global, dial: bool, read: u64, write: u64) -> Result<MemLink, 
     ))
 }
 
-// Whether a dial and two writes fail, one behind the other.
+// Whether a dial and two writes fail, one after another.
 fn begun(link: &mut MemLink) -> [bool; 3] {
     [
         link.dial("peer").is_err(),
@@ -63,7 +63,7 @@ fn begun(link: &mut MemLink) -> [bool; 3] {
     ]
 }
 
-// Whether a further write and two reads do.
+// Whether one more write and two reads fail.
 fn ended(link: &mut MemLink) -> [bool; 3] {
     let mut buf = [0u8; 4];
     [
@@ -73,7 +73,7 @@ fn ended(link: &mut MemLink) -> [bool; 3] {
     ]
 }
 
-// A dial that fails or not, and the numbers of a read and a write that do: what two writes take.
+// A dial that fails or not, and the numbers of a read and a write that fail; checks what two writes take.
 fn check_failing(
     rt: &impl Abort,
     alloc: Global,
@@ -100,7 +100,7 @@ fn each_call_fails_in_turn(rt: HostRuntime) -> Result<(), Fail> {
     check_failing(&rt, rt.alloc(), false, 0, 3, b"abcde")
 }
 
-// Takes two bytes at most by one write.
+// Takes at most two bytes by one write.
 #[derive(Drop)]
 struct Narrow {
     link: MemLink,
@@ -122,7 +122,7 @@ impl Link for Narrow {
     }
 }
 
-// The write of this number fails, and is the first to fail: what was taken by then.
+// The write with this number is the first to fail; checks what was taken by then.
 fn check_narrow(rt: &impl Abort, alloc: Global, write: u64, outgoing: &[u8]) -> Result<(), Fail> {
     let mut link = Narrow {
         link: failing(alloc, false, 0, write)?,
@@ -151,13 +151,13 @@ fn fill(received: &mut Received, link: &mut MemLink) -> u8 {
     }
 }
 
-// A link from which this comes, and whose read of this number fails.
+// A link that brings this, and whose read with this number fails.
 fn coming(alloc: Global, incoming: Vec<u8>, read: u64) -> Result<MemLink, AllocError> {
     let reads = vec![in alloc; read]?;
     Ok(MemLink::new(incoming, Vec::new(alloc), false, reads, Vec::new(alloc)))
 }
 
-// Two reads bring 20,000 bytes. The read of this number fails, and the next one goes on.
+// Two reads bring 20,000 bytes. The read with this number fails, and the next one goes on.
 fn check_fills(rt: &impl Abort, alloc: Global, read: u64, answers: [u8; 3]) -> Result<(), Fail> {
     let incoming = vec![in alloc; 7; 20000]?;
     let mut link = coming(alloc, incoming, read)?;
@@ -201,14 +201,14 @@ fn read_plain(alloc: Global, source: &mut PlainSource, max: usize) -> Result<Vec
     read_all(alloc, source, max)
 }
 
-// Over a plain sink a write fails only where the bytes are more than the room.
+// Over a plain sink a write fails only if the bytes exceed the room.
 fn write_plain(sink: &mut PlainSink, piece: &[u8]) -> Result<(), Failed>
     ensures { OnErr result (ExceedsRoom (⟦<PlainSink as Sink>⟧.seen sink.old) piece.now) }
 {
     write_all(sink, piece)
 }
 
-// A source of six bytes of which at most so many are wanted.
+// A source of six bytes, from which at most so many are wanted.
 fn check_read(rt: &impl Abort, alloc: Global, max: usize) -> Result<(), Fail> {
     let mut source = PlainSource::new(b"routes".to_vec(alloc)?);
     match read_plain(alloc, &mut source, max) {

@@ -5,7 +5,7 @@ use Rattle.epoch_packet.specs.declared.stable.StableStep.TheVariants.{Next, Turn
 use Rattle.epoch_packet.specs.StableHops.{along}
 use Rattle.epoch_packet.proofs.stable.along.Goals as goal
 
--- along a path with a second node, by whether its link is up
+-- along a path with a second node, the cases of its link
 to_second : (up path : List ℕ) (w : ℕ) → 2 ≤ length path → w ≡ get_or path 1 w → along up path ≡ (if has up w then Next w else Turn)
 to_second up [] w long is = absurd (omega arith)
 to_second up (u ∷ []) w long is = absurd (omega arith)

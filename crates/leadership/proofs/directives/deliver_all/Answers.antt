@@ -50,7 +50,7 @@ returns-in_err-next-clause-stopped c =
     (control_more members c.loop.world.events c.args.times c.loop.counter c.loop-test.true ∙ was.leads)
     (control_stops members c.loop.world.events n number c.in_err-next.field-0.0 found stopped)))
 
--- one message more
+-- one more message
 pub loop-preserved : goal.loop-preserved
 loop-preserved c =
     let was = c.loop.invariant in

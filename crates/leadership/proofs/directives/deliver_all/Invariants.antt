@@ -2,7 +2,7 @@ use Rattle.std.proofs.Common.{◌≡◌, ◌-◌}
 use Rattle.leadership.specs.Text.{controlled}
 use Rattle.leadership.proofs.directives.deliver_all.Given as goal
 
--- what is left leads where the whole does
+-- the rest leads where the whole does
 abbrev pub invariant-loop : goal.invariant-loop
 invariant-loop l = record {
   same_members : l.world.members ≡ l.fn.world.members;

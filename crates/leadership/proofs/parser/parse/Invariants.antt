@@ -8,7 +8,7 @@ use Rattle.leadership.specs.Parsing.{AllKnown, before_of}
 use Rattle.leadership.specs.Scripts.{declared, directives_from, directives_of, first_bad, first_bad_from, nothing}
 use Rattle.leadership.proofs.parser.parse.Given as goal
 
--- what is left reads from here as the whole does from the start
+-- reading the rest from here gives what reading the whole text from the start gives
 abbrev pub invariant-loop-line : goal.invariant-loop-line
 invariant-loop-line l =
     let left = map (λ line. words_of (left_of line)) (lines_left l.lines) in

@@ -20,7 +20,7 @@ loop-numbered-init g c = record {
   quiet = refl;
 }
 
--- the directive at hand names members alone
+-- the present directive names only members
 pub advance-requires : goal.advance-requires
 advance-requires g c =
     let was = c.loop-numbered.invariant in

@@ -4,7 +4,7 @@ use Rattle.route_io.specs.Causes.{StaysTold}
 use Rattle.leadership.specs.Text.{text, stop}
 use Rattle.leadership.proofs.runner.run_lines.Given as goal
 
--- what was written, and the text of what is left, are the text of all; what stops that stops all
+-- what was written and the text of the rest are the whole text; what stops the rest stops everything
 abbrev pub invariant-loop-numbered : goal.invariant-loop-numbered
 invariant-loop-numbered g l =
     let members = l.fn.world.members in

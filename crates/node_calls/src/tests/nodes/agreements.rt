@@ -1,4 +1,4 @@
-//! The only consolidator of a network, which hears what it sends itself.
+//! The only consolidator of a network, which hears the messages that it sends to itself.
 use super::super::networks::APART;
 use super::desk::Desk;
 use consolidator::Message;
@@ -12,8 +12,8 @@ use topology::limits::MOST_TRIGGERS;
 use topology::{Ballot, Epoch, LimitKind, NodeId, Trigger, Triggers};
 
 // What is done at node 1, and what it hands out, or why it does nothing. Each message that it sends gets the next
-// number, from 1, and is heard by its number. Decisions of others come from node 2, of a value that only node 1
-// responded to. By hand: the agreement on epoch 1, with its table; a cut that comes after its decision; an older
+// number, from 1, and later arrives by that number. Decisions of others come from node 2, with a value to which only
+// node 1 responded. By hand: the agreement on epoch 1, with its table; a cut that comes after its decision; an older
 // epoch, which is decided after a newer one was published.
 const ALONE: &str = "\
 originate 0 | logged 1
@@ -55,8 +55,8 @@ hear 11 | idle Promised(Ballot { round: 1, node: NodeId(1) })
 hear 13 | 14 to 1: promise 4 2/1 -
 ";
 
-// What is asked of a message, and whether node 1 admits it: its sender, its kind, its epoch, a ballot or the node of a
-// report, and the nodes of a value. Node 1 is the only consolidator, node 2 the other node.
+// A message, and whether node 1 admits it: its sender, its kind, its epoch, a ballot or the node of a report, and the
+// nodes of a value. Node 1 is the only consolidator, node 2 is the other node.
 const FITTING: &str = "\
 control 1 prepare 1 1/1 -: yes
 control 2 prepare 1 1/1 -: no
@@ -87,7 +87,7 @@ hear 1 |
 propose 1 | 2 to 1: prepare 1 1/1
 ";
 
-// What it keeps at the end: of epoch 1, 2 and 3 the decision, and the tables of 1 and 3.
+// What it keeps at the end: the decisions of epochs 1, 2 and 3, and the tables of 1 and 3.
 fn views(rt: &impl Abort, node: &Node<ShortestAll>) {
     for (epoch, decided, table) in [
         (1, true, true),
@@ -125,7 +125,7 @@ fn first_ballot() -> Ballot {
     }
 }
 
-// A promise of the first ballot on epoch 1, which names a value with so many incomplete triggers.
+// A promise of the first ballot on epoch 1, which names a value with this many incomplete triggers.
 fn promise_of(alloc: Global, count: u32) -> Result<Input, Fail> {
     let incomplete = triggers_of(alloc, count)?;
     let value = Value {

@@ -1,4 +1,4 @@
-//! A node to which lines come.
+//! A node that gets its inputs as lines.
 use super::super::networks::network_of;
 use super::super::words::{nodes, word, words_of};
 use super::inputs::input_of;
@@ -13,10 +13,10 @@ use std::process::Abort;
 use std::test::Fail;
 use topology::NodeId;
 
-/// A node, the messages that it sent, and the packet that it handed out last.
+/// A node, the messages that it sent, and the packet that it last handed out.
 #[derive(Drop)]
 pub struct Desk {
-    // None behind a stop.
+    // `None` after a stop.
     node: Option<Node<ShortestAll>>,
     messages: Vec<Message>,
     packet: Option<Box<Packet>>,
@@ -45,7 +45,7 @@ impl Desk {
         Ok(outputs)
     }
 
-    /// The node takes an input, or stops for this reason.
+    /// Gives the node an input. It takes it, or stops for this reason.
     pub fn stops(&mut self, rt: &impl Abort, input: Input, stop: Option<Stop>) -> Result<(), Fail> {
         let node = self.node.take().ok_or("a node")?;
         match node.handle(input) {
@@ -55,7 +55,8 @@ impl Desk {
         Ok(())
     }
 
-    // A message of the node's own comes back by its number, and so does the packet; all else stands in the line.
+    // The input of a line. A message of the node's own comes back by its number, and so does the packet; everything
+    // else is in the line.
     fn input(&mut self, alloc: Global, text: &str) -> Result<Input, Fail> {
         let words = words_of(alloc, text)?;
         match word(&words, 0)? {
@@ -65,14 +66,14 @@ impl Desk {
         }
     }
 
-    // The packet, where the links to these nodes are up.
+    // The packet, with the links to these nodes up.
     fn gone_on(&mut self, alloc: Global, words: &[&str]) -> Result<Input, Fail> {
         let up = nodes(alloc, words, 1)?;
         let packet = self.packet.take().ok_or("a packet")?;
         Ok(Input::Hop { packet, up })
     }
 
-    // A message gets the next number, from 1, and is kept.
+    // Gives a message the next number, from 1, and keeps it.
     fn posted(&mut self, alloc: Global, mail: Mail) -> Result<String, Fail> {
         let to = mail.to.number();
         let text = message_text(alloc, &mail.message)?;
@@ -80,7 +81,7 @@ impl Desk {
         Ok(format!(in alloc; "{} to {to}: {text}", self.messages.len())?)
     }
 
-    // A packet is kept.
+    // Keeps a packet.
     fn forwarded(
         &mut self,
         alloc: Global,
@@ -104,7 +105,7 @@ impl Desk {
         }
     }
 
-    // What the node handed out, one behind the other.
+    // What the node handed out, one after another.
     fn list_text(&mut self, alloc: Global, list: Vec<Output>) -> Result<String, Fail> {
         let mut text = String::new(alloc);
         for output in list {
@@ -124,7 +125,7 @@ impl Desk {
         }
     }
 
-    // What comes of these words, which the node admits.
+    // The result of these words, which the node admits.
     fn answer(&mut self, rt: &impl Abort, alloc: Global, text: &str) -> Result<String, Fail> {
         let input = self.input(alloc, text)?;
         assert!(rt; self.node()?.fits(&input), "{text}");
@@ -132,14 +133,14 @@ impl Desk {
         self.outputs_text(alloc, outputs)
     }
 
-    /// A crash: what the node holds as a consolidator is lost.
+    /// A crash: the node loses what it holds as a consolidator.
     pub fn forget(&mut self) {
         if let Some(node) = self.node.take() {
             self.node = Some(node.forget());
         }
     }
 
-    /// Each line has what comes, and what the node hands out for it, or why it does nothing.
+    /// Each line has an input, and what the node hands out for it, or why it does nothing.
     pub fn run(&mut self, rt: &impl Abort, alloc: Global, lines: &str) -> Result<(), Fail> {
         for line in lines.lines() {
             let (comes, expected) = line.split_once('|').ok_or("what comes")?;
@@ -149,7 +150,7 @@ impl Desk {
         Ok(())
     }
 
-    /// Each line has what may come, and whether the node admits it.
+    /// Each line has an input, and whether the node admits it.
     pub fn admits(&mut self, rt: &impl Abort, alloc: Global, lines: &str) -> Result<(), Fail> {
         for line in lines.lines() {
             let (text, answer) = line.split_once(": ").ok_or("an answer")?;

@@ -1,4 +1,4 @@
-//! What comes to a node, by its words.
+//! The inputs of a node, from their words.
 use super::super::words::{epoch, node, nodes, number, prefix, session, word};
 use super::messages::control;
 use epoch_packet::{Mode, NodeList, Packet};
@@ -54,14 +54,14 @@ fn packet_of(alloc: Global, words: &[&str]) -> Result<Packet, Fail> {
     })
 }
 
-// Such a packet, and the nodes to which links are up.
+// Such a packet, and the nodes whose links are up.
 fn hop(alloc: Global, words: &[&str]) -> Result<Input, Fail> {
     let up = nodes(alloc, words, 5)?;
     let packet = Box::new(alloc, packet_of(alloc, words)?)?;
     Ok(Input::Hop { packet, up })
 }
 
-// What comes from the layer that knows the links, or from a user who names a neighbour.
+// An input from the layer that knows the links, or from a user who names a neighbour.
 fn beside(words: &[&str]) -> Result<Input, Fail> {
     let nbr = node(words, 1)?;
     Ok(match word(words, 0)? {
@@ -78,7 +78,7 @@ fn beside(words: &[&str]) -> Result<Input, Fail> {
     })
 }
 
-// What a user asks for.
+// An input from a user.
 fn asked(words: &[&str]) -> Result<Input, Fail> {
     Ok(match word(words, 0)? {
         "originate" => Input::Originate(prefix(words, 1)?),
@@ -92,7 +92,7 @@ fn asked(words: &[&str]) -> Result<Input, Fail> {
     })
 }
 
-/// What these words say.
+/// The input that these words give.
 pub fn input_of(alloc: Global, words: &[&str]) -> Result<Input, Fail> {
     match word(words, 0)? {
         "update" | "marker" | "hello" => arrival(alloc, words),

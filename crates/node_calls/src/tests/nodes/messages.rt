@@ -1,4 +1,4 @@
-//! Messages of the control network, by their words.
+//! Messages of the control network, from their words.
 use super::super::words::{ballot, epoch, node, nodes, number, word};
 use consolidator::Message;
 use incomplete_closure::{PendingRows, Report, RespondingNodes, Rows, SessionRows, Value};
@@ -16,7 +16,7 @@ fn value_of(alloc: Global, nodes: Vec<NodeId>) -> Value {
     }
 }
 
-// A report of nothing.
+// An empty report.
 fn report_of(alloc: Global, epoch: Epoch, node: NodeId) -> Result<Message, Fail> {
     let report = Report {
         node,
@@ -28,7 +28,7 @@ fn report_of(alloc: Global, epoch: Epoch, node: NodeId) -> Result<Message, Fail>
     Ok(Message::Report(Rc::new(alloc, report)?))
 }
 
-// A promise that names the value of these nodes, or nothing where there are none.
+// A promise that names the value of these nodes, or nothing if there are none.
 fn promise_of(alloc: Global, epoch: Epoch, ballot: Ballot, nodes: Vec<NodeId>) -> Message {
     if nodes.is_empty() {
         return Message::Promise {
@@ -88,7 +88,7 @@ pub fn control(alloc: Global, words: &[&str]) -> Result<Input, Fail> {
     Ok(Input::Control { from, message })
 }
 
-/// The message of this number, from node 1.
+/// The message with this number, from node 1.
 pub fn heard(messages: &[Message], words: &[&str]) -> Result<Input, Fail> {
     let place = (number(words, 1)? as usize).saturating_sub(1);
     let message = messages.get(place).ok_or("a message")?.copy()?;

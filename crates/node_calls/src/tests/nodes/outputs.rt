@@ -1,4 +1,4 @@
-//! What a node hands out, as text.
+//! The outputs of a node as text.
 use consolidator::Message;
 use epoch_packet::{Mode, Packet};
 use incomplete_closure::Value;
@@ -8,7 +8,7 @@ use std::test::Fail;
 use topology::{Ballot, Item, NodeId, PrefixId};
 use trigger_log::Outgoing;
 
-/// An item: for which neighbour, in which session, and its number or its epoch.
+/// An item: its neighbour, its session, and its number or its epoch.
 pub fn item_text(alloc: Global, out: &Outgoing) -> Result<String, Fail> {
     let to = out.to.number();
     let session = out.session.number();
@@ -60,14 +60,14 @@ pub fn message_text(alloc: Global, message: &Message) -> Result<String, Fail> {
     })
 }
 
-/// A table: its epoch, and how long its path of the first prefix is.
+/// A table: its epoch, and the length of its path for the first prefix.
 pub fn table_text(alloc: Global, table: &Table) -> Result<String, Fail> {
     let path = table.path(PrefixId::new(0));
     let length = path.map_or(0, |path| path.len());
     Ok(format!(in alloc; "published {} with {length}", table.epoch().number())?)
 }
 
-/// A packet: the next node, its stamp, whether it is on the tables, and the moves that it has left off them.
+/// A packet: the next node, its stamp, whether it is on the tables, and how many moves it has left off them.
 pub fn packet_text(alloc: Global, next: NodeId, packet: &Packet) -> Result<String, Fail> {
     let mode = match packet.mode {
         Mode::Stable => "on",

@@ -3,11 +3,11 @@ use super::super::networks::LINE;
 use super::desk::Desk;
 use std::test::Fail;
 
-// What is done at node 2, between the nodes 1 and 3, and what comes of it. The packet that it hands out last is the
-// one that goes on, where the links to the nodes of these digits are up. By hand: nothing is published, so that the
-// packet is off the tables at once, and it is at the origin; on a table the path of node 2 alone is the end; without a
-// path the packet leaves the tables, where it stands, and is deflected to the first neighbour whose link is up, or
-// stuck; epoch 1 is gone once three were published, and a packet that is stamped with it leaves the tables.
+// What is done at node 2, between the nodes 1 and 3, and the result. The packet that it last handed out goes on, with
+// the links to the nodes of these digits up. By hand: if nothing is published, a packet is off the tables at once, and
+// it is at the origin; on a table, a path of just node 2 is the end; without a path the packet leaves the tables where
+// it stands, and is deflected to the first neighbour whose link is up, or is stuck; epoch 1 is gone once three were
+// published, and a packet stamped with it leaves the tables.
 const PASSED: &str = "\
 originate 1 | logged 1; update 1 1 1; update 3 1 1
 inject 1 1 | forward 1 to 2 with 0 off 128

@@ -8,9 +8,9 @@ use std::process::Abort;
 use std::test::Fail;
 use topology::{Epoch, LimitKind, NodeId, Session};
 
-// What is done at node 2, between the nodes 1 and 3. By hand: updates out of their turn, and of a session that is not
-// held, are idle; no consolidator proposes, but each node hears decisions, and publishes its table of an epoch of which
-// it has a cut, with no path through nodes that did not respond.
+// What is done at node 2, between the nodes 1 and 3. By hand: updates that are out of turn, or of a session that is not
+// held, are idle; a node that is no consolidator does not propose, but each node hears decisions, and publishes its
+// table of an epoch of which it has a cut, without paths through nodes that did not respond.
 const STARTED: &str = "\
 originate 1 | logged 1; update 1 1 1; update 3 1 1
 originate 1 | idle AlreadyOrigin
@@ -27,8 +27,8 @@ control 3 decision 1 1/1 2 | published 1 with 0
 control 3 decision 1 1/1 2 | idle Decided
 ";
 
-// The path of the higher neighbour is no better; the session with node 1 ends, so that the other path is told; both
-// open the next one, and a marker goes out in each session that is held, ready or not.
+// The path of the higher neighbour is no better. The session with node 1 ends, so the other path is told. Both open the
+// next session, and a marker goes out in each held session, ready or not.
 const BROKEN: &str = "\
 update 3 1 1 3 | logged 3
 notice 1 | logged 4; update 3 1 3
@@ -40,9 +40,9 @@ open 1 2 | logged 5; hello 1 2 1
 snap | cut 2; marker 1 2 2; marker 3 1 2
 ";
 
-// A greeting of a higher epoch raises before it makes ready, and both prefixes are told. Epoch 3 was skipped: there is
-// no cut of it, and never a table. A mark that is not higher and a second greeting hand out nothing. The last update
-// leaves no path.
+// A greeting of a higher epoch raises the epoch before it makes the session ready, and both prefixes are told. Epoch 3
+// was skipped: it has no cut, and never a table. A mark that is not higher, and a second greeting, hand out nothing.
+// The last update leaves no path.
 const READY: &str = "\
 hello 1 2 4 | cut 4; marker 1 2 4; marker 3 1 4; logged 6; update 1 2 1; update 1 2 2
 control 3 decision 4 1/1 2 | published 4 with 0
@@ -55,8 +55,8 @@ marker 3 1 32 | cut 32; marker 1 2 32; marker 3 1 32
 marker 1 2 32 |
 ";
 
-// Node 2 holds back from node 1. What changes goes to node 3 at once, and to node 1 by a flush, which comes to it as one
-// update of each prefix; a session that ends holds nothing back any more.
+// Node 2 holds back from node 1. Changes go to node 3 at once, and to node 1 at a flush, as one update for each prefix.
+// A session that ends holds nothing back any more.
 const HOLDING: &str = "\
 flush 1 | idle NothingPending
 originate 1 | logged 1; update 3 1 1
@@ -126,7 +126,7 @@ fn cuts(rt: &impl Abort, node: &Node<ShortestAll>) {
     }
 }
 
-// What the cut of epoch 1 recorded of node 3, and of node 1.
+// What was recorded of node 3 and of node 1 after the cut of epoch 1.
 fn recordings(rt: &impl Abort, node: &Node<ShortestAll>) {
     let snapshots = node.snapshots();
     let one = Recording {
@@ -160,7 +160,7 @@ fn one_node_between_two(rt: HostRuntime) -> Result<(), Fail> {
     }
     cuts(&rt, desk.node()?);
     recordings(&rt, desk.node()?);
-    // One epoch more than there may be.
+    // one more epoch than allowed
     let stop = Stop::Limit(LimitKind::Epochs, 32);
     desk.stops(&rt, Input::Snap, Some(stop))
 }

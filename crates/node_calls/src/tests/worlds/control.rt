@@ -1,4 +1,4 @@
-//! Two nodes, of which the first is the only consolidator.
+//! Two nodes, the first of which is the only consolidator.
 use super::super::networks::PAIR_CONSOLIDATED;
 use super::play::Play;
 use path_vector::GaoRexford;
@@ -7,8 +7,8 @@ use std::test::Fail;
 use topology::{Epoch, PrefixId};
 use world_core::World;
 
-// Node 1 begins a snapshot, and node 2 hears of it: both report. Only node 1 proposes, and nothing before it has a
-// report. Both reports come, the first of them twice. Node 1 agrees with itself on what both reported.
+// Node 1 starts a snapshot, and node 2 hears of it: both report. Only node 1 may propose, and not before it has a
+// report. Both reports arrive, the first one twice. Node 1 agrees with itself on what both reported.
 const AGREED: &str = "\
 snap 1 | 1 cut 1; 1>2; mailed 1 | 1>2 1
 propose 2 1 | idle NotConsolidator | 1>2 1
@@ -35,7 +35,7 @@ ctl 8 | 2 published 1 | 2>1 -
 propose 1 1 | idle Decided | 2>1 -
 ";
 
-// How often each message was delivered at the end, by its number; None where there is none.
+// How often each message was delivered at the end, by number; `None` if there is no such message.
 const DELIVERED: [(u32, Option<u32>); 6] = [
     (0, None),
     (1, Some(2)),
@@ -45,7 +45,7 @@ const DELIVERED: [(u32, Option<u32>); 6] = [
     (9, None),
 ];
 
-// Which events fit: those of nodes of the network, of epochs from 1 to 32, and of messages from 1, sent or not.
+// Which events fit: those with nodes of the network, epochs from 1 to 32, and messages from 1 on, sent or not.
 const FITTING: &str = "\
 ctl 0: no
 propose 3 1: no
@@ -57,7 +57,7 @@ ctl 1000001: no
 propose 1 32: yes
 ";
 
-// How often the message was delivered; None where there is none.
+// How often the message was delivered; `None` if there is no such message.
 fn deliveries_of(world: &World<GaoRexford>, number: u32) -> Option<u32> {
     let Some(mail) = world.mail(number) else {
         return None;

@@ -1,4 +1,4 @@
-//! Events by their words, and what they come to as text.
+//! Events from their words, and their results as text.
 use super::super::words::{epoch, node, number, word, words_of};
 use std::alloc::Global;
 use std::test::Fail;
@@ -59,7 +59,7 @@ fn proposal(words: &[&str]) -> Result<Event, Fail> {
     })
 }
 
-/// What this says, of the first prefix.
+/// The event that the text gives, with the first prefix.
 pub fn event_of(alloc: Global, text: &str) -> Result<Event, Fail> {
     let words = words_of(alloc, text)?;
     match word(&words, 0)? {
@@ -108,7 +108,7 @@ pub fn outcome_text(alloc: Global, outcome: &Outcome) -> Result<String, Fail> {
     }
 }
 
-/// A way, as in `1>2`, or `-` where there is none.
+/// A way, as in `1>2`, or `-` for none.
 pub fn way_text(alloc: Global, way: Option<(NodeId, NodeId)>) -> Result<String, Fail> {
     Ok(match way {
         None => format!(in alloc; "-")?,
@@ -116,7 +116,7 @@ pub fn way_text(alloc: Global, way: Option<(NodeId, NodeId)>) -> Result<String, 
     })
 }
 
-/// A number, or `-` where there is none.
+/// A number, or `-` for none.
 pub fn number_text(alloc: Global, number: Option<u32>) -> Result<String, Fail> {
     Ok(match number {
         None => format!(in alloc; "-")?,

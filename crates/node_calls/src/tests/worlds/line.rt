@@ -21,7 +21,7 @@ fail 3 1: no
 snap 4: no
 ";
 
-// What is sent over a link that is down is lost; so is what was on its way when it failed.
+// What is sent over a link that is down is lost, and so is what was on its way when the link failed.
 const LOST: &str = "\
 originate 1 | 1 logged 1; 1>2 | 1>2 -
 fail 3 2 | | 1>2 -
@@ -47,7 +47,7 @@ fn what_is_lost(rt: HostRuntime) -> Result<(), Fail> {
     play.run(&rt, rt.alloc(), LOST)
 }
 
-// Where nothing waits no event is added; else the next delivery is.
+// If nothing waits, no event is added; otherwise the next delivery is.
 #[test]
 fn the_next_delivery(rt: HostRuntime) -> Result<(), Fail> {
     let mut play = Play::new(&rt, rt.alloc(), LINE, GaoRexford)?;

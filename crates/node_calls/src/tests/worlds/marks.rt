@@ -15,8 +15,8 @@ deliver 2 3 | 3 logged 1; 3>2 | 3>2 -
 deliver 3 2 | 2 logged 2 | - -
 ";
 
-// Node 2 begins a snapshot, and node 1 withdraws before it hears of that. The markers come before what was sent after
-// them.
+// Node 2 starts a snapshot, and node 1 withdraws the prefix before it hears of that. The markers arrive before what was
+// sent after them.
 const WITHDRAWN: &str = "\
 snap 2 | 2 cut 1; 2>1; 2>3 | 2>1 -
 withdraw 1 | 1 logged 3; 1>2 | 1>2 -
@@ -30,8 +30,8 @@ deliver 3 2 | | 3>2 -
 deliver 3 2 | 2 logged 4 | - -
 ";
 
-// How many entries the cut of epoch 1 has at a node, and how many updates it records of another: 99
-// where there is none.
+// How many entries the cut of epoch 1 has at a node, and how many updates it recorded of another node; 99 if there is
+// none.
 fn cut_at(world: &World<GaoRexford>, node: u16, nbr: u16) -> (u32, u32) {
     let Some(node) = world.node(NodeId::new(node)) else {
         return (99, 99);

@@ -1,4 +1,4 @@
-//! Packets that enter the network of two nodes, and go on from there.
+//! Packets that enter a network of two nodes, and go on from there.
 use super::super::networks::PAIR_CONSOLIDATED;
 use super::play::Play;
 use path_vector::GaoRexford;
@@ -7,7 +7,7 @@ use std::process::Abort;
 use std::test::Fail;
 use world_core::World;
 
-// Packet 1 enters at node 2, and only once. It comes to node 1, which has the prefix. Packet 2 has nowhere to go.
+// Packet 1 enters at node 2, and only once. It goes to node 1, which has the prefix. Packet 2 has nowhere to go.
 const ENTERED: &str = "\
 hop 1 | idle NoSuchPacket | - -
 inject 1 2 | 1 at 2 | - -
@@ -21,8 +21,8 @@ inject 2 2 | 2 at 2 | - -
 hop 2 | 2 Stuck | - -
 ";
 
-// Nothing enters at a crashed node, and what is known or has ended is so there too. Packet 3 waits at a crashed node,
-// and goes on to another one.
+// Nothing enters at a crashed node. A packet that is known or has ended is so even there. Packet 3 waits at a crashed
+// node, and goes on to another one.
 const CRASHED: &str = "\
 crash 1 | | - -
 inject 3 1 | idle Crashed | - -
@@ -37,7 +37,7 @@ hop 3 | 3 at 1 | - -
 hop 3 | idle Crashed | - -
 ";
 
-// Which events fit: those of nodes of the network, and of packets from 1, known or not.
+// Which events fit: those with nodes of the network, and packets from 1 on, known or not.
 const FITTING: &str = "\
 inject 0 1: no
 inject 1 3: no

@@ -1,4 +1,4 @@
-//! A world to which lines happen.
+//! A world that gets its events as lines.
 use super::super::networks::network_of;
 use super::events::{event_of, number_text, outcome_text, way_text};
 use path_vector::Policy;
@@ -9,12 +9,12 @@ use world_core::{Event, Outcome, World};
 
 #[derive(Drop)]
 pub struct Play<P: Policy + Copy> {
-    // None behind a stop.
+    // `None` after a stop.
     world: Option<World<P>>,
 }
 
 impl<P: Policy + Copy> Play<P> {
-    /// Nothing has happened in the network of this file.
+    /// The world of this file's network, before any event.
     pub fn new(rt: &impl Abort, alloc: Global, file: &str, policy: P) -> Result<Play<P>, Fail> {
         let topology = network_of(rt, alloc, file)?;
         let world = World::new(alloc, topology, policy)?;
@@ -36,7 +36,7 @@ impl<P: Policy + Copy> Play<P> {
         Ok(outcome)
     }
 
-    // What the event does or why it does nothing, the next delivery then, and the next control message.
+    // What the event does, or why it does nothing; then the next delivery, and the next control message.
     fn told(&mut self, alloc: Global, event: Event) -> Result<String, Fail> {
         let outcome = self.happen(event)?;
         let did = outcome_text(alloc, &outcome)?;
@@ -46,7 +46,7 @@ impl<P: Policy + Copy> Play<P> {
         Ok(format!(in alloc; "{did} | {way} {mail}")?)
     }
 
-    /// Each line has an event, what it does or why it does nothing, and what is next then: a delivery, and a control
+    /// Each line has an event, what it does or why it does nothing, and what is next then: a delivery and a control
     /// message.
     pub fn run(&mut self, rt: &impl Abort, alloc: Global, lines: &str) -> Result<(), Fail> {
         for line in lines.lines() {
@@ -57,7 +57,7 @@ impl<P: Policy + Copy> Play<P> {
         Ok(())
     }
 
-    /// The next delivery is made, over this way; there are so many events then.
+    /// Makes the next delivery, over this way; after it there are so many events.
     pub fn deliver(
         &mut self,
         rt: &impl Abort,

@@ -7,7 +7,7 @@ use std::process::Abort;
 use std::test::Fail;
 use topology::NodeId;
 
-// The link fails while an update is on its way, and both ends notice that. It comes up again, both ends open the next
+// The link fails while an update is on its way, and both ends notice it. It comes up again, both ends open the next
 // session, and all that is on its way arrives.
 const ANEW: &str = "\
 originate 1 | 1 logged 1; 1>2 | 1>2 -
@@ -23,7 +23,7 @@ deliver 1 2 | 2 logged 4; 2>1 | 2>1 -
 deliver 2 1 | 1 logged 5 | - -
 ";
 
-// Node 1 alone notices: what it says in the new session waits until node 2 has opened it too.
+// Only node 1 notices. What it says in the new session waits until node 2 has opened the session too.
 const ONE_END: &str = "\
 fail 2 1 | | - -
 notice 1 2 | 1 logged 1 | - -
@@ -36,7 +36,7 @@ open 2 1 | 2 logged 2; 2>1 | 1>2 -
 deliver 1 2 | 2 logged 3 | 2>1 -
 ";
 
-// What does nothing while the link is up, and while it is down.
+// Events that do nothing while the link is up, and while it is down.
 const REASONS: &str = "\
 restore 1 2 | idle AlreadyUp | - -
 notice 1 2 | idle StillUp | - -
@@ -49,7 +49,7 @@ notice 1 2 | idle NotOpen | - -
 open 1 2 | idle LinkDown | - -
 ";
 
-// Node 1 holds back from node 2. A flush sends what it holds back, and does nothing for each of its reasons.
+// Node 1 holds back from node 2. A flush sends what is held back, or does nothing, for each of its reasons.
 const HELD: &str = "\
 originate 1 | 1 logged 1 | - -
 flush 2 1 | idle NothingPending | - -
@@ -64,7 +64,7 @@ crash 1 | | - -
 flush 1 2 | idle Crashed | - -
 ";
 
-// Node 2 stops with an update on its way to it.
+// Node 2 crashes with an update on its way to it.
 const STOPPED: &str = "\
 originate 1 | 1 logged 1; 1>2 | 1>2 -
 crash 2 | | - -
@@ -85,7 +85,7 @@ fn a_link_that_comes_up_again(rt: HostRuntime) -> Result<(), Fail> {
     play.run(&rt, rt.alloc(), ANEW)
 }
 
-// What happens in a world of two nodes.
+// Runs the lines in a world of two nodes.
 fn happens(rt: &impl Abort, alloc: Global, lines: &str) -> Result<Play<ShortestAll>, Fail> {
     let mut play = Play::new(rt, alloc, PAIR, ShortestAll)?;
     play.run(rt, alloc, lines)?;

@@ -13,7 +13,7 @@ use std::rc::Rc;
 use std::test::Fail;
 use topology::{NodeId, Sent, Session, Trigger, Triggers};
 
-// What the case shows; the reports of nodes 1, 2 and 3; their incomplete triggers.
+// The name of the case; the reports of nodes 1, 2 and 3; their incomplete triggers.
 const CASES: &str = "nothing was sent | 1.1:P | | | 
 an item is missing, and its receiver knows no such session | 1.1:P>2/1/1 | | | 1.1
 nothing of the session was received | 1.1:P>2/1/1 | =1/1/0 | | 1.1
@@ -66,7 +66,7 @@ cover: of what is held back | 1.1:P ~2/1/1.1+1.3 | 2.1:*>3/1/1 =1/1/0/2.1 | | 1.
 one is held back from a node without a report | 1.1:P ~9/1/1.1 | | | 
 a link that one end has closed | 3.1:P>2/1/1 1.1:*>2/1/2 =2/1/1/1.1 | 3.1:P>1/1/1>3/1/1 3.1:P =1/1/1 =3/1/1 | 3.1:P>2/1/1 3.1:P =2/1/1 | 1.1";
 
-// The value of the reports. Rounds find the same.
+// The value of the reports. `rounds` has to find the same.
 fn value(rt: &impl Abort, alloc: Global, reports: &[Rc<Report>]) -> Result<Value, Fail>
     requires { OfOneEpoch (map rc_value reports.now) }
 {
@@ -76,7 +76,7 @@ fn value(rt: &impl Abort, alloc: Global, reports: &[Rc<Report>]) -> Result<Value
     Ok(value)
 }
 
-// The same of the reports of nodes 1, 2 and 3.
+// The value of the reports of nodes 1, 2 and 3.
 fn value_of(
     rt: &impl Abort,
     alloc: Global,
@@ -98,7 +98,7 @@ fn triggers(alloc: Global, text: &str) -> Result<Vec<Trigger>, Fail> {
     Ok(triggers)
 }
 
-// A copy of the value has these triggers, and three nodes.
+// Checks that a copy of the value has these triggers, and three nodes.
 fn is_value(
     rt: &impl Abort,
     alloc: Global,

@@ -1,7 +1,8 @@
-//! Reports as words: `1.2:P>2/1/3` is a row of trigger 1.2 for prefix P (or Q, `*` for all, `-` for none) with an
-//! item to node 2 in session 1 with number 3, for the trigger of the row; `1.1+1.2:P>2/1/3/1.1` is one of two triggers whose
-//! item lists the first alone; `=2/1/3` is a session row of neighbour 2 and session 1 with 3 updates received, and
-//! `=2/1/3/1.2` one whose `Down` has trigger 1.2; `~2/1/1.1+1.2` is an update that is held back from node 2 in session 1.
+//! Reports as words. `1.2:P>2/1/3` is a row of trigger 1.2 for prefix P (or Q, `*` for all, `-` for none), with an item
+//! to node 2 in session 1 with number 3, for the trigger of the row. `1.1+1.2:P>2/1/3/1.1` is a row of two triggers,
+//! whose item lists only the first. `=2/1/3` is a session row of neighbour 2 and session 1 with 3 updates received, and
+//! `=2/1/3/1.2` one whose `Down` has trigger 1.2. `~2/1/1.1+1.2` is an update that is held back from node 2 in session
+//! 1.
 ghost use Rattle.std.specs.Prelude.{◌≡◌, IfOk};
 
 use crate::tests::making::{node, number, split};
@@ -21,7 +22,7 @@ pub(super) fn trigger_in(word: &str) -> Result<Trigger, Fail> {
     })
 }
 
-// The triggers of a word such as `1.1+1.2`, which rise.
+// The triggers of a word such as `1.1+1.2`, which must ascend.
 fn list_in(alloc: Global, word: &str) -> Result<Triggers, Fail> {
     let mut list = Vec::new(alloc);
     for of in word.split('+') {
@@ -40,7 +41,7 @@ fn scope(word: &str) -> Scope {
     }
 }
 
-// The item of a word, of a row that lists these.
+// The item of a word, in a row that lists these triggers.
 fn item(alloc: Global, word: &str, listed: &str) -> Result<Sent, Fail> {
     let (to, rest) = split(word, '/')?;
     let (session, rest) = split(rest, '/')?;

@@ -1,5 +1,5 @@
-//! The incomplete triggers by rounds over all items, rows and pending rows, until one adds none. It knows nothing of the
-//! graph.
+//! Finds the incomplete triggers in rounds over all items, rows and pending rows, until a round adds none. It does not
+//! use the graph.
 
 use incomplete_closure::{Report, Row, SessionRow, missing};
 use std::alloc::Global;
@@ -10,7 +10,7 @@ use topology::{NodeId, Scope, Sent, Session, Trigger, Triggers};
 
 type Marks = BTreeSet<Trigger>;
 
-// The row of the session with the neighbour: the first, where rows repeat.
+// The row of the session with the neighbour. If rows repeat, the first counts.
 fn session_of(report: &Report, nbr: NodeId, session: Session) -> Option<SessionRow> {
     for row in report.sessions.as_slice() {
         if row.nbr == nbr && row.session == session {
@@ -39,7 +39,7 @@ fn mark_all(marks: &mut Marks, triggers: &Triggers) -> Result<(), Fail> {
     Ok(())
 }
 
-// Marks the triggers of an item that the other report misses, where that is due.
+// Marks the triggers of an item that the other report misses, if they are due.
 fn mark_item(marks: &mut Marks, from: &Report, to: &Report, item: &Sent) -> Result<(), Fail> {
     if missing(from, to, item) && is_due(marks, session_of(to, from.node, item.session)) {
         mark_all(marks, &item.triggers)?;
@@ -55,7 +55,7 @@ fn mark_items_of(marks: &mut Marks, from: &Report, to: &Report, row: &Row) -> Re
     Ok(())
 }
 
-// The same of updates that are held back from the other node.
+// Marks the triggers of updates that are held back from the other node, if they are due.
 fn mark_pending(marks: &mut Marks, from: &Report, to: &Report) -> Result<(), Fail> {
     for row in from.pending.as_slice() {
         if row.to == to.node && is_due(marks, session_of(to, from.node, row.session)) {
@@ -101,7 +101,7 @@ fn is_marked(marks: &Marks, row: &Row) -> bool {
     false
 }
 
-// Marks all triggers of a marked row, and those of rows behind it that share a prefix with it.
+// Marks all triggers of a marked row, and those of later rows that share a prefix with it.
 fn mark_rows(marks: &mut Marks, report: &Report) -> Result<(), Fail> {
     let rows = report.rows.as_slice();
     for place in 0..rows.len() {
@@ -125,7 +125,7 @@ fn mark_round(marks: &mut Marks, reports: &[Rc<Report>]) -> Result<(), Fail> {
     Ok(())
 }
 
-// How many triggers rows list, and what may be open.
+// How many triggers rows, items and pending rows list.
 fn count_listed(reports: &[Rc<Report>]) -> usize {
     let mut count: usize = 0;
     for report in reports {
@@ -143,7 +143,7 @@ fn count_listed(reports: &[Rc<Report>]) -> usize {
     count
 }
 
-/// The incomplete triggers of the reports, ascending. Each round but the last marks a trigger that is listed.
+/// The incomplete triggers of the reports, ascending. Each round except the last marks a trigger that is listed.
 pub(super) fn rounds(alloc: Global, reports: &[Rc<Report>]) -> Result<Vec<Trigger>, Fail> {
     let mut marks = BTreeSet::new(alloc);
     for _round in 0..count_listed(reports).saturating_add(1) {

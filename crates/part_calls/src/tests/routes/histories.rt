@@ -9,7 +9,7 @@ use topology::{NodeId, Path, PrefixId, Relation, Scope, Session, Topology};
 
 const NODE: u16 = 10;
 
-// Node 10 and its neighbours: 1 is its customer, 2 its provider, 3 its peer, 4 none of these.
+// Node 10 and its neighbours: 1 is its customer, 2 its provider, 3 its peer, and 4 has relation `Any`.
 fn star(alloc: Global) -> Result<Box<Topology>, Fail> {
     let links = [
         (NODE, 1, Relation::Customer),
@@ -20,8 +20,9 @@ fn star(alloc: Global) -> Result<Box<Topology>, Fail> {
     network(alloc, &[NODE, 4, 3, 2, 1], &links, 1)
 }
 
-// What node 10 enters; then its best path, the neighbours that are told of it, and the order of all neighbours, at
-// `GaoRexford`; then the same at `ShortestAll`. An entry is its kind, its neighbour, a session or a preference, and a path.
+// The entries of node 10; then, for `GaoRexford`, its best path, the neighbours that are told of it, and the order of
+// all neighbours; then the same for `ShortestAll`. An entry is its kind, its neighbour, a session or a preference, and
+// a path.
 const HISTORIES: &str = "- | - - 1,2,3,4 | - - 1,2,3,4
 recv 1 1 1,9; recv 2 1 2,9 | 10,1,9 1,2,3,4 1,2,3,4 | 10,1,9 1,2,3,4 1,2,3,4
 recv 1 1 1,8,9; recv 2 1 2,9 | 10,2,9 1,4 2,1,3,4 | 10,2,9 1,2,3,4 2,1,3,4

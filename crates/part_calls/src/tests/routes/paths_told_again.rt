@@ -1,4 +1,4 @@
-//! A neighbour that tells paths again, and what is kept of each, worked out by hand.
+//! A neighbour that tells paths again, and the candidates after each update, worked out by hand.
 use super::state_of;
 use crate::tests::making::{ids, network, path_of};
 use path_vector::{Cause, RouteState, ShortestAll};
@@ -9,7 +9,7 @@ use topology::{NodeId, PrefixId, Relation, Scope, Session};
 
 const NODE: u16 = 30;
 
-// Two paths that differ in their last node alone, and one that the own node is on.
+// Two paths that differ only in their last node, and one that has the own node.
 const FIRST: [u16; 12] = [1, 2, 3, 4, 5, 6, 7, 8, 9, 10, 11, 12];
 
 const SECOND: [u16; 12] = [1, 2, 3, 4, 5, 6, 7, 8, 9, 10, 11, 13];
@@ -32,7 +32,7 @@ fn hear(
     Ok(())
 }
 
-// The candidate of a prefix has these nodes behind the own one.
+// The candidate for a prefix has these nodes after the own one.
 fn has(
     rt: &impl Abort,
     alloc: Global,
@@ -53,7 +53,7 @@ fn all_hold(
     alloc: Global,
     state: &mut RouteState<ShortestAll>,
 ) -> Result<(), Fail> {
-    // the prefix of an update and its path, and the candidates of both prefixes behind it
+    // the prefix of an update, its path, and the candidates for both prefixes after it
     let rows: [(u16, &[u16], &[u16], &[u16]); 5] = [
         (0, &FIRST, &FIRST, &[]),
         (1, &FIRST, &FIRST, &FIRST),

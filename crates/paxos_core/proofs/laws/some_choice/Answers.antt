@@ -15,11 +15,11 @@ first = record { round = 1; node = 1 }
 abbrev members : List ℕ
 members = 1 ∷ 2 ∷ 3 ∷ []
 
--- what the chronicle is after this message was received, with v as the fresh value
+-- the chronicle after this message was received, with v as the fresh value
 abbrev after : ℕ → Chronicle ℕ → ℕ → ℕ → Message ℕ → Chronicle ℕ
 after v past u from m = received (ballot_setup members members v) past u from m
 
--- node 1 prepares its ballot; 1 and 3 promise it; 1 proposes, and 1 and 3 accept
+-- node 1 prepares its ballot; nodes 1 and 3 promise it; node 1 proposes, and nodes 1 and 3 accept
 abbrev asked : Chronicle ℕ
 asked = opened members [] 1
 

@@ -2,7 +2,7 @@ use Rattle.route_node.specs.Running.{left_of}
 use Rattle.route_node.proofs.Going.{Keeps}
 use Rattle.route_node.proofs.serving.ends.Given as goal
 
--- it runs, and from wherever it began it has gone on
+-- it runs, and has gone on since wherever it began
 abbrev pub invariant-loop-next : goal.invariant-loop-next
 invariant-loop-next g l =
     Keeps (λ policy. g.P.Policy.rules policy) l.initial.process (record { link = g.L.Link.seen l.initial.link; disk = g.D.Disk.seen l.initial.disk }) l.process (record { link = g.L.Link.seen l.link; disk = g.D.Disk.seen l.disk })

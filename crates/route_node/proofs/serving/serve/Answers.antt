@@ -17,7 +17,7 @@ use Rattle.route_node.proofs.serving.serve.Goals as goal
 abbrev serving_of : Net → ℕ → LinkView → DiskView → Serving GaoRexford
 serving_of net u first disk = record { policy = record {}; net = net; node = u; records = None; first = first; disk = disk }
 
--- what the disk tells that nobody calls
+-- what the disk tells that is never called
 abbrev disk_seen : MemDisk → DiskView
 disk_seen disk = told_by disk.file.items disk.made.items disk.calls.faults
 

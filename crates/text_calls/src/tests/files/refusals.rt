@@ -1,4 +1,4 @@
-//! What is wrong with a file, a line, or the file of a network alone.
+//! Faults of a file, of a line, and of the file of a network alone.
 use schedule_file::{ParseEnd, parse, parse_topology};
 use std::alloc::Global;
 use std::process::Abort;
@@ -15,7 +15,7 @@ const BAD: [(&[u8], u32, BadKind); 6] = [
     (b"begin\nshow cut", 2, BadKind::WrongCount),
 ];
 
-// What is wrong with a line of agreement behind one node and `begin`.
+// Faults of a line about agreement, after one node and `begin`.
 const AGREEMENT: &str = "
 good: propose 1 1
 good: propose 1 32
@@ -49,7 +49,7 @@ bad number: show tables 0
 bad number: show tables 33
 ";
 
-// What is wrong with a line of packets behind one node, one prefix and `begin`.
+// Faults of a line about packets, after one node, one prefix and `begin`.
 const PACKETS: &str = "
 good: inject 1 1 10.0.0.0/8
 good: inject 4294967295 1 10.0.0.0/8
@@ -93,7 +93,7 @@ unknown word: show walks 1
 unknown word: show hop 1
 ";
 
-// What is wrong with a line of a probe behind one node, one prefix and `begin`.
+// Faults of a line with a probe, after one node, one prefix and `begin`.
 const PROBES: &str = "
 good: probe 1 10.0.0.0/8
 good:   probe\t1 10.0.0.0/8 # from here
@@ -113,7 +113,7 @@ unknown prefix: probe 1 20.0.0.0/8
 unknown prefix: probe 1 10.0.0.0/9
 ";
 
-// What is wrong with a line of the first part behind one node.
+// Faults of a line of the first part, after one node.
 const SETTINGS: &str = "
 good: hops 0
 good: hops 65535
@@ -145,7 +145,7 @@ bad number: transient detour 65536
 unknown node: transient detour 2
 ";
 
-// What is wrong with a line behind one node, a blank line, and `begin`, in the file of a network.
+// Faults of a line after one node, a blank line and `begin`, in the file of a network.
 const TOPOLOGY: &str = "
 good: # nothing
 not here: node 2
@@ -166,7 +166,7 @@ not here: transient x
 not here: probe 9 x
 ";
 
-// How the reading of a file ends where it gives no schedule; of a file that has a network alone, where it gives none.
+// How reading a file ends if it gives no schedule; with `alone`, if it gives no network.
 fn end_of(rt: &impl Abort, alloc: Global, alone: bool, text: &[u8]) -> Option<ParseEnd> {
     assert!(rt; text.len() < 1000);
     if alone {
@@ -183,7 +183,7 @@ fn kind_of(end: Option<ParseEnd>) -> &'static str {
     }
 }
 
-// Each row names what is wrong with its line behind the front of a file.
+// Each row names the fault of its line after the front of a file.
 fn check_rows(
     rt: &impl Abort,
     alloc: Global,

@@ -5,7 +5,7 @@ use std::process::Abort;
 use std::test::Fail;
 use topology::{NodeId, Topology};
 
-// Its directives stand on the lines 13, 15, 16, 17 and from 19 on.
+// Its directives are on the lines 13, 15, 16, 17 and from 19 on.
 const SCHEDULE: &[u8] = b"node 1 consolidator # one
 node 2
 link 1 2 customer
@@ -45,7 +45,7 @@ hop 5 1000000
 show walk 5
 probe 1 2.0.0.0/8";
 
-// The directives of the same schedule: where each stands, and what it says.
+// The directives of the same schedule, with their lines.
 const DIRECTIVES: &str = "\
 13 Originate { node: NodeId(2), prefix: PrefixId(1) }
 15 Deliver { from: NodeId(2), to: NodeId(1) }
@@ -73,8 +73,8 @@ const DIRECTIVES: &str = "\
 38 Probe { node: NodeId(1), prefix: PrefixId(1) }
 ";
 
-// What a network says of two nodes, and of its first two: the relation and the preference of each, which nodes there
-// are, and what holds of packets.
+// What a network says of two nodes: the relation and the preference of each; then its nodes, and its settings for
+// packets.
 fn network_text(alloc: Global, network: &Topology, a: u16, b: u16) -> Result<String, Fail> {
     let (a, b) = (NodeId::new(a), NodeId::new(b));
     let relations = format!(in alloc; "{:?} {:?}", network.relation(a, b), network.relation(b, a))?;
@@ -136,7 +136,7 @@ fn pair_said(rt: &impl Abort, alloc: Global, file: &[u8]) -> Result<String, Fail
     network_text(alloc, &schedule.topology, 1, 2)
 }
 
-// What a file directs.
+// The directives of a file.
 fn directed(rt: &impl Abort, alloc: Global, file: &[u8]) -> Result<String, Fail> {
     let schedule = schedule_of(rt, alloc, file)?;
     directives_text(alloc, &schedule.lines)
@@ -190,7 +190,7 @@ show walk 5
 probe 1 2.0.0.0/8
 ";
 
-// Preferences are sorted, all else is in file order.
+// Preferences are sorted, everything else stays in file order.
 const SHUFFLED: &[u8] =
     b"prefix 9.8.7.0/24\nnode 3\nnode 1\nlink 3 1 peer\npref 3 1 0\npref 1 3 6\nprefix 0.0.0.0/0\ntransient backup\nhops 0\nbegin\nrestart 1\ncrash 3";
 
@@ -208,7 +208,7 @@ restart 1
 crash 3
 ";
 
-// The text as which a file is printed.
+// The text that is printed for a file.
 fn printed(rt: &impl Abort, alloc: Global, file: &[u8]) -> Result<Vec<u8>, Fail> {
     let schedule = schedule_of(rt, alloc, file)?;
     Ok(print(alloc, &schedule)?)
@@ -248,7 +248,7 @@ ctl all 100
 show tables 1
 ";
 
-// The same, with what it leaves out.
+// The same, with the lines that it leaves out.
 const EPOCH_PRINTED: &[u8] = b"node 1 consolidator
 node 2
 node 3
@@ -269,7 +269,7 @@ ctl all 100
 show tables 1
 ";
 
-// What both say of the nodes 2 and 3, and what they direct.
+// What both say of the nodes 2 and 3, and their directives.
 const EPOCH_SAID: &str =
     "Some(Any) Some(Any) 100 100 Some((NodeId(1), true)) Some((NodeId(2), false)) 128 Deflect
 Originate { node: NodeId(1), prefix: PrefixId(0) }
@@ -283,7 +283,7 @@ ControlAll { times: 100 }
 ShowTables(Epoch(1))
 ";
 
-// Adds what these lines direct, without their numbers.
+// Adds the directives of these lines, without the line numbers.
 fn add_directives(alloc: Global, lines: &[Numbered], text: &mut String) -> Result<(), Fail> {
     for numbered in lines {
         let line = format!(in alloc; "{:?}\n", numbered.directive)?;
@@ -292,7 +292,7 @@ fn add_directives(alloc: Global, lines: &[Numbered], text: &mut String) -> Resul
     Ok(())
 }
 
-// What a schedule says of the nodes 2 and 3, and what it directs.
+// What a schedule says of the nodes 2 and 3, and its directives.
 fn words_of(alloc: Global, schedule: &Schedule) -> Result<String, Fail> {
     let mut text = network_text(alloc, &schedule.topology, 2, 3)?;
     text.push('\n')?;
@@ -300,7 +300,7 @@ fn words_of(alloc: Global, schedule: &Schedule) -> Result<String, Fail> {
     Ok(text)
 }
 
-// The same of a file.
+// The same for a file.
 fn said(rt: &impl Abort, alloc: Global, file: &[u8]) -> Result<String, Fail> {
     let schedule = schedule_of(rt, alloc, file)?;
     words_of(alloc, &schedule)

@@ -7,7 +7,7 @@ use Rattle.trigger_log.specs.HoldingBack.{ArePlacedRows, row_updates}
 use Rattle.trigger_log.specs.Telling.{TellsUpdates, speech_of}
 use Rattle.trigger_log.proofs.listeners.tell_held.Given as goal
 
--- those of the rows so far
+-- the updates of the rows so far
 abbrev pub invariant-loop-place : goal.invariant-loop-place
 invariant-loop-place g l = (policy : _) (net : Net) (u : ℕ) (now : History) → StandsFor policy net u l.routes now → has (neighbours net u) l.listener.nbr ≡ true → ArePlacedRows net l.rows
     → TellsUpdates l.listener (row_updates (g.P.Policy.rules policy) net u now (take l.place l.rows) l.listener.nbr) (speech_of l.initial.said) (speech_of l.said) l.count

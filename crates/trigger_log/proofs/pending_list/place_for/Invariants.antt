@@ -4,7 +4,7 @@ use Rattle.trigger_log.specs.Putting.{is_behind}
 use Rattle.trigger_log.proofs.RowOrder.{is_ahead}
 use Rattle.trigger_log.proofs.pending_list.place_for.Given as goal
 
--- a row of the prefix and the neighbour comes behind those below low, and before those from high on
+-- the row of the prefix and the neighbour belongs behind the rows below low, and before those from high on
 abbrev pub invariant-loop-low : goal.invariant-loop-low
 invariant-loop-low l = record {
   order : l.low ≤ l.high;

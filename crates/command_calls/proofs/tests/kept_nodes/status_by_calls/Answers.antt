@@ -3,7 +3,7 @@ use Rattle.topology.specs.Net.{Net}
 use Rattle.route_node.specs.Restored.{IsRestored}
 use Rattle.command_calls.proofs.tests.kept_nodes.status_by_calls.Goals as goal
 
--- the node was started again, so it may answer
+-- the node was restarted, so it may answer
 pub serve_kept-requires : goal.serve_kept-requires
 serve_kept-requires c =
     let some = c.in-Ok.ensures.restored.restored c.in-Ok.kept refl in

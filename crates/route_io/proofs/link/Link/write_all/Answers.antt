@@ -24,7 +24,7 @@ loop-done-preserved g c =
       quiet = c.in_ok-done.ensures.cause.quiet ∙ c.loop-done.invariant.quiet;
     }
 
--- what is so after any answer is so after a failure
+-- what holds after any answer holds after a failure
 after_failure : {T E P : Type 0} (r : Result T E) → P → OnErr r P
 after_failure (Ok x) p = tt
 after_failure (Err e) p = p

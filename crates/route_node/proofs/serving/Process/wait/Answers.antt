@@ -16,7 +16,7 @@ use Rattle.route_node.proofs.serving.Process.wait.Goals as goal
 quiet_at : (r : Result Filled NotFilled) (f : Filled) (old new : ℕ) → r ≡ Ok f → RoseIf (r ≡ Err Fault) old new → new ≡ old
 quiet_at r f old new is cause = cause.quiet (λ e. absurd (cc (is, e)))
 
--- a fill that ends well has read once
+-- a successful fill has read once
 reads_as : (r : Result Filled NotFilled) (f : Filled) (old new : List ℕ) (was now : LinkView) → r ≡ Ok f → OnOk r (ReadsMore old new was now) → ReadsMore old new was now
 reads_as r f old new was now is reads = subst (λ q. OnOk q (ReadsMore old new was now)) is reads
 

@@ -1,4 +1,4 @@
--- A value of no bytes, whose list has one read more.
+-- A value of no bytes, whose list has one more read.
 use Rattle.std.proofs.Common.{[], ◌∷◌, Some, length, ◌<◌, ◌^◌, refl}
 use seplogic.Ra.Ura.{Ura}
 use mir.Syntax.{named}

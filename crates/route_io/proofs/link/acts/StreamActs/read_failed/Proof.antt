@@ -1,4 +1,4 @@
--- A value of no bytes, whose list has one read more, which failed.
+-- A value of no bytes, whose list has one more read, which failed.
 use Rattle.std.proofs.Common.{[], ◌∷◌, None, refl}
 use seplogic.Ra.Ura.{Ura}
 use mir.Syntax.{named}

@@ -1,4 +1,4 @@
--- A value of no bytes, whose list has one write more.
+-- A value of no bytes, whose list has one more write.
 use Rattle.std.proofs.Common.{[], ◌∷◌, Some, length, ◌<◌, ◌^◌, refl}
 use seplogic.Ra.Ura.{Ura}
 use mir.Syntax.{named}

@@ -1,4 +1,4 @@
--- A value of no bytes, whose list has one write more, which failed.
+-- A value of no bytes, whose list has one more write, which failed.
 use Rattle.std.proofs.Common.{[], ◌∷◌, None, length, ◌<◌, ◌^◌, refl}
 use seplogic.Ra.Ura.{Ura}
 use mir.Syntax.{named}

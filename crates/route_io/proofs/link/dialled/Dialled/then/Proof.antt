@@ -1,4 +1,4 @@
--- A value of no bytes, whose list has one address more.
+-- A value of no bytes, whose list has one more address.
 use Rattle.std.proofs.Common.{[], ◌∷◌, length, ◌<◌, ◌^◌, refl}
 use seplogic.Ra.Ura.{Ura}
 use mir.Syntax.{named}
