@@ -15,12 +15,14 @@ invariant_of-self-2 c =
     let placed =
     c.place_of-place.ensures.place
     ∙ (ap (λ (z : Report). place_of z.node (map rc_value c.deref.result.now)) c.deref-2.ensures
-    ∙ ap (λ zs. place_of report.value.node (map rc_value zs)) c.deref.ensures.value) in
-    (subst (AreHeld c.self.inside.epoch) (sym (put_in rc_value list c.insert.new.self.items c.place_of-place.result report c.in_ok-insert.ensures.items placed))
-    (insert_held c.self.inside.epoch report.value (map rc_value list)
-    (c.requires.epoch ∙ sym (ap (λ (h : Holding). h.epoch) c.self.view_is))
-    (subst (λ (h : Holding). has (nodes_of h.reports) report.value.node ≡ false) (sym c.self.view_is) c.requires.new)
-    c.self.invariant.0), tt)
+    ∙ ap (λ zs. place_of report.value.node (map rc_value zs)) c.deref.ensures.value) in (
+      subst (AreHeld c.self.inside.epoch) (sym (put_in rc_value list c.insert.new.self.items c.place_of-place.result report c.in_ok-insert.ensures.items placed))
+          (insert_held c.self.inside.epoch report.value (map rc_value list)
+          (c.requires.epoch ∙ sym (ap (λ (h : Holding). h.epoch) c.self.view_is))
+          (subst (λ (h : Holding). has (nodes_of h.reports) report.value.node ≡ false) (sym c.self.view_is) c.requires.new)
+          c.self.invariant.0),
+      tt,
+    )
 
 pub returns-clause-kept : goal.returns-clause-kept
 returns-clause-kept c =
