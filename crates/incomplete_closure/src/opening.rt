@@ -14,7 +14,7 @@ use crate::{Report, Row, SessionRow};
 use std::alloc::Global;
 use std::rc::Rc;
 use std::sync::ledger::Ledger;
-use topology::{NoMemory, NodeId, Pending, Sent, Trigger, Triggers};
+use topology::{NoMemory, NodeId, Pending, SentRef, Trigger};
 
 /// A trigger that an item lists which its receiver has not received, or that a held-back update lists. `down` is the
 /// trigger of the receiver's `Down` of that session, if there is one.
@@ -37,7 +37,7 @@ fn down_of(row: &Option<SessionRow>) -> Option<Trigger>
 // Adds each trigger at the end.
 fn push_all<L: Ledger>(
     opened: &mut Vec<OpenTrigger>,
-    triggers: &Triggers,
+    triggers: &[Trigger],
     down: &Option<Trigger>,
     steps: &mut Steps<L>,
 ) -> Result<(), NoMemory>
@@ -45,7 +45,7 @@ fn push_all<L: Ledger>(
     ensures most { steps.new ≤ steps.old + length triggers.now }
     ensures least { steps.old ≤ steps.new }
 {
-    for trigger in triggers.as_slice() {
+    for trigger in triggers {
         steps.take();
         opened.push(OpenTrigger {
             trigger: *trigger,
@@ -59,7 +59,7 @@ fn push_all<L: Ledger>(
 fn push_open<L: Ledger>(
     opened: &mut Vec<OpenTrigger>,
     row: &Option<SessionRow>,
-    item: &Sent,
+    item: &SentRef<'_>,
     steps: &mut Steps<L>,
 ) -> Result<(), NoMemory>
     ensures opened { OnOk result (opened.new.items ≡ opened.old.items ++ if_open row.now item.now) }
@@ -67,7 +67,7 @@ fn push_open<L: Ledger>(
     ensures least { steps.old ≤ steps.new }
 {
     if received_of(row) < item.seq {
-        return push_all(opened, &item.triggers, &down_of(row), steps);
+        return push_all(opened, item.triggers, &down_of(row), steps);
     }
     Ok(())
 }
@@ -77,7 +77,7 @@ fn gather_item<L: Ledger>(
     opened: &mut Vec<OpenTrigger>,
     table: &SessionTable,
     from: NodeId,
-    item: &Sent,
+    item: &SentRef<'_>,
     steps: &mut Steps<L>,
 ) -> Result<(), NoMemory>
     ensures opened { OnOk result ((reports : List AnyReport) → IsTableOf reports table.now →
@@ -104,9 +104,9 @@ fn gather_row<L: Ledger>(
     ensures most { steps.new ≤ steps.old + (length row.now.sent + carried_by row.now.sent) }
     ensures least { OnOk result (steps.old + length row.now.sent ≤ steps.new) }
 {
-    for item in row.sent.laid_out().as_slice() {
+    for place in 0..row.sent.len() {
         steps.take();
-        gather_item(opened, table, from, item, steps)?;
+        gather_item(opened, table, from, &row.sent.at(place).unwrap(), steps)?;
     }
     Ok(())
 }
@@ -149,7 +149,7 @@ fn gather_pending<L: Ledger>(
     }
     push_all(
         opened,
-        &row.triggers,
+        row.triggers.as_slice(),
         &down_of(&table.row(row.to, from, row.session)),
         steps,
     )

@@ -80,7 +80,7 @@ counted_more rules net u k h old mid new shown n was shows adds updates many mar
 }
 
 -- the triggers that items list, by the count that the items tell
-same_marks : (items : List Sent) → marks_of items ≡ item_marks items
+pub same_marks : (items : List Sent) → marks_of items ≡ item_marks items
 same_marks [] = refl
 same_marks (item ∷ items) = ap (λ n. length item.triggers + n) (same_marks items)
 

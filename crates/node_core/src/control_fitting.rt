@@ -10,7 +10,7 @@ ghost use Rattle.node_core.specs.Counted.{item_marks};
 ghost use Rattle.node_core.specs.ControlFits.{all_fit, ballot_fits, body_fits, down_fits, epoch_fits, in_order, incomplete_fits, items_of, listed_fits, marks_of_row, marks_of_rows, message_fits, named_fits, nodes_fit, pending_fits, report_fits, report_marks, row_fits, row_lists_fit, rows_are_few, rows_fit, scope_fits, sender_fits, session_fits, sessions_ascend, sessions_fit, sooner, value_fits, waiting_ascends, waiting_fits, waits_sooner};
 ghost use Rattle.node_core.specs.Names.{is_number, list_fits, trigger_fits};
 
-use crate::counts::{less, less_items, less_pending};
+use crate::counts::{less, less_pending};
 use crate::fitting::{
     are_nodes, are_triggers, is_among, is_node, is_number, list_fits, trigger_fits,
 };
@@ -20,7 +20,7 @@ use topology::limits::{
     MOST_ENTRIES, MOST_EPOCHS, MOST_MARKS, MOST_PENDING, MOST_SESSIONS, MOST_TRIGGERS, MOST_UPDATES,
 };
 use topology::{
-    Ballot, Epoch, NodeId, Pending, Scope, Sent, SentItems, Topology, Trigger, Triggers,
+    Ballot, Epoch, NodeId, Pending, Scope, SentItems, SentRef, Topology, Trigger, Triggers,
 };
 
 /// Whether a cut may be of the epoch.
@@ -129,37 +129,35 @@ fn scope_fits(topology: &Topology, scope: &Scope) -> bool
 }
 
 // Whether an item is numbered from 1 and lists what it may.
-fn is_listed(topology: &Topology, item: &Sent) -> bool
+fn is_listed(topology: &Topology, item: &SentRef<'_>) -> bool
     ensures { result ≡ (is_number item.now.seq && list_fits topology.now item.now.triggers) }
 {
-    is_number(item.seq) && list_fits(topology, &item.triggers)
+    is_number(item.seq) && list_fits(topology, item.triggers)
 }
 
-fn is_in_session(topology: &Topology, item: &Sent) -> bool
+fn is_in_session(topology: &Topology, item: &SentRef<'_>) -> bool
     ensures { result ≡ (is_number item.now.session && (is_number item.now.seq && list_fits topology.now item.now.triggers)) }
 {
     is_number(item.session.number()) && is_listed(topology, item)
 }
 
 // Whether an item is for a node of the network, numbered from 1, and lists what it may.
-fn sent_fits(topology: &Topology, item: &Sent) -> bool
+fn sent_fits(topology: &Topology, item: &SentRef<'_>) -> bool
     ensures { result ≡ listed_fits topology.now item.now }
 {
     is_node(topology, item.to) && is_in_session(topology, item)
-}
-
-// Whether all items do.
-fn all_sent_fit(topology: &Topology, sent: &[Sent]) -> bool
-    ensures { result ≡ list_all (listed_fits topology.now) sent.now }
-{
-    sent.iter().all(|item| sent_fits(topology, item))
 }
 
 // Whether all items of an entry do.
 fn items_fit(topology: &Topology, sent: &SentItems) -> bool
     ensures { result ≡ list_all (listed_fits topology.now) sent.now }
 {
-    all_sent_fit(topology, sent.laid_out().as_slice())
+    for place in 0..sent.len() {
+        if !sent_fits(topology, &sent.at(place).unwrap()) {
+            return false;
+        }
+    }
+    true
 }
 
 // Whether a row lists what one of its scope may.
@@ -167,8 +165,8 @@ fn row_lists_fit(topology: &Topology, scope: &Scope, triggers: &Triggers) -> boo
     ensures { result ≡ row_lists_fit topology.now scope.now triggers.now }
 {
     match scope {
-        Scope::One(_) => list_fits(topology, triggers),
-        Scope::All => list_fits(topology, triggers),
+        Scope::One(_) => list_fits(topology, triggers.as_slice()),
+        Scope::All => list_fits(topology, triggers.as_slice()),
         Scope::Nothing => triggers.is_empty(),
     }
 }
@@ -300,7 +298,7 @@ fn sessions_fit(topology: &Topology, rows: &[SessionRow]) -> bool
 fn is_held_back(topology: &Topology, row: &Pending) -> bool
     ensures { result ≡ (is_number row.now.session && list_fits topology.now row.now.triggers) }
 {
-    is_number(row.session.number()) && list_fits(topology, &row.triggers)
+    is_number(row.session.number()) && list_fits(topology, row.triggers.as_slice())
 }
 
 fn is_placed(topology: &Topology, row: &Pending) -> bool
@@ -368,11 +366,15 @@ fn less_row(number: usize, row: &Row) -> Option<usize>
 }
 
 // What is left of a number after the triggers that the items list. None where they list more.
+#[tactic(auto, using(crate::proofs::Listed::same_marks))]
 fn less_sent(number: usize, sent: &SentItems) -> Option<usize>
     ensures some { IfSome result (λ left. left + item_marks sent.now ≡ number) }
     ensures none { IfNone result (number < item_marks sent.now) }
 {
-    less_items(number, sent.laid_out().as_slice())
+    let Some(marks) = sent.marks() else {
+        return None;
+    };
+    less(number, marks)
 }
 
 // What is left of a number after the triggers that the rows list. None where they list more.

@@ -5,11 +5,11 @@ ghost use Rattle.topology.specs.Net.{Net};
 ghost use Rattle.path_vector.specs.Rules.{Rules};
 ghost use Rattle.trigger_log.specs.Entries.{Entry as Logged};
 ghost use Rattle.trigger_log.specs.Entered.{Shows};
-ghost use Rattle.node_core.specs.Counted.{is_long, is_long_row, item_marks, row_marks};
+ghost use Rattle.node_core.specs.Counted.{is_long, is_long_row, row_marks};
 ghost use Rattle.node_core.specs.Counting.{Adds, AreCounts};
 
 use topology::limits::{MOST_MARKS, MOST_TRIGGERS};
-use topology::{NoMemory, Pending, Sent, SentItems, Triggers};
+use topology::{NoMemory, Pending, SentItems, Triggers};
 use trigger_log::Entry;
 
 /// What the entries of a log come to.
@@ -46,21 +46,6 @@ pub(crate) fn less(number: usize, count: usize) -> Option<usize>
         return None;
     }
     Some(number - count)
-}
-
-/// What is left of a number after the triggers that the items list. None where they list more.
-pub(crate) fn less_items(number: usize, items: &[Sent]) -> Option<usize>
-    ensures some { IfSome result (λ left. left + item_marks items.now ≡ number) }
-    ensures none { IfNone result (number < item_marks items.now) }
-{
-    let mut left = number;
-    for item in items {
-        let Some(rest) = less(left, item.triggers.len()) else {
-            return None;
-        };
-        left = rest;
-    }
-    Some(left)
 }
 
 /// What is left of a number after the triggers that the rows of what is held back list. None where they list more.

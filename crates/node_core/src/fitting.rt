@@ -16,7 +16,7 @@ use crate::node::Node;
 use crate::packet_fitting::{are_links, packet_fits};
 use path_vector::Policy;
 use topology::limits::{HIGHEST_PREFERENCE, MOST_EPOCHS, MOST_TRIGGERS};
-use topology::{Item, NodeId, Path, Topology, Trigger, Triggers};
+use topology::{Item, NodeId, Path, Topology, Trigger};
 
 pub(crate) fn is_among(nodes: &[NodeId], node: NodeId) -> bool
     ensures { result ≡ has nodes.now node }
@@ -81,10 +81,10 @@ fn triggers_fit(topology: &Topology, triggers: &[Trigger]) -> bool
 }
 
 // Whether there are some, each of the network, and no more than a list may have.
-pub(crate) fn list_fits(topology: &Topology, triggers: &Triggers) -> bool
+pub(crate) fn list_fits(topology: &Topology, triggers: &[Trigger]) -> bool
     ensures { result ≡ list_fits topology.now triggers.now }
 {
-    triggers.len() <= MOST_TRIGGERS as usize && triggers_fit(topology, triggers.as_slice())
+    triggers.len() <= MOST_TRIGGERS as usize && triggers_fit(topology, triggers)
 }
 
 // Whether an item of a neighbour has names of the network, and numbers in their ranges.
@@ -100,7 +100,7 @@ fn item_fits(topology: &Topology, from: NodeId, item: &Item) -> bool
         } => {
             is_number(*seq)
                 && prefix.place() < topology.prefix_count()
-                && list_fits(topology, triggers)
+                && list_fits(topology, triggers.as_slice())
                 && path_fits(topology, from, path)
         }
         Item::Marker(epoch) => epoch.number() >= 1 && epoch.number() <= MOST_EPOCHS,

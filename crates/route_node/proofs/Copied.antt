@@ -1,5 +1,5 @@
 -- Reports and tables as frames have them.
-use Rattle.std.proofs.Common.{ℕ, ◌+◌, ◌≤◌, ◌<◌, true, false, ◌&&◌, ◌==◌, Option, Some, None, List, [], ◌∷◌, ◌++◌, ◌≡◌, ◌↔◌, map, length, take, get_or, refl, sym, ap, ap₂, ◌∙◌, subst, arith, slice_get, option_map, option_and_then, IfSome, IsSome}
+use Rattle.std.proofs.Common.{ℕ, ◌+◌, ◌≤◌, ◌<◌, true, false, ◌&&◌, ◌==◌, Option, Some, None, List, [], ◌∷◌, ◌++◌, ◌≡◌, ◌↔◌, map, length, take, drop, get_or, refl, sym, ap, ap₂, ◌∙◌, subst, arith, slice_get, option_map, option_and_then, IfSome, IsSome}
 use Rattle.std.specs.List.{list_all}
 use Rattle.std.proofs.lemmas.Option.{slice_get_within, slice_get-get_or, get_or_from_slice_get}
 use Rattle.std.proofs.lemmas.List.{take_more, take_all, map-append}
@@ -45,12 +45,11 @@ row_is r rises items = ap₂ (row_with r) (sym (list_is r.triggers rises)) (sym 
 pub pending_is : (p : Pending) → Ascend p.triggers → p ≡ pending_told p
 pending_is p rises = ap (pending_with p) (sym (list_is p.triggers rises))
 
--- one more item
-pub items_more : (items : List Sent) (i : ℕ) (x : Sent) → i < length items → x ≡ get_or items i x → Ascend x.triggers → map item_told (take i items) ≡ take i items → map item_told (take (i + 1) items) ≡ take (i + 1) items
-items_more items i x inside at rises so_far =
-    let more : take (i + 1) items ≡ take i items ++ x ∷ [] = take_more items i x inside ∙ ap (λ (y : Sent). take i items ++ y ∷ []) (sym at) in
-    let each : map item_told (take i items ++ x ∷ []) ≡ take i items ++ x ∷ [] = map-append item_told (take i items) (x ∷ []) ∙ ap₂ (λ (l : List Sent) (y : Sent). l ++ y ∷ []) so_far (item_is x rises) in
-    ap (map item_told) more ∙ (each ∙ sym more)
+-- those from one place on are told as they are, if those behind that place are
+pub left_told : (items : List Sent) (i : ℕ) (x : Sent) → drop i items ≡ x ∷ drop (i + 1) items → Ascend x.triggers → (map item_told (drop i items) ≡ drop i items → map item_told items ≡ items)
+    → map item_told (drop (i + 1) items) ≡ drop (i + 1) items → map item_told items ≡ items
+left_told items i x here rises so_far left =
+    so_far (ap (map item_told) here ∙ (ap₂ (λ (y : Sent) (l : List Sent). y ∷ l) (item_is x rises) left ∙ sym here))
 
 -- one more copy
 pub copies_more : {A B : Type 0} (told : A → B) (all : List A) (i : ℕ) (x : A) (copy : B) (list more : List B) → i < length all → x ≡ get_or all i x → copy ≡ told x → list ≡ map told (take i all) → more ≡ list ++ copy ∷ []

@@ -10,24 +10,17 @@ ghost use Rattle.route_node.specs.Frames.{item_told, row_told, pending_told, rep
 use incomplete_closure::{PendingRows, Report, Row, Rows, SessionRows};
 use stable_table::Table;
 use std::alloc::Global;
-use topology::{NoMemory, Path, Pending, PrefixId, Sent, SentItems, Topology};
+use topology::{NoMemory, Path, Pending, PrefixId, SentItems, Topology};
 use wire_frames::Paths;
 
 // Each item has the list that its frame has, because the triggers of a list ascend by type.
-fn items_are_told(items: &[Sent])
-    ensures { map item_told items.now ≡ items.now }
-{
-    for item in items {
-        let _triggers = item.triggers.as_slice();
-    }
-}
-
-// The same for the items that an entry sent.
 fn sent_is_told(sent: &SentItems)
     ensures { map item_told sent.now ≡ sent.now }
 {
-    let laid_out = sent.laid_out();
-    items_are_told(laid_out.as_slice());
+    for place in 0..sent.len() {
+        let item = sent.at(place).unwrap();
+        let _triggers = item.triggers;
+    }
 }
 
 fn row_copy(row: &Row) -> Result<Row, NoMemory>

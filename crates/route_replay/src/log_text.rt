@@ -19,7 +19,7 @@ use crate::views::View;
 use node_core::Node;
 use path_vector::{Cause, Policy};
 use std::alloc::AllocError;
-use topology::{NodeId, Path, Scope, Sent, Session, Topology, Trigger};
+use topology::{NodeId, Path, Scope, SentItems, SentRef, Session, Topology, Trigger};
 use trigger_log::Entry;
 use world_core::World;
 
@@ -71,7 +71,7 @@ fn entry_line(
     place_words(out, node, index)?;
     triggers_words(out, entry.triggers.as_slice())?;
     change_words(out, topology, &entry.scope, &entry.cause)?;
-    sent_words(out, entry.sent.laid_out().as_slice())?;
+    sent_words(out, &entry.sent)?;
     out.push('\n')
 }
 
@@ -234,13 +234,20 @@ fn further_words(out: &mut String, nodes: &[NodeId]) -> Result<(), AllocError>
     Ok(())
 }
 
-fn sent_words(out: &mut String, items: &[Sent]) -> Result<(), AllocError>
+// An item: its neighbour, its session and its number.
+fn item_words(out: &mut String, item: &SentRef<'_>) -> Result<(), AllocError>
+    ensures { OnOk result (string_bytes out.new ≡ string_bytes out.old ++ item_text item.now) }
+{
+    session_words(out, " > ", item.to, item.session)?;
+    out.push('/')?;
+    push_number(out, item.seq)
+}
+
+fn sent_words(out: &mut String, items: &SentItems) -> Result<(), AllocError>
     ensures { OnOk result (string_bytes out.new ≡ string_bytes out.old ++ flat_map item_text items.now) }
 {
-    for item in items {
-        session_words(out, " > ", item.to, item.session)?;
-        out.push('/')?;
-        push_number(out, item.seq)?;
+    for place in 0..items.len() {
+        item_words(out, &items.at(place).unwrap())?;
     }
     Ok(())
 }

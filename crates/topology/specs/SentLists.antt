@@ -4,15 +4,14 @@ use Rattle.std.specs.List.{AllByRecursion}
 use Rattle.topology.specs.declared.names.Trigger.{Trigger}
 use Rattle.topology.specs.declared.items.Sent.{Sent}
 use Rattle.topology.specs.declared.sent_items.Kept.{Kept}
-use Rattle.topology.specs.declared.sent_items.Kept.TheVariants.{Nothing, One, Two, Many}
-use Rattle.topology.specs.declared.sent_items.Laid.{Laid}
-use Rattle.topology.specs.declared.sent_items.Laid.TheVariants.{One as LaidOne, Two as LaidTwo, Lent}
+use Rattle.topology.specs.declared.sent_items.Kept.TheVariants.{Nothing, One, Two, Alike, Many}
 
 -- the items, wherever they stand
 abbrev pub listed_sent : Kept → List Sent
 listed_sent Nothing = []
 listed_sent (One items) = items
 listed_sent (Two items) = items
+listed_sent (Alike items) = items.value
 listed_sent (Many items) = items.value.items
 
 -- the item lists this trigger and no other, and its session and its number are numbers of two bytes
@@ -28,13 +27,8 @@ abbrev pub IsUnlike : Kept → Type 0
 IsUnlike Nothing = Unit {0}
 IsUnlike (One items) = Unit {0}
 IsUnlike (Two items) = Unit {0}
+IsUnlike (Alike items) = (t : Trigger) → AreAlike t items.value → ⊥
 IsUnlike (Many items) = (t : Trigger) → AreAlike t items.value.items → ⊥
-
--- the items, laid out or lent
-abbrev pub laid_items : Laid → List Sent
-laid_items (LaidOne items) = items
-laid_items (LaidTwo items) = items
-laid_items (Lent items) = items.now
 
 -- how many triggers the items list, counted once for each item
 abbrev pub marks_of : List Sent → ℕ

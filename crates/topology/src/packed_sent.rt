@@ -1,12 +1,14 @@
 //! One or two items that were sent for one trigger, without a list on the heap.
-ghost use Rattle.std.specs.Prelude.{◌≡◌, ◌≢◌, ◌≤◌, ◌^◌, ◌↔◌, ◌∷◌, [], length, IfSome, IsNone};
+ghost use Rattle.std.specs.Prelude.{◌≡◌, ◌≢◌, ◌≤◌, ◌^◌, ◌↔◌, ◌∷◌, [], length, slice_get, IfSome, IsNone};
 ghost use Rattle.std.specs.List.{list_any};
-ghost use Rattle.topology.specs.declared.items.Sent.{Sent as TheItem};
+ghost use Rattle.topology.specs.Triggers.{Ascend};
 ghost use Rattle.topology.specs.SentLists.{IsSmall, is_above, marks_of};
 
 use crate::items::Sent;
+use crate::sent_ref::SentRef;
 use crate::{NodeId, Session, Trigger, Triggers};
 use std::marker::Model;
+use std::slice;
 
 /// An item that lists one trigger.
 #[derive(Debug, Drop)]
@@ -17,15 +19,13 @@ pub struct OneSent {
     trigger: Trigger,
 }
 
-/// Two items that list the same one trigger, in sessions and with numbers of two bytes. Their parts stand in pairs, so that
-/// nothing is left empty between them, and the trigger stands once.
+/// Two items that list the same one trigger, in sessions and with numbers of two bytes. The trigger stands once.
 #[derive(Debug, Drop)]
 pub struct TwoSent {
     to: (NodeId, NodeId),
     session: (u16, u16),
     seq: (u16, u16),
-    node: NodeId,
-    count: u32,
+    trigger: Trigger,
 }
 
 impl Model for OneSent {
@@ -44,12 +44,12 @@ impl Model for TwoSent {
     ghost Value = { List Sent };
 
     ghost view = { λ t.
-        record { to = t.to.0; session = t.session.0; seq = t.seq.0; triggers = record { node = t.node; count = t.count } ∷ [] }
-        ∷ record { to = t.to.1; session = t.session.1; seq = t.seq.1; triggers = record { node = t.node; count = t.count } ∷ [] } ∷ [] };
+        record { to = t.to.0; session = t.session.0; seq = t.seq.0; triggers = t.trigger ∷ [] }
+        ∷ record { to = t.to.1; session = t.session.1; seq = t.seq.1; triggers = t.trigger ∷ [] } ∷ [] };
 }
 
 // The trigger, where there is one and no other.
-fn only(triggers: &Triggers) -> Option<Trigger>
+pub(crate) fn only(triggers: &Triggers) -> Option<Trigger>
     ensures some { IfSome result (λ trigger. triggers.now ≡ trigger ∷ []) }
     ensures none { IsNone result → (t : Trigger) → triggers.now ≢ t ∷ [] }
 {
@@ -75,7 +75,7 @@ fn only_of_both(one: &Triggers, other: &Triggers) -> Option<Trigger>
 }
 
 // The number, where it has two bytes.
-fn short(number: u32) -> Option<u16>
+pub(crate) fn short(number: u32) -> Option<u16>
     ensures some { IfSome result (λ short. short ≡ number) }
     ensures none { IsNone result ↔ 2 ^ 16 ≤ number }
 {
@@ -109,15 +109,20 @@ impl OneSent {
         }
     }
 
-    pub fn to_array(&self) -> [Sent; 1]
-        ensures { result ≡ self.now }
+    /// The item at this place.
+    pub fn at(&self, place: usize) -> Option<SentRef<'_>>
+        ensures item { result ≡ slice_get self.now place }
+        ensures ascend { IfSome result (λ item. Ascend item.triggers) }
     {
-        [Sent {
-            to: self.to,
-            session: self.session,
-            seq: self.seq,
-            triggers: Triggers::one(self.trigger),
-        }]
+        match place {
+            0 => Some(SentRef {
+                to: self.to,
+                session: self.session,
+                seq: self.seq,
+                triggers: slice::from_ref(&self.trigger),
+            }),
+            _ => None,
+        }
     }
 
     /// How many items there are.
@@ -160,26 +165,8 @@ impl TwoSent {
             to: (one.to, other.to),
             session: (session, other_session),
             seq: (seq, other_seq),
-            node: trigger.node,
-            count: trigger.count,
+            trigger,
         })
-    }
-
-    // An item to this neighbour, in this session and with this number, for the trigger that both list.
-    fn item(&self, to: NodeId, session: u16, seq: u16) -> Sent
-        ensures { (one other : TheItem) → self.now ≡ one ∷ other ∷ [] →
-            result ≡ record { to = to; session = session; seq = seq; triggers = one.triggers } }
-    {
-        let trigger = Trigger {
-            node: self.node,
-            count: self.count,
-        };
-        Sent {
-            to,
-            session: Session::new(session as u32),
-            seq: seq as u32,
-            triggers: Triggers::one(trigger),
-        }
     }
 
     /// The same items again.
@@ -190,17 +177,20 @@ impl TwoSent {
             to: self.to,
             session: self.session,
             seq: self.seq,
-            node: self.node,
-            count: self.count,
+            trigger: self.trigger,
         }
     }
 
-    pub fn to_array(&self) -> [Sent; 2]
-        ensures { result ≡ self.now }
+    /// The item at this place.
+    pub fn at(&self, place: usize) -> Option<SentRef<'_>>
+        ensures item { result ≡ slice_get self.now place }
+        ensures ascend { IfSome result (λ item. Ascend item.triggers) }
     {
-        let one = self.item(self.to.0, self.session.0, self.seq.0);
-        let other = self.item(self.to.1, self.session.1, self.seq.1);
-        [one, other]
+        match place {
+            0 => Some(SentRef::short(self.to.0, self.session.0, self.seq.0, &self.trigger)),
+            1 => Some(SentRef::short(self.to.1, self.session.1, self.seq.1, &self.trigger)),
+            _ => None,
+        }
     }
 
     /// How many items there are.

@@ -1,9 +1,12 @@
 //! The items that an entry sent.
-ghost use Rattle.std.specs.Prelude.{◌≡◌, ◌≤◌, ◌^◌, [], length, IfOk, IsOk, IfSome, IsNone};
+ghost use Rattle.std.specs.Prelude.{◌≡◌, ◌≤◌, ◌<◌, ◌^◌, ◌+◌, ◌↔◌, ◌∷◌, [], drop, length, slice_get, IfOk, IsOk, IfSome, IsSome, IsNone};
 ghost use Rattle.std.specs.List.{list_any};
+ghost use Rattle.topology.specs.Triggers.{Ascend};
 ghost use Rattle.topology.specs.SentLists.{AreAlike, IsUnlike, is_above, listed_sent, marks_of};
 
+use crate::alike_sent::AlikeSent;
 use crate::packed_sent::{OneSent, TwoSent};
+use crate::sent_ref::SentRef;
 use crate::{NoMemory, Sent, Trigger};
 use std::alloc::Global;
 use std::marker::Model;
@@ -23,6 +26,7 @@ enum Kept {
     Nothing,
     One(OneSent),
     Two(TwoSent),
+    Alike(Rc<AlikeSent>),
     Many(Rc<Vec<Sent>>),
 }
 
@@ -64,6 +68,19 @@ fn in_place(items: &[Sent]) -> Option<Kept>
     }
 }
 
+// The items in a block that copies share. Those that list one and the same trigger, in sessions and with numbers below 65,536,
+// take six bytes each.
+fn in_a_block(alloc: Global, items: &[Sent]) -> Result<Kept, NoMemory>
+    ensures items { IfOk result (λ kept. listed_sent kept ≡ items.now) }
+    ensures unlike { IfOk result (λ kept. ((t : Trigger) → AreAlike t items.now → ⊥) → IsUnlike kept) }
+{
+    if let Some(list) = AlikeSent::of(alloc, items)? {
+        return Ok(Kept::Alike(Rc::new(alloc, list)?));
+    }
+    let list = copies(alloc, items)?;
+    Ok(Kept::Many(Rc::new(alloc, list)?))
+}
+
 // How many triggers the items list. None where the count ends.
 fn count_marks(items: &[Sent]) -> Option<usize>
     ensures some { IfSome result (λ marks. marks ≡ marks_of items.now) }
@@ -88,11 +105,9 @@ impl SentItems {
     {
         match in_place(items) {
             Some(kept) => Ok(SentItems { kept }),
-            None => {
-                let list = copies(alloc, items)?;
-                let kept = Kept::Many(Rc::new(alloc, list)?);
-                Ok(SentItems { kept })
-            }
+            None => Ok(SentItems {
+                kept: in_a_block(alloc, items)?,
+            }),
         }
     }
 
@@ -119,6 +134,9 @@ impl SentItems {
             Kept::Two(items) => Ok(SentItems {
                 kept: Kept::Two(items.copy()),
             }),
+            Kept::Alike(items) => Ok(SentItems {
+                kept: Kept::Alike(items.clone()?),
+            }),
             Kept::Many(items) => Ok(SentItems {
                 kept: Kept::Many(items.clone()?),
             }),
@@ -133,6 +151,7 @@ impl SentItems {
             Kept::Nothing => 0,
             Kept::One(item) => item.len(),
             Kept::Two(items) => items.len(),
+            Kept::Alike(items) => items.len(),
             Kept::Many(items) => items.len(),
         }
     }
@@ -146,6 +165,7 @@ impl SentItems {
             Kept::Nothing => Some(0),
             Kept::One(item) => Some(item.marks()),
             Kept::Two(items) => Some(items.marks()),
+            Kept::Alike(items) => Some(items.marks()),
             Kept::Many(items) => count_marks(items.as_slice()),
         }
     }
@@ -158,55 +178,34 @@ impl SentItems {
             Kept::Nothing => false,
             Kept::One(item) => item.any_above(most),
             Kept::Two(items) => items.any_above(most),
+            Kept::Alike(items) => items.any_above(most),
             Kept::Many(items) => items.iter().any(|item| item.triggers.len() > most),
         }
     }
 
-    /// The items one behind the other: a few are laid out, a longer list is lent.
-    pub fn laid_out(&self) -> LaidOut<'_>
-        ensures { result ≡ self.now }
+    // The item at this place.
+    #[inline(always)]
+    fn lent(&self, place: usize) -> Option<SentRef<'_>>
+        ensures item { result ≡ slice_get self.now place }
+        ensures ascend { IfSome result (λ item. Ascend item.triggers) }
     {
-        let items = match &self.kept {
-            Kept::Nothing => Laid::Lent(&[]),
-            Kept::One(item) => Laid::One(item.to_array()),
-            Kept::Two(items) => Laid::Two(items.to_array()),
-            Kept::Many(items) => Laid::Lent(items.as_slice()),
-        };
-        LaidOut { items }
-    }
-}
-
-/// The items that an entry sent, one behind the other.
-#[derive(Drop)]
-pub struct LaidOut<'a> {
-    items: Laid<'a>,
-}
-
-#[derive(Drop)]
-enum Laid<'a> {
-    One([Sent; 1]),
-    Two([Sent; 2]),
-    Lent(&'a [Sent]),
-}
-
-impl<'a> Model for LaidOut<'a> {
-    ghost use Rattle.std.specs.Prelude.{List};
-    ghost use Rattle.topology.specs.declared.items.Sent.{Sent};
-    ghost use Rattle.topology.specs.SentLists.{laid_items};
-
-    ghost Value = { List Sent };
-
-    ghost view = { λ l. laid_items l.items };
-}
-
-impl LaidOut<'_> {
-    pub fn as_slice(&self) -> &[Sent]
-        ensures { result.now ≡ self.now }
-    {
-        match &self.items {
-            Laid::One(items) => items,
-            Laid::Two(items) => items,
-            Laid::Lent(items) => items,
+        match &self.kept {
+            Kept::Nothing => None,
+            Kept::One(item) => item.at(place),
+            Kept::Two(items) => items.at(place),
+            Kept::Alike(items) => items.at(place),
+            Kept::Many(items) => Some(SentRef::of(items.get(place)?)),
         }
+    }
+
+    /// The item at this place, lent as it is kept: nothing is copied.
+    #[inline(always)]
+    pub fn at(&self, place: usize) -> Option<SentRef<'_>>
+        ensures item { result ≡ slice_get self.now place }
+        ensures some { IsSome result ↔ place < length self.now }
+        ensures rest { IfSome result (λ item. drop place self.now ≡ item ∷ drop (place + 1) self.now) }
+        ensures ascend { IfSome result (λ item. Ascend item.triggers) }
+    {
+        self.lent(place)
     }
 }

@@ -1,10 +1,10 @@
 -- Only the body of a report can be longer than its kind allows.
-use Rattle.std.proofs.Common.{◌≡◌, ℕ, suc, ◌+◌, ◌*◌, ◌≤◌, ◌<◌, Bool, true, false, ◌&&◌, cond, List, [], ◌∷◌, ◌++◌, length, Option, Some, None, get_or, take, inl, inr, refl, sym, ap, ◌∙◌, arith}
+use Rattle.std.proofs.Common.{◌≡◌, ℕ, suc, ◌+◌, ◌*◌, ◌≤◌, ◌<◌, Bool, true, false, ◌&&◌, cond, List, [], ◌∷◌, ◌++◌, length, Option, Some, None, get_or, take, drop, inl, inr, refl, sym, ap, ◌∙◌, arith}
 use Rattle.std.specs.Prelude.{nat_le, min}
 use Rattle.std.specs.List.{flat_map}
 use Rattle.std.specs.Int.{w8, w16, w32, w64, to_be_bytes, is_in_range}
 use Rattle.std.proofs.lemmas.Bool.{leb-true, and_parts, cases_lt, lt-leb, le-leb}
-use Rattle.std.proofs.lemmas.List.{length-append, take_more, flat_map_more}
+use Rattle.std.proofs.lemmas.List.{length-append, take_more, drop_all, flat_map_more}
 use Rattle.std.proofs.Math.Nat.{mul-suc, mul-le-mul_left}
 use Rattle.topology.specs.declared.items.Sent.{Sent}
 use Rattle.topology.specs.declared.items.Pending.{Pending}
@@ -297,6 +297,13 @@ grow {A} spells list i n total x lt is one so_far =
     let text : flat_map spells (take (i + 1) list) ≡ flat_map spells (take i list) ++ spells x = ap (flat_map spells) more ∙ sym (flat_map_more spells [] (take i list) x) in
     let long : length (flat_map spells (take (i + 1) list)) ≡ length (flat_map spells (take i list)) + length (spells x) = ap length text ∙ length-append (flat_map spells (take i list)) (spells x) in
     omega arith
+
+-- the whole length, where nothing is left
+pub measured : {A : Type 0} (spells : A → List ℕ) (list : List A) (n total : ℕ) → length list ≤ n → total ≤ 18446744073709551615
+    → min (total + length (flat_map spells (drop n list))) 18446744073709551615 ≡ min (length (flat_map spells list)) 18446744073709551615 → total ≡ min (length (flat_map spells list)) 18446744073709551615
+measured spells list n total past small so_far =
+    let none : length (flat_map spells (drop n list)) ≡ 0 = ap (λ ys. length (flat_map spells ys)) (drop_all n list past) in
+    omega (arith, none, so_far, small)
 
 -- how many bytes a report takes, in each version
 pub plain_wide : (r : TheReport) → 2 + length (report.spells r) ≡ 12 + (length (flat_map (row 0).spells r.rows) + length (flat_map (session_row (0, 0)).spells r.sessions))

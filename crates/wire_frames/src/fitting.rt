@@ -8,6 +8,7 @@ ghost use Rattle.wire_frames.specs.Listing.{more_triggers, triggers as triggers_
 use crate::listed_runs::{ListedItems, ListedRows, PendingRun};
 use crate::paths::Paths;
 use crate::plain::is_plain;
+use crate::sent_runs::fit_items;
 use crate::series::{
     AnyOrder, Items, PathRun, ReportRows, ReportSessions, Rising, RisingTriggers, fit_many,
 };
@@ -18,7 +19,8 @@ use topology::limits::{
     MOST_PREFIXES, MOST_SESSIONS, MOST_TRAIL, MOST_TRIGGERS, MOST_UPDATES,
 };
 use topology::{
-    Ballot, Epoch, NodeId, Path, Pending, PrefixId, Scope, Sent, Session, Trigger, Triggers,
+    Ballot, Epoch, NodeId, Path, Pending, PrefixId, Scope, SentItems, SentRef, Session, Trigger,
+    Triggers,
 };
 
 #[tactic(auto, unfolding(crate::specs::Fields::node))]
@@ -131,10 +133,10 @@ pub(crate) fn one_trigger_fits(triggers: &Triggers) -> bool
 }
 
 // Whether the list has exactly this trigger.
-fn stands_alone(triggers: &Triggers, trigger: Trigger) -> bool
+fn stands_alone(triggers: &[Trigger], trigger: Trigger) -> bool
     ensures { result ≡ is_alone trigger triggers.now }
 {
-    match triggers.as_slice() {
+    match triggers {
         [only] => *only == trigger,
         _ => false,
     }
@@ -148,10 +150,10 @@ pub(crate) fn ballot_fits(attempt: Ballot) -> bool
 }
 
 #[tactic(auto, unfolding(crate::specs::Fields::sent))]
-pub(crate) fn sent_fits(item: &Sent, trigger: Trigger) -> bool
+pub(crate) fn sent_fits(item: &SentRef<'_>, trigger: Trigger) -> bool
     ensures { result ≡ (sent trigger).fits item.now }
 {
-    stands_alone(&item.triggers, trigger)
+    stands_alone(item.triggers, trigger)
         && node_fits(item.to)
         && session_fits(item.session)
         && positive_fits(item.seq)
@@ -236,13 +238,13 @@ pub(crate) fn named_fits(accepted: &Option<(Ballot, Value)>) -> bool
 }
 
 #[tactic(auto, unfolding(crate::specs::Fields::more_items))]
-fn items_fits(list: &[Sent], trigger: Trigger, before: u32) -> bool
+fn items_fits(list: &SentItems, trigger: Trigger, before: u32) -> bool
     ensures fits { result ≡ (listed (more_items before) items trigger).fits list.now }
     ensures few { IsTrue result → before + length list.now ≤ MOST_UPDATES }
 {
     before <= MOST_UPDATES
         && list.len() <= (MOST_UPDATES - before) as usize
-        && fit_many(&mut Items::of(trigger), list)
+        && fit_items(&mut Items::of(trigger), list)
 }
 
 #[tactic(auto, unfolding(crate::specs::Fields::row, crate::specs::Fields::one_trigger))]
@@ -252,11 +254,7 @@ pub(crate) fn row_fits(entry: &Row, before: u32) -> bool
 {
     one_trigger_fits(&entry.triggers)
         && scope_fits(entry.scope)
-        && items_fits(
-            entry.sent.laid_out().as_slice(),
-            first_of(&entry.triggers),
-            before,
-        )
+        && items_fits(&entry.sent, first_of(&entry.triggers), before)
 }
 
 fn down_fits(named_trigger: Option<Trigger>) -> bool
@@ -329,19 +327,19 @@ pub(crate) fn update_triggers_fit(triggers: &Triggers) -> bool
 
 /// Whether the item may follow lists with `before` triggers in all.
 #[tactic(auto, unfolding(crate::specs::Listing::item))]
-pub(crate) fn item_fits(one: &Sent, before: u32) -> bool
+pub(crate) fn item_fits(one: &SentRef<'_>, before: u32) -> bool
     ensures fits { result ≡ (item before).fits one.now }
     ensures few { IsTrue result → before + length one.now.triggers ≤ MOST_MARKS }
 {
     node_fits(one.to)
         && session_fits(one.session)
         && positive_fits(one.seq)
-        && list_fits(one.triggers.as_slice(), 1, before)
+        && list_fits(one.triggers, 1, before)
 }
 
 /// Whether the items may stand in a row, after rows with `before` items in all.
 #[tactic(auto, unfolding(crate::specs::Fields::more_items))]
-pub(crate) fn items_fit(row: &mut ListedItems, list: &[Sent], before: u32) -> bool
+pub(crate) fn items_fit(row: &mut ListedItems, list: &SentItems, before: u32) -> bool
     ensures fits { result ≡ (listed (more_items before) listed_items row.old).fits list.now }
     ensures reached { IsTrue result → row.new ≡ reached listed_items row.old list.now }
     ensures few { IsTrue result → before + length list.now ≤ MOST_UPDATES }
@@ -349,7 +347,7 @@ pub(crate) fn items_fit(row: &mut ListedItems, list: &[Sent], before: u32) -> bo
     if before > MOST_UPDATES || list.len() > (MOST_UPDATES - before) as usize {
         return false;
     }
-    fit_many(row, list)
+    fit_items(row, list)
 }
 
 /// Whether the scope may stand in a row; `none` says that the row lists no triggers.

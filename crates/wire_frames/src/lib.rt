@@ -58,6 +58,7 @@ mod parts;
 pub mod paths;
 mod plain;
 mod reading;
+mod sent_runs;
 mod series;
 pub mod tags;
 mod writing;

@@ -2,7 +2,7 @@
 ghost use Rattle.std.specs.Prelude.{◌≡◌, ◌+◌, ◌≤◌, List, length};
 ghost use Rattle.topology.specs.declared.limits.TheConstants.{MOST_MARKS, MOST_UPDATES};
 ghost use Rattle.topology.specs.declared.names.Trigger.{Trigger as AnyTrigger};
-ghost use Rattle.wire_frames.specs.Listing.{begun, no_rows, nothing_pending, only_of, with_row};
+ghost use Rattle.wire_frames.specs.Listing.{begun, listed_items, no_rows, nothing_pending, only_of, with_row};
 
 use crate::FrameKind;
 use crate::faults::ReadError;
@@ -10,12 +10,13 @@ use crate::fitting::{item_fits, items_fit, list_fits, pending_fits, scope_fits_b
 use crate::owning::read_triggers;
 use crate::plain::{only_of, stands_alone};
 use crate::reading::Fields;
-use crate::series::{Measured, RisingTriggers, Run, length_many, read_many, skip_many};
+use crate::sent_runs::{SentRun, length_items};
+use crate::series::{Measured, RisingTriggers, Run, Told, length_many, read_many, skip_many};
 use crate::writing::{put_listed_item, put_listed_row, put_pending};
 use incomplete_closure::Row;
 use std::alloc::Global;
 use std::marker::Model;
-use topology::{NoMemory, NodeId, Pending, PrefixId, Sent, SentItems, Trigger};
+use topology::{NoMemory, NodeId, Pending, PrefixId, Sent, SentItems, SentRef, Trigger};
 
 /// What must be known while the items of a row are read: the only trigger of the row, if it has just one; how many
 /// triggers the report has listed so far; and whether the row and the items so far list the same one trigger.
@@ -62,13 +63,6 @@ impl ListedItems {
     }
 }
 
-impl Measured for ListedItems {
-    #[tactic(auto, using(crate::proofs::Short::listed_item_wide))]
-    fn length(item: &Sent) -> usize {
-        length_many::<RisingTriggers>(item.triggers.as_slice()).saturating_add(12)
-    }
-}
-
 impl Run for ListedItems {
     ghost use Rattle.wire_frames.specs.Listing.{listed_items};
 
@@ -102,19 +96,27 @@ impl Run for ListedItems {
             triggers,
         })
     }
+}
 
-    fn fits(&mut self, item: &Sent) -> bool {
+impl SentRun for ListedItems {
+    ghost lent = { listed_items };
+
+    fn fits(&mut self, item: &SentRef<'_>) -> bool {
         if !item_fits(item, self.marks) {
             return false;
         }
-        let triggers = item.triggers.as_slice();
-        self.marks += triggers.len() as u32;
-        self.plain = self.plain && stands_alone(self.only, only_of(triggers));
+        self.marks += item.triggers.len() as u32;
+        self.plain = self.plain && stands_alone(self.only, only_of(item.triggers));
         true
     }
 
-    fn write(item: &Sent, out: &mut Vec<u8>) -> Result<(), NoMemory> {
+    fn write(item: &SentRef<'_>, out: &mut Vec<u8>) -> Result<(), NoMemory> {
         put_listed_item(out, item)
+    }
+
+    #[tactic(auto, using(crate::proofs::Short::listed_item_wide))]
+    fn length(item: &SentRef<'_>) -> usize {
+        length_many::<RisingTriggers>(item.triggers).saturating_add(12)
     }
 }
 
@@ -176,7 +178,7 @@ impl Measured for ListedRows {
     #[tactic(auto, using(crate::proofs::Short::listed_row_wide))]
     fn length(item: &Row) -> usize {
         let triggers = length_many::<RisingTriggers>(item.triggers.as_slice());
-        let items = length_many::<ListedItems>(item.sent.laid_out().as_slice());
+        let items = length_items::<ListedItems>(&item.sent);
         triggers.saturating_add(items).saturating_add(6)
     }
 }
@@ -213,7 +215,9 @@ impl Run for ListedRows {
             sent: SentItems::of(alloc, &sent)?,
         })
     }
+}
 
+impl Told for ListedRows {
     #[tactic(auto, unfolding(crate::specs::Listing::listed_row))]
     fn fits(&mut self, item: &Row) -> bool {
         let triggers = item.triggers.as_slice();
@@ -224,8 +228,7 @@ impl Run for ListedRows {
             return false;
         }
         let mut row = ListedItems::begun(self.marks, triggers);
-        let items = item.sent.laid_out();
-        if !items_fit(&mut row, items.as_slice(), self.items) {
+        if !items_fit(&mut row, &item.sent, self.items) {
             return false;
         }
         self.pass(item.sent.len() as u32, &row);
@@ -307,7 +310,9 @@ impl Run for PendingRun {
             triggers,
         })
     }
+}
 
+impl Told for PendingRun {
     fn fits(&mut self, item: &Pending) -> bool {
         if !pending_fits(item, self.nbr, self.prefix, self.marks) {
             return false;

@@ -6,7 +6,7 @@ ghost use Rattle.topology.specs.declared.names.Trigger.{Trigger as AnyTrigger};
 ghost use Rattle.wire_frames.specs.Listing.{only_of, has_alone, is_plain_row, is_plain};
 
 use incomplete_closure::{Report, Row};
-use topology::{Sent, Trigger};
+use topology::{SentItems, Trigger};
 
 /// The trigger of a list if it has just one.
 pub(crate) fn only_of(triggers: &[Trigger]) -> Option<Trigger>
@@ -33,17 +33,23 @@ pub(crate) fn stands_alone(named_trigger: Option<Trigger>, only: Option<Trigger>
 }
 
 // Whether each item lists exactly this trigger.
-fn are_alone(named_trigger: Trigger, items: &[Sent]) -> bool
-    ensures { result ≡ list_all (λ (item : AnySent). has_alone (Some named_trigger) item.triggers) items.now }
+fn are_alone(named_trigger: &Trigger, items: &SentItems) -> bool
+    ensures { result ≡ list_all (λ (item : AnySent). has_alone (Some named_trigger.now) item.triggers) items.now }
 {
-    items.iter().all(|item| stands_alone(Some(named_trigger), only_of(item.triggers.as_slice())))
+    for place in 0..items.len() {
+        let item = items.at(place).unwrap();
+        if !stands_alone(Some(*named_trigger), only_of(item.triggers)) {
+            return false;
+        }
+    }
+    true
 }
 
 fn row_is_plain(row: &Row) -> bool
     ensures { result ≡ is_plain_row row.now }
 {
     match row.triggers.as_slice() {
-        [named_trigger] => are_alone(*named_trigger, row.sent.laid_out().as_slice()),
+        [named_trigger] => are_alone(named_trigger, &row.sent),
         _ => false,
     }
 }

@@ -3,18 +3,19 @@ ghost use Rattle.std.specs.Prelude.{◌≡◌, ◌++◌, ◌-◌, ◌^◌, OnOk,
 ghost use Rattle.std.specs.List.{flat_map};
 ghost use Rattle.wire_frames.specs.Shown.{Gives};
 ghost use Rattle.wire_frames.specs.Formats.{Series, stepped, reached, skipped, many_at, many_fit};
-ghost use Rattle.wire_frames.specs.Fields.{no_trigger};
+ghost use Rattle.wire_frames.specs.Fields.{items, no_trigger};
 
 use crate::FrameKind;
 use crate::faults::ReadError;
 use crate::fitting::{node_fits, path_fits, row_fits, sent_fits, session_row_fits, trigger_fits};
 use crate::owning::read_path;
 use crate::reading::Fields;
+use crate::sent_runs::{SentRun, length_items};
 use crate::writing::{put_node, put_path, put_row, put_sent, put_session_row, put_trigger};
 use incomplete_closure::{Row, SessionRow};
 use std::alloc::Global;
 use std::marker::Model;
-use topology::{NoMemory, NodeId, Path, Sent, SentItems, Session, Trigger, Triggers};
+use topology::{NoMemory, NodeId, Path, Sent, SentItems, SentRef, Session, Trigger, Triggers};
 
 /// Elements of one kind. The value holds what must be known of the elements before.
 pub(crate) trait Run {
@@ -31,20 +32,23 @@ pub(crate) trait Run {
         ensures read { IfOk result (λ x. (series.at self.old).reads fields.old
             ≡ Ok (x, fields.new)) }
         ensures step { IfOk result (λ x. self.new ≡ series.step self.old x) };
+}
 
+/// Elements that stand in slices.
+pub(crate) trait Told: Run {
     /// Whether the element has a spelling after those before it. Takes no memory.
     fn fits(&mut self, item: &Self::Item) -> bool
-        ensures fits { result ≡ (series.at self.old).fits item.now }
-        ensures step { IsTrue result → self.new ≡ series.step self.old item.now };
+        ensures fits { result ≡ (Self.series.at self.old).fits item.now }
+        ensures step { IsTrue result → self.new ≡ Self.series.step self.old item.now };
 
     /// Writes one element at the end.
     fn write(item: &Self::Item, out: &mut Vec<u8>) -> Result<(), NoMemory>
-        ensures { OnOk result (out.new.items ≡ out.old.items ++ series.spells item.now) };
+        ensures { OnOk result (out.new.items ≡ out.old.items ++ Self.series.spells item.now) };
 }
 
 /// Elements whose lengths can be added up.
-pub(crate) trait Measured: Run {
     /// The number of bytes of the element, up to the highest number.
+pub(crate) trait Measured: Told {
     fn length(item: &Self::Item) -> usize
         ensures { result ≡ min (length (Self.series.spells item.now)) (2 ^ 64 - 1) };
 }
@@ -69,7 +73,7 @@ pub(crate) fn read_many<R: Run>(
 }
 
 /// Whether the elements have a spelling, one after another. Takes no memory.
-pub(crate) fn fit_many<R: Run>(run: &mut R, items: &[R::Item]) -> bool
+pub(crate) fn fit_many<R: Told>(run: &mut R, items: &[R::Item]) -> bool
     ensures fits { result ≡ many_fit R.series run.old items.now }
     ensures reached { IsTrue result → run.new ≡ reached R.series run.old items.now }
 {
@@ -82,7 +86,7 @@ pub(crate) fn fit_many<R: Run>(run: &mut R, items: &[R::Item]) -> bool
 }
 
 /// Writes the elements at the end, one after another.
-pub(crate) fn write_many<R: Run>(items: &[R::Item], out: &mut Vec<u8>) -> Result<(), NoMemory>
+pub(crate) fn write_many<R: Told>(items: &[R::Item], out: &mut Vec<u8>) -> Result<(), NoMemory>
     ensures { OnOk result (out.new.items ≡ out.old.items ++ flat_map R.series.spells items.now) }
 {
     for item in items {
@@ -144,7 +148,9 @@ impl Run for AnyOrder {
     fn read(&mut self, _alloc: Global, fields: &mut Fields<'_>) -> Result<NodeId, ReadError> {
         Ok(fields.node()?)
     }
+}
 
+impl Told for AnyOrder {
     fn fits(&mut self, item: &NodeId) -> bool {
         node_fits(*item)
     }
@@ -203,7 +209,9 @@ impl Run for Rising {
         self.last = node;
         Ok(node)
     }
+}
 
+impl Told for Rising {
     fn fits(&mut self, item: &NodeId) -> bool {
         if !node_fits(*item) || *item <= self.last {
             return false;
@@ -285,7 +293,9 @@ impl Run for RisingTriggers {
         self.last = Trigger { node, count };
         Ok(Trigger { node, count })
     }
+}
 
+impl Told for RisingTriggers {
     fn fits(&mut self, item: &Trigger) -> bool {
         let Trigger { node, count } = *item;
         if !trigger_fits(Trigger { node, count })
@@ -325,13 +335,6 @@ impl Items {
     }
 }
 
-impl Measured for Items {
-    #[tactic(auto, using(crate::proofs::Short::item_wide))]
-    fn length(_item: &Sent) -> usize {
-        10
-    }
-}
-
 impl Run for Items {
     ghost use Rattle.wire_frames.specs.Fields.{items};
 
@@ -347,13 +350,23 @@ impl Run for Items {
     fn read(&mut self, _alloc: Global, fields: &mut Fields<'_>) -> Result<Sent, ReadError> {
         Ok(fields.sent(self.trigger)?)
     }
+}
 
-    fn fits(&mut self, item: &Sent) -> bool {
+impl SentRun for Items {
+    ghost lent = { items };
+
+    fn fits(&mut self, item: &SentRef<'_>) -> bool {
         sent_fits(item, self.trigger)
     }
 
-    fn write(item: &Sent, out: &mut Vec<u8>) -> Result<(), NoMemory> {
+    fn write(item: &SentRef<'_>, out: &mut Vec<u8>) -> Result<(), NoMemory> {
         put_sent(out, item)
+    }
+
+    #[tactic(auto, using(crate::proofs::Short::item_wide))]
+    fn length(item: &SentRef<'_>) -> usize {
+        let _to = item.to;
+        10
     }
 }
 
@@ -383,7 +396,7 @@ impl ReportRows {
 impl Measured for ReportRows {
     #[tactic(auto, using(crate::proofs::Short::row_wide))]
     fn length(item: &Row) -> usize {
-        length_many::<Items>(item.sent.laid_out().as_slice()).saturating_add(10)
+        length_items::<Items>(&item.sent).saturating_add(10)
     }
 }
 
@@ -417,7 +430,9 @@ impl Run for ReportRows {
             sent: SentItems::of(alloc, &sent)?,
         })
     }
+}
 
+impl Told for ReportRows {
     fn fits(&mut self, item: &Row) -> bool {
         if !row_fits(item, self.before) {
             return false;
@@ -497,7 +512,9 @@ impl Run for ReportSessions {
             down,
         })
     }
+}
 
+impl Told for ReportSessions {
     fn fits(&mut self, item: &SessionRow) -> bool {
         if !session_row_fits(item, self.nbr, self.session) {
             return false;
@@ -538,7 +555,9 @@ impl Run for PathRun {
     fn read(&mut self, alloc: Global, fields: &mut Fields<'_>) -> Result<Option<Path>, ReadError> {
         read_path(alloc, fields)
     }
+}
 
+impl Told for PathRun {
     fn fits(&mut self, item: &Option<Path>) -> bool {
         path_fits(item)
     }

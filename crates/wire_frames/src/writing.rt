@@ -10,13 +10,14 @@ use crate::fitting::first_of;
 use crate::listed_runs::{ListedItems, ListedRows, PendingRun};
 use crate::paths::Paths;
 use crate::plain::is_plain;
+use crate::sent_runs::write_items;
 use crate::series::{
     AnyOrder, Items, PathRun, ReportRows, ReportSessions, RisingTriggers, write_many,
 };
 use epoch_packet::{End, Mode, Packet};
 use incomplete_closure::{Report, Row, SessionRow, Value};
 use topology::{
-    Ballot, Epoch, NoMemory, NodeId, Path, Pending, PrefixId, Scope, Sent, Session, Trigger,
+    Ballot, Epoch, NoMemory, NodeId, Path, Pending, PrefixId, Scope, SentRef, Session, Trigger,
     Triggers,
 };
 
@@ -171,7 +172,7 @@ pub(crate) fn put_ballot(out: &mut Vec<u8>, attempt: Ballot) -> Result<(), NoMem
 }
 
 #[tactic(auto, unfolding(crate::specs::Fields::sent))]
-pub(crate) fn put_sent(out: &mut Vec<u8>, item: &Sent) -> Result<(), NoMemory>
+pub(crate) fn put_sent(out: &mut Vec<u8>, item: &SentRef<'_>) -> Result<(), NoMemory>
     ensures { OnOk result (out.new.items ≡ out.old.items ++ (sent no_trigger).spells item.now) }
 {
     put_node(out, item.to)?;
@@ -243,8 +244,7 @@ pub(crate) fn put_row(out: &mut Vec<u8>, entry: &Row) -> Result<(), NoMemory>
     put_trigger(out, first_of(&entry.triggers))?;
     put_scope(out, entry.scope)?;
     put_many(out, entry.sent.len())?;
-    let items = entry.sent.laid_out();
-    write_many::<Items>(items.as_slice(), out)
+    write_items::<Items>(&entry.sent, out)
 }
 
 fn put_down(out: &mut Vec<u8>, named_trigger: Option<Trigger>) -> Result<(), NoMemory>
@@ -297,13 +297,13 @@ pub(crate) fn put_update_triggers(out: &mut Vec<u8>, triggers: &Triggers) -> Res
 }
 
 #[tactic(auto, unfolding(crate::specs::Listing::item, crate::specs::Listing::triggers, crate::specs::Listing::more_triggers))]
-pub(crate) fn put_listed_item(out: &mut Vec<u8>, one: &Sent) -> Result<(), NoMemory>
+pub(crate) fn put_listed_item(out: &mut Vec<u8>, one: &SentRef<'_>) -> Result<(), NoMemory>
     ensures { OnOk result (out.new.items ≡ out.old.items ++ (item 0).spells one.now) }
 {
     put_node(out, one.to)?;
     put_session(out, one.session)?;
     put_positive(out, one.seq)?;
-    put_triggers(out, one.triggers.as_slice())
+    put_triggers(out, one.triggers)
 }
 
 #[tactic(auto, unfolding(crate::specs::Fields::scope, crate::specs::Fields::more_items, crate::specs::Listing::listed_row, crate::specs::Listing::scope_beside, crate::specs::Listing::triggers, crate::specs::Listing::more_triggers))]
@@ -313,8 +313,7 @@ pub(crate) fn put_listed_row(out: &mut Vec<u8>, entry: &Row) -> Result<(), NoMem
     put_triggers(out, entry.triggers.as_slice())?;
     put_scope(out, entry.scope)?;
     put_many(out, entry.sent.len())?;
-    let items = entry.sent.laid_out();
-    write_many::<ListedItems>(items.as_slice(), out)
+    write_items::<ListedItems>(&entry.sent, out)
 }
 
 #[tactic(auto, unfolding(crate::specs::Listing::pending_row, crate::specs::Listing::triggers, crate::specs::Listing::more_triggers))]

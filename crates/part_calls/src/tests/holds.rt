@@ -7,7 +7,8 @@ use std::alloc::Global;
 use std::process::Abort;
 use std::test::Fail;
 use topology::{
-    Epoch, Item, NodeId, Pending, PrefixId, Relation, Scope, Session, Topology, Trigger, Triggers,
+    Epoch, Item, NodeId, Pending, PrefixId, Relation, Scope, SentItems, Session, Topology, Trigger,
+    Triggers,
 };
 use trigger_log::{NodeLog, Outgoing};
 
@@ -109,6 +110,14 @@ fn flushes(rt: &impl Abort, alloc: Global, net: &Topology, log: Log) -> Result<(
     Ok(())
 }
 
+// The first item lists all of these.
+fn lists_all(rt: &impl Abort, sent: &SentItems, all: &[Trigger]) {
+    match sent.at(0) {
+        None => assert!(rt; false),
+        Some(item) => assert!(rt; item.triggers == all),
+    }
+}
+
 // A close lists its own trigger, and those of all updates that were held back.
 fn closes(rt: &impl Abort, alloc: Global, net: &Topology, log: Log) -> Result<(), Fail> {
     let session = Session::new(1);
@@ -123,10 +132,9 @@ fn closes(rt: &impl Abort, alloc: Global, net: &Topology, log: Log) -> Result<()
     match log.entry(log.len()) {
         None => assert!(rt; false),
         Some(entry) => {
-            let sent = entry.sent.laid_out();
             let all = Triggers::new(counted(alloc)?)?.ok_or("triggers that ascend")?;
-            assert!(rt; sent.as_slice().len() == 1);
-            assert!(rt; sent.as_slice()[0].triggers.as_slice() == all.as_slice());
+            assert!(rt; entry.sent.len() == 1);
+            lists_all(rt, &entry.sent, all.as_slice());
         }
     }
     Ok(())

@@ -110,7 +110,7 @@ fn is_last<P: Policy + Copy>(rt: &impl Abort, log: &NodeLog<P>, trigger: &Trigge
     match log.entry(log.len()) {
         None => assert!(rt; false),
         Some(entry) => {
-            is_alone(rt, &entry.triggers, trigger);
+            is_alone(rt, entry.triggers.as_slice(), trigger);
             are_items(rt, &entry.sent, items, trigger);
         }
     }

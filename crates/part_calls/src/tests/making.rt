@@ -2,9 +2,7 @@
 use std::alloc::Global;
 use std::process::Abort;
 use std::test::Fail;
-use topology::{
-    Ballot, NodeId, Path, Prefix, Relation, Sent, SentItems, Session, Topology, Trigger, Triggers,
-};
+use topology::{Ballot, NodeId, Path, Prefix, Relation, SentItems, Session, Topology, Trigger};
 
 /// Neighbour, session and number of each item.
 pub(super) type Items = &'static [(u16, u32, u32)];
@@ -127,33 +125,32 @@ pub(super) fn nodes_in(alloc: Global, word: &str) -> Result<Vec<NodeId>, Fail> {
 }
 
 /// Checks that the list has exactly this trigger.
-pub(super) fn is_alone(rt: &impl Abort, triggers: &Triggers, trigger: &Trigger) {
-    assert!(rt; triggers.as_slice() == [*trigger].as_slice());
+pub(super) fn is_alone(rt: &impl Abort, triggers: &[Trigger], trigger: &Trigger) {
+    assert!(rt; triggers == [*trigger].as_slice());
 }
 
 fn is_item(
     rt: &impl Abort,
-    found: Option<&Sent>,
+    sent: &SentItems,
+    place: usize,
     (to, session, seq): (u16, u32, u32),
     trigger: &Trigger,
 ) {
-    match found {
+    match sent.at(place) {
         None => assert!(rt; false),
         Some(item) => {
             assert!(rt; item.to == NodeId::new(to));
             assert!(rt; item.session == Session::new(session));
             assert!(rt; item.seq == seq);
-            is_alone(rt, &item.triggers, trigger);
+            is_alone(rt, item.triggers, trigger);
         }
     }
 }
 
 /// Checks that these items were sent, each for this trigger.
 pub(super) fn are_items(rt: &impl Abort, sent: &SentItems, items: Items, trigger: &Trigger) {
-    let laid_out = sent.laid_out();
-    let sent = laid_out.as_slice();
     assert!(rt; sent.len() == items.len());
     for i in 0..items.len() {
-        is_item(rt, sent.get(i), items[i], trigger);
+        is_item(rt, sent, i, items[i], trigger);
     }
 }

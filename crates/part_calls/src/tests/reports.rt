@@ -86,7 +86,7 @@ fn play(alloc: Global, net: &Topology, start: Log) -> Result<Log, Fail> {
 
 fn shows_row(rt: &impl Abort, row: &Row, (node, count, one, items): (u16, u32, bool, Items)) {
     let own = trigger(node, count);
-    is_alone(rt, &row.triggers, &own);
+    is_alone(rt, row.triggers.as_slice(), &own);
     assert!(rt; row.scope == scope(one));
     are_items(rt, &row.sent, items, &own);
 }

@@ -5,10 +5,10 @@ use Rattle.incomplete_closure.specs.Sizes.{carried_by}
 use Rattle.incomplete_closure.proofs.Gathering.{open_item}
 use Rattle.incomplete_closure.proofs.opening.gather_row.Given as goal
 
-abbrev pub invariant-loop-item : goal.invariant-loop-item
-invariant-loop-item g l =
+abbrev pub invariant-loop-place : goal.invariant-loop-place
+invariant-loop-place g l =
     ((reports : List Report) → IsTableOf reports l.table →
-    l.opened.items ++ flat_map (open_item reports l.from) (drop l.item-index l.item-items)
-    ≡ l.fn.opened.items ++ flat_map (open_item reports l.from) l.item-items)
-    × (l.steps + (length (drop l.item-index l.item-items) + carried_by (drop l.item-index l.item-items)) ≤ l.fn.steps + (length l.item-items + carried_by l.item-items))
-    × (l.fn.steps + l.item-index ≤ l.steps)
+    l.opened.items ++ flat_map (open_item reports l.from) (drop l.place l.row.sent)
+    ≡ l.fn.opened.items ++ flat_map (open_item reports l.from) l.row.sent)
+    × (l.steps + (length (drop l.place l.row.sent) + carried_by (drop l.place l.row.sent)) ≤ l.fn.steps + (length l.row.sent + carried_by l.row.sent))
+    × (l.fn.steps + l.place ≤ l.steps)

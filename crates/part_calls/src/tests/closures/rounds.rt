@@ -6,7 +6,7 @@ use std::alloc::Global;
 use std::collections::BTreeSet;
 use std::rc::Rc;
 use std::test::Fail;
-use topology::{NodeId, Scope, Sent, Session, Trigger, Triggers};
+use topology::{NodeId, Scope, Sent, SentRef, Session, Trigger, Triggers};
 
 type Marks = BTreeSet<Trigger>;
 
@@ -32,25 +32,37 @@ fn is_due(marks: &Marks, row: Option<SessionRow>) -> bool {
     }
 }
 
-fn mark_all(marks: &mut Marks, triggers: &Triggers) -> Result<(), Fail> {
-    for trigger in triggers.as_slice() {
+fn mark_all(marks: &mut Marks, triggers: &[Trigger]) -> Result<(), Fail> {
+    for trigger in triggers {
         marks.insert(*trigger)?;
     }
     Ok(())
 }
 
 // Marks the triggers of an item that the other report misses, if they are due.
-fn mark_item(marks: &mut Marks, from: &Report, to: &Report, item: &Sent) -> Result<(), Fail> {
-    if missing(from, to, item) && is_due(marks, session_of(to, from.node, item.session)) {
-        mark_all(marks, &item.triggers)?;
+fn mark_item(
+    marks: &mut Marks,
+    from: &Report,
+    to: &Report,
+    item: &SentRef<'_>,
+) -> Result<(), Fail> {
+    let sent = Sent {
+        to: item.to,
+        session: item.session,
+        seq: item.seq,
+        triggers: Triggers::none(),
+    };
+    if missing(from, to, &sent) && is_due(marks, session_of(to, from.node, item.session)) {
+        mark_all(marks, item.triggers)?;
     }
     Ok(())
 }
 
 fn mark_items_of(marks: &mut Marks, from: &Report, to: &Report, row: &Row) -> Result<(), Fail> {
-    let sent = row.sent.laid_out();
-    for item in sent.as_slice() {
-        mark_item(marks, from, to, item)?;
+    for place in 0..row.sent.len() {
+        if let Some(item) = row.sent.at(place) {
+            mark_item(marks, from, to, &item)?;
+        }
     }
     Ok(())
 }
@@ -59,7 +71,7 @@ fn mark_items_of(marks: &mut Marks, from: &Report, to: &Report, row: &Row) -> Re
 fn mark_pending(marks: &mut Marks, from: &Report, to: &Report) -> Result<(), Fail> {
     for row in from.pending.as_slice() {
         if row.to == to.node && is_due(marks, session_of(to, from.node, row.session)) {
-            mark_all(marks, &row.triggers)?;
+            mark_all(marks, row.triggers.as_slice())?;
         }
     }
     Ok(())
@@ -106,10 +118,10 @@ fn mark_rows(marks: &mut Marks, report: &Report) -> Result<(), Fail> {
     let rows = report.rows.as_slice();
     for place in 0..rows.len() {
         if is_marked(marks, &rows[place]) {
-            mark_all(marks, &rows[place].triggers)?;
+            mark_all(marks, rows[place].triggers.as_slice())?;
             for later in (place + 1)..rows.len() {
                 if shares(&rows[place].scope, &rows[later].scope) {
-                    mark_all(marks, &rows[later].triggers)?;
+                    mark_all(marks, rows[later].triggers.as_slice())?;
                 }
             }
         }
@@ -131,10 +143,7 @@ fn count_listed(reports: &[Rc<Report>]) -> usize {
     for report in reports {
         for row in report.rows.as_slice() {
             count = count.saturating_add(row.triggers.len());
-            let sent = row.sent.laid_out();
-            for item in sent.as_slice() {
-                count = count.saturating_add(item.triggers.len());
-            }
+            count = count.saturating_add(row.sent.marks().unwrap_or(usize::MAX));
         }
         for row in report.pending.as_slice() {
             count = count.saturating_add(row.triggers.len());

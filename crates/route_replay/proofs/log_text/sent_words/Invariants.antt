@@ -5,5 +5,5 @@ use Rattle.route_replay.specs.LogText.{item_text}
 use Rattle.route_replay.proofs.log_text.sent_words.Given as goal
 
 -- the items so far are written
-abbrev pub invariant-loop-item : goal.invariant-loop-item
-invariant-loop-item l = string_bytes l.out ≡ string_bytes l.initial.out ++ flat_map item_text (take l.item-index l.items)
+abbrev pub invariant-loop-place : goal.invariant-loop-place
+invariant-loop-place l = string_bytes l.out ≡ string_bytes l.initial.out ++ flat_map item_text (take l.place l.items)
