@@ -194,10 +194,10 @@ steps_searched names rs os roots graph before named rows wired searched a b c is
     let those = ap length is in
     omega arith
 
-pub steps_gathered : (rs : List Report) (before after : ℕ) → after ≤ before + (sessions_of rs + (entries_of rs + carried_of rs)) → after ≤ before + 6 * size_of rs
+pub steps_gathered : (rs : List Report) (before after : ℕ) → after ≤ before + (2 * sessions_of rs + (entries_of rs + carried_of rs)) → after ≤ before + 6 * size_of rs
 steps_gathered rs before after h = omega arith
 
-pub steps_led : (rs : List Report) (before gathered after : ℕ) (os : List OpenTrigger) → os ≡ open_triggers rs → gathered ≤ before + (sessions_of rs + (entries_of rs + carried_of rs))
+pub steps_led : (rs : List Report) (before gathered after : ℕ) (os : List OpenTrigger) → os ≡ open_triggers rs → gathered ≤ before + (2 * sessions_of rs + (entries_of rs + carried_of rs))
     → after ≤ gathered + (2 * rows_of rs + 4 * triggers_of rs + 3 * length os) → after ≤ before + 6 * size_of rs
 steps_led rs before gathered after os is h k =
     let few = open_at_most_carried rs in

@@ -10,6 +10,7 @@ pub mod Naming
 pub mod Nearest
 pub mod Opened
 pub mod Searching
+pub mod Settled
 pub mod Sorting
 pub mod Startless
 pub mod Tabled

@@ -7,6 +7,7 @@ pub mod Collecting
 pub mod Collection
 pub mod Names
 pub mod Opening
+pub mod Receipts
 pub mod Reports
 pub mod Seen
 pub mod Sizes

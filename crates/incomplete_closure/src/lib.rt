@@ -11,6 +11,7 @@ mod names;
 mod opening;
 pub mod pending_rows;
 mod reached;
+mod receipts;
 pub mod reports;
 mod search;
 pub mod session_rows;

@@ -1,12 +1,14 @@
 //! Which triggers are open: those of items that were sent to a node with a report and not received there, and those of
 //! updates that are held back from such a node.
-ghost use Rattle.std.specs.Prelude.{◌≡◌, ◌++◌, ◌+◌, ◌≤◌, List, map, length, OnOk, IfOk};
+ghost use Rattle.std.specs.Prelude.{◌≡◌, ◌++◌, ◌+◌, ◌*◌, ◌≤◌, List, map, length, OnOk, IfOk};
 ghost use Rattle.std.specs.Rc.{rc_value};
 ghost use Rattle.incomplete_closure.specs.declared.reports.Report.{Report as AnyReport};
 ghost use Rattle.incomplete_closure.specs.Opening.{down_of, with_down, if_open, open_at, waiting_at, of_node, open_in_row, open_in_rows, waiting_in, open_in_report, open_triggers};
+ghost use Rattle.incomplete_closure.specs.Receipts.{AreReceipts};
 ghost use Rattle.incomplete_closure.specs.Tables.{IsTableOf};
 ghost use Rattle.incomplete_closure.specs.Sizes.{carried_by, items_in, carried_in, held_in, entries_of, sessions_of, carried_of};
 
+use crate::receipts::{Receipt, is_settled, receipts_of};
 use crate::reports::received_of;
 use crate::session_table::SessionTable;
 use crate::steps::Steps;
@@ -76,15 +78,19 @@ fn push_open<L: Ledger>(
 fn gather_item<L: Ledger>(
     opened: &mut Vec<OpenTrigger>,
     table: &SessionTable,
+    receipts: &[Receipt],
     from: NodeId,
     item: &SentRef<'_>,
     steps: &mut Steps<L>,
 ) -> Result<(), NoMemory>
-    ensures opened { OnOk result ((reports : List AnyReport) → IsTableOf reports table.now →
+    ensures opened { OnOk result ((reports : List AnyReport) → IsTableOf reports table.now → AreReceipts table.now from receipts.now →
         opened.new.items ≡ opened.old.items ++ open_at (of_node reports item.now.to) from item.now) }
     ensures most { steps.new ≤ steps.old + length item.now.triggers }
     ensures least { steps.old ≤ steps.new }
 {
+    if is_settled(receipts, item) {
+        return Ok(());
+    }
     if !table.has_node(item.to) {
         return Ok(());
     }
@@ -95,18 +101,20 @@ fn gather_item<L: Ledger>(
 fn gather_row<L: Ledger>(
     opened: &mut Vec<OpenTrigger>,
     table: &SessionTable,
+    receipts: &[Receipt],
     from: NodeId,
     row: &Row,
     steps: &mut Steps<L>,
 ) -> Result<(), NoMemory>
-    ensures opened { OnOk result ((reports : List AnyReport) → IsTableOf reports table.now →
+    ensures opened { OnOk result ((reports : List AnyReport) → IsTableOf reports table.now → AreReceipts table.now from receipts.now →
         opened.new.items ≡ opened.old.items ++ open_in_row reports from row.now) }
     ensures most { steps.new ≤ steps.old + (length row.now.sent + carried_by row.now.sent) }
     ensures least { OnOk result (steps.old + length row.now.sent ≤ steps.new) }
 {
     for place in 0..row.sent.len() {
         steps.take();
-        gather_item(opened, table, from, &row.sent.at(place).unwrap(), steps)?;
+        let item = row.sent.at(place).unwrap();
+        gather_item(opened, table, receipts, from, &item, steps)?;
     }
     Ok(())
 }
@@ -115,18 +123,19 @@ fn gather_row<L: Ledger>(
 fn gather_rows<L: Ledger>(
     opened: &mut Vec<OpenTrigger>,
     table: &SessionTable,
+    receipts: &[Receipt],
     from: NodeId,
     rows: &[Row],
     steps: &mut Steps<L>,
 ) -> Result<(), NoMemory>
-    ensures opened { OnOk result ((reports : List AnyReport) → IsTableOf reports table.now →
+    ensures opened { OnOk result ((reports : List AnyReport) → IsTableOf reports table.now → AreReceipts table.now from receipts.now →
         opened.new.items ≡ opened.old.items ++ open_in_rows reports from rows.now) }
     ensures most { steps.new ≤ steps.old + (length rows.now + items_in rows.now + carried_in rows.now) }
     ensures least { OnOk result (steps.old + (length rows.now + items_in rows.now) ≤ steps.new) }
 {
     for row in rows {
         steps.take();
-        gather_row(opened, table, from, row, steps)?;
+        gather_row(opened, table, receipts, from, row, steps)?;
     }
     Ok(())
 }
@@ -175,8 +184,9 @@ fn gather_waiting<L: Ledger>(
     Ok(())
 }
 
-// The open triggers of a report.
+// The open triggers of a report. One look-up for each of its sessions serves all its items.
 fn gather_report<L: Ledger>(
+    alloc: Global,
     opened: &mut Vec<OpenTrigger>,
     table: &SessionTable,
     report: &Report,
@@ -184,13 +194,21 @@ fn gather_report<L: Ledger>(
 ) -> Result<(), NoMemory>
     ensures opened { OnOk result ((reports : List AnyReport) → IsTableOf reports table.now →
         opened.new.items ≡ opened.old.items ++ open_in_report reports report.now) }
-    ensures most { steps.new ≤ steps.old
+    ensures most { steps.new ≤ steps.old + (length report.now.sessions
         + ((length report.now.rows + items_in report.now.rows + length report.now.pending)
-        + (carried_in report.now.rows + held_in report.now.pending)) }
+        + (carried_in report.now.rows + held_in report.now.pending))) }
     ensures least { OnOk result (steps.old
         + (length report.now.rows + items_in report.now.rows + length report.now.pending) ≤ steps.new) }
 {
-    gather_rows(opened, table, report.node, report.rows.as_slice(), steps)?;
+    let receipts = receipts_of(alloc, table, report, steps)?;
+    gather_rows(
+        opened,
+        table,
+        &receipts,
+        report.node,
+        report.rows.as_slice(),
+        steps,
+    )?;
     gather_waiting(opened, table, report.node, report.pending.as_slice(), steps)
 }
 
@@ -201,14 +219,14 @@ pub(crate) fn open_triggers<L: Ledger>(
     steps: &mut Steps<L>,
 ) -> Result<Vec<OpenTrigger>, NoMemory>
     ensures opened { IfOk result (λ opened. opened.items ≡ open_triggers (map rc_value reports.now)) }
-    ensures most { steps.new ≤ steps.old + (sessions_of (map rc_value reports.now)
+    ensures most { steps.new ≤ steps.old + (2 * sessions_of (map rc_value reports.now)
         + (entries_of (map rc_value reports.now) + carried_of (map rc_value reports.now))) }
     ensures least { OnOk result (steps.old + entries_of (map rc_value reports.now) ≤ steps.new) }
 {
     let table = SessionTable::of(alloc, reports, steps)?;
     let mut opened = Vec::new(alloc);
     for report in reports {
-        gather_report(&mut opened, &table, report, steps)?;
+        gather_report(alloc, &mut opened, &table, report, steps)?;
     }
     Ok(opened)
 }

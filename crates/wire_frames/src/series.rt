@@ -47,7 +47,7 @@ pub(crate) trait Told: Run {
 }
 
 /// Elements whose lengths can be added up.
-    /// The number of bytes of the element, up to the highest number.
+/// The number of bytes of the element, up to the highest number.
 pub(crate) trait Measured: Told {
     fn length(item: &Self::Item) -> usize
         ensures { result ≡ min (length (Self.series.spells item.now)) (2 ^ 64 - 1) };
