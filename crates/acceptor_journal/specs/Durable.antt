@@ -45,7 +45,7 @@ pub record OpensFile (file : List ℕ) (old : DiskView) (answer : Result Place J
   -- Ok: nothing is read yet
   pub reader : (reader : Place) → answer ≡ Ok reader → HasRead reader new file []
 
--- a call that read on behind these records
+-- a call that read the next record after these
 pub record ReadsFile (file : List ℕ) (given : List (List ℕ)) (old : DiskView) (answer : Result (Option (List ℕ)) JournalEnd) (next : Place) (new : DiskView) : Type 0 where
   pub moments : LeavesOnly old new (λ image. image ≡ file)
   pub durable : IsDurable new file

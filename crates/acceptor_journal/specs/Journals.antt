@@ -17,7 +17,7 @@ abbrev pub at_start : Place
 at_start = record { at = 0; ended = false }
 
 -- what a reader at this place of a file gives, and where it is then: the next record, and the place after it; or None,
--- if there is no more
+-- if there is no further record
 abbrev pub IsNext : List ℕ → ℕ → Option (List ℕ) → Place → Type 0
 IsNext file at (Some bytes) next =
     (Back (drop at file) ≡ bytes ∷ Back (drop next.at file)) × (next ≡ record { at = at + (5 + length bytes); ended = false })
@@ -96,9 +96,9 @@ pub record Finishes (at : ℕ) (old : DiskView) (answer : Result ℕ JournalEnd)
   pub not_full : ¬ IsErrOf answer Full
   pub fault : RoseIf (IsErrOf answer Fault) old.faults new.faults
 
--- a call that appended these bytes behind the gate at this place
+-- a call that appended these bytes after the gate at this place
 pub record Appends (at : ℕ) (bytes : List ℕ) (old : DiskView) (answer : Result ℕ JournalEnd) (new : DiskView) : Type 0 where
-  -- Ok: the journal is at the gate behind the record
+  -- Ok: the journal is at the gate after the record
   pub place : (gate : ℕ) → answer ≡ Ok gate → gate ≡ at + (5 + length bytes)
   -- the record was written with a closed gate after it and made durable, and then its gate was
   pub does : (gate : ℕ) → answer ≡ Ok gate → new ≡ synced (written at (1 ∷ []) (synced (written (at + 1) (body bytes ++ 0 ∷ []) old)))

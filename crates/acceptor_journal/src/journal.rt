@@ -2,7 +2,7 @@
 //!
 //! The file is a list of records, followed by a closed gate. A record is a gate byte, which is 1, then its length in
 //! four bytes, the highest first, and then its bytes. A gate with any other byte is closed, and the records end there.
-//! They also end where the length, the bytes and one further byte are not all there. A record is written behind a
+//! They also end where the length, the bytes and one further byte are not all there. A record is written after a
 //! closed gate, with the next closed gate after it, and made durable before its own gate is opened, just as a log makes
 //! a record durable before it counts (Gray and Reuter, 1993). So a crash leaves the record whole or not at all.
 ghost use Rattle.std.specs.Prelude.{◌≡◌, ◌+◌, ◌<◌, ◌≤◌, ◌^◌, ◌↔◌, ◌++◌, [], ◌∷◌, true, get_or, length, take, drop, IfOk, IfSome, IsTrue};
@@ -107,7 +107,7 @@ impl Reader {
     }
 
     /// Closes the gate after the records, and makes that durable. Condition: [`next`](Reader::next) has returned
-    /// `None`. What is behind the gate stays as it is.
+    /// `None`. The bytes after the gate stay as they are.
     pub fn finish<D: Disk>(self, disk: &mut D) -> Result<Journal, JournalEnd>
         requires { self.ended ≡ true }
         ensures { Finishes self.at (D.seen disk.old) result (D.seen disk.new) }
@@ -126,7 +126,7 @@ impl Reader {
 }
 
 impl Journal {
-    /// Appends a record of these bytes. First their length, the bytes and a closed gate are written behind the present
+    /// Appends a record of these bytes. First their length, the bytes and a closed gate are written after the present
     /// gate and made durable. Only then the gate is opened. After `NoMemory` or `Fault` the record may be there or not.
     pub fn append<D: Disk>(self, disk: &mut D, piece: &[u8]) -> Result<Journal, JournalEnd>
         ensures { Appends self piece.now (D.seen disk.old) result (D.seen disk.new) }

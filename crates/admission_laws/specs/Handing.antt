@@ -1,4 +1,4 @@
--- What a node hands out, as its addressee would admit it.
+-- What a node sends out, as its addressee would admit it.
 use Rattle.std.specs.Prelude.{ℕ, ◌^◌, Bool, true, ◌&&◌, ◌==◌, nat_le, nat_lt, Option, List, length}
 use Rattle.std.specs.List.{list_all}
 use Rattle.topology.specs.Lists.{has}

@@ -9,7 +9,7 @@ ghost use Rattle.node_core.specs.Outputs.{outputs};
 ghost use Rattle.admission_laws.specs.NodeRuns.{alone, going_on, restarted, AllAdmitted};
 ghost use Rattle.admission_laws.specs.Handing.{output_fits};
 
-/// If a node admitted each of its inputs, its addressees admit all that it hands out: the names are in the network,
+/// If a node admitted each of its inputs, its addressees admit all that it sends out: the names are in the network,
 /// each number is in its range, and each list is in order.
 #[tactic(auto, using(crate::proofs::Handed::all_fit))]
 pub fn what_is_handed_out_is_admitted()

@@ -1,5 +1,5 @@
-//! Tables of last lines. A row has the fault of a line, a colon, and the line, which is put behind the schedule in its
-//! turn.
+//! Tables of last lines. A row has the fault of a line, a colon, and the line. Each line is put after the
+//! schedule in turn.
 use crate::outcome::{Outcome, end_line, outcome_of};
 use anyhow::Result;
 use std::alloc::{AllocError, Global};

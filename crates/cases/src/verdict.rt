@@ -1,4 +1,4 @@
-//! One case: what its files ask for, the outcome of its run, and whether that is what is wanted.
+//! One case: what its files ask for, the outcome of its run, and whether it is the expected one.
 ghost use Rattle.std.specs.Prelude.{IfOk};
 ghost use Rattle.cases.specs.Judging.{Judges};
 

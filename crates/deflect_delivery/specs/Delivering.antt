@@ -8,7 +8,7 @@ use Rattle.deflect_delivery.specs.Terrain.{Connects}
 use Rattle.deflect_delivery.specs.Stills.{terrain}
 use Rattle.deflect_delivery.specs.Progress.{IsOver, whole_walk}
 
--- the walk ends as delivered or stuck, never for want of moves; it is delivered exactly if links that are up connect
+-- the walk ends as delivered or stuck, never as expired; it is delivered exactly if links that are up connect
 -- its first node to an owner; and it has at most two moves for each other node
 pub record Delivers (net : Net) (still : Still) (from : ℕ) (visits : List ℕ) (ending : Ending) : Type 0 where
   pub either : (ending ≡ Delivered) ⊎ (ending ≡ Stuck)

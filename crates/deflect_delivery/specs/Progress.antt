@@ -36,7 +36,7 @@ after_hops net still walk zero = walk
 after_hops net still walk (suc count) = one_more net still (after_hops net still walk count)
 
 -- how many moves the packet has: one more than two for each other node. A packet that came back from every node then
--- has one left, so its walk ends as stuck, and not for want of moves
+-- has one left, so its walk ends as stuck, and not as expired
 abbrev pub moves_given : Net → ℕ
 moves_given net = 2 * length net.nodes - 1
 

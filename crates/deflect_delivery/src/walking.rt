@@ -97,7 +97,7 @@ impl Walk {
 /// The walk of a packet that leaves the tables at a node and is deflected over a network that does not change. It has
 /// one move more than two for each other node. The walk is delivered exactly if links that are up connect its first
 /// node to an owner; otherwise it is stuck. The links, the owners and the first node have to be in the network
-/// ([`Still::fits`] tests this for links, owners and orders). The only error is want of memory.
+/// ([`Still::fits`] tests this for links, owners and orders). The only error is `NoMemory`.
 pub fn still_walk(
     alloc: Global,
     topology: &Topology,

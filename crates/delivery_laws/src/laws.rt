@@ -16,7 +16,7 @@ ghost use Rattle.delivery_laws.specs.Deflected.{DeflectionDelivers};
 ghost use Rattle.delivery_laws.specs.Now.{still_now};
 
 /// A deflected packet is delivered if three things hold. Since it left the tables no link failed or was restored, and
-/// no node became an owner of its prefix or gave that up. The hop limit is at least two for each other node. And links
+/// no node became an owner of its prefix or stopped being one. The hop limit is at least two for each other node. And links
 /// that are up connect the node where it is to an owner. Then it makes at most two moves for each other node; after
 /// that many, its next hop that does something delivers it; and if its walk has ended, it was delivered.
 pub fn deflection_delivers()

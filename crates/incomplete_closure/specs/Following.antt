@@ -1,4 +1,4 @@
--- What is stored of the rows behind a row.
+-- What is stored of the rows after a row.
 use Rattle.std.specs.Prelude.{ℕ, ◌==◌, ◌≡◌, Option, List, []}
 use Rattle.std.specs.Option.{option_or, option_to_list}
 use Rattle.std.specs.Map.{lookup}

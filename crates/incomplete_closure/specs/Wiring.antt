@@ -11,7 +11,7 @@ use Rattle.incomplete_closure.specs.declared.opening.OpenTrigger.{OpenTrigger}
 use Rattle.incomplete_closure.specs.Graphs.{linked}
 use Rattle.incomplete_closure.specs.Names.{number_of}
 
--- the first row of p or of all, among a row with this scope and number and the rows behind it
+-- the first row of p or of all, among a row with this scope and number and the rows after it
 abbrev pub nearest_by : Scope → ℕ → ℕ → Option ℕ → Option ℕ
 nearest_by (One q) number p later = if q == p then Some number else later
 nearest_by All number p later = Some number
@@ -27,7 +27,7 @@ abbrev pub nearest : List Trigger → ℕ → List Row → Option ℕ
 nearest names p [] = None
 nearest names p (row ∷ later) = nearest_at names row.triggers row.scope p (nearest names p later)
 
--- the stretch of a row and of the rows behind it: every row up to the first row of all, and that one
+-- the stretch of a row and of the rows after it: every row up to the first row of all, and that one
 abbrev pub stretch_by : Scope → ℕ → List ℕ → List ℕ
 stretch_by (One q) number later = later ++ number ∷ []
 stretch_by All number later = number ∷ []

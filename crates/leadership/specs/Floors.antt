@@ -44,7 +44,7 @@ pub record AreSameFloors (old new : Floors) : Type 0 where
   pub prepared : new.prepared.items ≡ old.prepared.items
   pub offered : new.offered.items ≡ old.offered.items
 
--- the floor of e stands at the place
+-- the floor of e is at the place
 pub record HasFloor (floors : List Floor) (e place : ℕ) : Type 0 where
   pub within : place < length floors
   pub epoch : (d : Floor) → (slice_index_or floors place d).epoch ≡ e

@@ -36,7 +36,7 @@ pub record Takes (old : Draft) (number : ℕ) (said : Option Line) (new : Draft)
   pub apart : differ old.members.nodes ≡ true → differ new.members.nodes ≡ true
   pub known : AllKnown old.members.nodes old.directives.items → AllKnown new.members.nodes new.directives.items
 
--- a named line is the first bad one, with its fault; want of memory may come at any time
+-- a named line is the first bad one, with its fault; NoMemory may come at any time
 abbrev pub SaysWhy : List ℕ → ScriptEnd → Type 0
 SaysWhy bytes NoMemory = Unit {0}
 SaysWhy bytes (Bad number kind) = first_bad bytes ≡ Some (number, kind)

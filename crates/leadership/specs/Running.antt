@@ -17,7 +17,7 @@ pub record Advances (old new : LeadView) (led : Course) : Type 0 where
   pub same_members : new.members ≡ old.members
   pub leads : led ≡ Leads new.events
 
--- a stop at a limit is where the course stops; want of memory may come at any step
+-- a stop at a limit is where the course stops; NoMemory may come at any step
 abbrev pub StopsIn : Course → LeadStop → Type 0
 StopsIn led stop.NoMemory = Unit {0}
 StopsIn led (stop.Limit kind number) = led ≡ Stops kind number

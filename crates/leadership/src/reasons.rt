@@ -10,7 +10,7 @@ pub enum LeadReason {
     NotCrashed,
     /// No message has this number.
     NoSuchMessage,
-    /// The member has promised this ballot, and the message's ballot is too low beside it.
+    /// The member has promised this ballot, and the message's ballot is too low compared with it.
     Promised(Ballot),
     /// The member neither prepares nor leads this ballot.
     StaleBallot,

@@ -33,7 +33,7 @@ cell [] i j = None
 cell (row ∷ rows) zero j = answer row j
 cell (row ∷ rows) (suc i) j = cell rows i j
 
--- the number stands in the row of u and the column of v
+-- the number is in the row of u and the column of v
 pub record IsCell (nodes : List ℕ) (rows : List (List (Option ℕ))) (u v way : ℕ) : Type 0 where
   pub sender : ℕ
   pub receiver : ℕ

@@ -50,8 +50,8 @@ fn hear_each(rows: &mut [Row], settled: usize, nbr: NodeId, session: Session, se
     }
 }
 
-// Moves the finished rows to the front; the first `settled` rows are known to be finished. Returns how many finished
-// rows then stand in front.
+// Moves the finished rows to the front; the first `settled` rows are known to be finished. Returns how many
+// finished rows are then in front.
 fn settle(rows: &mut [Row], settled: usize) -> usize
     requires { AreSettled settled rows.old }
     ensures settled { AreSettled result rows.new }

@@ -12,7 +12,7 @@ shorter a b =
     if nat_lt a.length b.length then true
     else if a.length == b.length then nat_lt a.nbr b.nbr else false
 
--- every route is told to everybody
+-- every route is offered to everybody
 abbrev pub everything : Learned → Relation → Bool
 everything learned to = true
 

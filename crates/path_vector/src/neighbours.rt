@@ -23,7 +23,7 @@ pub struct Neighbour {
     pub preference: u32,
     pub told: Vec<Option<Path>>,
     /// The own node in front of the path that the neighbour told last, to be used again if it tells the same path. No
-    /// contract speaks of it.
+    /// contract mentions it.
     pub last: Option<Path>,
 }
 
@@ -258,7 +258,7 @@ pub(crate) fn neighbours_of(
 ) -> Result<Vec<Neighbour>, NoMemory>
     ensures { IfOk result (λ neighbours. Keeps topology.now node [] neighbours.items) }
 {
-    // brings in the invariant of the topology, which speaks of its nodes
+    // brings in the invariant of the topology, which is about its nodes
     let _nodes = topology.nodes();
     let others = topology.neighbours(node);
     let mut neighbours = Vec::with_capacity(alloc, others.len())?;
@@ -284,7 +284,7 @@ fn named(cause: &Cause) -> Option<NodeId>
     }
 }
 
-// Whether the neighbour with this number stands at this place.
+// Whether the neighbour with this number is at this place.
 fn is_at(neighbours: &[Neighbour], place: usize, id: NodeId) -> bool
     ensures { IsTrue result → slice_get (ids neighbours.now) place ≡ Some id }
 {

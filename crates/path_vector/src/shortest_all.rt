@@ -2,7 +2,7 @@
 use crate::{Learned, Policy, Ranked};
 use topology::Relation;
 
-/// Fewer nodes first, then the lower neighbour; preferences do not count. Every route is told to everybody.
+/// Fewer nodes first, then the lower neighbour; preferences do not count. Every route is offered to everybody.
 #[derive(Clone, Copy, Debug, PartialEq, Eq)]
 pub struct ShortestAll;
 

@@ -67,7 +67,7 @@ impl<P: Policy + Copy> RouteState<P> {
     ) -> Result<RouteState<P>, NoMemory>
         ensures { IfOk result (λ state. StandsFor policy topology.now node state []) }
     {
-        // brings in the invariant of the topology, which speaks of its nodes
+        // brings in the invariant of the topology, which is about its nodes
         let _nodes = topology.nodes();
         Ok(RouteState {
             alloc,
@@ -357,7 +357,7 @@ impl<P: Policy + Copy> RouteState<P> {
         })
     }
 
-    // Whether a route learnt like this is told to a neighbour with this relation.
+    // Whether a route learnt like this is offered to a neighbour with this relation.
     #[inline(always)]
     fn tells(&self, learned: Learned, to: Option<Relation>) -> bool
         ensures { result ≡ may_tell (P.rules self.now.policy) (Some learned) to }

@@ -51,7 +51,7 @@ FindsNoneLeft link piece = (0 < length piece) × (room_left link ≡ Some 0)
 abbrev pub LacksRoom : LinkView → List ℕ → Type 0
 LacksRoom link piece = (left : ℕ) × (room_left link ≡ Some left) × (left < length piece)
 
--- the link is sure: its calls fail only for want of room
+-- the link is sure: its calls fail only if there is no room
 abbrev pub IsSure : LinkView → Type 0
 IsSure link = link.sure ≡ true
 

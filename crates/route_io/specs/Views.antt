@@ -22,7 +22,7 @@ pub record SinkView : Type 0 where
 
 -- a link to a peer: the bytes still to come from it, the bytes taken for it, how many can be taken in all, the reads
 -- and writes that were made and the addresses that were dialled, both newest first; whether it is sure, so that a call
--- fails only for want of room; and how many of its calls have failed
+-- fails only if there is no room; and how many of its calls have failed
 pub record LinkView : Type 0 where
   pub incoming : Option (List ℕ)
   pub outgoing : Option (List ℕ)

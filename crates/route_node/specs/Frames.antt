@@ -1,4 +1,4 @@
--- The input that a frame brings to a node, and the frames of what a node hands out.
+-- The input that a frame brings to a node, and the frames of what a node sends out.
 use Rattle.std.specs.Prelude.{ℕ, Option, Some, None, List, [], ◌∷◌, map, option_map}
 use Rattle.topology.specs.declared.names.Trigger.{Trigger}
 use Rattle.topology.specs.declared.items.Sent.{Sent}

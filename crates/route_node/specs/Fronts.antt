@@ -26,7 +26,7 @@ pub record Holds (bytes : List ℕ) (f : Frame) (n : ℕ) : Type 0 where
   pub size : n ≡ length (spell f)
   pub splits : bytes ≡ spell f ++ drop n bytes
 
--- the answer says what is found; want of memory may come with any frame
+-- the answer says what is found; NoMemory may come with any frame
 abbrev pub IsFront : Front → List ℕ → Type 0
 IsFront (front.Frame f n) bytes = Holds bytes f n
 IsFront front.More bytes = found bytes ≡ Partial
@@ -38,7 +38,7 @@ pub record Admits (net : Net) (u : ℕ) (f : Frame) (i : Input) : Type 0 where
   pub brings : brought f ≡ Some i
   pub fit : fits net u i ≡ true
 
--- the status names this fault at this offset; want of memory may come with any frame
+-- the status names this fault at this offset; NoMemory may come with any frame
 abbrev pub RefusesAt : ℕ → Option FrameFault → Status → Type 0
 RefusesAt offset fault NoMemory = Unit {0}
 RefusesAt offset fault (BadFrame at named) = (at ≡ offset) × (fault ≡ Some named)
@@ -54,7 +54,7 @@ EndsFrame offset frames fault limit (Limit kind number) =
     ≡ Some (record { kind = kind; number = number }))
 EndsFrame offset frames fault limit other = ⊥
 
--- the status of a node that stopped at a frame: want of memory, or the first limit that would be exceeded
+-- the status of a node that stopped at a frame: NoMemory, or the first limit that would be exceeded
 abbrev pub StopsFrame : ℕ → Stop → Status → Type 0
 StopsFrame frames stop.NoMemory status = status ≡ NoMemory
 StopsFrame frames (stop.Limit kind number) status =

@@ -87,7 +87,7 @@ RefusesRecord who frames offset bytes NoMemory = Unit {0}
 RefusesRecord who frames offset bytes (BadJournal at fault) = (at ≡ offset) × (record_fault who frames bytes ≡ Some fault)
 RefusesRecord who frames offset bytes other = ⊥
 
--- the status names this fault at this offset; want of memory may come with any record
+-- the status names this fault at this offset; NoMemory may come with any record
 abbrev pub RefusesAtRecord : ℕ → Option FrameFault → Status → Type 0
 RefusesAtRecord offset fault NoMemory = Unit {0}
 RefusesAtRecord offset fault (BadJournal at named) = (at ≡ offset) × (fault ≡ Some named)

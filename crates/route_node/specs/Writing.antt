@@ -41,8 +41,8 @@ pub record Writes (frames : List Frame) (link link' : LinkView) : Type 0 where
   pub others : OnlyWrites link link'
   pub quiet : link'.faults ≡ link.faults
 
--- the first part of the frames was written, and then memory ran out or a call failed; on a sure link only for want of
--- room
+-- the first part of the frames was written, and then memory ran out or a call failed; on a sure link only if
+-- there was no room
 pub record Breaks (frames : List Frame) (link link' : LinkView) (status : Status) : Type 0 where
   pub why : (status ≡ NoMemory) ⊎ (status ≡ LinkFault)
   pub link_fault : RoseIf (status ≡ LinkFault) link.faults link'.faults

@@ -1,4 +1,4 @@
-//! One node over a link: it reads frames, gives each to the node, and writes what the node hands out.
+//! One node over a link: it reads frames, gives each to the node, and writes what the node sends out.
 //!
 //! [`serve`] answers the frames of a link that was dialled; [`attend`] reads the network from a source and dials first;
 //! [`attend_plain`] does the same over plain memory. `specs/Streams.antt` defines how a stream of frames ends.

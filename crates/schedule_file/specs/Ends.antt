@@ -6,7 +6,7 @@ use Rattle.schedule_file.specs.declared.parser.ParseEnd.{ParseEnd}
 use Rattle.schedule_file.specs.declared.parser.ParseEnd.TheVariants.{NoMemory, Bad}
 use Rattle.schedule_file.specs.Refusals.{FirstBadIn}
 
--- a named line is the first bad one, with its fault; want of memory may come at any time
+-- a named line is the first bad one, with its fault; NoMemory may come at any time
 abbrev pub SaysWhy : Part → List ℕ → ParseEnd → Type 0
 SaysWhy behind bytes NoMemory = Unit {0}
 SaysWhy behind bytes (Bad line kind) = FirstBadIn behind bytes line kind

@@ -68,7 +68,7 @@ stands part Begin = may_declare part
 stands part (Declares declaration) = may_declare part
 stands part (Directs instruction) = may_direct part
 
--- the fault for each refusal of the network; want of memory is not a fault of the line
+-- the fault for each refusal of the network; NoMemory is not a fault of the line
 abbrev pub kind_of : BuildError → Option BadKind
 kind_of building.DuplicateNode = Some bad.DuplicateNode
 kind_of (building.UnknownNode id) = Some bad.UnknownNode

@@ -120,7 +120,7 @@ pub fn parse(alloc: Global, text: &[u8]) -> Result<Schedule, ParseEnd>
     ensures err { IfErr result (SaysWhy Run text.now) }
     // directives name only what the network has
     ensures follow { IfOk result (λ schedule. AreInstructed schedule.topology schedule.lines.items) }
-    // a valid file is refused only for want of memory
+    // a valid file is refused only if memory runs out
     ensures complete { (schedule : Schedule) → IsFile text.now schedule → IfErr result IsWantOfMemory }
     // the first bad line is named, unless memory runs out before
     ensures named { (line : ℕ) (kind : BadKind) → FirstBad text.now line kind → IsBadOrMemory line kind result }
@@ -134,7 +134,7 @@ pub fn parse_topology(alloc: Global, text: &[u8]) -> Result<Topology, ParseEnd>
     requires { length text.now < 2 ^ 32 - 1 }
     ensures ok { IfOk result (IsTopologyFile text.now) }
     ensures err { IfErr result (SaysWhy Over text.now) }
-    // a valid file is refused only for want of memory
+    // a valid file is refused only if memory runs out
     ensures complete { (net : Net) → IsTopologyFile text.now net → IfErr result IsWantOfMemory }
     // the first bad line is named, unless memory runs out before
     ensures named { (line : ℕ) (kind : BadKind) → FirstBadOfTopology text.now line kind → IsBadOrMemory line kind result }

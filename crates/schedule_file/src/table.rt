@@ -91,7 +91,7 @@ pub enum Keyword {
     Show,
 }
 
-/// Which lines may stand at a place of a file.
+/// Which lines are allowed at a place of a file.
 #[derive(Clone, Copy, Debug, PartialEq, Eq)]
 pub enum Part {
     /// Lines that describe the network, up to `begin`.
@@ -230,7 +230,7 @@ impl Shape {
         }
     }
 
-    // A line behind `begin`.
+    // A line after `begin`.
     fn directs(least: usize, most: usize) -> Shape
         ensures { result ≡ record { directs = true; least = least; most = most } }
     {

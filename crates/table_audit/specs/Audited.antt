@@ -24,12 +24,12 @@ consistent_line = codes "consistent" ++ 10 ∷ []
 abbrev pub bad_row : List ℕ → Option (ℕ × AuditKind)
 bad_row bytes = first_bad (rows_of bytes) (rows_of bytes)
 
--- every line that begins like one of a table is one, and no row is bad
+-- no line is misspelled, and no row is bad
 pub record IsConsistent (bytes : List ℕ) : Type 0 where
   pub spelled : first_misspelled bytes ≡ None
   pub good : bad_row bytes ≡ None
 
--- every line that begins like one of a table is one, and the first bad row stands in this line
+-- no line is misspelled, and the first bad row is in this line
 pub record IsInconsistent (bytes : List ℕ) (line : ℕ) (kind : AuditKind) : Type 0 where
   pub spelled : first_misspelled bytes ≡ None
   pub bad : bad_row bytes ≡ Some (line, kind)
@@ -80,10 +80,10 @@ pub record Audited (source source' : SourceView) (sink sink' : SinkView) (status
   -- then following the second nodes of the rows of one epoch and prefix visits no node twice
   pub loop_free : status ≡ Done → (bytes : List ℕ) → source.left ≡ Some bytes
       → (epoch : ℕ) (prefix : Prefix) (nodes : List ℕ) → FollowsRows (rows_of bytes) epoch prefix nodes → differ nodes ≡ true
-  -- BadTables: this is the first line that begins like one of a table but is not one
+  -- BadTables: this is the first misspelled line
   pub bad_tables : (line : ℕ) → status ≡ BadTables line
       → (bytes : List ℕ) → source.left ≡ Some bytes → first_misspelled bytes ≡ Some line
-  -- Inconsistent: no line is misspelled, and the first bad row stands in this line and has this fault
+  -- Inconsistent: no line is misspelled, and the first bad row is in this line and has this fault
   pub inconsistent : (line : ℕ) (kind : AuditKind) → status ≡ Inconsistent line kind
       → (bytes : List ℕ) → source.left ≡ Some bytes → IsInconsistent bytes line kind
   -- Limit: the text is too long

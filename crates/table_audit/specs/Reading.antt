@@ -16,7 +16,7 @@ nodes_behind nodes (word ∷ words) =
     then nodes_behind (nodes ++ number_of word ∷ []) words
     else None
 
--- a named line is the first misspelled one; want of memory may come at any time
+-- a named line is the first misspelled one; NoMemory may come at any time
 abbrev pub SaysWhy : List ℕ → RowsEnd → Type 0
 SaysWhy bytes NoMemory = Unit {0}
 SaysWhy bytes (Misspelled line) = first_misspelled bytes ≡ Some line

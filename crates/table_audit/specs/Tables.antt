@@ -92,6 +92,6 @@ first_misspelled_from line (words ∷ lines) =
 unfoldable pub rows_of : List ℕ → List AuditRow
 rows_of bytes = rows_from 1 (words_by_line bytes)
 
--- its first line that begins like one of a table but is not one
+-- its first misspelled line: it begins with the word table, but is not a line of a table
 unfoldable pub first_misspelled : List ℕ → Option ℕ
 first_misspelled bytes = first_misspelled_from 1 (words_by_line bytes)

@@ -20,7 +20,7 @@ pub(crate) enum Says {
     Nothing,
     /// The line is a row.
     Row(AuditRow),
-    /// The line begins like one of a table, but is not one.
+    /// The line begins with the word `table`, but is not a line of a table.
     Misspelled,
 }
 

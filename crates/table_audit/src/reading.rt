@@ -12,12 +12,11 @@ use text_lines::Lines;
 #[derive(Clone, Copy, Debug, PartialEq, Eq)]
 pub enum RowsEnd {
     NoMemory,
-    /// The first line, counted from 1, that begins like one of a table but is not one.
+    /// The first line, counted from 1, that begins with the word `table` but is not a line of a table.
     Misspelled(u32),
 }
 
-/// The rows of a text, by line; or else its first line that begins like one of a table but is not one. Takes time
-/// linear in the bytes.
+/// The rows of a text, by line; or else its first misspelled line. Takes time linear in the bytes.
 pub fn read_rows(alloc: Global, text: &[u8]) -> Result<Vec<AuditRow>, RowsEnd>
     requires { length text.now < 2 ^ 32 - 1 }
     ensures rows { IfOk result (λ rows. rows.items ≡ rows_of text.now) }

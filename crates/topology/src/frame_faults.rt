@@ -33,7 +33,7 @@ pub enum FrameFault {
     Truncated,
     /// Only a node sends frames of this kind.
     Direction,
-    /// A name is unknown to the network, or may not stand at its place.
+    /// A name is unknown to the network, or is not allowed at its place.
     Name,
     /// The update is not the next one of the held session.
     Sequence { expected: u32, got: u32 },

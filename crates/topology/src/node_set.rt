@@ -22,7 +22,7 @@ fn offset(nodes: &[NodeId], id: NodeId) -> usize {
     }
 }
 
-// Whether the node stands at this place.
+// Whether the node is at this place.
 fn stands_at(nodes: &[NodeId], place: usize, id: NodeId) -> bool
     ensures { IsTrue result → slice_get nodes.now place ≡ Some id }
 {

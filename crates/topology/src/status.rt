@@ -42,7 +42,7 @@ pub enum Reason {
     NoSuchMessage,
     /// The sender's report is held already, the sender is counted already, or the ballot is accepted already.
     Duplicate,
-    /// The node has promised this ballot, and the message's ballot is too low beside it.
+    /// The node has promised this ballot, and the message's ballot is too low compared with it.
     Promised(Ballot),
     /// The node neither prepares this ballot nor gathers promises for it.
     StaleBallot,
@@ -220,7 +220,7 @@ pub enum Status {
     DiskFault,
     /// A record of a journal was refused. The number is the offset at which it begins.
     BadJournal(u64, FrameFault),
-    /// The first line that begins like a line of a table but is not one, counted from 1.
+    /// The first line, counted from 1, that begins with the word `table` but is not a line of a table.
     BadTables(u32),
     /// The line of the first bad row of printed tables, counted from 1, and its fault.
     Inconsistent(u32, AuditKind),

@@ -101,8 +101,8 @@ pub(crate) fn deflected(
 /// A hop by deflection, whatever the scheme of the network. The packet moves to the first neighbour in the order whose
 /// link is up and that does not count as visited. The node that it leaves goes to the end of its trail. With a trail of
 /// 64 nodes it makes no such move. Otherwise, if the link to the last node of its trail is up, it moves back there, and
-/// that node leaves the trail. Otherwise it is stuck. A packet whose walk ends is returned as it was. An error can only
-/// be want of memory, and only where the packet moves.
+/// that node leaves the trail. Otherwise it is stuck. A packet whose walk ends is returned as it was. The only error is
+/// `NoMemory`, and only if the packet moves.
 #[tactic(auto, unfolding(crate::specs::TransientHops::hop_under))]
 pub fn deflect(
     topology: &Topology,

@@ -82,8 +82,8 @@ fn detour_by(
 /// A hop under a detour by a node. Until the packet has been at this node, it moves as by deflection. In its first hop
 /// there, it takes as its route the nodes that follow in the node's newest published path, or none without a path. In
 /// this hop and all later ones it moves to the next node of its route, if that link is up, and removes the node from
-/// the route. Otherwise it is stuck. A packet whose walk ends is returned as it was. An error can only be want of
-/// memory, and only where the packet moves.
+/// the route. Otherwise it is stuck. A packet whose walk ends is returned as it was. The only error is `NoMemory`,
+/// and only if the packet moves.
 pub fn detour(
     topology: &Topology,
     packet: Packet,

@@ -12,7 +12,7 @@ use topology::{NoMemory, Scheme, Topology};
 /// `deflect` and `detour`. Under backups the packet moves along its route, if the link to the next node is up. If not,
 /// it takes the first backup whose link to the second node is up and whose nodes after the first do not count as
 /// visited. These nodes become its route, and it moves along it. If there is no such backup, it is stuck. A packet
-/// whose walk ends is returned as it was. An error can only be want of memory, and only where the packet moves.
+/// whose walk ends is returned as it was. The only error is `NoMemory`, and only if the packet moves.
 pub fn transient_hop(
     topology: &Topology,
     packet: Packet,

@@ -11,7 +11,7 @@ use Rattle.trigger_log.specs.Entries.{Update}
 use Rattle.trigger_log.specs.Pending.{rows_to}
 use Rattle.trigger_log.specs.HeldLists.{is_row}
 
--- the row belongs behind that of prefix p and w
+-- the row comes after the place of a row for prefix p and w
 abbrev pub is_behind : ℕ → ℕ → Pending → Bool
 is_behind w p row = nat_lt w row.to || (w == row.to && nat_lt p row.prefix)
 

@@ -35,7 +35,7 @@ fn is_row(row: &Pending, to: NodeId, prefix: PrefixId) -> bool
     row.to == to && row.prefix == prefix
 }
 
-// Whether the row belongs behind that of the prefix and the neighbour.
+// Whether the row comes after the place of a row for the prefix and the neighbour.
 fn is_behind(row: &Pending, to: NodeId, prefix: PrefixId) -> bool
     ensures { result ≡ is_behind to prefix row.now }
 {

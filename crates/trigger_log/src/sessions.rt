@@ -83,7 +83,7 @@ fn copy_of(alloc: Global, near: &[NodeId]) -> Result<Vec<NodeId>, NoMemory>
     Ok(Vec::from_slice(alloc, near)?)
 }
 
-// Whether the neighbour stands at this place.
+// Whether the neighbour is at this place.
 fn is_at(near: &[NodeId], place: usize, nbr: NodeId) -> bool
     ensures { IsTrue result → slice_get near.now place ≡ Some nbr }
 {
