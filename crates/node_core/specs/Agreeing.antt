@@ -1,4 +1,4 @@
--- What a node keeps of agreements and of tables.
+-- The part in the agreements and the tables that a node keeps.
 use Rattle.std.specs.Prelude.{ℕ, ◌≡◌, ◌≤◌, Option, Some, None}
 use Rattle.std.specs.List.{AllByRecursion}
 use Rattle.topology.specs.Net.{Net}
@@ -15,17 +15,17 @@ use Rattle.chronicle.specs.Publications.{Publication, publications}
 use Rattle.node_core.specs.declared.agreement.Agreement.{Agreement}
 use Rattle.node_core.specs.Views.{views}
 
--- the paths are those by the value and this cut
+-- the table's paths are those made from its value and this cut
 abbrev pub IsOver : Rules → Net → ℕ → Publication → Option Trimmed → Type 0
 IsOver rules net u t None = ⊥
 IsOver rules net u t (Some c) = t.paths ≡ trimmed_table rules net u t.value c
 
--- u published the table by its value and by the cut of its epoch
+-- u made the table from its value and the cut of its epoch
 abbrev pub IsByCut : Rules → Net → ℕ → Chronicle → Publication → Type 0
 IsByCut rules net u past t = IsOver rules net u t (table_cut net u t.epoch past)
 
--- its part in the agreements, and the tables that it published, are those of u after these facts; u published none of
--- an epoch above its own, and each by the cut of its epoch
+-- the part in the agreements and the published tables are those of u after these facts; u published no table of an
+-- epoch above its own, and made each from the cut of its epoch
 pub record Agrees (rules : Rules) (net : Net) (u : ℕ) (kept : Agreement) (past : Chronicle) : Type 0 where
   pub part : PartStandsFor net kept.consolidator (control past) u
   pub tables : TablesStandFor kept.tables (views rules net u past)

@@ -9,8 +9,8 @@ use Rattle.chronicle.specs.Recordings.{numbers}
 use Rattle.marker_snapshot.specs.Acts.{SnapshotActs}
 use Rattle.marker_snapshot.specs.Cuts.{epoch_of, cut_of, done, recorded}
 
--- they have the epoch and the cuts of u; and of each session that a cut holds, whether its recording is done,
--- and the numbers recorded
+-- the acts have the epoch and the cuts of u; and for each session that a cut holds, whether its recording is done, and
+-- the recorded numbers
 pub record Alike (acts : SnapshotActs) (u : ℕ) (past : Chronicle) : Type 0 where
   pub same_epoch : epoch_of acts ≡ epoch u past
   pub same_cut : (e : ℕ) → cut_of e acts ≡ cut u e past

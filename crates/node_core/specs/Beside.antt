@@ -1,9 +1,8 @@
--- What is none of a node.
+-- Facts that change nothing of a node.
 use Rattle.std.specs.Prelude.{ℕ, ◌==◌, ◌≡◌, false}
 use Rattle.chronicle.specs.Facts.{Fact, Log, Sent, Took, Fail, Restore, Raise, Start, Mail, Heard, Crash, Restart, Publish, Visit, End}
 
--- the fact is none of u: it is of another node, of a link, or of a packet, wherever that is; that a node came back
--- changes nothing that it keeps
+-- the fact changes nothing that u keeps: it is of another node, of a link or of a packet, or u restarts
 abbrev pub IsBeside : ℕ → Fact → Type 0
 IsBeside u (Log node entry) = (node == u) ≡ false
 IsBeside u (Sent from to session item queued) = (from == u) ≡ false

@@ -1,4 +1,4 @@
--- What has to be known of an input, wherever it comes from.
+-- The premise of a node's promises on an input.
 use Rattle.std.specs.Prelude.{ℕ, ◌≡◌, ◌<◌, true, length}
 use Rattle.topology.specs.Lists.{has}
 use Rattle.topology.specs.Net.{Net, neighbours}
@@ -12,9 +12,9 @@ IsPlaced net (News number x) = x.prefix < length net.prefixes
 IsPlaced net (Marker e) = Unit {0}
 IsPlaced net (Hello e) = Unit {0}
 
--- its names are those of the network: prefixes, and neighbours of u; and the path of an update begins
--- with its sender, repeats no node and stays in the network, and it lists something. Of ballots and control messages nothing need be
--- known, and of a packet only that its prefix is one of the network
+-- the names of the input are those of the network: its prefixes, and neighbours of u. The path of an update begins with
+-- its sender, repeats no node and stays in the network, and the update lists a trigger. Ballots and control messages
+-- have no premise, and a packet only that its prefix is one of the network
 abbrev pub MayCome : Net → ℕ → Input → Type 0
 MayCome net u (Originate p) = p < length net.prefixes
 MayCome net u (Withdraw p) = p < length net.prefixes

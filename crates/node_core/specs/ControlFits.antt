@@ -42,7 +42,7 @@ nodes_fit net nodes = are_nodes net nodes && in_order nat_lt nodes
 abbrev pub all_fit : Net → List Trigger → Bool
 all_fit net triggers = list_all (trigger_fits net) triggers && in_order earlier triggers
 
--- the same, and no more than there may be
+-- these triggers, no more than a value may have
 abbrev pub incomplete_fits : Net → List Trigger → Bool
 incomplete_fits net triggers = all_fit net triggers && nat_le (length triggers) MOST_TRIGGERS
 
@@ -58,11 +58,11 @@ abbrev pub named_fits : Net → Option (Ballot × Value) → Bool
 named_fits net None = true
 named_fits net (Some named) = ballot_fits net named.0 && value_fits net named.1
 
--- a consolidator may send something of the ballot
+-- a consolidator may send a message of this ballot
 abbrev pub sender_fits : Net → ℕ → Ballot → Bool
 sender_fits net from b = has net.consolidators from && ballot_fits net b
 
--- a decision may come of any node, all else of consolidators alone
+-- a decision may come from any node, all other messages from consolidators alone
 abbrev pub ballots_fit : Net → ℕ → Ballots Value → Bool
 ballots_fit net from (Prepare b) = sender_fits net from b
 ballots_fit net from (Promise b named) = sender_fits net from b && named_fits net named
@@ -72,7 +72,7 @@ ballots_fit net from (Decision v) = value_fits net v
 
 -- ---- reports
 
--- a prefix of the network, all, or none
+-- a prefix of the network, all prefixes, or nothing
 abbrev pub scope_fits : Net → Scope → Bool
 scope_fits net (One p) = nat_lt p (length net.prefixes)
 scope_fits net All = true
@@ -82,7 +82,7 @@ scope_fits net Nothing = true
 abbrev pub listed_fits : Net → Sent → Bool
 listed_fits net item = has net.nodes item.to && (is_number item.session && (is_number item.seq && list_fits net item.triggers))
 
--- what a row lists: nothing where it concerns no prefix, else a list of triggers
+-- the triggers of a row: none where it concerns no prefix, otherwise a list of triggers
 abbrev pub row_lists_fit : Net → Scope → List Trigger → Bool
 row_lists_fit net (One p) triggers = list_fits net triggers
 row_lists_fit net All triggers = list_fits net triggers
@@ -118,7 +118,7 @@ session_fits net row =
 abbrev pub sooner : SessionRow → SessionRow → Bool
 sooner a b = nat_lt a.nbr b.nbr || (a.nbr == b.nbr && nat_lt a.session b.session)
 
--- the rows ascend, and are no more than there may be
+-- the rows ascend, and are no more than a report may have
 abbrev pub sessions_ascend : List SessionRow → Bool
 sessions_ascend rows = in_order sooner rows && nat_le (length rows) MOST_SESSIONS
 
@@ -135,7 +135,7 @@ waiting_fits net row =
 abbrev pub waits_sooner : Pending → Pending → Bool
 waits_sooner a b = nat_lt a.to b.to || (a.to == b.to && nat_lt a.prefix b.prefix)
 
--- these rows ascend, and are no more than there may be
+-- the rows of updates held back ascend, and are no more than a report may have
 abbrev pub waiting_ascends : List Pending → Bool
 waiting_ascends rows = in_order waits_sooner rows && nat_le (length rows) MOST_PENDING
 
@@ -146,11 +146,11 @@ pending_fits net rows = list_all (waiting_fits net) rows && waiting_ascends rows
 abbrev pub marks_of_row : Row → ℕ
 marks_of_row row = length row.triggers + item_marks row.sent
 
--- those of all rows of entries
+-- the triggers that all rows of entries list
 abbrev pub marks_of_rows : List Row → ℕ
 marks_of_rows rows = total marks_of_row rows
 
--- those that a report lists
+-- the triggers that a report lists
 abbrev pub report_marks : Report → ℕ
 report_marks r = marks_of_rows r.rows + row_marks r.pending
 

@@ -1,4 +1,4 @@
--- How many triggers the lists of a node have, and whether one of them is too long.
+-- Counts of the triggers in the lists of a node, and the test for a list that is too long.
 use Rattle.std.specs.Prelude.{ℕ, ◌+◌, Bool, nat_lt, List, [], ◌∷◌, length}
 use Rattle.topology.specs.declared.items.Pending.{Pending}
 use Rattle.topology.specs.declared.items.Sent.{Sent}
@@ -10,11 +10,11 @@ use Rattle.topology.specs.declared.limits.TheConstants.{MOST_TRIGGERS}
 abbrev pub is_long : List Trigger → Bool
 is_long triggers = nat_lt MOST_TRIGGERS (length triggers)
 
--- an item lists so many
+-- an item lists more triggers than a list may have
 abbrev pub is_long_item : Sent → Bool
 is_long_item item = is_long item.triggers
 
--- what is held back does
+-- a row of updates held back lists more triggers than a list may have
 abbrev pub is_long_row : Pending → Bool
 is_long_row row = is_long row.triggers
 
@@ -27,10 +27,10 @@ total count (x ∷ xs) = count x + total count xs
 abbrev pub entry_marks : List Entry → ℕ
 entry_marks h = total (λ (k : Entry). length k.triggers) h
 
--- those that items list
+-- the triggers that items list
 abbrev pub item_marks : List Sent → ℕ
 item_marks items = total (λ (item : Sent). length item.triggers) items
 
--- those that rows of what is held back list
+-- the triggers that rows of updates held back list
 abbrev pub row_marks : List Pending → ℕ
 row_marks rows = total (λ (row : Pending). length row.triggers) rows

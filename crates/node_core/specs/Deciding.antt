@@ -1,4 +1,4 @@
--- What a node is to do, and that it may.
+-- The acts of a node, and when it may do them.
 use Rattle.std.specs.Prelude.{ℕ, suc, ◌≡◌, ◌<◌, true, Some, Result, Ok, Err, length}
 use Rattle.topology.specs.declared.status.Reason.{Reason}
 use Rattle.topology.specs.declared.names.Scope.TheVariants.{All}
@@ -26,7 +26,7 @@ use Rattle.node_core.specs.declared.duties.Passing.TheVariants.{Enter as Enters,
 use Rattle.node_core.specs.Coming.{IsPlaced}
 use Rattle.node_core.specs.Keeping.{MayEnter}
 
--- the item is the next one, where items are counted
+-- the item is the next one, if it is an update
 abbrev pub IsInTurn : ℕ → ℕ → ℕ → Chronicle → Item → Type 0
 IsInTurn u v s past (News number x) = number ≡ suc (length (inbox (log_of u past) v s))
 IsInTurn u v s past (Marker e) = Unit {0}
@@ -41,7 +41,7 @@ pub record MayTake (net : Net) (u : ℕ) (past : Chronicle) (v s : ℕ) (item : 
   pub placed : IsPlaced net item
   pub may_hear : MayHear net v item
 
--- u may do it
+-- u may do the act
 abbrev pub MayDo : Net → ℕ → Chronicle → Duty → Type 0
 MayDo net u past (Enter scope cause) = MayEnter net u (log_of u past) (local u (log_of u past) scope cause)
 MayDo net u past (Open v s) = MayEnter net u (log_of u past) (local u (log_of u past) All (Up v s))
@@ -49,7 +49,7 @@ MayDo net u past (Take v s item) = MayTake net u past v s (item_of item)
 MayDo net u past (Flush v) = MayEnter net u (log_of u past) (flush v)
 MayDo net u past (Rise e) = epoch u past < e
 
--- the chronicle goes on so where u does it
+-- the chronicle after u does the act
 abbrev pub acted : Rules → Net → Carried → ℕ → Chronicle → Duty → Chronicle
 acted rules net carried u past (Enter scope cause) = write rules net carried u (local u (log_of u past) scope cause) past
 acted rules net carried u past (Open v s) = open_session carried u v s past
@@ -57,7 +57,7 @@ acted rules net carried u past (Take v s item) = take_item rules net carried u (
 acted rules net carried u past (Flush v) = write rules net carried u (flush v) past
 acted rules net carried u past (Rise e) = raise rules net carried u e past
 
--- the input that its part in the agreements is asked about
+-- the input that the node's part in the agreements handles
 abbrev pub asked_of : Asked → Input
 asked_of (asked.Propose epoch) = Propose epoch
 asked_of (asked.Hear from message) = Control from (message_seen message)
@@ -67,8 +67,8 @@ abbrev pub passing_of : Passing → Input
 passing_of (Enters id prefix) = Inject id prefix
 passing_of (GoOn packet up) = Hop packet.value up.items
 
--- this is what the input comes to: an act that u may do, by which the chronicle goes on, whatever the links carry; or
--- nothing is done, for a reason
+-- the decision on the input: an act that u may do, which makes the chronicle after the input, whatever the links carry;
+-- or the reason for which the input is idle
 abbrev pub IsDecided : Rules → Net → ℕ → Chronicle → Input → Result Duty Reason → Type 0
 IsDecided rules net u past input (Ok act) =
     MayDo net u past act × ((carried : Carried) → answer rules net carried u past input ≡ Goes (acted rules net carried u past act))

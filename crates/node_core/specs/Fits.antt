@@ -10,7 +10,7 @@ use Rattle.node_core.specs.Names.{are_nodes, is_number, list_fits}
 use Rattle.node_core.specs.PacketFits.{packet_fits, are_links}
 use Rattle.topology.specs.declared.limits.TheConstants.{MOST_EPOCHS, HIGHEST_PREFERENCE}
 
--- the first of them is v
+-- the first node of the list is v
 abbrev pub begins_with : ℕ → List ℕ → Bool
 begins_with v [] = false
 begins_with v (n ∷ ns) = n == v
@@ -28,9 +28,9 @@ item_fits net v (News number x) =
 item_fits net v (Marker e) = nat_le 1 e && nat_le e MOST_EPOCHS
 item_fits net v (Hello e) = nat_le e MOST_EPOCHS
 
--- the names of the input are in the network, the other node is a neighbour of u, and each number is in its
--- range: sessions and packets from 1, preferences up to a million; a ballot is for an epoch that a cut may be of, a
--- control message is one that its sender may send, and links that are up are given by their other ends, ascending
+-- the names of the input are in the network, its other node is a neighbour of u, and each number is in its range:
+-- sessions and packets from 1, preferences up to a million. A ballot is for an epoch from 1 to 32, a control message is
+-- one that its sender may send, and the links that are up are given by their other ends, ascending
 unfoldable pub fits : Net → ℕ → Input → Bool
 fits net u (Originate p) = nat_lt p (length net.prefixes)
 fits net u (Withdraw p) = nat_lt p (length net.prefixes)

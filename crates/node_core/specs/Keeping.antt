@@ -1,4 +1,4 @@
--- What a node keeps of what it did.
+-- The state that a node keeps of its own facts.
 use Rattle.std.specs.Prelude.{ℕ, ◌≡◌, List}
 use Rattle.topology.specs.Net.{Net}
 use Rattle.path_vector.specs.Kept.{IsOfNeighbour}
@@ -18,16 +18,16 @@ use Rattle.node_core.specs.Alike.{Alike}
 use Rattle.node_core.specs.Counting.{AreCounts}
 use Rattle.node_core.specs.Reports.{AreReports}
 
--- an entry of node u is of a neighbour and of a prefix of the network, fits the log, and lists something but where it
--- concerns nothing
+-- node u may make the entry: it is of a neighbour and of a prefix of the network, fits the log, and lists a trigger
+-- unless it concerns nothing
 pub record MayEnter (net : Net) (u : ℕ) (h : List Entry) (k : Entry) : Type 0 where
   pub near : IsOfNeighbour net u k.read.cause
   pub placed : IsPlaced net k.read.scope
   pub fits : CauseFits h k.read.scope k.read.cause
   pub lists : ListsFor k.read.scope k.triggers
 
--- the node is u in this network; its log, what it has dropped of it, and what it counts of it, are those of u after
--- these facts, its snapshots were told what u did, and its reports are those of the cuts of u
+-- the node is u in this network; its log, its count of dropped entries and its counts of the log are those of u after
+-- these facts, its snapshots stand for the acts of u, and its reports are those of the cuts of u
 pub record Keeps {P : Type 0} (policy : P) (rules : Rules) (net : Net) (u : ℕ) (node : Node P) (past : Chronicle) : Type 0 where
   pub same_net : node.parts.value.topology.value ≡ net
   pub same_id : node.parts.value.id ≡ u

@@ -13,7 +13,9 @@ pub mod Views
 pub mod Agreeing
 pub mod Keeping
 pub mod Deciding
+pub mod Acting
 pub mod Entries
+pub mod Entering
 pub mod Firsts
 pub mod Standing
 pub mod Answering

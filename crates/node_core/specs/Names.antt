@@ -18,12 +18,12 @@ is_number n = nat_le 1 n && nat_lt n (2 ^ 32)
 abbrev pub trigger_fits : Net → Trigger → Bool
 trigger_fits net t = has net.nodes t.node && is_number t.count
 
--- some triggers, and each such a one
+-- a list with a trigger, each of a node of the network
 abbrev pub triggers_fit : Net → List Trigger → Bool
 triggers_fit net [] = false
 triggers_fit net (t ∷ []) = trigger_fits net t
 triggers_fit net (t ∷ s ∷ ts) = trigger_fits net t && triggers_fit net (s ∷ ts)
 
--- such triggers, no more than a list may have
+-- such a list, with no more triggers than a list may have
 abbrev pub list_fits : Net → List Trigger → Bool
 list_fits net ts = nat_le (length ts) MOST_TRIGGERS && triggers_fit net ts

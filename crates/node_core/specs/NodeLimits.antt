@@ -1,4 +1,4 @@
--- How much one node may have.
+-- The limits of one node.
 use Rattle.std.specs.Prelude.{ℕ, ◌+◌, ◌≡◌, Bool, false, ◌==◌, ◌&&◌, ◌||◌, List, Option, Some, None, nat_lt, length, if◌then◌else◌}
 use Rattle.std.specs.List.{list_any}
 use Rattle.topology.specs.declared.status.LimitKind.{LimitKind}
@@ -24,7 +24,7 @@ use Rattle.node_core.specs.Counted.{entry_marks, is_long_item, is_long_row, item
 use Rattle.node_core.specs.declared.outputs.Stop.{Stop}
 use Rattle.node_core.specs.declared.outputs.Stop.TheVariants as stop
 
--- a limit that is reached: what is counted, and the number that the count may not be above
+-- a limit that is reached: the kind of the count, and its highest number
 pub record Reached : Type 0 where
   pub kind : LimitKind
   pub number : ℕ
@@ -39,7 +39,7 @@ abbrev pub is_large : Message → Bool
 is_large (Reports report) = false
 is_large (Agrees e m) = proposes_more m
 
--- one of the messages of the reply does
+-- one of the messages of the reply proposes such a value
 abbrev pub proposes_large : Reply → Bool
 proposes_large (reply.Idle reason) = false
 proposes_large (reply.Sent mails) = list_any (λ (mail : ItsMail). is_large (message_seen mail.message)) mails
@@ -49,7 +49,7 @@ abbrev pub is_too_large : ℕ → Fact → Bool
 is_too_large u (Mail from to m) = from == u && is_large m
 is_too_large u other = false
 
--- u mailed an Accept with more triggers than a value may have; what others mailed is not read
+-- u mailed an Accept whose value has more triggers than a value may have; messages of other nodes are not read
 abbrev pub has_large_value : ℕ → Chronicle → Bool
 has_large_value u now = list_any (is_too_large u) now
 
@@ -67,8 +67,8 @@ first_of_node epochs triggers entries updates =
     else if updates then Some (record { kind = Updates; number = MOST_UPDATES })
     else None
 
--- the first of these counts of node u that is above its number: that of triggers is above where u proposed a value with more
--- than one may have, or has a list with more
+-- the first of these counts of node u that is above its number; the count of triggers is above where u proposed a value
+-- with more than a value may have, or has a list with more than a list may have
 unfoldable pub node_above : Rules → Net → ℕ → Chronicle → Option Reached
 node_above rules net u now =
     first_of_node (nat_lt MOST_EPOCHS (epoch u now)) (has_large_value u now || has_long_list rules net u now) (nat_lt MOST_ENTRIES (length (log_of u now)))
@@ -78,26 +78,26 @@ node_above rules net u now =
 unfoldable pub marks_of : Rules → Net → ℕ → List Entry → ℕ
 marks_of rules net u h = entry_marks h + item_marks (sent_of rules net u h) + row_marks (pending_rows rules net u h)
 
--- there are more of u than there may be
+-- u has more marks than it may have
 unfoldable pub has_more_marks : Rules → Net → ℕ → Chronicle → Bool
 has_more_marks rules net u now = nat_lt MOST_MARKS (marks_of rules net u (log_of u now))
 
--- the same of what an input comes to: an idle one takes no count above its number
+-- the first count above its number after a step; none after an idle step
 abbrev pub limit_before_marks : Rules → Net → ℕ → Step → Option Reached
 limit_before_marks rules net u (Idle reason) = None
 limit_before_marks rules net u (Goes now) = node_above rules net u now
 
--- the marks come last, where no other count is above its number
+-- the limit that u reaches: the marks stand behind all other counts
 abbrev pub or_marks : Option Reached → Bool → Option Reached
 or_marks (Some reached) more = Some reached
 or_marks None more = if more then Some (record { kind = Marks; number = MOST_MARKS }) else None
 
--- the same of all counts of u
+-- the limit that a step of u reaches
 abbrev pub node_limit : Rules → Net → ℕ → Step → Option Reached
 node_limit rules net u (Idle reason) = None
 node_limit rules net u (Goes now) = or_marks (node_above rules net u now) (has_more_marks rules net u now)
 
--- a stop at a limit is at this one; want of memory may come with any input
+-- a stop at a limit is at this one; memory may run out with any input
 abbrev pub StopsAt : Option Reached → Stop → Type 0
 StopsAt limit stop.NoMemory = Unit {0}
 StopsAt limit (stop.Limit kind number) = limit ≡ Some (record { kind = kind; number = number })

@@ -1,4 +1,4 @@
--- What a node hands out: what the facts that it adds show.
+-- The outputs of a node: those of the facts that it adds.
 use Rattle.std.specs.Prelude.{ℕ, suc, ◌≡◌, Option, None, Some, List, [], ◌∷◌, ◌++◌, map, length}
 use Rattle.topology.specs.declared.status.Reason.{Reason}
 use Rattle.std.specs.Rc.{rc_value}
@@ -20,8 +20,8 @@ use Rattle.node_core.specs.declared.outputs.Outputs.{Outputs}
 use Rattle.node_core.specs.declared.outputs.Outputs.TheVariants.{Did, Idle as Declines}
 
 -- an entry, with its place in the log; a cut of an epoch; an item for a neighbour in a session; a control message for a
--- node; the table of an epoch, with its value and its paths, prefix by prefix in file order; a packet as it is from here
--- on, for a node; the end of a packet's walk
+-- node; the table of an epoch, with its value and its paths, prefix by prefix in file order; a packet for a node, as it
+-- leaves this one; the end of a packet's walk
 pub data Output : Type 0 where
   Logged : (index : ℕ) → Output
   Cut : (epoch : ℕ) → Output
@@ -40,8 +40,9 @@ output_of (given.Published table) = Published (rc_value table).epoch (rc_value t
 output_of (given.Forward next packet) = Forward next packet.value
 output_of (given.Ended id ending) = Ended id ending
 
--- an entry shows its place, counted from 1; whether an item was queued or lost is not shown, nor that an item was
--- taken, that a ballot started, that a control message was heard, what links do, or whether the node is crashed
+-- the outputs of a fact. That of an entry has its place, counted from 1. That of an item does not say whether it was
+-- queued or lost. These facts have no output: an item was taken, a ballot started, a control message was heard, a link
+-- changed, the node crashed or restarted
 abbrev pub output_by : Fact → Chronicle → List Output
 output_by (Log u entry) past = Logged (suc (length (log_of u past))) ∷ []
 output_by (Sent from to session item queued) past = Send (record { to = to; session = session; item = item }) ∷ []
@@ -58,26 +59,26 @@ output_by (Publish u e value paths) past = Published e value paths ∷ []
 output_by (Visit w packet) past = Forward w packet ∷ []
 output_by (End id ending) past = Ended id ending ∷ []
 
--- a packet off the tables, after its move, if it made one
+-- the output of a packet off the tables, after its move or at its end
 abbrev pub shown_of : Packet → Move → Output
 shown_of packet (Next w) = Forward w packet
 shown_of packet (Over ending) = Ended packet.id ending
 
--- all that was handed out, the oldest first
+-- all outputs of a run, the oldest first
 abbrev pub outputs : Chronicle → List Output
 outputs [] = []
 outputs (f ∷ past) = outputs past ++ output_by f past
 
--- the list has what was handed out between the two
+-- the list has the outputs between the two chronicles
 abbrev pub Hands : Chronicle → List Given → Chronicle → Type 0
 Hands first list now = outputs first ++ map output_of list ≡ outputs now
 
--- what an input came to: the reason for which nothing was done, where there is one, and else the outputs
+-- the answer to an input: the reason, where there is one, otherwise the outputs
 abbrev pub told_by : Option Reason → List Given → Outputs
 told_by None list = Did list
 told_by (Some reason) list = Declines reason
 
--- the answer is that of the step: a reason, or the outputs that are new
+-- the answer is that of the step: its reason, or the new outputs
 abbrev pub Answers : Chronicle → Step → Outputs → Type 0
 Answers past (Idle reason) (Declines told) = told ≡ reason
 Answers past (Idle reason) (Did list) = ⊥

@@ -12,8 +12,8 @@ use Rattle.topology.specs.declared.limits.TheConstants.{MOST_EPOCHS, MOST_TRAIL}
 abbrev pub carried_fits : Net → List ℕ → Bool
 carried_fits net nodes = nat_le (length nodes) MOST_TRAIL && are_nodes net nodes
 
--- it is numbered from 1, its prefix and its nodes are of the network, and its stamp is an epoch that there may be, or 0;
--- its budget has two bytes, and the set of visited nodes eight
+-- the packet is numbered from 1, its prefix and its nodes are of the network, and its stamp is an epoch from 1 to 32,
+-- or 0; its budget has two bytes, and the set of visited nodes eight
 abbrev pub packet_fits : Net → Packet → Bool
 packet_fits net packet =
     is_number packet.id && (nat_lt packet.prefix (length net.prefixes) && (nat_le packet.epoch MOST_EPOCHS

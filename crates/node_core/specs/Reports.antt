@@ -11,6 +11,7 @@ use Rattle.chronicle.specs.Drops.{reported_cut}
 abbrev pub is_of_epoch : ℕ → Report → Bool
 is_of_epoch e report = report.epoch == e
 
--- of each epoch there is the report of the cut, without what u had dropped when it took it, and none where there is no cut
+-- the report of each epoch is that of u's cut, without the entries that u had dropped when it took the cut; there is
+-- none where u has no cut
 abbrev pub AreReports : Rules → Net → ℕ → Chronicle → List Report → Type 0
 AreReports rules net u past kept = (e : ℕ) → find (is_of_epoch e) kept ≡ option_map (trimmed_report rules net u e) (reported_cut net u e past)

@@ -15,7 +15,7 @@ abbrev pub backups_over : Rules → Net → ℕ → Value → Option Trimmed →
 backups_over rules net u value None = []
 backups_over rules net u value (Some c) = map (trimmed_backups rules net u value c) (places net)
 
--- what u published, with the backups over its cut of that epoch as the table is made of it
+-- a table that u published, with its backups over the cut of its epoch
 abbrev pub view_of : Rules → Net → ℕ → Chronicle → Publication → View
 view_of rules net u past t = record {
   epoch = t.epoch;

@@ -1,4 +1,4 @@
-//! What a node keeps of epochs: its reports, its part in agreements, its tables.
+//! The state of a node's epochs: its reports, its part in the agreements, its tables.
 ghost use Rattle.std.specs.Prelude.{ℕ, ◌≡◌, ◌∷◌};
 ghost use Rattle.topology.specs.Net.{Net};
 ghost use Rattle.consolidator.specs.Facts.{Chronicle, Crash};
@@ -18,7 +18,7 @@ pub struct Agreement {
 }
 
 impl Agreement {
-    /// A crash of the node: what its part in the agreements collected is lost, and nothing else. Takes no memory.
+    /// The node crashes: its part in the agreements loses what it collected. Nothing else changes. Takes no memory.
     pub(crate) fn forget(&mut self)
         ensures part { (net : Net) (past : Chronicle) (u : ℕ) → StandsFor net self.old.consolidator past u →
             StandsFor net self.new.consolidator (Crash u ∷ past) u }

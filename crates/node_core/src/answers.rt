@@ -1,4 +1,4 @@
-//! What a node answers to an input, before the table is published that may be due.
+//! The answer of a node to an input, before it publishes a table.
 ghost use Rattle.std.specs.Prelude.{◌≡◌, ◌==◌, ◌++◌, [], ℕ, None, Some, map, IfOk, IfErr, OnOk, if◌then◌else◌};
 ghost use Rattle.topology.specs.Net.{Net};
 ghost use Rattle.consolidator.specs.Facts as consolidator;
@@ -30,16 +30,16 @@ use path_vector::{Cause, Policy};
 use topology::limits::MOST_TRIGGERS;
 use topology::{Epoch, Item, LimitKind, NoMemory, NodeId, Reason, Scope, Session, Topology};
 
-/// What a node answers.
+/// The answer of a node to an input.
 #[derive(Drop)]
 pub enum Answer {
-    /// It hands out what was added to the outputs. Of this epoch, if there is one, it may have its cut and its decision
-    /// now, and had not both before.
+    /// The node acted, and added to the outputs. It may now have both the cut and the decision of this epoch, if one is
+    /// named. It had not both before.
     Did(Option<Epoch>),
     Idle(Reason),
 }
 
-// The epoch that the node rose to, where it rose.
+// The epoch after the act, where the act raised it.
 fn risen(before: Epoch, now: Epoch) -> Option<Epoch>
     ensures { result ≡ (if now == before then None else Some now) }
 {
@@ -49,7 +49,7 @@ fn risen(before: Epoch, now: Epoch) -> Option<Epoch>
     Some(now)
 }
 
-// Adds the control messages, as outputs.
+// Adds the control messages to the outputs.
 fn mail_all(mails: Outbox, outputs: &mut OutputList) -> Result<(), NoMemory>
     ensures { OnOk result (map output_of outputs.new ≡ map output_of outputs.old ++ posts (mails_seen mails)) }
 {
@@ -61,7 +61,7 @@ fn mail_all(mails: Outbox, outputs: &mut OutputList) -> Result<(), NoMemory>
 }
 
 impl Asked {
-    // The epoch whose decision comes, where one does.
+    // The epoch whose decision the input brings, if it brings one.
     fn decides(&self) -> Option<Epoch>
         ensures { result ≡ decided_by (asked_of self.now) }
     {
@@ -77,7 +77,7 @@ impl Asked {
     }
 }
 
-// What the part in the agreements says.
+// The part in the agreements handles the input, and replies.
 fn consult(
     part: Consolidator,
     topology: &Topology,
@@ -92,7 +92,7 @@ fn consult(
     }
 }
 
-// The same of all that a node keeps beside its log: its part goes on, and nothing else changes.
+// The part in the agreements, among the parts of a node, handles the input. No other part changes.
 #[inline(always)]
 fn consult_parts(parts: NodeParts, asked: Asked) -> Result<(NodeParts, Reply), NoMemory>
     ensures part { IfOk result (λ done. (past : consolidator.Chronicle) (u : ℕ) →
@@ -132,7 +132,7 @@ fn consult_parts(parts: NodeParts, asked: Asked) -> Result<(NodeParts, Reply), N
 }
 
 impl<P: Policy + Copy> Node<P> {
-    /// Does what the node is to do.
+    /// Does the act.
     #[inline(always)]
     fn perform(self, act: Duty, outputs: &mut OutputList) -> Result<(Node<P>, Answer), NoMemory>
         ensures node { IfOk result (λ r. (policy : P) (net : Net) (u : ℕ) (carried : Carried) (past : Chronicle) →
@@ -148,7 +148,7 @@ impl<P: Policy + Copy> Node<P> {
         Ok((node, Answer::Did(due)))
     }
 
-    /// Does what was decided, if it is to be done.
+    /// Does the act that was decided, or answers the reason.
     fn follow(
         self,
         decided: Result<Duty, Reason>,
@@ -168,7 +168,7 @@ impl<P: Policy + Copy> Node<P> {
         }
     }
 
-    /// Takes an item of a neighbour, if it is one of the session that is held, and next in its turn.
+    /// Takes an item of a neighbour, where the node holds the session and the item is the next one.
     #[inline(always)]
     fn receive(
         self,
@@ -198,8 +198,8 @@ impl<P: Policy + Copy> Node<P> {
         )
     }
 
-    /// Asks the node's part in the agreements. Stops where it would propose a value with more triggers than one may
-    /// have.
+    /// The part in the agreements handles the input, and its messages go out. Stops where it would propose a value with
+    /// more triggers than one may have.
     fn ask(self, asked: Asked, outputs: &mut OutputList) -> Result<(Node<P>, Answer), Stop>
         ensures node { IfOk result (λ r. (policy : P) (net : Net) (u : ℕ) (carried : Carried) (past : Chronicle) →
             StandsFor policy (P.rules policy) net u self past →
@@ -229,7 +229,7 @@ impl<P: Policy + Copy> Node<P> {
         }
     }
 
-    /// What the node answers to an input, before the table is published that may be due.
+    /// The answer of the node to an input, before it publishes a table.
     #[inline(always)]
     pub(crate) fn answer(
         self,

@@ -110,14 +110,14 @@ fn is_consolidator(topology: &Topology, node: NodeId) -> bool
     is_among(topology.consolidators(), node)
 }
 
-// Whether the node may send something of the ballot.
+// Whether the node may send a message of the ballot.
 fn sender_fits(topology: &Topology, from: NodeId, ballot: Ballot) -> bool
     ensures { result ≡ sender_fits topology.now from ballot }
 {
     is_consolidator(topology, from) && ballot_fits(topology, ballot)
 }
 
-// Whether it is a prefix of the network, all, or none.
+// Whether the scope is a prefix of the network, all prefixes, or nothing.
 fn scope_fits(topology: &Topology, scope: &Scope) -> bool
     ensures { result ≡ scope_fits topology.now scope.now }
 {
@@ -185,7 +185,7 @@ fn row_fits(topology: &Topology, row: &Row) -> bool
     row_lists_fit(topology, &row.scope, &row.triggers) && entry_fits(topology, row)
 }
 
-// Whether all rows do.
+// Whether the rows of all entries name what the network has.
 fn all_rows_fit(topology: &Topology, rows: &[Row]) -> bool
     ensures { result ≡ list_all (row_fits topology.now) (map row_seen rows.now) }
 {
@@ -250,7 +250,7 @@ fn session_fits(topology: &Topology, row: &SessionRow) -> bool
     is_node(topology, row.nbr) && ending_fits(topology, row)
 }
 
-// Whether all rows of sessions do.
+// Whether all rows of sessions name what the network has.
 fn all_sessions_fit(topology: &Topology, rows: &[SessionRow]) -> bool
     ensures { result ≡ list_all (session_fits topology.now) (map session_seen rows.now) }
 {
@@ -294,7 +294,7 @@ fn sessions_fit(topology: &Topology, rows: &[SessionRow]) -> bool
     all_sessions_fit(topology, rows) && sessions_ascend(rows)
 }
 
-// Whether what is held back is of a session from 1, and lists what it may.
+// Whether a row of updates held back has a session from 1, and lists what it may.
 fn is_held_back(topology: &Topology, row: &Pending) -> bool
     ensures { result ≡ (is_number row.now.session && list_fits topology.now row.now.triggers) }
 {
@@ -308,14 +308,14 @@ fn is_placed(topology: &Topology, row: &Pending) -> bool
     row.prefix.place() < topology.prefix_count() && is_held_back(topology, row)
 }
 
-// Whether the row of what is held back names what the network has.
+// Whether a row of updates held back names what the network has.
 fn waiting_fits(topology: &Topology, row: &Pending) -> bool
     ensures { result ≡ waiting_fits topology.now row.now }
 {
     is_node(topology, row.to) && is_placed(topology, row)
 }
 
-// Whether all rows of what is held back do.
+// Whether all rows of updates held back name what the network has.
 fn all_waiting_fit(topology: &Topology, rows: &[Pending]) -> bool
     ensures { result ≡ list_all (waiting_fits topology.now) rows.now }
 {
@@ -329,7 +329,7 @@ fn waits_sooner(a: &Pending, b: &Pending) -> bool
     a.to < b.to || (a.to == b.to && a.prefix < b.prefix)
 }
 
-// Whether the rows of what is held back stand in order.
+// Whether the rows of updates held back stand in order.
 fn wait_in_order(rows: &[Pending]) -> bool
     ensures { result ≡ in_order waits_sooner rows.now }
 {
@@ -347,7 +347,7 @@ fn waiting_ascends(rows: &[Pending]) -> bool
     wait_in_order(rows) && rows.len() <= MOST_PENDING as usize
 }
 
-// Whether the rows of what is held back fit, and ascend.
+// Whether the rows of updates held back fit, and ascend.
 fn pending_fits(topology: &Topology, rows: &[Pending]) -> bool
     ensures { result ≡ pending_fits topology.now rows.now }
 {
@@ -377,7 +377,7 @@ fn less_sent(number: usize, sent: &SentItems) -> Option<usize>
     less(number, marks)
 }
 
-// What is left of a number after the triggers that the rows list. None where they list more.
+// The number less the count of triggers that the rows list. None where the rows list more.
 fn less_rows(number: usize, rows: &[Row]) -> Option<usize>
     ensures some { IfSome result (λ left. left + marks_of_rows (map row_seen rows.now) ≡ number) }
     ensures none { IfNone result (number < marks_of_rows (map row_seen rows.now)) }
@@ -426,7 +426,7 @@ fn parts_fit(topology: &Topology, report: &Report) -> bool
     rows_fit(topology, report.rows.as_slice()) && rest_fits(topology, report)
 }
 
-// Whether it is a report of its sender.
+// Whether the report is of its sender, and fits.
 fn report_fits(topology: &Topology, from: NodeId, report: &Report) -> bool
     ensures { result ≡ body_fits topology.now from (Reports (report_seen report.now)) }
 {

@@ -1,4 +1,4 @@
-//! How many items and triggers the lists of a node have.
+//! Counts of the items and triggers in the lists of a node.
 ghost use Rattle.std.specs.Prelude.{ℕ, ◌+◌, ◌<◌, ◌≡◌, [], ◌∷◌, nat_lt, List, IfNone, IfOk, IfSome, OnOk};
 ghost use Rattle.std.specs.List.{list_any};
 ghost use Rattle.topology.specs.Net.{Net};
@@ -12,12 +12,13 @@ use topology::limits::{MOST_MARKS, MOST_TRIGGERS};
 use topology::{NoMemory, Pending, SentItems, Triggers};
 use trigger_log::Entry;
 
-/// What the entries of a log come to.
+/// The counts of all entries of a log.
 #[derive(Clone, Copy, Debug, Drop)]
 pub struct Counts {
-    // How many items they list.
+    // The count of items that the entries list.
     pub(crate) updates: usize,
-    // How many triggers they and their items list, counted once for each list.
+    // The count of triggers in the lists of the entries and of their items. A trigger counts once for each list that
+    // has it.
     pub(crate) marks: usize,
     // Whether an item lists more triggers than a list may have.
     pub(crate) has_long: bool,
@@ -30,14 +31,14 @@ fn is_long(triggers: &Triggers) -> bool
     triggers.len() > MOST_TRIGGERS as usize
 }
 
-/// Whether a row of what is held back lists more triggers than a list may have.
+/// Whether a row of updates that are held back lists more triggers than a list may have.
 pub(crate) fn any_long(rows: &[Pending]) -> bool
     ensures { result ≡ list_any is_long_row rows.now }
 {
     rows.iter().any(|row| is_long(&row.triggers))
 }
 
-/// What is left of a number after another one. None where that is higher.
+/// The first number less the second. None where the second is higher.
 pub(crate) fn less(number: usize, count: usize) -> Option<usize>
     ensures some { IfSome result (λ left. left + count ≡ number) }
     ensures none { IfNone result (number < count) }
@@ -48,7 +49,7 @@ pub(crate) fn less(number: usize, count: usize) -> Option<usize>
     Some(number - count)
 }
 
-/// What is left of a number after the triggers that the rows of what is held back list. None where they list more.
+/// The number less the count of triggers that the rows of updates held back list. None where the rows list more.
 pub(crate) fn less_pending(number: usize, rows: &[Pending]) -> Option<usize>
     ensures some { IfSome result (λ left. left + row_marks rows.now ≡ number) }
     ensures none { IfNone result (number < row_marks rows.now) }
@@ -63,7 +64,7 @@ pub(crate) fn less_pending(number: usize, rows: &[Pending]) -> Option<usize>
     Some(left)
 }
 
-/// Whether a number of triggers and those that the rows of what is held back list come to more than there may be.
+/// Whether this many triggers, with those that the rows of updates held back list, are more than a node may have.
 pub(crate) fn are_more(marks: usize, rows: &[Pending]) -> bool
     ensures { result ≡ nat_lt MOST_MARKS (marks + row_marks rows.now) }
 {
@@ -76,7 +77,7 @@ pub(crate) fn are_more(marks: usize, rows: &[Pending]) -> bool
     false
 }
 
-// The sum, or want of memory where the count ends.
+// The sum. `NoMemory` where it would overflow.
 fn sum(a: usize, b: usize) -> Result<usize, NoMemory>
     ensures { IfOk result (λ c. c ≡ a + b) }
 {
@@ -87,7 +88,7 @@ fn sum(a: usize, b: usize) -> Result<usize, NoMemory>
 }
 
 impl Counts {
-    /// What no entries come to.
+    /// The counts of no entries.
     pub(crate) fn none() -> Counts
         ensures { (rules : Rules) (net : Net) (u : ℕ) → AreCounts rules net u [] result }
     {
@@ -98,7 +99,7 @@ impl Counts {
         }
     }
 
-    // The items of an entry more. After want of memory the counts mean nothing.
+    // Adds the items of an entry. After `NoMemory` the counts mean nothing.
     #[inline(always)]
     fn add_sent(&mut self, sent: &SentItems) -> Result<(), NoMemory>
         ensures { OnOk result (Adds sent.now self.old self.new) }
@@ -112,7 +113,7 @@ impl Counts {
         Ok(())
     }
 
-    /// One entry more, or want of memory where a count ends: then the counts mean nothing.
+    /// Adds an entry. `NoMemory` where a count would overflow; the counts mean nothing then.
     #[inline(always)]
     pub(crate) fn add(&mut self, entry: &Entry) -> Result<(), NoMemory>
         ensures { OnOk result ((rules : Rules) (net : Net) (u : ℕ) (k : Logged) (h : List Logged) →

@@ -1,4 +1,4 @@
-//! What an input asks a node to do.
+//! The acts that an input asks of a node.
 ghost use Rattle.std.specs.Prelude.{◌≡◌, ℕ, suc, Ok, IfSome, IfNone};
 ghost use Rattle.topology.specs.Net.{Net};
 ghost use Rattle.trigger_log.specs.Going.{item_of};
@@ -18,10 +18,10 @@ use epoch_packet::Packet;
 use path_vector::{Cause, Policy};
 use topology::{Epoch, Item, NodeId, PrefixId, Reason, Scope, Session};
 
-/// What a node is to do.
+/// An act of a node.
 #[derive(Drop)]
 pub enum Duty {
-    /// To make an entry of its own accord.
+    /// To make an entry with the node's next trigger.
     Enter {
         scope: Scope,
         cause: Cause,
@@ -31,23 +31,23 @@ pub enum Duty {
         nbr: NodeId,
         session: Session,
     },
-    /// To take an item of a neighbour, in the session that is held with it.
+    /// To take an item of a neighbour, in the session that the node holds with it.
     Take {
         from: NodeId,
         session: Session,
         item: Item,
     },
-    /// To send what is held back from the neighbour.
+    /// To send the updates that the node holds back from the neighbour.
     Flush {
         nbr: NodeId,
     },
-    /// To raise its epoch to this one.
+    /// To raise the epoch to this one.
     Rise {
         epoch: Epoch,
     },
 }
 
-/// What the node's part in the agreements is asked about.
+/// An input to the node's part in the agreements.
 #[derive(Drop)]
 pub enum Asked {
     /// To start a ballot for the value of the epoch.
@@ -56,15 +56,15 @@ pub enum Asked {
     Hear { from: NodeId, message: Message },
 }
 
-/// What is to be done with a packet.
+/// An act on a packet.
 #[derive(Drop)]
 pub enum Passing {
-    /// It enters the network here.
+    /// The packet enters the network here.
     Enter {
         id: u32,
         prefix: PrefixId,
     },
-    /// It goes on from here, where the links to these neighbours are up.
+    /// The packet goes on from here. The links to these neighbours are up.
     GoOn {
         packet: Box<Packet>,
         up: Vec<NodeId>,
@@ -72,7 +72,7 @@ pub enum Passing {
 }
 
 impl<P: Policy + Copy> Node<P> {
-    /// The node becomes an origin of the prefix, where it is none.
+    /// The act of an `Originate`: the node becomes an origin of the prefix. A reason where it is one already.
     pub(crate) fn decide_originating(&self, prefix: PrefixId) -> Result<Duty, Reason>
         ensures { (policy : P) (net : Net) (u : ℕ) (past : Chronicle) →
             StandsFor policy (P.rules policy) net u self.now past → MayCome net u (Originate prefix) →
@@ -86,7 +86,7 @@ impl<P: Policy + Copy> Node<P> {
         Ok(Duty::Enter { scope, cause })
     }
 
-    /// The node is no origin of the prefix any more, where it is one.
+    /// The act of a `Withdraw`: the node is an origin of the prefix no longer. A reason where it is none.
     pub(crate) fn decide_withdrawing(&self, prefix: PrefixId) -> Result<Duty, Reason>
         ensures { (policy : P) (net : Net) (u : ℕ) (past : Chronicle) →
             StandsFor policy (P.rules policy) net u self.now past → MayCome net u (Withdraw prefix) →
@@ -100,8 +100,8 @@ impl<P: Policy + Copy> Node<P> {
         Ok(Duty::Enter { scope, cause })
     }
 
-    /// Why an item of the neighbour in the session is not taken: the session is not held, or it is an update and not the
-    /// next one. No log is so long that there is no next number.
+    /// The reason for which the node does not take an item: it does not hold the session, or the item is an update that
+    /// is not the next one. None where it takes the item. No log is so long that an update has no next number.
     #[inline(always)]
     pub(crate) fn declines(&self, from: NodeId, session: Session, item: &Item) -> Option<Reason>
         ensures some { IfSome result (λ reason. (policy : P) (net : Net) (u : ℕ) (carried : Carried) (past : Chronicle) →
@@ -125,7 +125,7 @@ impl<P: Policy + Copy> Node<P> {
         Some(Reason::WrongSeq { expected, got })
     }
 
-    /// The session that is held with the neighbour is closed.
+    /// The act of a `Notice`: the node closes the session with the neighbour. A reason where it holds none.
     pub(crate) fn decide_closing(&self, nbr: NodeId) -> Result<Duty, Reason>
         ensures { (policy : P) (net : Net) (u : ℕ) (past : Chronicle) →
             StandsFor policy (P.rules policy) net u self.now past → MayCome net u (Notice nbr) →
@@ -139,7 +139,8 @@ impl<P: Policy + Copy> Node<P> {
         Ok(Duty::Enter { scope, cause })
     }
 
-    /// A session is opened where none is held, above those that were.
+    /// The act of an `OpenSession`: the node opens the session. A reason where it holds one, or where the number is not
+    /// above those of the earlier sessions.
     pub(crate) fn decide_opening(&self, nbr: NodeId, session: Session) -> Result<Duty, Reason>
         ensures { (policy : P) (net : Net) (u : ℕ) (past : Chronicle) →
             StandsFor policy (P.rules policy) net u self.now past → MayCome net u (OpenSession nbr session) →
@@ -155,7 +156,8 @@ impl<P: Policy + Copy> Node<P> {
         Ok(Duty::Open { nbr, session })
     }
 
-    /// What is held back from the neighbour is sent, where a session is held with it and something is held back.
+    /// The act of a `Flush`: the node sends the updates that it holds back from the neighbour. A reason where it holds
+    /// no session with it, or holds nothing back.
     pub(crate) fn decide_flushing(&self, nbr: NodeId) -> Result<Duty, Reason>
         ensures { (policy : P) (net : Net) (u : ℕ) (past : Chronicle) →
             StandsFor policy (P.rules policy) net u self.now past → MayCome net u (Flush nbr) →
@@ -171,7 +173,7 @@ impl<P: Policy + Copy> Node<P> {
         Ok(Duty::Flush { nbr })
     }
 
-    /// The epoch after this one. No epoch is so high that there is none.
+    /// The epoch after the node's own. No epoch is so high that it has no next one.
     pub(crate) fn next_epoch(&self) -> Epoch
         ensures { (policy : P) (net : Net) (u : ℕ) (past : Chronicle) →
             StandsFor policy (P.rules policy) net u self.now past → result ≡ suc (epoch u past) }

@@ -73,14 +73,14 @@ pub(crate) fn are_triggers(topology: &Topology, triggers: &[Trigger]) -> bool
         .all(|trigger| trigger_fits(topology, trigger))
 }
 
-// Whether there are some, each of the network.
+// Whether the list has a trigger, and each is of the network.
 fn triggers_fit(topology: &Topology, triggers: &[Trigger]) -> bool
     ensures { result ≡ triggers_fit topology.now triggers.now }
 {
     !triggers.is_empty() && are_triggers(topology, triggers)
 }
 
-// Whether there are some, each of the network, and no more than a list may have.
+// Whether the list has a trigger, each is of the network, and they are no more than a list may have.
 pub(crate) fn list_fits(topology: &Topology, triggers: &[Trigger]) -> bool
     ensures { result ≡ list_fits topology.now triggers.now }
 {
@@ -109,11 +109,11 @@ fn item_fits(topology: &Topology, from: NodeId, item: &Item) -> bool
 }
 
 impl<P: Policy + Copy> Node<P> {
-    /// Whether the names of the input are in the network, its other node and those at the ends of the links that are
-    /// up are neighbours, these ascending, the path of an update begins with its sender, it lists triggers, 8,192 at most, and
-    /// each number is in its
-    /// range: sessions, numbers of updates and of packets from 1, preferences up to a million, epochs from 1 to 32, in
-    /// a greeting and on a packet from 0; a packet carries lists of 64 nodes at most. Takes no memory.
+    /// Whether the node admits the input. Its names are in the network. Its other node is a neighbour, and so are the
+    /// nodes at the ends of the links that are up, which ascend. The path of an update begins with its sender, and an
+    /// update lists 1 to 8,192 triggers. Each number is in its range: sessions, numbers of updates and numbers of
+    /// packets from 1, preferences up to a million, epochs from 1 to 32, and from 0 in a greeting and on a packet. A
+    /// packet carries lists of 64 nodes at most. Takes no memory.
     pub fn fits(&self, input: &Input) -> bool
         ensures fits { (policy : P) (net : Net) (u : ℕ) (past : Chronicle) →
             StandsFor policy (P.rules policy) net u self.now past → result ≡ fits net u (input_of input.now) }

@@ -1,10 +1,10 @@
-//! What comes to a node.
+//! The inputs of a node.
 use consolidator::Message;
 use epoch_packet::Packet;
 use topology::{Epoch, Item, NodeId, PrefixId, Session};
 
-/// Something that comes to a node: from its user, over a link, from the layer that knows the links, over the
-/// control network, or with a packet.
+/// An input comes from the user of the node, over a link, from the layer that knows the links, over the control
+/// network, or with a packet.
 #[derive(Debug, Drop)]
 pub enum Input {
     /// The node is to originate the prefix.
@@ -22,14 +22,14 @@ pub enum Input {
         session: Session,
         item: Item,
     },
-    /// The link does not carry the session any more that the node holds with the neighbour.
+    /// The link no longer carries the session that the node holds with the neighbour.
     Notice(NodeId),
     /// The link carries this session with the neighbour.
     OpenSession {
         nbr: NodeId,
         session: Session,
     },
-    /// What is held back from the neighbour is to be sent.
+    /// The node is to send the updates that it holds back from the neighbour.
     Flush(NodeId),
     /// The node is to begin a snapshot.
     Snap,

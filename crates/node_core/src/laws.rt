@@ -1,4 +1,4 @@
-//! Laws of nodes. A call of a law brings what it says into the caller's proof.
+//! Laws of nodes. A call of a law brings its statement into the caller's proof.
 ghost use Rattle.std.specs.Prelude.{◌≡◌, ◌==◌, ◌∷◌, ℕ, true, false};
 ghost use Rattle.topology.specs.Net.{Net};
 ghost use Rattle.chronicle.specs.Facts.{Fact, Chronicle};
@@ -14,7 +14,7 @@ ghost use Rattle.node_core.specs.Standing.{StandsFor};
 
 use path_vector::Policy;
 
-/// What others do, what links do, and that a node comes back, leave all that a node stands for as it is.
+/// An act of another node, a change of a link and a restart leave a node standing for the same facts.
 pub fn others_change_nothing_of_what_a_node_stands_for<P: Policy + Copy>()
     ensures beside { (policy : P) (net : Net) (u : ℕ) (node : Node P) (past : Chronicle) (f : Fact) → IsBeside u f →
         StandsFor policy (P.rules policy) net u node past → StandsFor policy (P.rules policy) net u node (f ∷ past) }
@@ -23,7 +23,7 @@ pub fn others_change_nothing_of_what_a_node_stands_for<P: Policy + Copy>()
         StandsFor policy (P.rules policy) net u node (chronicle_of past (give (P.rules policy) net carried v past input)) }
 {}
 
-/// An input that a node admits may come to it: what its promises ask of an input holds.
+/// An input that a node admits meets the premise of the node's promises (`MayCome`).
 #[tactic(auto, using(crate::proofs::Admitting::may_come))]
 pub fn what_fits_may_come()
     ensures { (net : Net) (u : ℕ) (input : Input) → fits net u input ≡ true → MayCome net u input }

@@ -1,4 +1,4 @@
-//! One node: what it keeps, and what it does with each input.
+//! One node: the state that it keeps, and its answer to each input.
 #![tactic(auto)]
 
 pub mod agreement;

@@ -1,4 +1,4 @@
-//! How much one node may have.
+//! The limits of one node.
 ghost use Rattle.std.specs.Prelude.{◌≡◌, ℕ, None, true, false, IfErr, IfNone, IfSome, OnErr, OnOk};
 ghost use Rattle.std.specs.List.{list_any};
 ghost use Rattle.topology.specs.declared.status.LimitKind.TheVariants.{Marks};
@@ -29,7 +29,7 @@ fn is_large(message: &Message) -> bool
     }
 }
 
-// Whether one of them does.
+// Whether one of the messages proposes a value with more triggers than one may have.
 fn any_large(mails: &[Mail]) -> bool
     ensures { result ≡ list_any (λ mail. is_large (message_seen mail.message)) mails.now }
 {
@@ -54,7 +54,7 @@ fn at_marks() -> Stop
 }
 
 impl<P: Policy + Copy> Node<P> {
-    // Whether an item of the log, or a row of what is held back, lists more triggers than a list may have.
+    // Whether an item of the log, or a row of updates held back, lists more triggers than a list may have.
     fn has_long_list(&self) -> bool
         ensures { (policy : P) (net : Net) (u : ℕ) (past : Chronicle) →
             Follows policy (P.rules policy) net u self.now past → result ≡ has_long_list (P.rules policy) net u past }
@@ -62,8 +62,8 @@ impl<P: Policy + Copy> Node<P> {
         self.parts.counts.has_long | any_long(self.log.pending())
     }
 
-    /// The stop at the first count that is above its number, where one is: the epoch, a list of triggers, the entries or
-    /// their items. Takes no memory.
+    /// The stop at the first count that is above its number, in the order epoch, lists of triggers, entries, items.
+    /// None where no count is. Takes no memory.
     pub(crate) fn limit(&self) -> Option<Stop>
         ensures some { IfSome result (λ stop. (policy : P) (net : Net) (u : ℕ) (past : Chronicle) →
             Follows policy (P.rules policy) net u self.now past → StopsAt (node_above (P.rules policy) net u past) stop) }
@@ -85,7 +85,7 @@ impl<P: Policy + Copy> Node<P> {
         None
     }
 
-    // Whether the entries, their items and what is held back list more triggers than there may be.
+    // Whether the entries, their items and the updates held back list more triggers than a node may have.
     fn has_more_marks(&self) -> bool
         ensures { (policy : P) (net : Net) (u : ℕ) (past : Chronicle) →
             StandsFor policy (P.rules policy) net u self.now past → result ≡ has_more_marks (P.rules policy) net u past }
@@ -93,10 +93,10 @@ impl<P: Policy + Copy> Node<P> {
         are_more(self.parts.counts.marks, self.log.pending())
     }
 
-    /// Whether the lists of triggers of the node come to no more than 65,536: those of all entries and of all items that it
-    /// sent, dropped ones too, and those of what it holds back, as that stands; each trigger counts once for each list that
-    /// has it. Where they come to more, the stop is that at this number. It stands last of all counts, so `handle_into`
-    /// leaves it to its caller. Takes no memory.
+    /// Stops where the lists of triggers of the node have more than 65,536 triggers together. These are the lists of
+    /// all entries and of all items that it sent, dropped ones too, and of the updates that it holds back now. A
+    /// trigger counts once for each list that has it. This limit stands behind all others, also those of a network, so
+    /// `handle_into` leaves it to its caller. Takes no memory.
     #[inline(always)]
     pub fn check_marks(&self) -> Result<(), Stop>
         ensures ok { OnOk result ((policy : P) (net : Net) (u : ℕ) (past : Chronicle) →

@@ -1,4 +1,4 @@
-//! Markers, and the cuts that they ask for.
+//! Markers, and the cuts that a node takes for them.
 ghost use Rattle.std.specs.Prelude.{◌≡◌, ◌<◌, ℕ, Some, [], ◌∷◌, ◌++◌, List, map, true, IfOk, OnOk};
 ghost use Rattle.topology.specs.Lists.{has};
 ghost use Rattle.topology.specs.Net.{Net, neighbours};
@@ -34,7 +34,7 @@ use std::rc::Rc;
 use topology::{Epoch, Item, NoMemory, NodeId, Session};
 use trigger_log::Outgoing;
 
-// The report goes to each consolidator.
+// Mails the report to each consolidator.
 fn mail_report(
     consolidators: &[NodeId],
     report: &Rc<Report>,
@@ -52,7 +52,7 @@ fn mail_report(
 }
 
 impl<P: Policy + Copy> Node<P> {
-    // A marker goes out in each session that the node holds, ready or not, by neighbour, ascending.
+    // Sends a marker in each session that the node holds, ready or not, by neighbour, ascending.
     fn send_markers(&self, epoch: Epoch, outputs: &mut OutputList) -> Result<(), NoMemory>
         ensures { OnOk result ((policy : P) (net : Net) (u : ℕ) (h : List Entry) →
             self.now.parts.value.topology.value ≡ net → self.now.parts.value.id ≡ u →
@@ -72,7 +72,7 @@ impl<P: Policy + Copy> Node<P> {
         Ok(())
     }
 
-    /// The epoch rises: the node takes its cut, sends its markers, and mails its report of the cut, which it keeps.
+    /// Raises the epoch: the node takes its cut, sends its markers, and keeps and mails its report of the cut.
     #[inline(always)]
     pub(crate) fn raise(self, epoch: Epoch, outputs: &mut OutputList) -> Result<Node<P>, NoMemory>
         ensures others { IfOk result (λ node. KeepsAllBut self node) }
@@ -120,8 +120,8 @@ impl<P: Policy + Copy> Node<P> {
         Ok(Node { log, parts })
     }
 
-    /// A mark of a neighbour is met, in the session that is held with it: the epoch rises to it where
-    /// it is higher, and recordings of the session end that wait for no later mark.
+    /// The node meets a mark of a neighbour, in the session that it holds with it. Its epoch rises to the mark where
+    /// the mark is higher. The recordings of the session that wait for this mark, or for an earlier one, end.
     #[inline(always)]
     pub(crate) fn meet(
         self,

@@ -1,4 +1,4 @@
-//! A node: its log, its snapshots, and what it keeps of epochs.
+//! A node: its log, its snapshots, and the state of its epochs.
 ghost use Rattle.std.specs.Prelude.{◌≡◌, ◌∷◌, ℕ, [], None, option_copied, option_map, IfOk, IfErr, OnOk};
 ghost use Rattle.topology.specs.Net.{Net};
 ghost use Rattle.trigger_log.specs.Standing.{StandsFor as LogStandsFor, dropped_of};
@@ -36,10 +36,10 @@ use std::rc::Rc;
 use topology::{Epoch, NoMemory, NodeId, Reason, Topology};
 use trigger_log::NodeLog;
 
-/// One node of a network: its log, its snapshots, its part in the agreement on the value of each epoch, and its
-/// tables. It knows its neighbours by the network, and nothing of its links but what it is told with a packet: whether
-/// an item that it sends arrives is not its affair. It keeps nothing of packets. What it keeps stands behind two boxes,
-/// so that a node that moves carries two words.
+/// One node of a network: its log, its snapshots, its part in the agreement on the value of each epoch, and its tables.
+/// It knows its neighbours from the network. Of its links it knows only which are up, and that only while it handles a
+/// packet. It does not know whether an item that it sends arrives. It keeps nothing of packets. Its state stands in two
+/// boxes, so a node moves as two words.
 #[derive(Drop)]
 pub struct Node<P: Policy + Copy> {
     pub(crate) log: Box<NodeLog<P>>,
@@ -47,7 +47,7 @@ pub struct Node<P: Policy + Copy> {
 }
 
 impl<P: Policy + Copy> Node<P> {
-    /// The node with this number, which has done nothing.
+    /// The node with this number, before its first input.
     pub fn new(
         alloc: Global,
         topology: Rc<Topology>,
@@ -75,11 +75,11 @@ impl<P: Policy + Copy> Node<P> {
         Ok(Node { log, parts })
     }
 
-    /// What the node does with an input. Where it does nothing it answers the reason, and is as it
-    /// was. A table that the input completes is published last. It stops at a limit exactly where the input would take
-    /// a count of its own above its number, or have it propose a value or make a list with more triggers than one may have,
-    /// unless memory is wanted first. The count of the triggers of all its lists stands last. Which links carry what it sends
-    /// changes nothing of what it answers.
+    /// Handles an input, and returns the node and its outputs. Where the node does nothing, returns the reason and the
+    /// same node. A table that the input completes is the last output. Stops at a limit exactly where the input would
+    /// take a count of the node above its number, or would have it propose a value or make a list with more triggers
+    /// than one may have, unless memory runs out first. The limit on the triggers of all its lists stands last. The
+    /// answer is the same whether links carry the items that it sends or not.
     pub fn handle(self, input: Input) -> Result<(Node<P>, Outputs), Stop>
         ensures node { IfOk result (λ r. (policy : P) (net : Net) (u : ℕ) (carried : Carried) (past : Chronicle) →
             StandsFor policy (P.rules policy) net u self past → MayCome net u (input_of input) →
@@ -105,9 +105,10 @@ impl<P: Policy + Copy> Node<P> {
         }
     }
 
-    /// The same, with the outputs in this list, in the place of whatever was in it: its memory is used again. Where the
-    /// node does nothing, the reason is answered. What is in the list after a stop means nothing. The count of the triggers
-    /// of all lists is left to the caller, who asks for it by `check_marks`, after counts of its own.
+    /// Handles an input as `handle` does, and puts the outputs into this list, whose memory it uses again. It removes
+    /// the list's earlier contents. Where the node does nothing, returns the reason. After a stop the contents of the
+    /// list mean nothing. The caller checks the limit on the triggers of all lists by `check_marks`, behind its own
+    /// limits.
     #[inline(always)]
     pub fn handle_into(
         self,
@@ -145,8 +146,8 @@ impl<P: Policy + Copy> Node<P> {
         self.parts.id
     }
 
-    /// The log of the node. It has dropped the entries that the node needs no more for any table: what the tables that it published
-    /// by the answers of all nodes allow.
+    /// The log of the node. It has dropped the entries that no later table needs. The tables that the node published
+    /// from reports of all nodes tell which these are.
     pub fn log(&self) -> &NodeLog<P>
         ensures log { (policy : P) (net : Net) (u : ℕ) (past : Chronicle) →
             StandsFor policy (P.rules policy) net u self.now past →
@@ -165,8 +166,8 @@ impl<P: Policy + Copy> Node<P> {
         &self.parts.snapshots
     }
 
-    /// What the node reported of its cut of an epoch, without what it had dropped when it took the cut. None exactly where it has
-    /// no such cut. Takes no memory.
+    /// The report of the node's cut of an epoch, without the entries that the node had dropped when it took the cut.
+    /// None exactly where the node has no such cut. Takes no memory.
     pub fn report(&self, epoch: Epoch) -> Option<&Rc<Report>>
         ensures { (policy : P) (net : Net) (u : ℕ) (past : Chronicle) →
             StandsFor policy (P.rules policy) net u self.now past →
@@ -176,7 +177,7 @@ impl<P: Policy + Copy> Node<P> {
         self.parts.agreement.reports.of(epoch)
     }
 
-    /// The node after a crash: it has lost the reports that it collected and the ballots that it had open, and keeps all
+    /// The node after a crash. It loses the reports that it collected and the ballots that it has open, and keeps all
     /// else. Takes no memory.
     pub fn forget(mut self) -> Node<P>
         ensures { (policy : P) (net : Net) (u : ℕ) (past : Chronicle) →
@@ -187,7 +188,7 @@ impl<P: Policy + Copy> Node<P> {
         self
     }
 
-    /// What [`forget`](Node::forget) does, in place.
+    /// Does what [`forget`](Node::forget) does, in place.
     pub fn lose_tallies(&mut self)
         ensures { (policy : P) (net : Net) (u : ℕ) (past : Chronicle) →
             StandsFor policy (P.rules policy) net u self.old past →

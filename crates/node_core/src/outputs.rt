@@ -1,14 +1,10 @@
 //! What a node hands out.
-ghost use Rattle.std.specs.Prelude.{ℕ, suc, ◌≡◌, ◌↔◌, [], ◌∷◌, ◌++◌, Some, List, length, map, IsTrue, IfOk, OnOk};
-ghost use Rattle.path_vector.specs.Kept.{IsOfNeighbour};
-ghost use Rattle.trigger_log.specs.Entries.{Entry as Logged, entry};
-ghost use Rattle.trigger_log.specs.Fits.{CauseFits, ListsFor};
-ghost use Rattle.trigger_log.specs.Going.{going_by};
-ghost use Rattle.trigger_log.specs.Offered.{IsPlaced};
-ghost use Rattle.trigger_log.specs.Standing.{StandsFor as LogStandsFor, dropped_of};
+ghost use Rattle.std.specs.Prelude.{◌≡◌, ◌↔◌, [], ◌∷◌, ◌++◌, Some, IsTrue, IfOk, OnOk};
+ghost use Rattle.trigger_log.specs.Entries.{entry};
+ghost use Rattle.trigger_log.specs.Standing.{dropped_of};
+ghost use Rattle.node_core.specs.Entering.{AddsEntry, HandsEntry};
 ghost use Rattle.node_core.specs.Entries.{first_of};
 ghost use Rattle.node_core.specs.Firsts.{seen_first};
-ghost use Rattle.node_core.specs.Outputs.{Logged as Enters, Send as Sends, output_of};
 ghost use Rattle.node_core.specs.declared.outputs.Stop.TheVariants.{NoMemory};
 
 use consolidator::Mail;
@@ -22,10 +18,10 @@ use std::rc::Rc;
 use topology::{Epoch, LimitKind, NoMemory, NodeId, Reason, Scope, Topology, Triggers};
 use trigger_log::{NodeLog, Outgoing};
 
-/// Something that a node did, in the order in which it did it.
+/// One thing that a node did.
 #[derive(Debug, Drop)]
 pub enum Output {
-    /// The node accepted an entry: its log has this many entries now.
+    /// The node made an entry. The log has this many entries now.
     Logged { index: u32 },
     /// The epoch of the node rose, and it took its cut.
     Cut { epoch: Epoch },
@@ -35,33 +31,34 @@ pub enum Output {
     Mail(Mail),
     /// The node published this table. It is the last output of its input.
     Published(Rc<Table>),
-    /// A packet, as it is from here on, for a neighbour; for the node itself where the packet enters the network or
-    /// leaves the stable tables.
+    /// A packet for a neighbour, as it leaves the node. It is for the node itself where it enters the network, and where
+    /// it leaves the stable tables.
     Forward { next: NodeId, packet: Box<Packet> },
     /// The walk of the packet with this number ended here.
     Ended { id: u32, end: End },
 }
 
-/// The outputs of one input, the oldest first. Most inputs come to an entry and what goes out with it: these stand as the
-/// log handed them out, and other outputs behind them. The memory of a list is used again for the next input.
+/// The outputs of one input, the oldest first. Most inputs make one entry: it and the items that go out with it stand
+/// first, in the log's own list, and all other outputs stand behind them. The next input uses the memory of the lists again.
 #[derive(Debug, Drop)]
 pub struct OutputList {
     alloc: Global,
-    // So many entries the log has, where an entry stands first.
+    // The length of the log behind the entry that stands first. None where no entry stands first.
     logged: Option<u32>,
-    // What goes out with that entry. Where none stands first, what is in this list means nothing.
+    // The items that go out with that entry. Where no entry stands first, the contents mean nothing.
     sent: Vec<Outgoing>,
+    // The other outputs.
     more: Vec<Output>,
 }
 
-/// What stands first in a list of outputs.
+/// The entry that stands first in a list of outputs.
 #[derive(Debug, Drop)]
 pub enum First {
-    /// No entry.
+    /// No entry stands first.
     Nothing,
-    /// An entry with which nothing goes out: the log has so many entries now.
+    /// An entry that sends no item, by the length of the log behind it.
     Quiet(u32),
-    /// The same with what goes out with it.
+    /// An entry, by the length of the log behind it, and the items that go out with it.
     Telling(u32, Vec<Outgoing>),
 }
 
@@ -75,7 +72,7 @@ impl Model for OutputList {
     ghost view = { λ o. first_of o.logged o.sent.items ++ o.more.items };
 }
 
-// Adds an entry and what goes out with it, in its order.
+// Adds an entry, then the items that go out with it.
 fn enter_all(index: u32, sent: Vec<Outgoing>, outputs: &mut Vec<Output>) -> Result<(), NoMemory>
     ensures { OnOk result (outputs.new.items ≡ outputs.old.items ++ first_of (Some index) sent.items) }
 {
@@ -107,7 +104,7 @@ impl OutputList {
         self.logged.is_none() && self.more.is_empty()
     }
 
-    /// No outputs any more. Takes no memory.
+    /// Removes all outputs. Takes no memory.
     #[inline(always)]
     pub(crate) fn clear(&mut self)
         ensures { self.new ≡ [] }
@@ -127,8 +124,8 @@ impl OutputList {
         Ok(())
     }
 
-    /// The log makes an entry, which fits it and lists something but where it concerns nothing: the entry is added, and what goes
-    /// out with it.
+    /// Makes an entry in the log, and adds it and the items that go out with it. The entry must fit the log, and must list
+    /// a trigger unless it concerns nothing.
     #[inline(always)]
     pub(crate) fn enter<P: Policy + Copy>(
         &mut self,
@@ -138,15 +135,8 @@ impl OutputList {
         scope: Scope,
         cause: Cause,
     ) -> Result<Box<NodeLog<P>>, NoMemory>
-        ensures log { IfOk result (λ longer. (policy : P) (u : ℕ) (h : List Logged) →
-            LogStandsFor policy (P.rules policy) topology.now u log.value h → IsOfNeighbour topology.now u cause →
-            IsPlaced topology.now scope → CauseFits h scope cause → ListsFor scope triggers →
-            LogStandsFor policy (P.rules policy) topology.now u longer.value (entry triggers scope cause ∷ h)) }
-        ensures outputs { OnOk result ((policy : P) (u : ℕ) (h : List Logged) →
-            LogStandsFor policy (P.rules policy) topology.now u log.value h → IsOfNeighbour topology.now u cause →
-            IsPlaced topology.now scope → CauseFits h scope cause → ListsFor scope triggers →
-            map output_of self.new ≡ map output_of self.old
-            ++ Enters (suc (length h)) ∷ map Sends (going_by (P.rules policy) topology.now u h (entry triggers scope cause))) }
+        ensures log { IfOk result (λ longer. AddsEntry P.rules topology.now (entry triggers scope cause) log.value longer.value) }
+        ensures outputs { OnOk result (HandsEntry P.rules topology.now (entry triggers scope cause) log.value self.old self.new) }
         ensures dropped { IfOk result (λ longer. dropped_of longer.value ≡ dropped_of log.value) }
     {
         if !self.is_empty() {
@@ -157,7 +147,7 @@ impl OutputList {
         Ok(longer)
     }
 
-    // The same behind other outputs.
+    // Does what `enter` does, behind other outputs.
     #[inline(never)]
     fn enter_behind<P: Policy + Copy>(
         &mut self,
@@ -167,15 +157,8 @@ impl OutputList {
         scope: Scope,
         cause: Cause,
     ) -> Result<Box<NodeLog<P>>, NoMemory>
-        ensures log { IfOk result (λ longer. (policy : P) (u : ℕ) (h : List Logged) →
-            LogStandsFor policy (P.rules policy) topology.now u log.value h → IsOfNeighbour topology.now u cause →
-            IsPlaced topology.now scope → CauseFits h scope cause → ListsFor scope triggers →
-            LogStandsFor policy (P.rules policy) topology.now u longer.value (entry triggers scope cause ∷ h)) }
-        ensures outputs { OnOk result ((policy : P) (u : ℕ) (h : List Logged) →
-            LogStandsFor policy (P.rules policy) topology.now u log.value h → IsOfNeighbour topology.now u cause →
-            IsPlaced topology.now scope → CauseFits h scope cause → ListsFor scope triggers →
-            map output_of self.new ≡ map output_of self.old
-            ++ Enters (suc (length h)) ∷ map Sends (going_by (P.rules policy) topology.now u h (entry triggers scope cause))) }
+        ensures log { IfOk result (λ longer. AddsEntry P.rules topology.now (entry triggers scope cause) log.value longer.value) }
+        ensures outputs { OnOk result (HandsEntry P.rules topology.now (entry triggers scope cause) log.value self.old self.new) }
         ensures dropped { IfOk result (λ longer. dropped_of longer.value ≡ dropped_of log.value) }
     {
         let mut sent = Vec::new(self.alloc);
@@ -184,7 +167,7 @@ impl OutputList {
         Ok(longer)
     }
 
-    /// Takes what stands first, if it is an entry. Takes no memory.
+    /// Removes the entry that stands first, and answers it. Takes no memory.
     #[inline(always)]
     pub fn take_first(&mut self) -> First
         ensures { self.old ≡ seen_first result ++ self.new }
@@ -199,7 +182,7 @@ impl OutputList {
         First::Telling(index, mem::replace(&mut self.sent, Vec::new(self.alloc)))
     }
 
-    /// Keeps the memory of this list for the next entry. What is in it means nothing.
+    /// Keeps this list's memory for the items of the next entry. Its contents mean nothing.
     #[inline(always)]
     pub fn reuse(&mut self, list: Vec<Outgoing>)
         ensures { self.new ≡ self.old }
@@ -209,7 +192,7 @@ impl OutputList {
         }
     }
 
-    /// Takes all outputs. Where no entry stands first, takes no memory.
+    /// Removes all outputs, and answers them. Takes no memory where no entry stands first.
     #[inline(always)]
     pub fn take_all(&mut self) -> Result<Vec<Output>, NoMemory>
         ensures taken { IfOk result (λ list. list.items ≡ self.old) }
@@ -223,7 +206,7 @@ impl OutputList {
         Ok(mem::replace(&mut self.more, Vec::new(self.alloc)))
     }
 
-    /// Keeps the memory of this list, which is empty, for further outputs.
+    /// Keeps the memory of this empty list for the outputs behind the next entry.
     #[inline(always)]
     pub fn reuse_all(&mut self, list: Vec<Output>)
         requires { list.items ≡ [] }
@@ -234,7 +217,7 @@ impl OutputList {
         }
     }
 
-    /// All outputs, one by one.
+    /// All outputs as one list.
     pub fn into_vec(self) -> Result<Vec<Output>, NoMemory>
         ensures { IfOk result (λ list. list.items ≡ self) }
     {
@@ -254,19 +237,19 @@ impl OutputList {
     }
 }
 
-/// What an input came to.
+/// A node's answer to an input.
 #[derive(Debug, Drop)]
 pub enum Outputs {
     Did(OutputList),
-    /// Nothing was done, for this reason.
+    /// The node did nothing, for this reason.
     Idle(Reason),
 }
 
-/// Why an input was not handled.
+/// Why a step was not made.
 #[derive(Clone, Copy, Debug, PartialEq, Eq)]
 pub enum Stop {
     NoMemory,
-    /// The input would take this count of the node above this number.
+    /// The step would take this count above this number.
     Limit(LimitKind, u32),
 }
 

@@ -11,15 +11,15 @@ use epoch_packet::{NodeList, Packet};
 use topology::limits::{MOST_EPOCHS, MOST_TRAIL};
 use topology::{NodeId, Topology};
 
-// Whether a list that a packet carries has nodes of the network, and no more than there may be.
+// Whether a list that a packet carries has nodes of the network alone, and no more than it may have.
 fn carried_fits(topology: &Topology, nodes: &NodeList) -> bool
     ensures { result ≡ carried_fits topology.now nodes.now }
 {
     nodes.as_slice().len() <= MOST_TRAIL && are_nodes(topology, nodes.as_slice())
 }
 
-/// Whether the packet is numbered from 1, its prefix and its nodes are of the network, and its stamp is an epoch that
-/// there may be, or 0.
+/// Whether the packet is numbered from 1, its prefix and nodes are of the network, and its stamp is an epoch from 1 to
+/// 32, or 0.
 pub(crate) fn packet_fits(topology: &Topology, packet: &Packet) -> bool
     ensures { result ≡ packet_fits topology.now packet.now }
 {

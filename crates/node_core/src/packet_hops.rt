@@ -27,7 +27,7 @@ use std::alloc::Global;
 use topology::{Epoch, NoMemory, NodeId, Path, PrefixId};
 use transient_mode::{Move, View, asks_for_order, transient_hop};
 
-// A packet, as it is from here on, for a node.
+// The output of a packet for a node, as it leaves this node.
 fn forward(alloc: Global, next: NodeId, packet: Packet) -> Result<Output, NoMemory>
     ensures { IfOk result (λ output. output_of output ≡ Forward next packet) }
 {
@@ -37,7 +37,7 @@ fn forward(alloc: Global, next: NodeId, packet: Packet) -> Result<Output, NoMemo
     })
 }
 
-// A packet off the tables, after the move that it made, or as it was where its walk ended.
+// The output of a packet off the tables: after its move, or at the end of its walk.
 fn gone_on(alloc: Global, packet: Packet, gone: Move) -> Result<Output, NoMemory>
     ensures { IfOk result (λ output. output_of output ≡ shown_of packet gone) }
 {
@@ -56,7 +56,7 @@ impl<P: Policy + Copy> Node<P> {
         Some(self.parts.agreement.tables.newest()?.epoch())
     }
 
-    // A packet enters the network here, stamped with the epoch of the newest table.
+    // A packet enters the network here. Its stamp is the epoch of the newest table.
     fn inject(&self, id: u32, prefix: PrefixId) -> Result<Output, NoMemory>
         ensures { IfOk result (λ output. (policy : P) (net : Net) (u : ℕ) (past : Chronicle) →
             StandsFor policy (P.rules policy) net u self.now past →
@@ -68,7 +68,8 @@ impl<P: Policy + Copy> Node<P> {
         forward(parts.alloc, parts.id, packet)
     }
 
-    // The path of the prefix in the table of the epoch, where that is kept.
+    // The path of the prefix in the table of the epoch. None where the node does not keep that table, and where the
+    // table has no path.
     fn kept_path(&self, epoch: Epoch, prefix: PrefixId) -> Option<&[NodeId]>
         ensures { (policy : P) (net : Net) (u : ℕ) (past : Chronicle) →
             StandsFor policy (P.rules policy) net u self.now past →
@@ -77,7 +78,7 @@ impl<P: Policy + Copy> Node<P> {
         self.parts.agreement.tables.of(epoch)?.path(prefix)
     }
 
-    // A packet on the tables ends, moves, or leaves them here.
+    // A packet on the tables ends its walk, moves on, or leaves the tables here.
     fn step_on_tables(&self, packet: Packet, step: StableStep) -> Result<Output, NoMemory>
         ensures { IfOk result (λ output. (policy : P) (net : Net) (u : ℕ) (past : Chronicle) →
             StandsFor policy (P.rules policy) net u self.now past →
@@ -99,7 +100,7 @@ impl<P: Policy + Copy> Node<P> {
         }
     }
 
-    // A packet goes on along the table of its epoch, or leaves the tables here.
+    // A packet goes on by the table of its epoch, or leaves the tables here.
     fn hop_on_tables(&self, packet: Packet, up: &[NodeId]) -> Result<Output, NoMemory>
         ensures { IfOk result (λ output. (policy : P) (net : Net) (u : ℕ) (past : Chronicle) →
             StandsFor policy (P.rules policy) net u self.now past →
@@ -140,7 +141,8 @@ impl<P: Policy + Copy> Node<P> {
         self.log.live().order(prefix)
     }
 
-    // The same for a packet that has left the tables, but none where its hop does not ask for them.
+    // The order of neighbours for a packet that has left the tables. An empty list where its hop does not read the
+    // order.
     fn order_for(&self, packet: &Packet) -> Result<Vec<NodeId>, NoMemory>
         ensures { IfOk result (λ list. (policy : P) (net : Net) (u : ℕ) (past : Chronicle) (up : List ℕ) →
             StandsFor policy (P.rules policy) net u self.now past → packet.now.prefix < length net.prefixes →
@@ -156,7 +158,8 @@ impl<P: Policy + Copy> Node<P> {
         Ok(Vec::new(self.parts.alloc))
     }
 
-    // What the node knows for a packet of the prefix, where these links are up, with this order.
+    // The node's knowledge for a packet of the prefix: the links that are up, its routes, and the order of its
+    // neighbours.
     fn view<'a>(&'a self, prefix: PrefixId, order: &'a [NodeId], up: &'a [NodeId]) -> View<'a>
         ensures { (policy : P) (net : Net) (u : ℕ) (past : Chronicle) →
             StandsFor policy (P.rules policy) net u self.now past → prefix < length net.prefixes →
@@ -172,7 +175,7 @@ impl<P: Policy + Copy> Node<P> {
         }
     }
 
-    // A packet that has left the tables goes on, or its walk ends.
+    // A packet that has left the tables goes on, or ends its walk.
     fn hop_off_tables(&self, packet: Packet, up: &[NodeId]) -> Result<Output, NoMemory>
         ensures { IfOk result (λ output. (policy : P) (net : Net) (u : ℕ) (past : Chronicle) →
             StandsFor policy (P.rules policy) net u self.now past → packet.prefix < length net.prefixes →
@@ -197,7 +200,7 @@ impl<P: Policy + Copy> Node<P> {
         }
     }
 
-    // What comes of a packet here.
+    // The output of a packet here.
     fn passed(&self, passing: Passing) -> Result<Output, NoMemory>
         ensures { IfOk result (λ output. (policy : P) (net : Net) (u : ℕ) (carried : Carried) (past : Chronicle) →
             StandsFor policy (P.rules policy) net u self.now past → MayCome net u (passing_of passing) →
@@ -209,7 +212,7 @@ impl<P: Policy + Copy> Node<P> {
         }
     }
 
-    /// Passes a packet on. The node is as it was: it keeps nothing of packets.
+    /// Passes a packet on. The node keeps nothing of packets, and stays as it was.
     pub(crate) fn pass(
         self,
         passing: Passing,

@@ -1,4 +1,4 @@
-//! What a node keeps beside its log.
+//! The state of a node beside its log.
 ghost use Rattle.std.specs.Prelude.{◌≡◌, IfOk};
 
 use crate::agreement::Agreement;
@@ -8,20 +8,20 @@ use std::alloc::Global;
 use std::rc::Rc;
 use topology::{NoMemory, NodeId, Topology};
 
-/// All that a node keeps beside its log.
+/// The state of a node beside its log.
 #[derive(Drop)]
 pub struct NodeParts {
     pub(crate) alloc: Global,
     pub(crate) topology: Rc<Topology>,
     pub(crate) id: NodeId,
-    // What the log comes to so far.
+    // The counts of the log's entries.
     pub(crate) counts: Counts,
     pub(crate) snapshots: Snapshots,
     pub(crate) agreement: Agreement,
 }
 
 impl NodeParts {
-    /// The same, behind a box.
+    /// Moves the parts into a box.
     pub(crate) fn boxed(self) -> Result<Box<NodeParts>, NoMemory>
         ensures { IfOk result (λ parts. parts.value ≡ self) }
     {

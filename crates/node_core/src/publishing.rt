@@ -1,4 +1,4 @@
-//! The table that is due, and what the node needs no more once it is published.
+//! Publishes the table that is due, and drops the entries that the node needs no more.
 ghost use Rattle.std.specs.Prelude.{ℕ, ◌≡◌, ◌≤◌, ◌++◌, List, length, Some, IfOk, IfSome, OnOk};
 ghost use Rattle.topology.specs.Net.{Net};
 ghost use Rattle.trigger_log.specs.Dropping.{trimmed};
@@ -23,7 +23,7 @@ use std::rc::Rc;
 use topology::{Epoch, NoMemory};
 use trigger_log::NodeLog;
 
-/// A table that is due, and the place of the first entry that its node keeps once it is published.
+/// A table that is due, and the place of the first entry that the node keeps after it is published.
 #[derive(Drop)]
 pub struct Due {
     pub(crate) table: Table,
@@ -31,7 +31,8 @@ pub struct Due {
 }
 
 impl<P: Policy + Copy> Node<P> {
-    // The newest table, where it is by a cut of so many entries and by an equal value, by which nothing is incomplete.
+    // The newest table, where it was made from a cut of this many entries and from an equal value that has no
+    // incomplete trigger.
     fn same_newest(&self, cut: u32, value: &Value) -> Option<&Table>
         ensures { IfSome result (λ table. (policy : P) (net : Net) (u : ℕ) (now : Chronicle) (newer entries : List Logged) →
             Follows policy (P.rules policy) net u self.now now → newer ++ entries ≡ log_of u now → cut ≡ length entries →
@@ -48,8 +49,8 @@ impl<P: Policy + Copy> Node<P> {
         Some(newest)
     }
 
-    // The table of an epoch by a cut of so many entries and by the value. Where the newest table has the same rows it shares
-    // them: in a network at rest the tables of all epochs do.
+    // The table of an epoch, from a cut of this many entries and from the value. It shares the rows of the newest table
+    // where they are the same. In a network at rest the tables of all epochs share their rows.
     fn table(&self, epoch: Epoch, cut: u32, value: &Value) -> Result<Table, NoMemory>
         ensures epoch { IfOk result (λ table. table.epoch ≡ epoch) }
         ensures table { IfOk result (λ table. (policy : P) (net : Net) (u : ℕ) (now : Chronicle) (newer entries : List Logged) →
@@ -67,8 +68,8 @@ impl<P: Policy + Copy> Node<P> {
         Ok(again)
     }
 
-    // The table of the epoch, where the node has its cut and knows its decision. It is made of no use where the node published
-    // one that is as new.
+    // The table of the epoch, where the node has the cut and knows the decision. The caller does not use it where the
+    // node has published a table of this epoch or of a later one.
     fn due(&self, epoch: Epoch) -> Result<Option<Due>, NoMemory>
         ensures { IfOk result (λ found. (policy : P) (net : Net) (u : ℕ) (now : Chronicle) →
             Follows policy (P.rules policy) net u self.now now →
@@ -86,9 +87,9 @@ impl<P: Policy + Copy> Node<P> {
         Ok(Some(Due { table, place }))
     }
 
-    // Publishes the table of the epoch, if there is one: where the node has its cut and knows its decision, and published
-    // none of it or of a later one. Then it drops the entries of its log that it needs no more.
-    // Most inputs complete no epoch, and what a table needs stays out of their way.
+    // Publishes the table of the epoch, where the node has the cut, knows the decision, and has published no table of
+    // this epoch or of a later one. Then drops the entries of the log that the node needs no more. It is a call of its
+    // own, as most inputs complete no epoch.
     #[inline(never)]
     fn conclude_epoch(self, epoch: Epoch, outputs: &mut OutputList) -> Result<Node<P>, NoMemory>
         ensures node { IfOk result (λ node. (policy : P) (net : Net) (u : ℕ) (past now : Chronicle) →
@@ -115,7 +116,7 @@ impl<P: Policy + Copy> Node<P> {
         Ok(Node { log, parts })
     }
 
-    /// Publishes the table that is due, if one is: of the epoch that the input may have completed.
+    /// Publishes the table that is due, if one is. It is of the epoch that the input may have completed.
     #[inline(always)]
     pub(crate) fn conclude(
         self,

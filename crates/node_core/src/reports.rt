@@ -10,7 +10,7 @@ use std::marker::Model;
 use std::rc::Rc;
 use topology::{Epoch, NoMemory};
 
-/// The reports that a node made, the oldest first. They are shared, not copied.
+/// The reports that a node made, the oldest first. A report is shared with its readers, not copied.
 #[derive(Drop)]
 pub struct Reports {
     list: Vec<Rc<Report>>,
@@ -50,7 +50,7 @@ impl Reports {
         }
     }
 
-    /// Keeps one more report.
+    /// Adds a report.
     pub fn keep(&mut self, report: Rc<Report>) -> Result<(), NoMemory>
         ensures kept { OnOk result (self.new ≡ self.old ++ report_seen report.value ∷ []) }
         ensures err { OnErr result (self.new ≡ self.old) }

@@ -1,21 +1,20 @@
-//! What a node does with an input that it does not decline.
+//! The acts of a node.
 ghost use Rattle.std.specs.Prelude.{◌≡◌, ◌≤◌, ◌∷◌, [], ℕ, Some, true, List, length, IfOk, OnOk};
 ghost use Rattle.topology.specs.declared.names.Scope.TheVariants.{All};
 ghost use Rattle.topology.specs.Lists.{has};
 ghost use Rattle.topology.specs.Net.{Net, neighbours};
-ghost use Rattle.path_vector.specs.declared.causes.Cause.TheVariants.{Ready, Up};
+ghost use Rattle.path_vector.specs.declared.causes.Cause.TheVariants.{Ready};
 ghost use Rattle.path_vector.specs.History.{ready};
-ghost use Rattle.trigger_log.specs.Entries.{Entry, entry, flush, local, reads};
-ghost use Rattle.trigger_log.specs.Going.{item_of};
+ghost use Rattle.trigger_log.specs.Entries.{Entry, entry, local, reads};
 ghost use Rattle.trigger_log.specs.Standing.{StandsFor as LogStandsFor, dropped_of};
 ghost use Rattle.chronicle.specs.Facts.{Chronicle};
-ghost use Rattle.chronicle.specs.Inputs.{arrival};
 ghost use Rattle.chronicle.specs.Logs.{log_of};
 ghost use Rattle.chronicle.specs.Run.{held_with};
-ghost use Rattle.chronicle.specs.Steps.{Carried, open_session, take_item, unless_ready, write};
+ghost use Rattle.chronicle.specs.Steps.{Carried, unless_ready, write};
+ghost use Rattle.node_core.specs.Acting.{AtRest, HandsAct, InMidst, KeepsAct};
 ghost use Rattle.node_core.specs.Agreeing.{AgreesAs};
 ghost use Rattle.node_core.specs.Counting.{AreCounts};
-ghost use Rattle.node_core.specs.Deciding.{MayDo, MayTake, acted};
+ghost use Rattle.node_core.specs.Deciding.{MayDo, acted};
 ghost use Rattle.node_core.specs.Keeping.{Keeps, MayEnter};
 ghost use Rattle.node_core.specs.Outputs.{Hands, Send};
 ghost use Rattle.node_core.specs.Standing.{StandsFor};
@@ -28,7 +27,7 @@ use path_vector::{Cause, Policy};
 use topology::{Item, NoMemory, NodeId, Scope, Session, Triggers};
 use trigger_log::{NodeLog, Outgoing};
 
-// Counts the newest entry of the log, which was not dropped. Want of memory where a count ends.
+// Counts the newest entry of the log, which the log still keeps. Answers `NoMemory` where a count would overflow.
 #[inline(always)]
 fn count_newest<P: Policy + Copy>(counts: &mut Counts, log: &NodeLog<P>) -> Result<(), NoMemory>
     ensures { OnOk result ((policy : P) (net : Net) (u : ℕ) (k : Entry) (h : List Entry) →
@@ -42,8 +41,7 @@ fn count_newest<P: Policy + Copy>(counts: &mut Counts, log: &NodeLog<P>) -> Resu
 }
 
 impl<P: Policy + Copy> Node<P> {
-    /// The node makes an entry, which fits its log and lists something but where it concerns nothing, and hands out what
-    /// that says.
+    /// The node makes an entry, and hands out the entry and the items that go out with it.
     #[inline(always)]
     fn enter(
         self,
@@ -68,7 +66,7 @@ impl<P: Policy + Copy> Node<P> {
         Ok(Node { log, parts })
     }
 
-    // The node makes an entry of its own accord, with its next trigger.
+    // The node makes an entry that lists its own next trigger.
     #[inline(always)]
     fn enter_own(
         self,
@@ -77,20 +75,14 @@ impl<P: Policy + Copy> Node<P> {
         outputs: &mut OutputList,
     ) -> Result<Node<P>, NoMemory>
         ensures agreement { IfOk result (λ node. AgreesAs self.parts.value.agreement node.parts.value.agreement) }
-        ensures node { IfOk result (λ node. (policy : P) (net : Net) (u : ℕ) (carried : Carried) (past : Chronicle) →
-            Keeps policy (P.rules policy) net u self past → MayEnter net u (log_of u past) (local u (log_of u past) scope cause) →
-            Keeps policy (P.rules policy) net u node
-            (write (P.rules policy) net carried u (local u (log_of u past) scope cause) past)) }
-        ensures outputs { OnOk result ((policy : P) (net : Net) (u : ℕ) (carried : Carried) (past first : Chronicle) →
-            Keeps policy (P.rules policy) net u self past → MayEnter net u (log_of u past) (local u (log_of u past) scope cause) →
-            Hands first outputs.old past → Hands first outputs.new
-            (write (P.rules policy) net carried u (local u (log_of u past) scope cause) past)) }
+        ensures node { IfOk result (KeepsAct P.rules (InMidst P.rules self) (Duty.Enter scope cause)) }
+        ensures outputs { OnOk result (HandsAct P.rules (InMidst P.rules self) (Duty.Enter scope cause) outputs.old outputs.new) }
     {
         let triggers = Triggers::one(self.log.next_trigger());
         self.enter(triggers, scope, cause, outputs)
     }
 
-    // The node opens a session, and greets its neighbour in it with its epoch.
+    // The node opens a session, and sends its neighbour a greeting with its epoch.
     #[inline(always)]
     fn open(
         self,
@@ -99,13 +91,8 @@ impl<P: Policy + Copy> Node<P> {
         outputs: &mut OutputList,
     ) -> Result<Node<P>, NoMemory>
         ensures agreement { IfOk result (λ node. AgreesAs self.parts.value.agreement node.parts.value.agreement) }
-        ensures node { IfOk result (λ node. (policy : P) (net : Net) (u : ℕ) (carried : Carried) (past : Chronicle) →
-            StandsFor policy (P.rules policy) net u self past → MayEnter net u (log_of u past) (local u (log_of u past) All (Up nbr session)) →
-            Keeps policy (P.rules policy) net u node (open_session carried u nbr session past)) }
-        ensures outputs { OnOk result ((policy : P) (net : Net) (u : ℕ) (carried : Carried) (past first : Chronicle) →
-            StandsFor policy (P.rules policy) net u self past → MayEnter net u (log_of u past) (local u (log_of u past) All (Up nbr session)) →
-            Hands first outputs.old past →
-            Hands first outputs.new (open_session carried u nbr session past)) }
+        ensures node { IfOk result (KeepsAct P.rules (AtRest P.rules self) (Duty.Open nbr session)) }
+        ensures outputs { OnOk result (HandsAct P.rules (AtRest P.rules self) (Duty.Open nbr session) outputs.old outputs.new) }
     {
         trigger_log::laws::an_opening_says_nothing();
         let epoch = self.parts.snapshots.epoch();
@@ -119,8 +106,8 @@ impl<P: Policy + Copy> Node<P> {
         Ok(node)
     }
 
-    // The node is greeted in the session that it holds: it enters that the other end is ready, unless
-    // it knows that.
+    // The node is greeted in the session that it holds. It enters that the other end is ready, unless the log says so
+    // already.
     #[inline(always)]
     fn greet(
         self,
@@ -149,25 +136,20 @@ impl<P: Policy + Copy> Node<P> {
         self.enter_own(scope, Cause::Ready { nbr, session }, outputs)
     }
 
-    // The node sends what it holds back from the neighbour, and enters that, with no trigger.
+    // The node sends the updates that it holds back from the neighbour, and makes an entry for it, without triggers.
     #[inline(always)]
     fn flush(self, nbr: NodeId, outputs: &mut OutputList) -> Result<Node<P>, NoMemory>
         ensures agreement { IfOk result (λ node. AgreesAs self.parts.value.agreement node.parts.value.agreement) }
-        ensures node { IfOk result (λ node. (policy : P) (net : Net) (u : ℕ) (carried : Carried) (past : Chronicle) →
-            Keeps policy (P.rules policy) net u self past → MayEnter net u (log_of u past) (flush nbr) →
-            Keeps policy (P.rules policy) net u node (write (P.rules policy) net carried u (flush nbr) past)) }
-        ensures outputs { OnOk result ((policy : P) (net : Net) (u : ℕ) (carried : Carried) (past first : Chronicle) →
-            Keeps policy (P.rules policy) net u self past → MayEnter net u (log_of u past) (flush nbr) →
-            Hands first outputs.old past →
-            Hands first outputs.new (write (P.rules policy) net carried u (flush nbr) past)) }
+        ensures node { IfOk result (KeepsAct P.rules (InMidst P.rules self) (Duty.Flush nbr)) }
+        ensures outputs { OnOk result (HandsAct P.rules (InMidst P.rules self) (Duty.Flush nbr) outputs.old outputs.new) }
     {
         let triggers = Triggers::none();
         let scope = Scope::Nothing;
         self.enter(triggers, scope, Cause::Flush { nbr }, outputs)
     }
 
-    // The node takes an item in the session that it holds. An update is entered with its own triggers;
-    // a marker is met, and so is a greeting before it greets.
+    // The node takes an item in the session that it holds. It enters an update with the triggers of the update. It meets
+    // a marker. It meets the epoch of a greeting, and is then greeted.
     #[inline(always)]
     fn take(
         self,
@@ -177,14 +159,8 @@ impl<P: Policy + Copy> Node<P> {
         outputs: &mut OutputList,
     ) -> Result<Node<P>, NoMemory>
         ensures agreement { IfOk result (λ node. AgreesAs self.parts.value.agreement node.parts.value.agreement) }
-        ensures node { IfOk result (λ node. (policy : P) (net : Net) (u : ℕ) (carried : Carried) (past : Chronicle) →
-            StandsFor policy (P.rules policy) net u self past → MayTake net u past from session (item_of item) →
-            Keeps policy (P.rules policy) net u node
-            (take_item (P.rules policy) net carried u (arrival from session (item_of item)) past)) }
-        ensures outputs { OnOk result ((policy : P) (net : Net) (u : ℕ) (carried : Carried) (past first : Chronicle) →
-            StandsFor policy (P.rules policy) net u self past → MayTake net u past from session (item_of item) →
-            Hands first outputs.old past → Hands first outputs.new
-            (take_item (P.rules policy) net carried u (arrival from session (item_of item)) past)) }
+        ensures node { IfOk result (KeepsAct P.rules (AtRest P.rules self) (Duty.Take from session item)) }
+        ensures outputs { OnOk result (HandsAct P.rules (AtRest P.rules self) (Duty.Take from session item) outputs.old outputs.new) }
     {
         match item {
             Item::Update {
@@ -212,13 +188,11 @@ impl<P: Policy + Copy> Node<P> {
         }
     }
 
-    /// Does what the node is to do, and hands out what comes of it.
+    /// The node does an act, and hands out its outputs.
     #[inline(always)]
     pub(crate) fn act(self, act: Duty, outputs: &mut OutputList) -> Result<Node<P>, NoMemory>
         ensures agreement { IfOk result (λ node. AgreesAs self.parts.value.agreement node.parts.value.agreement) }
-        ensures node { IfOk result (λ node. (policy : P) (net : Net) (u : ℕ) (carried : Carried) (past : Chronicle) →
-            StandsFor policy (P.rules policy) net u self past → MayDo net u past act →
-            Keeps policy (P.rules policy) net u node (acted (P.rules policy) net carried u past act)) }
+        ensures node { IfOk result (KeepsAct P.rules (AtRest P.rules self) act) }
         ensures outputs { OnOk result ((policy : P) (net : Net) (u : ℕ) (carried : Carried) (past : Chronicle) →
             StandsFor policy (P.rules policy) net u self past → MayDo net u past act → outputs.old ≡ [] →
             Hands past outputs.new (acted (P.rules policy) net carried u past act)) }

@@ -33,6 +33,7 @@ use Rattle.node_core.specs.declared.outputs.Outputs.{Outputs}
 use Rattle.node_core.specs.declared.outputs.Outputs.TheVariants.{Did, Idle as Declines}
 use Rattle.control_mail.specs.Seen.{Office}
 use Rattle.world_core.specs.declared.network.Network.{Network}
+use Rattle.world_core.specs.declared.network.account.Wanted.{Wanted}
 use Rattle.world_core.specs.declared.outcomes.Effect.{Effect}
 use Rattle.world_core.specs.declared.outcomes.Outcome.TheVariants as outcome
 use Rattle.world_core.specs.Accounts.{AccountView}
@@ -130,10 +131,10 @@ packets_begun u (input.Inject id p) past = same_now past
 packets_begun u (input.Hop packet up) past = same_now past
 
 -- so nothing was handed on yet
-pub sending_begun : {P : Type 0} (past : Chronicle) (counts : Counts) (u : ℕ) (i : Input) (network : Network P) (asked : Bool) → AreLinks network.topology.value (handed u i past) network.links
+pub sending_begun : {P : Type 0} (past : Chronicle) (counts : Counts) (u : ℕ) (i : Input) (network : Network P) (wanted : Wanted) → AreLinks network.topology.value (handed u i past) network.links
     → AreMails network.topology.value past counts network.mails → network.publications.items ≡ all_published past → AreWalksBut (away_with i) network.topology.value past network.walks
-    → AreSending (away_with i) (begun u i past) (begun u i past) counts network (record { asked = asked; list = [] })
-sending_begun past counts u i network asked links mails published walks =
+    → AreSending (away_with i) (begun u i past) (begun u i past) counts network (record { wanted = wanted; list = [] })
+sending_begun past counts u i network wanted links mails published walks =
     let net = network.topology.value in
     let quiet = quiet_begun u i past in
     record {

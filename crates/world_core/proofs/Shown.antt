@@ -5,6 +5,8 @@ use Rattle.topology.specs.Net.{Net}
 use Rattle.trigger_log.specs.Going.{Going}
 use Rattle.chronicle.specs.Facts.{Fact, Chronicle, Sent, happen}
 use Rattle.node_core.specs.Outputs.{Output, output_by}
+use Rattle.world_core.specs.declared.network.account.Wanted.{Wanted}
+use Rattle.world_core.specs.declared.network.account.Wanted.TheVariants.{Effects}
 use Rattle.world_core.specs.declared.outcomes.Effect.{Effect}
 use Rattle.world_core.specs.declared.outcomes.Effect.TheVariants.{Queued, Lost}
 use Rattle.world_core.specs.Accounts.{AccountView}
@@ -31,23 +33,23 @@ sent_next : (first past : Chronicle) (u : ℕ) (g : Going) (was now : List Effec
 sent_next first past u g was now true since is = since_next first past (Sent u g.to g.session g.item true) was now (Queued u g.to) since is refl
 sent_next first past u g was now false since is = since_next first past (Sent u g.to g.session g.item false) was now (Lost u g.to) since is refl
 
--- one effect more is told, where it is asked for
-pub told_next : (first past : Chronicle) (f : Fact) (was now : AccountView) (one : Effect) → (was.asked ≡ true → Since first was.list past) → now.asked ≡ was.asked
-    → (was.asked ≡ true → now.list ≡ was.list ++ one ∷ []) → effect_by f past ≡ one ∷ [] → now.asked ≡ true → Since first now.list (f ∷ past)
-told_next first past f was now one since same is shown asked =
-    let before = sym same ∙ asked in
+-- one effect more is listed, where effects are wanted
+pub told_next : (first past : Chronicle) (f : Fact) (was now : AccountView) (one : Effect) → (was.wanted ≡ Effects → Since first was.list past) → now.wanted ≡ was.wanted
+    → (was.wanted ≡ Effects → now.list ≡ was.list ++ one ∷ []) → effect_by f past ≡ one ∷ [] → now.wanted ≡ Effects → Since first now.list (f ∷ past)
+told_next first past f was now one since same is shown wanted =
+    let before = sym same ∙ wanted in
     since_next first past f was.list now.list one (since before) (is before) shown
 
 -- so of an item
-pub told_sent : (first past : Chronicle) (u : ℕ) (g : Going) (was now : AccountView) (q : Bool) → (was.asked ≡ true → Since first was.list past) → now.asked ≡ was.asked
-    → (was.asked ≡ true → now.list ≡ was.list ++ (if q then Queued u g.to else Lost u g.to) ∷ []) → now.asked ≡ true → Since first now.list (Sent u g.to g.session g.item q ∷ past)
-told_sent first past u g was now q since same is asked =
-    let before = sym same ∙ asked in
+pub told_sent : (first past : Chronicle) (u : ℕ) (g : Going) (was now : AccountView) (q : Bool) → (was.wanted ≡ Effects → Since first was.list past) → now.wanted ≡ was.wanted
+    → (was.wanted ≡ Effects → now.list ≡ was.list ++ (if q then Queued u g.to else Lost u g.to) ∷ []) → now.wanted ≡ Effects → Since first now.list (Sent u g.to g.session g.item q ∷ past)
+told_sent first past u g was now q since same is wanted =
+    let before = sym same ∙ wanted in
     sent_next first past u g was.list now.list q (since before) (is before)
 
 -- what stands in the account is all of it
-pub told_whole : (account : AccountView) (asked : Bool) (list : List Effect) → account.asked ≡ asked → list ≡ account.list → account ≡ record { asked = asked; list = list }
-told_whole account asked list is all = ap₂ {A = Bool} {B = List Effect} {C = AccountView} (λ a l. record { asked = a; list = l }) is (sym all)
+pub told_whole : (account : AccountView) (wanted : Wanted) (list : List Effect) → account.wanted ≡ wanted → list ≡ account.list → account ≡ record { wanted = wanted; list = list }
+told_whole account wanted list is all = ap₂ {A = Wanted} {B = List Effect} {C = AccountView} (λ a l. record { wanted = a; list = l }) is (sym all)
 
 -- what leaves nodes as they were, twice
 pub keeps_on : {P : Type 0} (a b c : Network P) → KeepsNodes a b → KeepsNodes b c → KeepsNodes a c

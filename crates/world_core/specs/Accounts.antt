@@ -1,8 +1,9 @@
--- An account of what an event does, as contracts see it.
-use Rattle.std.specs.Prelude.{Bool, List}
+-- The list of the effects of an event, as contracts see it.
+use Rattle.std.specs.Prelude.{List}
+use Rattle.world_core.specs.declared.network.account.Wanted.{Wanted}
 use Rattle.world_core.specs.declared.outcomes.Effect.{Effect}
 
--- whether it is asked for, and the effects that were told, the oldest first
+-- whether the caller wants effects, and the effects so far, the oldest first
 pub record AccountView : Type 0 where
-  pub asked : Bool
+  pub wanted : Wanted
   pub list : List Effect

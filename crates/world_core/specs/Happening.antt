@@ -29,6 +29,7 @@ use Rattle.cut_laws.specs.Delivered.{Did}
 use Rattle.cut_laws.specs.Joined.{Joined, FrontFits}
 use Rattle.cut_laws.specs.Own.{MayHear}
 use Rattle.node_core.specs.Coming.{MayCome}
+use Rattle.world_core.specs.declared.network.account.Wanted.TheVariants.{Effects}
 use Rattle.world_core.specs.declared.outcomes.Effect.{Effect}
 use Rattle.world_core.specs.declared.network.Network.{Network}
 use Rattle.world_core.specs.declared.outcomes.Outcome.{Outcome}
@@ -75,13 +76,13 @@ abbrev pub Since : Chronicle → List Effect → Chronicle → Type 0
 Since first list now = effects first ++ list ≡ effects now
 
 -- in the midst of an event: links, control messages, publications and packets are as the run has them now, but for the
--- packets that are away, and the account tells what it did since, where it is asked for
+-- packets that are away; and where the caller wants effects, the account lists those since the first chronicle
 pub record AreSending {P : Type 0} (away : ℕ → Bool) (first now : Chronicle) (counts : Counts) (network : Network P) (account : AccountView) : Type 0 where
   pub are_links : AreLinks network.topology.value now network.links
   pub are_mails : AreMails network.topology.value now counts network.mails
   pub are_published : network.publications.items ≡ all_published now
   pub are_walks : AreWalksBut away network.topology.value now network.walks
-  pub since : account.asked ≡ true → Since first account.list now
+  pub since : account.wanted ≡ Effects → Since first account.list now
 
 -- what is known when a node is handed an input: the item of an arrival is taken from its way already
 abbrev pub handed : ℕ → Input → Chronicle → Chronicle

@@ -9,6 +9,17 @@ use std::alloc::Global;
 use std::rc::Rc;
 use topology::Topology;
 
+pub(crate) mod account;
+mod deliveries;
+mod events;
+mod inputs;
+mod limits;
+mod open_ways;
+mod outputs;
+pub(crate) mod packets;
+mod start;
+mod turns;
+
 /// All nodes and links, all control messages, all tables that were published, and all packets.
 #[derive(Drop)]
 pub struct Network<P: Policy + Copy> {

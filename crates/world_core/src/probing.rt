@@ -13,7 +13,7 @@ ghost use Rattle.delivery_laws.specs.Now.{links_up, orders_of, owners_of, still_
 ghost use Rattle.world_core.specs.Matching.{AreLinks};
 ghost use Rattle.world_core.specs.StillLinks.{up_among};
 
-use crate::passing::is_up;
+use crate::network::packets::is_up;
 use crate::world::World;
 use deflect_delivery::{Orders, Still, StillWalk, UpLinks, still_walk};
 use epoch_packet::NodeList;

@@ -13,6 +13,7 @@ ghost use Rattle.world_core.specs.Stepping.{IsStep};
 
 use crate::laws;
 use crate::network::Network;
+use crate::network::account::Wanted;
 use crate::outcomes::{Outcome, Stop};
 use chronicle::Event;
 use link_model::WaySet;
@@ -114,7 +115,7 @@ impl<P: Policy + Copy> WorldState<P> {
         self.check_events()?;
         laws::a_step_is_lawful();
         let (from, to) = (way.from, way.to);
-        self.network.take(from, to, number, false)?;
+        self.network.take(from, to, number, Wanted::NoEffects)?;
         keep(&mut self.events, Event::Deliver { from, to })?;
         Ok(Some((from, to)))
     }

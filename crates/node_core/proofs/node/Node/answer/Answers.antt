@@ -1,4 +1,3 @@
--- proofs/node/Node/answer/Answers.antt
 use Rattle.std.proofs.Common.{sym, subst}
 use Rattle.topology.specs.declared.names.Scope.TheVariants.{All}
 use Rattle.path_vector.specs.declared.causes.Cause.TheVariants as cause

@@ -1,4 +1,3 @@
--- proofs/node/Node/decide_closing/Answers.antt
 use Rattle.chronicle.specs.Logs.{log_of}
 use Rattle.node_core.proofs.Answering.{closes, closes_not}
 use Rattle.node_core.proofs.node.Node.decide_closing.Goals as goal

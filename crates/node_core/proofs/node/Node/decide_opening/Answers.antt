@@ -1,4 +1,3 @@
--- proofs/node/Node/decide_opening/Answers.antt
 use Rattle.std.proofs.Common.{◌∙◌, sym}
 use Rattle.chronicle.specs.Logs.{log_of}
 use Rattle.node_core.proofs.Answering.{already_open, opens_old, opens_higher}

@@ -1,4 +1,3 @@
--- proofs/node/Node/decide_originating/Answers.antt
 use Rattle.chronicle.specs.Logs.{log_of}
 use Rattle.trigger_log.specs.Entries.{reads}
 use Rattle.node_core.proofs.Answering.{originates, originates_not}

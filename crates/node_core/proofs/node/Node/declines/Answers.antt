@@ -1,4 +1,3 @@
--- proofs/node/Node/declines/Answers.antt
 use Rattle.std.proofs.Common.{◌≡◌, suc, arith}
 use Rattle.chronicle.specs.Logs.{log_of}
 use Rattle.node_core.proofs.Answering.{counted, other_session, wrong_turn, takes, no_turn, its_turn, not_its_turn}

@@ -1,4 +1,3 @@
--- proofs/node/Node/follow/Answers.antt
 use Rattle.std.proofs.Common.{subst}
 use Rattle.chronicle.specs.Giving.{answer}
 use Rattle.node_core.specs.Deciding.{IsDecided}

@@ -1,4 +1,3 @@
--- proofs/node/Node/receive/Answers.antt
 use Rattle.trigger_log.specs.Going.{item_of}
 use Rattle.chronicle.specs.Giving.{answer}
 use Rattle.chronicle.specs.Inputs.{Arrive}

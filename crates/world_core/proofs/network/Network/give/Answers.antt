@@ -76,7 +76,7 @@ returns-in-Some-clause-stands g c past counts may =
     }
 
 pub returns-in-Some-clause-comes : goal.returns-in-Some-clause-comes
-returns-in-Some-clause-comes g c asked past counts may =
+returns-in-Some-clause-comes g c wanted past counts may =
     let policy = c.args.self.now.policy in
     let net = c.args.self.now.topology.value in
     let u = c.args.node in
@@ -149,9 +149,9 @@ returns-in_err-check_control-clause-stopped g c =
     (others_same policy g.P.Policy.rules net past u i) (logs policy g.P.Policy.rules net past u i) may.counted.total (ap (λ t. t.count) before) (ap (λ t. t.count) after) in
     let counted = c.in_ok-self.ensures.ok in
     let net_kept = c.in_ok-effects.ensures.kept in
-    let start = sending_begun past counts u (input_of i) (record c.args.self.now { nodes = c.turn.new.nodes; outputs = c.turn.new.outputs; triggers = c.in_ok-self.field-0 }) c.args.asked may.are_links may.are_mails may.are_published may.are_walks in
+    let start = sending_begun past counts u (input_of i) (record c.args.self.now { nodes = c.turn.new.nodes; outputs = c.turn.new.outputs; triggers = c.in_ok-self.field-0 }) c.args.wanted may.are_links may.are_mails may.are_published may.are_walks in
     let adds = give_adds rules net (carried_by u past) u past (λ w t. refl) may.are_nodes.valid c.requires.node (input_of i) may.may_come may.sender may.passing in
-    let sent = given_sent net past counts u (input_of i) s c.turn.new.outputs c.turn.new.outputs (record c.args.self.now { nodes = c.turn.new.nodes; outputs = c.turn.new.outputs; triggers = c.in_ok-self.field-0 }) c.hand_all.new.self (record { asked = c.args.asked; list = [] }) (record { asked = c.args.asked; list = c.in_ok-effects.effects.items }) refl adds (comes_back rules net u past (input_of i)) answers start
+    let sent = given_sent net past counts u (input_of i) s c.turn.new.outputs c.turn.new.outputs (record c.args.self.now { nodes = c.turn.new.nodes; outputs = c.turn.new.outputs; triggers = c.in_ok-self.field-0 }) c.hand_all.new.self (record { wanted = c.args.wanted; list = [] }) (record { wanted = c.args.wanted; list = c.in_ok-effects.effects.items }) refl adds (comes_back rules net u past (input_of i)) answers start
     (λ away first mid facts told hands sending. c.in_ok-effects.ensures.sending away first mid counts facts told hands sending) in
     let stopped = c.in_err-check_control.ensures.stopped in
     rw (out.2, stopped.0)
@@ -180,9 +180,9 @@ returns-in_err-check_packets-clause-stopped g c =
     (others_same policy g.P.Policy.rules net past u i) (logs policy g.P.Policy.rules net past u i) may.counted.total (ap (λ t. t.count) before) (ap (λ t. t.count) after) in
     let counted = c.in_ok-self.ensures.ok in
     let net_kept = c.in_ok-effects.ensures.kept in
-    let start = sending_begun past counts u (input_of i) (record c.args.self.now { nodes = c.turn.new.nodes; outputs = c.turn.new.outputs; triggers = c.in_ok-self.field-0 }) c.args.asked may.are_links may.are_mails may.are_published may.are_walks in
+    let start = sending_begun past counts u (input_of i) (record c.args.self.now { nodes = c.turn.new.nodes; outputs = c.turn.new.outputs; triggers = c.in_ok-self.field-0 }) c.args.wanted may.are_links may.are_mails may.are_published may.are_walks in
     let adds = give_adds rules net (carried_by u past) u past (λ w t. refl) may.are_nodes.valid c.requires.node (input_of i) may.may_come may.sender may.passing in
-    let sent = given_sent net past counts u (input_of i) s c.turn.new.outputs c.turn.new.outputs (record c.args.self.now { nodes = c.turn.new.nodes; outputs = c.turn.new.outputs; triggers = c.in_ok-self.field-0 }) c.hand_all.new.self (record { asked = c.args.asked; list = [] }) (record { asked = c.args.asked; list = c.in_ok-effects.effects.items }) refl adds (comes_back rules net u past (input_of i)) answers start
+    let sent = given_sent net past counts u (input_of i) s c.turn.new.outputs c.turn.new.outputs (record c.args.self.now { nodes = c.turn.new.nodes; outputs = c.turn.new.outputs; triggers = c.in_ok-self.field-0 }) c.hand_all.new.self (record { wanted = c.args.wanted; list = [] }) (record { wanted = c.args.wanted; list = c.in_ok-effects.effects.items }) refl adds (comes_back rules net u past (input_of i)) answers start
     (λ away first mid facts told hands sending. c.in_ok-effects.ensures.sending away first mid counts facts told hands sending) in
     let few = c.in_ok-check_control.ensures.ok (chronicle_of past s) counts sent.are_mails in
     let stopped = c.in_err-check_packets.ensures.stopped in
@@ -221,9 +221,9 @@ returns-in_err-check_marks-clause-stopped g c =
     (others_same policy g.P.Policy.rules net past u i) (logs policy g.P.Policy.rules net past u i) may.counted.total (ap (λ t. t.count) before) (ap (λ t. t.count) after) in
     let counted = c.in_ok-self.ensures.ok in
     let net_kept = c.in_ok-effects.ensures.kept in
-    let start = sending_begun past counts u (input_of i) (record c.args.self.now { nodes = c.turn.new.nodes; outputs = c.turn.new.outputs; triggers = c.in_ok-self.field-0 }) c.args.asked may.are_links may.are_mails may.are_published may.are_walks in
+    let start = sending_begun past counts u (input_of i) (record c.args.self.now { nodes = c.turn.new.nodes; outputs = c.turn.new.outputs; triggers = c.in_ok-self.field-0 }) c.args.wanted may.are_links may.are_mails may.are_published may.are_walks in
     let adds = give_adds rules net (carried_by u past) u past (λ w t. refl) may.are_nodes.valid c.requires.node (input_of i) may.may_come may.sender may.passing in
-    let sent = given_sent net past counts u (input_of i) s c.turn.new.outputs c.turn.new.outputs (record c.args.self.now { nodes = c.turn.new.nodes; outputs = c.turn.new.outputs; triggers = c.in_ok-self.field-0 }) c.hand_all.new.self (record { asked = c.args.asked; list = [] }) (record { asked = c.args.asked; list = c.in_ok-effects.effects.items }) refl adds (comes_back rules net u past (input_of i)) answers start
+    let sent = given_sent net past counts u (input_of i) s c.turn.new.outputs c.turn.new.outputs (record c.args.self.now { nodes = c.turn.new.nodes; outputs = c.turn.new.outputs; triggers = c.in_ok-self.field-0 }) c.hand_all.new.self (record { wanted = c.args.wanted; list = [] }) (record { wanted = c.args.wanted; list = c.in_ok-effects.effects.items }) refl adds (comes_back rules net u past (input_of i)) answers start
     (λ away first mid facts told hands sending. c.in_ok-effects.ensures.sending away first mid counts facts told hands sending) in
     let few = c.in_ok-check_control.ensures.ok (chronicle_of past s) counts sent.are_mails in
     let few_packets = c.in_ok-check_packets.ensures.ok (chronicle_of past s) sent.are_walks in
@@ -253,19 +253,19 @@ returns-clause-stands g c past counts may =
     (others_same policy g.P.Policy.rules net past u i) (logs policy g.P.Policy.rules net past u i) may.counted.total (ap (λ t. t.count) before) (ap (λ t. t.count) after) in
     let counted = c.in_ok-self.ensures.ok in
     let net_kept = c.in_ok-effects.ensures.kept in
-    let start = sending_begun past counts u (input_of i) (record c.args.self.now { nodes = c.turn.new.nodes; outputs = c.turn.new.outputs; triggers = c.in_ok-self.field-0 }) c.args.asked may.are_links may.are_mails may.are_published may.are_walks in
+    let start = sending_begun past counts u (input_of i) (record c.args.self.now { nodes = c.turn.new.nodes; outputs = c.turn.new.outputs; triggers = c.in_ok-self.field-0 }) c.args.wanted may.are_links may.are_mails may.are_published may.are_walks in
     let adds = give_adds rules net (carried_by u past) u past (λ w t. refl) may.are_nodes.valid c.requires.node (input_of i) may.may_come may.sender may.passing in
-    let sent = given_sent net past counts u (input_of i) s c.turn.new.outputs c.turn.new.outputs (record c.args.self.now { nodes = c.turn.new.nodes; outputs = c.turn.new.outputs; triggers = c.in_ok-self.field-0 }) c.hand_all.new.self (record { asked = c.args.asked; list = [] }) (record { asked = c.args.asked; list = c.in_ok-effects.effects.items }) refl adds (comes_back rules net u past (input_of i)) answers start
+    let sent = given_sent net past counts u (input_of i) s c.turn.new.outputs c.turn.new.outputs (record c.args.self.now { nodes = c.turn.new.nodes; outputs = c.turn.new.outputs; triggers = c.in_ok-self.field-0 }) c.hand_all.new.self (record { wanted = c.args.wanted; list = [] }) (record { wanted = c.args.wanted; list = c.in_ok-effects.effects.items }) refl adds (comes_back rules net u past (input_of i)) answers start
     (λ away first mid facts told hands sending. c.in_ok-effects.ensures.sending away first mid counts facts told hands sending) in
     let few = c.in_ok-check_control.ensures.ok (chronicle_of past s) counts sent.are_mails in
     let few_packets = c.in_ok-check_packets.ensures.ok (chronicle_of past s) sent.are_walks in
     let kept = subst (λ nodes. AreNodes policy rules net (chronicle_of past s) nodes.items) (sym net_kept.nodes) now in
     let few_marks = marks_at rules net past (chronicle_of past s) u c.requires.node (others_same policy g.P.Policy.rules net past u i) may.counted.few_marks ∙ c.in_ok-check_marks.ensures.ok policy net (chronicle_of past s) u kept at in
-    sent_stands rules past s counts (record c.args.self.now { nodes = c.turn.new.nodes; outputs = c.turn.new.outputs; triggers = c.in_ok-self.field-0 }) c.hand_all.new.self (record { asked = c.args.asked; list = c.in_ok-effects.effects.items }) (begun u (input_of i) past) net_kept now
+    sent_stands rules past s counts (record c.args.self.now { nodes = c.turn.new.nodes; outputs = c.turn.new.outputs; triggers = c.in_ok-self.field-0 }) c.hand_all.new.self (record { wanted = c.args.wanted; list = c.in_ok-effects.effects.items }) (begun u (input_of i) past) net_kept now
     (given_flags rules net past u (input_of i) c.args.self.now.crashed.items may.are_crashed) (counted.0 ∙ sum) counted.1 few few_packets few_marks sent
 
 pub returns-clause-comes : goal.returns-clause-comes
-returns-clause-comes g c asked past counts may =
+returns-clause-comes g c wanted past counts may =
     let policy = c.args.self.now.policy in
     let rules = g.P.Policy.rules policy in
     let net = c.args.self.now.topology.value in
@@ -277,11 +277,11 @@ returns-clause-comes g c asked past counts may =
     let at = rw (c.unwrap-rank.ensures, c.deref.ensures) at c.rank_of.ensures.some in
     let turned = c.in-Ok.ensures.turned in
     let answers = subst (λ idle. Answers past s (told_by idle c.turn.new.outputs)) c.in_default.is (new_answers policy g.P.Policy.rules net past u i items c.turn.new.nodes.items rank turned.0 turned.1 (told_by c.in-Ok.idle c.turn.new.outputs) may.are_nodes at may.may_come turned.2 turned.4) in
-    let start = sending_begun past counts u (input_of i) (record c.args.self.now { nodes = c.turn.new.nodes; outputs = c.turn.new.outputs; triggers = c.in_ok-self.field-0 }) c.args.asked may.are_links may.are_mails may.are_published may.are_walks in
+    let start = sending_begun past counts u (input_of i) (record c.args.self.now { nodes = c.turn.new.nodes; outputs = c.turn.new.outputs; triggers = c.in_ok-self.field-0 }) c.args.wanted may.are_links may.are_mails may.are_published may.are_walks in
     let adds = give_adds rules net (carried_by u past) u past (λ w t. refl) may.are_nodes.valid c.requires.node (input_of i) may.may_come may.sender may.passing in
-    let sent = given_sent net past counts u (input_of i) s c.turn.new.outputs c.turn.new.outputs (record c.args.self.now { nodes = c.turn.new.nodes; outputs = c.turn.new.outputs; triggers = c.in_ok-self.field-0 }) c.hand_all.new.self (record { asked = c.args.asked; list = [] }) (record { asked = c.args.asked; list = c.in_ok-effects.effects.items }) refl adds (comes_back rules net u past (input_of i)) answers start
+    let sent = given_sent net past counts u (input_of i) s c.turn.new.outputs c.turn.new.outputs (record c.args.self.now { nodes = c.turn.new.nodes; outputs = c.turn.new.outputs; triggers = c.in_ok-self.field-0 }) c.hand_all.new.self (record { wanted = c.args.wanted; list = [] }) (record { wanted = c.args.wanted; list = c.in_ok-effects.effects.items }) refl adds (comes_back rules net u past (input_of i)) answers start
     (λ away first mid facts told hands sending. c.in_ok-effects.ensures.sending away first mid counts facts told hands sending) in
     record {
       stands = returns-clause-stands g c past counts may;
-      tells = rw c.new.ensures (given_tells past u (input_of i) s c.turn.new.outputs c.in_ok-effects.effects.items answers (sent.since asked));
+      tells = rw c.new.ensures (given_tells past u (input_of i) s c.turn.new.outputs c.in_ok-effects.effects.items answers (sent.since wanted));
     }

@@ -27,7 +27,7 @@ returns-in_ok-send-in-Send-clause-sending g c away first past counts f told show
       are_mails = same_mails net past (fact ∷ past) counts c.args.self.now.mails refl (λ v. refl) was.are_mails;
       are_published = was.are_published;
       are_walks = walks_stay net past (fact ∷ past) c.args.self.now.walks (same_more fact past past (λ t. t) (same_now past)) was.are_walks;
-      since = told_sent first past u out c.args.account.now c.send.new.account (carries (link u out.to past) out.session) was.since c.in_ok-send-in-Send.ensures.asked done.1;
+      since = told_sent first past u out c.args.account.now c.send.new.account (carries (link u out.to past) out.session) was.since c.in_ok-send-in-Send.ensures.wanted done.1;
     })
 
 pub returns-in_ok-post-in-Mail-clause-sending : goal.returns-in_ok-post-in-Mail-clause-sending
@@ -44,7 +44,7 @@ returns-in_ok-post-in-Mail-clause-sending g c away first past counts f told show
       are_mails = done.0;
       are_published = was.are_published;
       are_walks = walks_stay net past (Mail u to m ∷ past) c.args.self.now.walks (same_more (Mail u to m) past past (λ t. t) (same_now past)) was.are_walks;
-      since = told_next first past (Mail u to m) c.args.account.now c.post.new.account _ was.since c.in_ok-post-in-Mail.ensures.asked done.1 refl;
+      since = told_next first past (Mail u to m) c.args.account.now c.post.new.account _ was.since c.in_ok-post-in-Mail.ensures.wanted done.1 refl;
     })
 
 pub returns-in_ok-forward-in-Forward-clause-sending : goal.returns-in_ok-forward-in-Forward-clause-sending
@@ -60,7 +60,7 @@ returns-in_ok-forward-in-Forward-clause-sending g c away first past counts f tol
       are_mails = same_mails net past (Visit w packet ∷ past) counts c.args.self.now.mails refl (λ v. refl) was.are_mails;
       are_published = was.are_published;
       are_walks = done.0;
-      since = told_next first past (Visit w packet) c.args.account.now c.forward.new.account _ was.since c.in_ok-forward-in-Forward.ensures.asked done.1 refl;
+      since = told_next first past (Visit w packet) c.args.account.now c.forward.new.account _ was.since c.in_ok-forward-in-Forward.ensures.wanted done.1 refl;
     })
 
 pub returns-in_ok-end-in-Ended-clause-sending : goal.returns-in_ok-end-in-Ended-clause-sending
@@ -76,7 +76,7 @@ returns-in_ok-end-in-Ended-clause-sending g c away first past counts f told show
       are_mails = same_mails net past (End id how ∷ past) counts c.args.self.now.mails refl (λ v. refl) was.are_mails;
       are_published = was.are_published;
       are_walks = done.0;
-      since = told_next first past (End id how) c.args.account.now c.end.new.account _ was.since c.in_ok-end-in-Ended.ensures.asked done.1 refl;
+      since = told_next first past (End id how) c.args.account.now c.end.new.account _ was.since c.in_ok-end-in-Ended.ensures.wanted done.1 refl;
     })
 
 pub returns-in_ok-tell-in-Logged-clause-sending : goal.returns-in_ok-tell-in-Logged-clause-sending
@@ -90,7 +90,7 @@ returns-in_ok-tell-in-Logged-clause-sending g c away first past counts f told sh
       are_mails = same_mails net past (Log u made.0 ∷ past) counts c.args.self.now.mails refl (λ v. refl) was.are_mails;
       are_published = was.are_published;
       are_walks = walks_stay net past (Log u made.0 ∷ past) c.args.self.now.walks (same_more (Log u made.0) past past (λ t. t) (same_now past)) was.are_walks;
-      since = told_next first past (Log u made.0) c.args.account.now c.tell.new.self (Logged u c.in-Logged.index) was.since c.in_ok-tell-in-Logged.ensures.asked c.in_ok-tell-in-Logged.ensures.told (ap (λ n. Logged u n ∷ []) made.2);
+      since = told_next first past (Log u made.0) c.args.account.now c.tell.new.self (Logged u c.in-Logged.index) was.since c.in_ok-tell-in-Logged.ensures.wanted c.in_ok-tell-in-Logged.ensures.told (ap (λ n. Logged u n ∷ []) made.2);
     })
 
 pub returns-in_ok-tell-in-Cut-clause-sending : goal.returns-in_ok-tell-in-Cut-clause-sending
@@ -104,7 +104,7 @@ returns-in_ok-tell-in-Cut-clause-sending g c away first past counts f told shows
       are_mails = same_mails net past (Raise u e ∷ past) counts c.args.self.now.mails refl (λ v. refl) was.are_mails;
       are_published = was.are_published;
       are_walks = walks_stay net past (Raise u e ∷ past) c.args.self.now.walks (same_more (Raise u e) past past (λ t. t) (same_now past)) was.are_walks;
-      since = told_next first past (Raise u e) c.args.account.now c.tell-in-Cut.new.self _ was.since c.in_ok-tell-in-Cut.ensures.asked c.in_ok-tell-in-Cut.ensures.told refl;
+      since = told_next first past (Raise u e) c.args.account.now c.tell-in-Cut.new.self _ was.since c.in_ok-tell-in-Cut.ensures.wanted c.in_ok-tell-in-Cut.ensures.told refl;
     })
 
 pub returns-in_ok-publish-in-Published-clause-sending : goal.returns-in_ok-publish-in-Published-clause-sending
@@ -118,5 +118,5 @@ returns-in_ok-publish-in-Published-clause-sending g c away first past counts f t
       are_mails = same_mails net past (Publish u t.epoch t.value t.paths ∷ past) counts c.args.self.now.mails refl (λ v. refl) was.are_mails;
       are_published = c.in_ok-publish-in-Published.ensures.kept ∙ ap (λ l. l ++ record { node = u; epoch = t.epoch; value = t.value; paths = t.paths } ∷ []) was.are_published;
       are_walks = walks_stay net past (Publish u t.epoch t.value t.paths ∷ past) c.args.self.now.walks (same_more (Publish u t.epoch t.value t.paths) past past (λ t. t) (same_now past)) was.are_walks;
-      since = told_next first past (Publish u t.epoch t.value t.paths) c.args.account.now c.publish.new.account _ was.since c.in_ok-publish-in-Published.ensures.asked c.in_ok-publish-in-Published.ensures.shown refl;
+      since = told_next first past (Publish u t.epoch t.value t.paths) c.args.account.now c.publish.new.account _ was.since c.in_ok-publish-in-Published.ensures.wanted c.in_ok-publish-in-Published.ensures.shown refl;
     })

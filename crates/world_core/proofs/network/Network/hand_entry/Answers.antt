@@ -17,7 +17,7 @@ pub loop-out-init : goal.loop-out-init
 loop-out-init g c = record {
   kept = c.in_ok-hand.ensures.kept;
   outputs = c.in_ok-hand.ensures.outputs;
-  asked = c.in_ok-hand.ensures.asked;
+  wanted = c.in_ok-hand.ensures.wanted;
   done = [];
   whole = sym c.from_vec-left.ensures.items;
   sent = λ away first past counts facts told shows was.
@@ -42,7 +42,7 @@ loop-out-preserved g c =
     record {
       kept = keeps_on c.args.self.now c.loop-out.self new so_far c.in_ok-hand-2.ensures.kept;
       outputs = c.in_ok-hand-2.ensures.outputs ∙ c.loop-out.invariant.outputs;
-      asked = c.in_ok-hand-2.ensures.asked ∙ c.loop-out.invariant.asked;
+      wanted = c.in_ok-hand-2.ensures.wanted ∙ c.loop-out.invariant.wanted;
       done = done ++ out ∷ [];
       whole = c.loop-out.invariant.whole ∙ (ap (λ l. done ++ l) (taken_one c.loop-out.left.items c.pop_front.new.self.items c.pop_front.result out c.in-Some.is c.pop_front.ensures.items) ∙ sym (append_assoc done (out ∷ []) c.pop_front.new.self.items));
       sent = λ away first past counts facts told shows was.

@@ -13,7 +13,7 @@ abbrev pub invariant-loop-out : goal.invariant-loop-out
 invariant-loop-out g l = record {
   kept : KeepsNodes l.fn.self l.self;
   outputs : l.self.outputs ≡ l.fn.self.outputs;
-  asked : l.account.asked ≡ l.fn.account.asked;
+  wanted : l.account.wanted ≡ l.fn.account.wanted;
   done : List Outgoing;
   whole : l.fn.sent.items ≡ done ++ l.left.items;
   sent : (away : ℕ → Bool) (first past : Chronicle) (counts : Counts) (facts : List Fact) → AreTold l.fn.self.topology.value l.node past facts

@@ -13,7 +13,7 @@ use Rattle.world_core.proofs.network.Network.hand_more.Goals as goal
 pub loop-output-init : goal.loop-output-init
 loop-output-init g c = record {
   kept = record { policy = refl; topology = refl; nodes = refl; crashed = refl; triggers = refl };
-  asked = refl;
+  wanted = refl;
   done = [];
   whole = sym c.in_ok-outputs.ensures.taken ∙ sym c.from_vec-left.ensures.items;
   sent = λ away first past counts before was facts told shows.
@@ -34,7 +34,7 @@ loop-output-preserved g c =
     let output = c.in-Some.output in
     record {
       kept = keeps_on c.args.self.now c.loop-output.self c.hand.new.self so_far c.in_ok-hand.ensures.kept;
-      asked = c.in_ok-hand.ensures.asked ∙ c.loop-output.invariant.asked;
+      wanted = c.in_ok-hand.ensures.wanted ∙ c.loop-output.invariant.wanted;
       done = done ++ output ∷ [];
       whole = c.loop-output.invariant.whole ∙ (ap (λ l. done ++ l) (taken_one c.loop-output.left.items c.pop_front.new.self.items c.pop_front.result output c.in-Some.is c.pop_front.ensures.items) ∙ sym (append_assoc done (output ∷ []) c.pop_front.new.self.items));
       sent = λ away first past counts before was facts told shows.

@@ -11,7 +11,7 @@ use Rattle.world_core.proofs.network.Network.hand_more.Given as goal
 abbrev pub invariant-loop-output : goal.invariant-loop-output
 invariant-loop-output g l = record {
   kept : KeepsNodes l.fn.self l.self;
-  asked : l.account.asked ≡ l.fn.account.asked;
+  wanted : l.account.wanted ≡ l.fn.account.wanted;
   done : List Given;
   whole : l.fn.self.outputs ≡ done ++ l.left.items;
   sent : (away : ℕ → Bool) (first past : Chronicle) (counts : Counts) (before : List Output)

@@ -23,7 +23,7 @@ returns-in_default-clause-stands g c past counts was regular waits =
     absurd (down_rests past c.args.from c.args.to c.in_default.field-0 waits (is ∙ c.in_default.is))
 
 pub returns-in_default-clause-comes : goal.returns-in_default-clause-comes
-returns-in_default-clause-comes g c asked past counts was regular waits =
+returns-in_default-clause-comes g c wanted past counts was regular waits =
     let net = c.args.self.now.topology.value in
     let links = was.are_links in
     let at = c.channel_at.ensures net links.acts c.args.from c.args.to links.stands c.requires.placed in
@@ -43,7 +43,7 @@ returns-in_default-pop_front_at-clause-stands g c past counts was regular waits 
     absurd (empty_rests past c.args.from c.args.to c.in-Up.session waits (is ∙ c.in-Up.is) none)
 
 pub returns-in_default-pop_front_at-clause-comes : goal.returns-in_default-pop_front_at-clause-comes
-returns-in_default-pop_front_at-clause-comes g c asked past counts was regular waits =
+returns-in_default-pop_front_at-clause-comes g c wanted past counts was regular waits =
     let net = c.args.self.now.topology.value in
     let links = was.are_links in
     let at = c.channel_at.ensures net links.acts c.args.from c.args.to links.stands c.requires.placed in
@@ -73,7 +73,7 @@ returns-clause-stands g c = on_ok_weaker c.give.result
 
 pub returns-clause-comes : goal.returns-clause-comes
 returns-clause-comes g c = IfOk-weaker c.give.result _ _
-    (λ r h asked past counts was regular waits.
+    (λ r h wanted past counts was regular waits.
     let rules = g.P.Policy.rules c.args.self.now.policy in
     let net = c.args.self.now.topology.value in
     let links = was.are_links in
@@ -85,7 +85,7 @@ returns-clause-comes g c = IfOk-weaker c.give.result _ _
     let may = front_arrives past c.args.from c.args.to s (item_of c.in-Some.item) (map item_of popped.0) waits up front in
     let took = taken net past c.args.self.now.links c.pop_front_at.new.self links c.args.from c.args.to s (item_of c.in-Some.item) popped.2 in
     comes_by rules past counts (Deliver c.args.from c.args.to) c.args.to (input.Arrive c.args.from s (item_of c.in-Some.item)) _ c.give.new.self r
-    (delivers rules past counts _ c.args.from c.args.to s (item_of c.in-Some.item) (map item_of popped.0) was.are_nodes was.are_crashed was.are_mails was.are_published was.are_walks was.counted regular c.requires.near may front took) (h asked past counts))
+    (delivers rules past counts _ c.args.from c.args.to s (item_of c.in-Some.item) (map item_of popped.0) was.are_nodes was.are_crashed was.are_mails was.are_published was.are_walks was.counted regular c.requires.near may front took) (h wanted past counts))
     c.give.ensures.comes
 
 pub returns-clause-stopped : goal.returns-clause-stopped

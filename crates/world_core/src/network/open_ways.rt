@@ -11,7 +11,7 @@ ghost use Rattle.world_core.specs.OpenWays.{AreOpen, is_open};
 ghost use Rattle.world_core.specs.WaySets.{has_way};
 
 use crate::network::Network;
-use crate::steps::is_carried;
+use crate::network::events::is_carried;
 use chronicle::Event;
 use link_model::WaySet;
 use path_vector::Policy;

@@ -15,6 +15,7 @@ ghost use Rattle.world_core.specs.WaySets.{has_way};
 ghost use Rattle.world_core.specs.Walks.{HasWalks};
 
 use crate::network::Network;
+use crate::network::account::Wanted;
 use crate::outcomes::{Outcome, Stop};
 use chronicle::Event;
 use link_model::WaySet;
@@ -31,7 +32,7 @@ impl<P: Policy + Copy> Network<P> {
         from: NodeId,
         to: NodeId,
         way: usize,
-        asked: bool,
+        wanted: Wanted,
     ) -> Result<Outcome, Stop>
         requires near { linked self.old.topology.value from to ≡ true }
         requires places { HasPlaces self.old.topology.value (length self.old.nodes.items) }
@@ -41,7 +42,7 @@ impl<P: Policy + Copy> Network<P> {
             Stands (P.rules self.old.policy) past counts self.old → IsRegular self.old.topology.value past → arrives past from to ≡ true →
             Stands (P.rules self.old.policy)
             (chronicle_of past (does (P.rules self.old.policy) self.old.topology.value past (Event.Deliver from to))) counts self.new) }
-        ensures comes { IfOk result (λ outcome. asked ≡ true → (past : Chronicle) (counts : Counts) →
+        ensures comes { IfOk result (λ outcome. wanted ≡ Wanted.Effects → (past : Chronicle) (counts : Counts) →
             Stands (P.rules self.old.policy) past counts self.old → IsRegular self.old.topology.value past → arrives past from to ≡ true →
             IsAfterStep (P.rules self.old.policy) past counts (does (P.rules self.old.policy) self.old.topology.value past (Event.Deliver from to)) self.new outcome) }
         ensures stopped { IfErr result (λ stop. (past : Chronicle) (counts : Counts) →
@@ -62,7 +63,7 @@ impl<P: Policy + Copy> Network<P> {
                 session,
                 item,
             },
-            asked,
+            wanted,
         )
     }
 
@@ -104,7 +105,7 @@ impl<P: Policy + Copy> Network<P> {
         let Some(way) = self.waiting_way(from, to, open_ways) else {
             return self.happen(&Event::Deliver { from, to });
         };
-        self.take(from, to, way, true)
+        self.take(from, to, way, Wanted::Effects)
     }
 
     /// Does the event, and answers what came of it, where these ways are open. They are not looked at again. After an

@@ -11,6 +11,7 @@ ghost use Rattle.world_core.specs.Places.{HasPlaces};
 ghost use Rattle.world_core.specs.Walks.{AreWalks, HasWalks};
 
 use crate::network::Network;
+use crate::network::account::Wanted;
 use crate::outcomes::{Outcome, Stop};
 use chronicle::Event;
 use node_core::Input;
@@ -80,7 +81,7 @@ impl<P: Policy + Copy> Network<P> {
         if self.walks.of(packet).is_some() {
             return Ok(Outcome::Idle(Reason::PacketKnown));
         }
-        self.give(node, Input::Inject { id: packet, prefix }, true)
+        self.give(node, Input::Inject { id: packet, prefix }, Wanted::Effects)
     }
 
     /// The packet goes on from the node where it stands, unless its walk has ended. The node gets the packet itself:
@@ -103,6 +104,6 @@ impl<P: Policy + Copy> Network<P> {
         };
         let (node, packet) = taken;
         let up = self.up_links(node)?;
-        self.give(node, Input::Hop { packet, up }, true)
+        self.give(node, Input::Hop { packet, up }, Wanted::Effects)
     }
 }

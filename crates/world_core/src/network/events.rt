@@ -18,6 +18,7 @@ ghost use Rattle.world_core.specs.Places.{HasPlaces};
 ghost use Rattle.world_core.specs.Walks.{HasWalks};
 
 use crate::network::Network;
+use crate::network::account::Wanted;
 use crate::outcomes::{Effects, Outcome, Stop};
 use chronicle::Event;
 use node_core::Input;
@@ -161,8 +162,16 @@ impl<P: Policy + Copy> Network<P> {
         ensures stopped { IfErr result (StopsDoing (P.rules self.old.policy) self.old event.now) }
     {
         match event {
-            Event::Originate { node, prefix } => self.give(*node, Input::Originate(*prefix), true),
-            Event::Withdraw { node, prefix } => self.give(*node, Input::Withdraw(*prefix), true),
+            Event::Originate { node, prefix } => self.give(
+                *node,
+                Input::Originate(*prefix),
+                Wanted::Effects,
+            ),
+            Event::Withdraw { node, prefix } => self.give(
+                *node,
+                Input::Withdraw(*prefix),
+                Wanted::Effects,
+            ),
             Event::Prefer { node, nbr, value } => self.prefer(*node, *nbr, *value),
             Event::Deliver { from, to } => self.deliver(*from, *to),
             Event::Fail { a, b } => Ok(self.fail(*a, *b)),
@@ -170,8 +179,12 @@ impl<P: Policy + Copy> Network<P> {
             Event::Notice { node, nbr } => self.notice(*node, *nbr),
             Event::OpenSession { node, nbr } => self.open_session(*node, *nbr),
             Event::Flush { node, nbr } => self.flush(*node, *nbr),
-            Event::Snap { node } => self.give(*node, Input::Snap, true),
-            Event::Propose { node, epoch } => self.give(*node, Input::Propose(*epoch), true),
+            Event::Snap { node } => self.give(*node, Input::Snap, Wanted::Effects),
+            Event::Propose { node, epoch } => self.give(
+                *node,
+                Input::Propose(*epoch),
+                Wanted::Effects,
+            ),
             Event::Control { number } => self.control(*number),
             Event::Crash { node } => Ok(self.crash(*node)),
             Event::Restart { node } => Ok(self.restart(*node)),
@@ -239,7 +252,7 @@ impl<P: Policy + Copy> Network<P> {
                 session,
                 item,
             },
-            true,
+            Wanted::Effects,
         )
     }
 
@@ -251,7 +264,7 @@ impl<P: Policy + Copy> Network<P> {
         ensures comes { IfOk result (Does (P.rules self.old.policy) self.old (Event.Prefer node nbr value) self.new) }
         ensures stopped { IfErr result (StopsDoing (P.rules self.old.policy) self.old (Event.Prefer node nbr value)) }
     {
-        self.give(node, Input::Prefer { nbr, value }, true)
+        self.give(node, Input::Prefer { nbr, value }, Wanted::Effects)
     }
 
     // The node notices that the link does not carry the session that it holds, and closes it.
@@ -265,7 +278,7 @@ impl<P: Policy + Copy> Network<P> {
         if is_carried(&self.links.state(node, nbr), self.held(node, nbr)) {
             return Ok(Outcome::Idle(Reason::StillUp));
         }
-        self.give(node, Input::Notice(nbr), true)
+        self.give(node, Input::Notice(nbr), Wanted::Effects)
     }
 
     // The node sends its neighbour what it holds back from it.
@@ -276,7 +289,7 @@ impl<P: Policy + Copy> Network<P> {
         ensures comes { IfOk result (Does (P.rules self.old.policy) self.old (Event.Flush node nbr) self.new) }
         ensures stopped { IfErr result (StopsDoing (P.rules self.old.policy) self.old (Event.Flush node nbr)) }
     {
-        self.give(node, Input::Flush(nbr), true)
+        self.give(node, Input::Flush(nbr), Wanted::Effects)
     }
 
     // A copy of the control message comes to its addressee.
@@ -292,7 +305,7 @@ impl<P: Policy + Copy> Network<P> {
         };
         let (from, to) = (kept.from, kept.mail.to);
         let message = kept.mail.message.copy()?;
-        self.give(to, Input::Control { from, message }, true)
+        self.give(to, Input::Control { from, message }, Wanted::Effects)
     }
 
     // The node opens the session that the link carries, and greets its neighbour in it.
@@ -309,7 +322,7 @@ impl<P: Policy + Copy> Network<P> {
         let LinkState::Up(session) = self.links.state(node, nbr) else {
             return Ok(Outcome::Idle(Reason::LinkDown));
         };
-        self.give(node, Input::OpenSession { nbr, session }, true)
+        self.give(node, Input::OpenSession { nbr, session }, Wanted::Effects)
     }
 
     // The link fails: what is on its way over it is lost.

@@ -18,8 +18,8 @@ ghost use Rattle.world_core.specs.Telling.{AreTold, IsTold, shown};
 ghost use Rattle.world_core.specs.Walks.{AreWalksBut, IsPassing, still, still_after};
 ghost use Rattle.world_core.specs.declared.outcomes.Effect.TheVariants.{Queued, Lost, Mailed as Shown, Published, Visited, Ended};
 
-use crate::account::Account;
 use crate::network::Network;
+use crate::network::account::{Account, Wanted};
 use crate::outcomes::Effect;
 use crate::publications::Publication;
 use crate::walks::{Walks, visit_of};
@@ -54,11 +54,11 @@ fn send(
     links: &mut Links,
     account: &mut Account,
 ) -> Result<(), NoMemory>
-    ensures asked { OnOk result (account.new.asked ≡ account.old.asked) }
+    ensures wanted { OnOk result (account.new.wanted ≡ account.old.wanted) }
     ensures done { OnOk result ((net : Net) (past : Chronicle) → linked net from out.to ≡ true → AreLinks net past links.old →
         let queued = carries (link from out.to past) out.session in
         AreLinks net (Sent from out.to out.session (item_of out.item) queued ∷ past) links.new
-        × (account.old.asked ≡ true → account.new.list ≡ account.old.list ++ (if queued then Queued from out.to else Lost from out.to) ∷ [])) }
+        × (account.old.wanted ≡ Wanted.Effects → account.new.list ≡ account.old.list ++ (if queued then Queued from out.to else Lost from out.to) ∷ [])) }
 {
     let to = out.to;
     let queued = links.push(from, to, out.session, out.item)?;
@@ -68,11 +68,11 @@ fn send(
 
 // Posts a control message: it gets the next number.
 fn post(from: NodeId, mail: Mail, mails: &mut Mails, account: &mut Account) -> Result<(), NoMemory>
-    ensures asked { OnOk result (account.new.asked ≡ account.old.asked) }
+    ensures wanted { OnOk result (account.new.wanted ≡ account.old.wanted) }
     ensures done { OnOk result ((net : Net) (past : Chronicle) (counts : Counts) → AreMails net past counts mails.old →
         has net.nodes from ≡ true → has net.nodes mail.to ≡ true →
         AreMails net (Mailed from mail.to (message_seen mail.message) ∷ past) counts mails.new
-        × (account.old.asked ≡ true → account.new.list ≡ account.old.list ++ Shown (suc (length (mailed past))) ∷ [])) }
+        × (account.old.wanted ≡ Wanted.Effects → account.new.list ≡ account.old.list ++ Shown (suc (length (mailed past))) ∷ [])) }
 {
     mails.post(from, mail)?;
     let number = mails.count();
@@ -88,10 +88,10 @@ fn publish(
     publications: &mut Vec<Publication>,
     account: &mut Account,
 ) -> Result<(), NoMemory>
-    ensures asked { OnOk result (account.new.asked ≡ account.old.asked) }
+    ensures wanted { OnOk result (account.new.wanted ≡ account.old.wanted) }
     ensures kept { OnOk result (publications.new.items ≡ publications.old.items
         ++ record { node = node; epoch = table.value.epoch; value = table.value.value; paths = table.value.paths } ∷ []) }
-    ensures shown { OnOk result (account.old.asked ≡ true → account.new.list ≡ account.old.list ++ Published node table.value.epoch ∷ []) }
+    ensures shown { OnOk result (account.old.wanted ≡ Wanted.Effects → account.new.list ≡ account.old.list ++ Published node table.value.epoch ∷ []) }
 {
     let epoch = table.epoch();
     publications.push(Publication::new(alloc, node, &table)?)?;
@@ -106,10 +106,10 @@ fn forward(
     walks: &mut Walks,
     account: &mut Account,
 ) -> Result<(), NoMemory>
-    ensures asked { OnOk result (account.new.asked ≡ account.old.asked) }
+    ensures wanted { OnOk result (account.new.wanted ≡ account.old.wanted) }
     ensures done { OnOk result ((away : ℕ → Bool) (net : Net) (past : Chronicle) → AreWalksBut away net past walks.old → IsPassing net next packet.value →
         AreWalksBut (still (Came next packet.value) away) net (Came next packet.value ∷ past) walks.new
-        × (account.old.asked ≡ true → account.new.list ≡ account.old.list ++ Visited packet.value.id (visit_of next packet.value) ∷ [])) }
+        × (account.old.wanted ≡ Wanted.Effects → account.new.list ≡ account.old.list ++ Visited packet.value.id (visit_of next packet.value) ∷ [])) }
 {
     let number = packet.id;
     let visit = visit_of(next, &packet);
@@ -123,10 +123,10 @@ fn forward(
 
 // The walk of a packet ended.
 fn end(number: u32, end: End, walks: &mut Walks, account: &mut Account) -> Result<(), NoMemory>
-    ensures asked { OnOk result (account.new.asked ≡ account.old.asked) }
+    ensures wanted { OnOk result (account.new.wanted ≡ account.old.wanted) }
     ensures done { OnOk result ((away : ℕ → Bool) (net : Net) (past : Chronicle) → AreWalksBut away net past walks.old → is_some (standing number past) ≡ true →
         AreWalksBut (still (Finished number end) away) net (Finished number end ∷ past) walks.new
-        × (account.old.asked ≡ true → account.new.list ≡ account.old.list ++ Ended number end ∷ [])) }
+        × (account.old.wanted ≡ Wanted.Effects → account.new.list ≡ account.old.list ++ Ended number end ∷ [])) }
 {
     walks.end(number, end);
     account.tell(Effect::Ended {
@@ -143,7 +143,7 @@ impl<P: Policy + Copy> Network<P> {
     fn hand(&mut self, node: NodeId, output: Output, account: &mut Account) -> Result<(), NoMemory>
         ensures kept { OnOk result (KeepsNodes self.old self.new) }
         ensures outputs { OnOk result (self.new.outputs ≡ self.old.outputs) }
-        ensures asked { OnOk result (account.new.asked ≡ account.old.asked) }
+        ensures wanted { OnOk result (account.new.wanted ≡ account.old.wanted) }
         ensures sending { OnOk result ((away : ℕ → Bool) (first past : Chronicle) (counts : Counts) (f : Fact) →
             IsTold self.old.topology.value node past f → output_by f past ≡ output_of output ∷ [] →
             AreSending away first past counts self.old account.old →
@@ -174,7 +174,7 @@ impl<P: Policy + Copy> Network<P> {
     ) -> Result<(), NoMemory>
         ensures kept { OnOk result (KeepsNodes self.old self.new) }
         ensures outputs { OnOk result (self.new.outputs ≡ self.old.outputs) }
-        ensures asked { OnOk result (account.new.asked ≡ account.old.asked) }
+        ensures wanted { OnOk result (account.new.wanted ≡ account.old.wanted) }
         ensures sending { OnOk result ((away : ℕ → Bool) (first past : Chronicle) (counts : Counts) (facts : List Fact) →
             AreTold self.old.topology.value node past facts → map output_of (first_of (Some index) sent.items) ≡ shown past facts →
             AreSending away first past counts self.old account.old →
@@ -199,7 +199,7 @@ impl<P: Policy + Copy> Network<P> {
     ) -> Result<(), NoMemory>
         ensures kept { OnOk result (KeepsNodes self.old self.new) }
         ensures outputs { OnOk result (self.new.outputs ≡ self.old.outputs) }
-        ensures asked { OnOk result (account.new.asked ≡ account.old.asked) }
+        ensures wanted { OnOk result (account.new.wanted ≡ account.old.wanted) }
         ensures sending { OnOk result ((away : ℕ → Bool) (first past : Chronicle) (counts : Counts) (facts : List Fact) →
             AreTold self.old.topology.value node past facts → map output_of (seen_first leading) ≡ shown past facts →
             AreSending away first past counts self.old account.old →
@@ -217,7 +217,7 @@ impl<P: Policy + Copy> Network<P> {
     #[inline(never)]
     fn hand_more(&mut self, node: NodeId, account: &mut Account) -> Result<(), NoMemory>
         ensures kept { OnOk result (KeepsNodes self.old self.new) }
-        ensures asked { OnOk result (account.new.asked ≡ account.old.asked) }
+        ensures wanted { OnOk result (account.new.wanted ≡ account.old.wanted) }
         ensures sending { OnOk result ((away : ℕ → Bool) (first past : Chronicle) (counts : Counts) (before : List OutputSeen) →
             ((fs : List Fact) → AreTold self.old.topology.value node past fs → before ≡ shown past fs →
             AreSending (still_after fs away) first (happen past fs) counts self.old account.old) →
@@ -235,14 +235,14 @@ impl<P: Policy + Copy> Network<P> {
 
     /// Hands on the outputs of a node, in their order, and tells what they did where it is asked.
     #[inline(always)]
-    pub fn hand_all(&mut self, node: NodeId, asked: bool) -> Result<Vec<Effect>, NoMemory>
+    pub fn hand_all(&mut self, node: NodeId, wanted: Wanted) -> Result<Vec<Effect>, NoMemory>
         ensures kept { OnOk result (KeepsNodes self.old self.new) }
         ensures sending { IfOk result (λ effects. (away : ℕ → Bool) (first past : Chronicle) (counts : Counts) (facts : List Fact) →
             AreTold self.old.topology.value node past facts → Hands past self.old.outputs (happen past facts) →
-            AreSending away first past counts self.old (record { asked = asked; list = [] }) →
-            AreSending (still_after facts away) first (happen past facts) counts self.new (record { asked = asked; list = effects.items })) }
+            AreSending away first past counts self.old (record { wanted = wanted; list = [] }) →
+            AreSending (still_after facts away) first (happen past facts) counts self.new (record { wanted = wanted; list = effects.items })) }
     {
-        let mut account = Account::new(self.alloc, asked);
+        let mut account = Account::new(self.alloc, wanted);
         let leading = self.outputs.take_first();
         self.hand_first(node, leading, &mut account)?;
         if self.outputs.is_empty() {

@@ -1,7 +1,7 @@
 use Rattle.std.proofs.Common.{◌≡◌, ◌<◌, refl, arith, length}
 use Rattle.std.proofs.lemmas.Option.{slice_get_read}
 use Rattle.world_core.proofs.Turned.{put_there}
-use Rattle.world_core.proofs.turning.put_back.Goals as goal
+use Rattle.world_core.proofs.network.turns.put_back.Goals as goal
 
 pub returns : goal.returns
 returns g c =

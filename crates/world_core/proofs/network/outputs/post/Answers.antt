@@ -3,7 +3,7 @@ use Rattle.consolidator.specs.Seen.{message_seen}
 use Rattle.control_mail.specs.Acts.{Posts}
 use Rattle.world_core.specs.declared.outcomes.Effect.TheVariants.{Mailed}
 use Rattle.world_core.proofs.Mailing.{posted, posted_number}
-use Rattle.world_core.proofs.sending.post.Goals as goal
+use Rattle.world_core.proofs.network.outputs.post.Goals as goal
 
 pub returns-clause-done : goal.returns-clause-done
 returns-clause-done c net past counts was from_in to_in =
@@ -13,5 +13,5 @@ returns-clause-done c net past counts was from_in to_in =
     let stands = c.in_ok-post.ensures.ok net was.acts was.stands in
     let number = c.count-number.ensures net (Posts from to m ∷ was.acts) stands ∙ posted_number net past counts c.args.mails.now was from to m in (
       posted net past counts c.args.mails.now c.post.new.self was from to m from_in to_in stands,
-      λ asked. c.in_ok-tell.ensures.told asked ∙ ap (λ n. c.args.account.now.list ++ Mailed n ∷ []) number,
+      λ wanted. c.in_ok-tell.ensures.told wanted ∙ ap (λ n. c.args.account.now.list ++ Mailed n ∷ []) number,
     )

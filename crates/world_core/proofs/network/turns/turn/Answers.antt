@@ -4,7 +4,7 @@ use Rattle.std.proofs.lemmas.Result.{err_from_is_err_and}
 use Rattle.world_core.specs.Turning.{returned}
 use Rattle.world_core.proofs.Stopping.{handed_on}
 use Rattle.world_core.proofs.Turned.{turned}
-use Rattle.world_core.proofs.turning.turn.Goals as goal
+use Rattle.world_core.proofs.network.turns.turn.Goals as goal
 
 pub returns-in_err-node-clause-stopped : goal.returns-in_err-node-clause-stopped
 returns-in_err-node-clause-stopped g c =

@@ -1,6 +1,6 @@
 use Rattle.std.proofs.Common.{◌≡◌, length}
 use Rattle.world_core.proofs.Fresh.{AllFresh}
-use Rattle.world_core.proofs.starting.fresh_nodes.Given as goal
+use Rattle.world_core.proofs.network.start.fresh_nodes.Given as goal
 
 abbrev pub invariant-loop-id : goal.invariant-loop-id
 invariant-loop-id g l = record {

@@ -5,7 +5,7 @@ use Rattle.topology.specs.Net.{IsValid}
 use Rattle.topology.specs.Lists.{ascending}
 use Rattle.node_core.specs.Standing.{StandsFor}
 use Rattle.world_core.proofs.Fresh.{fresh_push}
-use Rattle.world_core.proofs.starting.fresh_nodes.Goals as goal
+use Rattle.world_core.proofs.network.start.fresh_nodes.Goals as goal
 
 pub loop-id-preserved : goal.loop-id-preserved
 loop-id-preserved g c =

@@ -14,10 +14,11 @@ ghost use Rattle.world_core.specs.Places.{HasPlaces};
 ghost use Rattle.chronicle.specs.Walks.{packets};
 ghost use Rattle.world_core.specs.Walks.{AreWalks};
 
-use crate::limits::{counted, is_local, stop_of};
 use crate::network::Network;
+use crate::network::account::Wanted;
+use crate::network::limits::{counted, is_local, stop_of};
+use crate::network::turns::turn;
 use crate::outcomes::{Effects, Outcome, Stop};
-use crate::turning::turn;
 use node_core::Input;
 use path_vector::Policy;
 use topology::limits::{MOST_CONTROL, MOST_MARKS, MOST_PACKETS};
@@ -69,7 +70,7 @@ impl<P: Policy + Copy> Network<P> {
     /// The node handles the input: what it hands out goes over the links, or is lost there. What it did is told where
     /// it is asked for. After an `Err` the network is of no use.
     #[inline(always)]
-    pub fn give(&mut self, node: NodeId, input: Input, asked: bool) -> Result<Outcome, Stop>
+    pub fn give(&mut self, node: NodeId, input: Input, wanted: Wanted) -> Result<Outcome, Stop>
         requires node { has self.old.topology.value.nodes node ≡ true }
         requires places { HasPlaces self.old.topology.value (length self.old.nodes.items) }
         ensures others { OnOk result (IsAsWas self.old self.new) }
@@ -77,7 +78,7 @@ impl<P: Policy + Copy> Network<P> {
             MayHand (P.rules self.old.policy) past counts node (input_of input) self.old →
             Stands (P.rules self.old.policy)
             (chronicle_of past (given (P.rules self.old.policy) self.old.topology.value past node (input_of input))) counts self.new) }
-        ensures comes { IfOk result (λ outcome. asked ≡ true → (past : Chronicle) (counts : Counts) →
+        ensures comes { IfOk result (λ outcome. wanted ≡ Wanted.Effects → (past : Chronicle) (counts : Counts) →
             MayHand (P.rules self.old.policy) past counts node (input_of input) self.old →
             IsAfterStep (P.rules self.old.policy) past counts (given (P.rules self.old.policy) self.old.topology.value past node (input_of input)) self.new outcome) }
         ensures stopped { IfErr result (λ stop. (past : Chronicle) (counts : Counts) →
@@ -98,7 +99,7 @@ impl<P: Policy + Copy> Network<P> {
         }
         let after = self.nodes[rank].log().next_trigger().count;
         self.triggers = counted(self.triggers, before, after)?;
-        let effects = self.hand_all(node, asked)?;
+        let effects = self.hand_all(node, wanted)?;
         self.check_control()?;
         self.check_packets()?;
         self.check_marks(rank)?;
