@@ -1,5 +1,5 @@
 -- Deliveries, one after the other.
-use Rattle.std.proofs.Common.{◌≡◌, ℕ, suc, ◌+◌, ◌-◌, ◌<◌, ◌≤◌, true, false, Option, Some, None, List, [], ◌∷◌, ◌++◌, refl, sym, ap, ◌∙◌, arith}
+use Rattle.std.proofs.Common.{◌≡◌, ℕ, suc, ◌+◌, ◌-◌, true, false, Option, Some, None, List, [], ◌∷◌, ◌++◌, refl, sym, ap, ◌∙◌}
 use Rattle.std.specs.Option.{option_map, is_some}
 use Rattle.std.specs.Prelude.{IfSome}
 use Rattle.topology.specs.Net.{Net}
@@ -86,14 +86,3 @@ module _ {P : Type 0} (rules : Rules) (net : Net) (n : ℕ) (world : WorldView P
   drain_moves None e some step = absurd (cc some)
   drain_moves (Some ends) e some step =
       drain_goes rules net world.events n (record { from = ends.0; to = ends.1 }) (way_of _ ends.0 ends.1 (sym e)) step.within
-
-pub stops_as : (led other : Course) (why : Stop) → other ≡ led → StopsIn other why → StopsIn led why
-stops_as led other stop.NoMemory same h = tt
-stops_as led other (stop.Limit kind number) same h = sym same ∙ h
-
--- so many are left
-pub left_more : (rules : Rules) (net : Net) (events : List Event) (times i : ℕ) → i < times → drained rules net (suc (times - (i + 1))) events ≡ drained rules net (times - i) events
-left_more rules net events times i below = let e : suc (times - (i + 1)) ≡ times - i = omega arith in ap (λ n. drained rules net n events) e
-
-pub left_none : (rules : Rules) (net : Net) (events : List Event) (times i : ℕ) → times ≤ i → Leads events ≡ drained rules net (times - i) events
-left_none rules net events times i over = let e : 0 ≡ times - i = omega arith in ap (λ n. drained rules net n events) e

@@ -208,14 +208,9 @@ hopped_of_run rules net k (suc n) events =
 task_of_run : (rules : Rules) (net : Net) (events : List Event) (t : Task) → StopsOfRun (course rules net events t)
 task_of_run rules net events (task.Event e) = event_of_run rules net events e
 task_of_run rules net events (task.Deliveries times) = drained_of_run rules net times events
-task_of_run rules net events (task.Show view) = tt
 task_of_run rules net events (task.ControlMessages times) = controlled_of_run rules net times events
-task_of_run rules net events (task.ShowClosure epoch) = tt
-task_of_run rules net events task.ShowControl = tt
-task_of_run rules net events (task.ShowTables epoch) = tt
 task_of_run rules net events (task.Hops packet times) = hopped_of_run rules net packet times events
-task_of_run rules net events (task.ShowWalk packet) = tt
-task_of_run rules net events (task.Probe node prefix) = tt
+task_of_run rules net events (task.Show shown) = tt
 
 either_of_run : (led : Course) (rest : List Event → Option Reached) → StopsOfRun led → ((events : List Event) → OfRun (rest events)) → OfRun (stop_by led rest)
 either_of_run (Leads events) rest h k = k events

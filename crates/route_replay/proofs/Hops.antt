@@ -1,5 +1,5 @@
 -- Hops of a packet, one after the other.
-use Rattle.std.proofs.Common.{◌≡◌, ℕ, suc, ◌+◌, ◌-◌, ◌<◌, Bool, true, false, Option, None, List, [], ◌∷◌, ◌++◌, refl, ap, ◌∙◌, arith}
+use Rattle.std.proofs.Common.{◌≡◌, ℕ, suc, ◌+◌, ◌-◌, Bool, true, false, Option, None, List, [], ◌∷◌, ◌++◌, refl, ap, ◌∙◌}
 use Rattle.std.specs.Prelude.{is_some, if◌then◌else◌}
 use Rattle.topology.specs.declared.status.Reason.{Reason}
 use Rattle.topology.specs.Net.{Net}
@@ -66,7 +66,3 @@ module _ (rules : Rules) (net : Net) (events : List Event) (k n : ℕ) where
   hop_stops stop.NoMemory e stops = tt
   hop_stops (stop.Limit kind number) e stops =
       hop_on e ∙ ap (λ (o : Option Reached). on_from (unless o (events ++ Hop k ∷ [])) (is_idle now)) stops
-
--- so many are left
-pub hop_more : (rules : Rules) (net : Net) (events : List Event) (k times i : ℕ) → i < times → hopped rules net k (suc (times - (i + 1))) events ≡ hopped rules net k (times - i) events
-hop_more rules net events k times i below = let e : suc (times - (i + 1)) ≡ times - i = omega arith in ap (λ n. hopped rules net k n events) e

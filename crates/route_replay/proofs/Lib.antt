@@ -15,6 +15,7 @@ pub mod Mails
 pub mod Performed
 pub mod Planned
 pub mod Recorded
+pub mod Repeating
 pub mod Runs
 pub mod Shown
 pub mod Steps

@@ -1,5 +1,5 @@
 -- Control messages, one after the other, and their lines.
-use Rattle.std.proofs.Common.{◌≡◌, ℕ, zero, suc, ◌+◌, ◌-◌, ◌<◌, ◌≤◌, Bool, true, false, Option, Some, None, List, [], ◌∷◌, ◌++◌, length, cond, refl, sym, ap, ◌∙◌, arith, nat_le}
+use Rattle.std.proofs.Common.{◌≡◌, ℕ, zero, suc, ◌+◌, ◌-◌, ◌≤◌, Bool, true, false, Option, Some, None, List, [], ◌∷◌, ◌++◌, length, cond, refl, sym, ap, ◌∙◌, arith, nat_le}
 use Rattle.std.specs.Prelude.{find, ◌&&◌}
 use Rattle.std.specs.List.{range_with_len}
 use Rattle.std.proofs.lemmas.Bool.Decides.{nat_tests}
@@ -70,7 +70,3 @@ module _ (rules : Rules) (net : Net) (events : List Event) (n : ℕ) where
   control_stops number stop.NoMemory e stops = tt
   control_stops number (stop.Limit kind limit) e stops =
       control_on number e ∙ ap (λ (o : Option Reached). then_on (unless o (events ++ Control number ∷ [])) (controlled rules net n)) stops
-
--- so many are left
-pub control_more : (rules : Rules) (net : Net) (events : List Event) (times i : ℕ) → i < times → controlled rules net (suc (times - (i + 1))) events ≡ controlled rules net (times - i) events
-control_more rules net events times i below = let e : suc (times - (i + 1)) ≡ times - i = omega arith in ap (λ n. controlled rules net n events) e

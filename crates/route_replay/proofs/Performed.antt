@@ -9,7 +9,7 @@ use Rattle.schedule_file.specs.declared.lines.Directive.{Directive}
 use Rattle.world_core.specs.declared.outcomes.Stop.{Stop}
 use Rattle.world_core.specs.declared.outcomes.Stop.TheVariants as stop_kind
 use Rattle.route_replay.specs.LoadSchedule.{unnumbered}
-use Rattle.route_replay.specs.Loaded.{AllFit}
+use Rattle.route_replay.specs.Performing.{AllFit}
 use Rattle.route_replay.specs.Text.{Course, Leads, Stops, course, events_by, events_of, stop, stop_by, task_of}
 use Rattle.route_replay.specs.Running.{Fitting, StopsIn}
 

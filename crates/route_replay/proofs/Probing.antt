@@ -13,6 +13,7 @@ use Rattle.delivery_laws.specs.Now.{still_now}
 use Rattle.schedule_file.specs.declared.lines.Numbered.{Numbered}
 use Rattle.route_replay.specs.declared.tasks.Task.{Task}
 use Rattle.route_replay.specs.declared.tasks.Task.TheVariants as task
+use Rattle.route_replay.specs.declared.views.View.TheVariants as view
 use Rattle.route_replay.specs.Probed.{IsProbed, Onwards, AreProbed}
 use Rattle.route_replay.specs.Running.{Fitting, AllFitting}
 use Rattle.route_replay.specs.Text.{Course, Leads, Stops, course, task_of}
@@ -24,16 +25,17 @@ EachDelivers rules net = (past : Chronicle) (p u : ℕ) → has net.nodes u ≡ 
 module _ (rules : Rules) (net : Net) (each : EachDelivers rules net) where
   -- one task that fits
   task_probed : (events : List Event) (t : Task) → Fitting net t → IsProbed rules net events t
-  task_probed events (task.Probe node p) fits = each (run rules net events) p node (and_left (has net.nodes node) (nat_lt p (length net.prefixes)) fits)
   task_probed events (task.Event e) fits = tt
   task_probed events (task.Deliveries times) fits = tt
-  task_probed events (task.Show view) fits = tt
   task_probed events (task.ControlMessages times) fits = tt
-  task_probed events (task.ShowClosure epoch) fits = tt
-  task_probed events task.ShowControl fits = tt
-  task_probed events (task.ShowTables epoch) fits = tt
   task_probed events (task.Hops packet times) fits = tt
-  task_probed events (task.ShowWalk packet) fits = tt
+  task_probed events (task.Show (view.Nodes nodes)) fits = tt
+  task_probed events (task.Show view.Control) fits = tt
+  task_probed events (task.Show (view.Closure epoch)) fits = tt
+  task_probed events (task.Show (view.Tables epoch)) fits = tt
+  task_probed events (task.Show (view.Walk packet)) fits = tt
+  task_probed events (task.Show (view.Probe node p)) fits =
+      each (run rules net events) p node (and_left (has net.nodes node) (nat_lt p (length net.prefixes)) fits)
 
   -- where the course leads
   onwards : (led : Course) (Holds : List Event → Type 0) → ((events : List Event) → Holds events) → Onwards led Holds

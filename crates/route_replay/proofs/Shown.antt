@@ -1,9 +1,12 @@
 -- How many pieces the text of a node has, and what is found in a list.
-use Rattle.std.proofs.Common.{◌≡◌, ℕ, zero, suc, ◌-◌, ◌<◌, Option, Some, None, List, [], ◌∷◌, length, refl, ap, ◌∙◌, slice_get, arith}
+use Rattle.std.proofs.Common.{◌≡◌, ℕ, zero, suc, ◌-◌, ◌<◌, true, Option, Some, None, List, [], ◌∷◌, length, get_or, refl, sym, ap, ◌∙◌, slice_get, arith}
 use Rattle.std.specs.Prelude.{IsSome, IsNone}
-use Rattle.std.proofs.lemmas.List.{length-map, length-drop}
+use Rattle.std.proofs.lemmas.List.{length-map, length-drop, get_or_read}
 use Rattle.std.proofs.lemmas.List.FromFn.{length-enumerate_from}
+use Rattle.topology.specs.Lists.{has, ascending}
 use Rattle.topology.specs.Net.{Net, neighbours}
+use Rattle.topology.proofs.Ascending.{has-ascending}
+use Rattle.topology.proofs.Sets.{has_at}
 use Rattle.path_vector.specs.Rules.{Rules}
 use Rattle.chronicle.specs.declared.events.Event.{Event}
 use Rattle.chronicle.specs.Control.{mailed}
@@ -52,3 +55,11 @@ some_at (x ∷ xs) (suc i) inside = some_at xs i (omega (arith, inside))
 pub some_unless : {X : Type 0} (o : Option X) → ¬ (IsNone o) → IsSome o
 some_unless None never = absurd (never refl)
 some_unless (Some x) never = refl
+
+-- a node at a place among all nodes, ascending, is one of the network
+pub node_at : (net told : Net) (nodes : List ℕ) (i n : ℕ) → told ≡ net → nodes ≡ ascending told.nodes → i < length nodes → n ≡ get_or nodes i n → has net.nodes n ≡ true
+node_at net told nodes i n same all inside is =
+    ap (λ (t : Net). has t.nodes n) (sym same)
+    ∙ sym (has-ascending told.nodes n)
+    ∙ ap (λ (ns : List ℕ). has ns n) (sym all)
+    ∙ has_at nodes n i inside (sym (get_or_read nodes i n inside is 0))

@@ -15,7 +15,7 @@ use Rattle.route_replay.specs.Draws.{drawn, given_below}
 use Rattle.route_replay.specs.LoadNetwork.{drafted, first_provider, second_provider, links_among, links_below, load_net, load_prefix, provider_links, sells, top_links}
 use Rattle.route_replay.specs.LoadSchedule.{announcement, announcements, announcer, cut_off_node, entrance, epoch_lines, further_epoch, further_epochs, load_directives, packet_lines, packets_lines}
 use Rattle.schedule_file.specs.declared.lines.Directive.TheVariants.{Drain}
-use Rattle.route_replay.specs.Loaded.{AllFit}
+use Rattle.route_replay.specs.Performing.{AllFit}
 use Rattle.route_replay.specs.Running.{Fitting}
 use Rattle.route_replay.specs.Text.{task_of}
 use Rattle.route_replay.proofs.Drafts.{has_within}

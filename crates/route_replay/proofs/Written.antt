@@ -23,7 +23,8 @@ use Rattle.route_replay.specs.declared.ends.RunEnd.TheVariants as end
 use Rattle.route_replay.specs.LoadNetwork.{load_net}
 use Rattle.route_replay.specs.LoadSchedule.{load_directives, load_lines, unnumbered}
 use Rattle.route_replay.specs.LoadText.{counted, load_events, load_stop, load_text, summary, unless_stopped}
-use Rattle.route_replay.specs.Loaded.{Loaded, Performs, StopsLoad}
+use Rattle.route_replay.specs.Loaded.{Loaded}
+use Rattle.route_replay.specs.Performing.{Performs, StopsLoad}
 use Rattle.route_replay.specs.Running.{Runs}
 use Rattle.route_replay.specs.Text.{events_of, stop}
 use Rattle.route_replay.proofs.Runs.{runs_none}

@@ -1,5 +1,5 @@
 -- Text that is gathered in a page before it is written: what was written, and what is pending.
-use Rattle.std.specs.Prelude.{ℕ, ◌≡◌, ◌≢◌, List, ◌++◌}
+use Rattle.std.specs.Prelude.{ℕ, ◌≡◌, ◌≢◌, ◌-◌, List, ◌++◌, slice_get, IfSome}
 use Rattle.std.specs.declared.alloc.Global.{Global}
 use Rattle.std.specs.declared.string.String.{String}
 use Rattle.std.specs.String.{string_bytes}
@@ -12,6 +12,10 @@ use Rattle.route_io.specs.Views.{SinkView}
 use Rattle.route_replay.specs.declared.ends.RunEnd.{RunEnd}
 use Rattle.route_replay.specs.declared.ends.RunEnd.TheVariants.{WriteFault, Limit}
 use Rattle.route_replay.specs.declared.page.Page.{Page}
+
+-- the line with this number, from 1, was added to a text
+abbrev pub AddsLine : List (List ℕ) → ℕ → String Global → String Global → Type 0
+AddsLine lines number old new = IfSome (slice_get lines (number - 1)) (λ words. string_bytes new ≡ string_bytes old ++ words)
 
 -- a page, as promises see it: the sink that it leads to, and the text that is pending
 pub record PageView : Type 0 where

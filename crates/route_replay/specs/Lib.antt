@@ -10,6 +10,9 @@ pub mod LoadSchedule
 pub mod LoadText
 pub mod Loaded
 pub mod LogText
+pub mod NodeViews
+pub mod Past
+pub mod Performing
 pub mod Plain
 pub mod ProbeText
 pub mod Probed

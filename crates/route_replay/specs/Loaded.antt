@@ -1,44 +1,17 @@
 -- What a user is promised of a load.
 use Rattle.std.specs.Prelude.{ℕ, Bool, true, false, ◌≡◌, ◌≢◌, ◌⊎◌, Some, None, List, []}
-use Rattle.std.specs.List.{AllByRecursion}
 use Rattle.std.specs.Io.KnownBytes.{Appends}
 use Rattle.topology.specs.Lists.{Begins}
-use Rattle.topology.specs.Net.{Net}
 use Rattle.topology.specs.declared.status.Status.{Status}
 use Rattle.topology.specs.declared.status.Status.TheVariants.{Done, Usage, NoMemory, BadSchedule, Limit, ReadFault, WriteFault, LinkFault, BadFrame, NoSuchNode, DiskFault, BadJournal, BadTables, Inconsistent}
 use Rattle.topology.specs.declared.status.LimitKind.{LimitKind}
 use Rattle.route_io.specs.Causes.{RoseIf, AppendsFront}
 use Rattle.route_io.specs.Views.{SinkView}
 use Rattle.path_vector.specs.GaoRexford.{gao_rexford}
-use Rattle.path_vector.specs.Rules.{Rules}
 use Rattle.world_core.specs.Throughout.{HoldsThroughout}
 use Rattle.node_core.specs.NodeLimits.{Reached}
-use Rattle.world_core.specs.View.{WorldView}
-use Rattle.world_core.specs.declared.outcomes.Stop.{Stop}
-use Rattle.world_core.specs.declared.outcomes.Stop.TheVariants as stop
-use Rattle.schedule_file.specs.declared.lines.Directive.{Directive}
-use Rattle.schedule_file.specs.declared.lines.Numbered.{Numbered}
 use Rattle.route_replay.specs.LoadNetwork.{load_net}
 use Rattle.route_replay.specs.LoadText.{load_events, load_stop, load_text}
-use Rattle.route_replay.specs.Running.{Fitting}
-use Rattle.route_replay.specs.Text.{events_of, stop, task_of}
-
--- each of these directives fits the network
-abbrev pub AllFit : Net → List Directive → Type 0
-AllFit net directives = AllByRecursion (λ d. Fitting net (task_of d)) directives
-
--- the world is that of the same network and policy, its events are those of the lines, and no limit stops these
-pub record Performs {P : Type 0} (rules : Rules) (old new : WorldView P) (lines : List Numbered) : Type 0 where
-  pub same_policy : new.policy ≡ old.policy
-  pub same_net : new.net ≡ old.net
-  pub events : new.events ≡ events_of rules old.net old.events lines
-  pub goes : stop rules old.net old.events lines ≡ None
-
--- a stop at a limit is where the lines stop; want of memory may come at any step
-abbrev pub StopsLoad : {P : Type 0} → Rules → WorldView P → List Numbered → Stop → Type 0
-StopsLoad rules world lines stop.NoMemory = Unit {0}
-StopsLoad rules world lines (stop.Limit kind number) =
-    stop rules world.net world.events lines ≡ Some (record { kind = kind; number = number })
 
 -- the statuses with which a load may end
 abbrev pub ends_load : Status → Bool

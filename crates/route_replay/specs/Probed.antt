@@ -9,12 +9,13 @@ use Rattle.delivery_laws.specs.Now.{still_now}
 use Rattle.schedule_file.specs.declared.lines.Numbered.{Numbered}
 use Rattle.route_replay.specs.declared.tasks.Task.{Task}
 use Rattle.route_replay.specs.declared.tasks.Task.TheVariants as task
+use Rattle.route_replay.specs.declared.views.View.TheVariants as view
 use Rattle.route_replay.specs.Text.{Course, Leads, Stops, course, task_of}
 
 -- a probe after these events: its walk comes to its end, over the network as it is then, as delivered exactly where links
 -- that are up connect its node with an owner, else as stuck
 abbrev pub IsProbed : Rules → Net → List Event → Task → Type 0
-IsProbed rules net events (task.Probe node p) = WalkDelivers net (still_now rules net (run rules net events) p) p node
+IsProbed rules net events (task.Show (view.Probe node p)) = WalkDelivers net (still_now rules net (run rules net events) p) p node
 IsProbed rules net events other = Unit {0}
 
 -- it holds of the events that a course leads to

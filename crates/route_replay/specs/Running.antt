@@ -1,12 +1,12 @@
 -- What a run of directives asks and leaves.
-use Rattle.std.specs.Prelude.{ℕ, ◌≡◌, ◌&&◌, nat_lt, length, Option, Some, None, List, [], IsTrue, Result, OnOk, IsErrOf}
+use Rattle.std.specs.Prelude.{ℕ, ◌≡◌, Option, Some, None, List, [], IsTrue, Result, OnOk, IsErrOf}
 use Rattle.std.specs.List.{All}
 use Rattle.std.specs.Io.KnownBytes.{Appends}
 use Rattle.route_io.specs.Acts.{AddsPieces}
 use Rattle.route_io.specs.Causes.{RoseIf, AppendsFront, StaysTold}
 use Rattle.route_io.specs.Views.{SinkView}
 use Rattle.topology.specs.declared.status.LimitKind.{LimitKind}
-use Rattle.topology.specs.Lists.{Begins, has}
+use Rattle.topology.specs.Lists.{Begins}
 use Rattle.topology.specs.Net.{Net}
 use Rattle.chronicle.specs.declared.events.Event.TheVariants as event
 use Rattle.world_core.specs.Fits.{fits}
@@ -20,19 +20,15 @@ use Rattle.route_replay.specs.declared.ends.RunEnd.TheVariants.{WriteFault, Limi
 use Rattle.route_replay.specs.declared.tasks.Task.{Task}
 use Rattle.route_replay.specs.declared.tasks.Task.TheVariants as task
 use Rattle.route_replay.specs.Text.{Course, Leads, Stops, task_of}
+use Rattle.route_replay.specs.Views.{FittingView}
 
--- an event that is asked for fits the network, and so does a node that is probed, and a prefix
+-- an event that is asked for fits the network, and so does what is shown
 abbrev pub Fitting : Net → Task → Type 0
 Fitting net (task.Event e) = IsTrue (fits net e)
 Fitting net (task.Deliveries times) = Unit {0}
-Fitting net (task.Show view) = Unit {0}
 Fitting net (task.ControlMessages times) = Unit {0}
-Fitting net (task.ShowClosure epoch) = Unit {0}
-Fitting net task.ShowControl = Unit {0}
-Fitting net (task.ShowTables epoch) = Unit {0}
 Fitting net (task.Hops packet times) = IsTrue (fits net (event.Hop packet))
-Fitting net (task.ShowWalk packet) = Unit {0}
-Fitting net (task.Probe node prefix) = IsTrue (has net.nodes node && nat_lt prefix (length net.prefixes))
+Fitting net (task.Show view) = FittingView net view
 
 -- so is each that the lines ask for
 abbrev pub AllFitting : Net → List Numbered → Type 0

@@ -17,15 +17,11 @@ use Rattle.schedule_file.specs.declared.lines.Directive.TheVariants.{Originate, 
 use Rattle.schedule_file.specs.declared.lines.Numbered.{Numbered}
 use Rattle.route_replay.specs.declared.tasks.Task.{Task}
 use Rattle.route_replay.specs.declared.tasks.Task.TheVariants as task
-use Rattle.route_replay.specs.declared.views.View.TheVariants.{Rib, Log, Cut}
-use Rattle.route_replay.specs.ClosureText.{closure_text}
-use Rattle.route_replay.specs.ControlText.{control_text}
+use Rattle.route_replay.specs.declared.node_views.NodeView.TheVariants.{Rib, Log, Cut}
+use Rattle.route_replay.specs.declared.views.View.TheVariants as view
 use Rattle.route_replay.specs.Lines.{ended}
-use Rattle.route_replay.specs.ProbeText.{probe_text}
 use Rattle.route_replay.specs.ReasonText.{reason_words}
-use Rattle.route_replay.specs.TablesText.{tables_text}
 use Rattle.route_replay.specs.Views.{view_text}
-use Rattle.route_replay.specs.WalkText.{walk_text}
 
 -- the line of an event that did nothing
 abbrev pub idle_line : ℕ → Reason → List ℕ
@@ -95,7 +91,6 @@ hops_of k (Some times) = task.Hops k times
 abbrev pub task_of : Directive → Task
 task_of (Originate node prefix) = task.Event (event.Originate node prefix)
 task_of (Withdraw node prefix) = task.Event (event.Withdraw node prefix)
-task_of (Probe node prefix) = task.Probe node prefix
 task_of (Prefer node nbr value) = task.Event (event.Prefer node nbr value)
 task_of (Deliver from to) = task.Event (event.Deliver from to)
 task_of (Fail a b) = task.Event (event.Fail a b)
@@ -108,44 +103,35 @@ task_of (Propose node epoch) = task.Event (event.Propose node epoch)
 task_of (Control number) = task.Event (event.Control number)
 task_of (Crash node) = task.Event (event.Crash node)
 task_of (Restart node) = task.Event (event.Restart node)
-task_of (Drain times) = task.Deliveries times
-task_of (ControlAll times) = task.ControlMessages times
-task_of ShowRib = task.Show Rib
-task_of ShowLog = task.Show Log
-task_of (ShowCut epoch) = task.Show (Cut epoch)
-task_of (ShowClosure epoch) = task.ShowClosure epoch
-task_of ShowControl = task.ShowControl
-task_of (ShowTables epoch) = task.ShowTables epoch
 task_of (Inject packet node prefix) = task.Event (event.Inject packet node prefix)
 task_of (Hop packet times) = hops_of packet times
-task_of (ShowWalk packet) = task.ShowWalk packet
+task_of (Drain times) = task.Deliveries times
+task_of (ControlAll times) = task.ControlMessages times
+task_of ShowRib = task.Show (view.Nodes Rib)
+task_of ShowLog = task.Show (view.Nodes Log)
+task_of (ShowCut epoch) = task.Show (view.Nodes (Cut epoch))
+task_of ShowControl = task.Show view.Control
+task_of (ShowClosure epoch) = task.Show (view.Closure epoch)
+task_of (ShowTables epoch) = task.Show (view.Tables epoch)
+task_of (ShowWalk packet) = task.Show (view.Walk packet)
+task_of (Probe node prefix) = task.Show (view.Probe node prefix)
 
 -- where a task leads, after these events
 abbrev pub course : Rules → Net → List Event → Task → Course
 course rules net events (task.Event e) = with_event rules net events e
 course rules net events (task.Deliveries times) = drained rules net times events
-course rules net events (task.Show view) = Leads events
 course rules net events (task.ControlMessages times) = controlled rules net times events
-course rules net events (task.ShowClosure epoch) = Leads events
-course rules net events task.ShowControl = Leads events
-course rules net events (task.ShowTables epoch) = Leads events
 course rules net events (task.Hops packet times) = hopped rules net packet times events
-course rules net events (task.ShowWalk packet) = Leads events
-course rules net events (task.Probe node prefix) = Leads events
+course rules net events (task.Show shown) = Leads events
 
--- what is written for a task of this line: an event's idle line, or what is shown; deliveries and hops by the number
--- write nothing
+-- what is written for a task of this line: an event's idle line, or what is shown; deliveries, control messages and hops
+-- by the number write nothing
 abbrev pub said_for : Rules → Net → List Event → ℕ → Task → List ℕ
 said_for rules net events line (task.Event e) = step_text line (step rules net (run rules net events) e)
 said_for rules net events line (task.Deliveries times) = []
-said_for rules net events line (task.Show view) = view_text rules net (run rules net events) view
 said_for rules net events line (task.ControlMessages times) = []
-said_for rules net events line (task.ShowClosure epoch) = closure_text rules net (run rules net events) epoch
-said_for rules net events line task.ShowControl = control_text rules net events
-said_for rules net events line (task.ShowTables epoch) = tables_text net (run rules net events) epoch
 said_for rules net events line (task.Hops packet times) = []
-said_for rules net events line (task.ShowWalk packet) = walk_text packet (run rules net events)
-said_for rules net events line (task.Probe node prefix) = probe_text rules net (run rules net events) node prefix
+said_for rules net events line (task.Show shown) = view_text rules net events shown
 
 -- the lines of a directive, read on the run at its turn
 abbrev pub said : Rules → Net → List Event → Numbered → List ℕ

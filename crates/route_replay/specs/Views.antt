@@ -1,42 +1,33 @@
--- What a view shows: lines of each node, ascending.
-use Rattle.std.specs.Prelude.{ℕ, List}
-use Rattle.std.specs.List.{flat_map}
-use Rattle.topology.specs.Lists.{ascending}
+-- What a view shows.
+use Rattle.std.specs.Prelude.{ℕ, ◌&&◌, nat_lt, length, List, IsTrue}
+use Rattle.topology.specs.Lists.{has}
 use Rattle.topology.specs.Net.{Net}
 use Rattle.path_vector.specs.Rules.{Rules}
-use Rattle.chronicle.specs.Facts.{Chronicle}
+use Rattle.chronicle.specs.declared.events.Event.{Event}
 use Rattle.chronicle.specs.Run.{run}
-use Rattle.node_core.specs.declared.node.Node.{Node}
-use Rattle.node_core.specs.Standing.{StandsFor}
-use Rattle.world_core.specs.View.{WorldView}
 use Rattle.route_replay.specs.declared.views.View.{View}
-use Rattle.route_replay.specs.declared.views.View.TheVariants.{Rib, Log, Cut}
-use Rattle.route_replay.specs.RibText.{rib_lines}
-use Rattle.route_replay.specs.LogText.{log_lines}
-use Rattle.route_replay.specs.CutText.{cut_lines}
+use Rattle.route_replay.specs.declared.views.View.TheVariants.{Nodes, Control, Closure, Tables, Walk, Probe}
+use Rattle.route_replay.specs.ClosureText.{closure_text}
+use Rattle.route_replay.specs.ControlText.{control_text}
+use Rattle.route_replay.specs.NodeViews.{all_nodes_text}
+use Rattle.route_replay.specs.ProbeText.{probe_text}
+use Rattle.route_replay.specs.TablesText.{tables_text}
+use Rattle.route_replay.specs.WalkText.{walk_text}
 
--- the pieces of the text of one node: each is a line, or nothing
-abbrev pub pieces_of : Rules → Net → Chronicle → View → ℕ → List (List ℕ)
-pieces_of rules net past Rib node = rib_lines rules net past node
-pieces_of rules net past Log node = log_lines rules net past node
-pieces_of rules net past (Cut epoch) node = cut_lines net past epoch node
+-- a node that is probed, and a prefix, is one of the network
+abbrev pub FittingView : Net → View → Type 0
+FittingView net (Nodes view) = Unit {0}
+FittingView net Control = Unit {0}
+FittingView net (Closure epoch) = Unit {0}
+FittingView net (Tables epoch) = Unit {0}
+FittingView net (Walk packet) = Unit {0}
+FittingView net (Probe node prefix) = IsTrue (has net.nodes node && nat_lt prefix (length net.prefixes))
 
--- the text of one node
-unfoldable pub node_text : Rules → Net → Chronicle → View → ℕ → List ℕ
-node_text rules net past view node = flat_map (λ piece. piece) (pieces_of rules net past view node)
-
--- the text of all nodes
-unfoldable pub view_text : Rules → Net → Chronicle → View → List ℕ
-view_text rules net past view = flat_map (node_text rules net past view) (ascending net.nodes)
-
--- what happened in a world, by these rules
-abbrev pub past_of : {P : Type 0} → Rules → WorldView P → Chronicle
-past_of rules world = run rules world.net world.events
-
--- the pieces of one node of a world
-abbrev pub pieces_in : {P : Type 0} → Rules → WorldView P → View → ℕ → List (List ℕ)
-pieces_in rules world view node = pieces_of rules world.net (past_of rules world) view node
-
--- this is the node with that number in the world
-abbrev pub IsNodeOf : {P : Type 0} → Rules → WorldView P → ℕ → Node P → Type 0
-IsNodeOf rules world id node = StandsFor world.policy rules world.net id node (past_of rules world)
+-- the text of a view, after these events
+abbrev pub view_text : Rules → Net → List Event → View → List ℕ
+view_text rules net events (Nodes view) = all_nodes_text rules net (run rules net events) view
+view_text rules net events Control = control_text rules net events
+view_text rules net events (Closure epoch) = closure_text rules net (run rules net events) epoch
+view_text rules net events (Tables epoch) = tables_text net (run rules net events) epoch
+view_text rules net events (Walk packet) = walk_text packet (run rules net events)
+view_text rules net events (Probe node prefix) = probe_text rules net (run rules net events) node prefix

@@ -1,5 +1,5 @@
 //! The text of the value of an epoch.
-ghost use Rattle.std.specs.Prelude.{ℕ, ◌≡◌, ◌++◌, [], ◌∷◌, codes, decimal, map, IfOk, OnOk};
+ghost use Rattle.std.specs.Prelude.{ℕ, ◌≡◌, ◌++◌, [], ◌∷◌, codes, decimal, map, IfErr, IfOk, OnOk};
 ghost use Rattle.std.specs.Rc.{rc_value};
 ghost use Rattle.std.specs.String.{string_bytes};
 ghost use Rattle.topology.specs.Lists.{ascending};
@@ -10,15 +10,19 @@ ghost use Rattle.chronicle.specs.Facts.{Chronicle};
 ghost use Rattle.node_core.specs.Standing.{StandsFor};
 ghost use Rattle.agreement_laws.specs.Decided.{told_reports};
 ghost use Rattle.route_replay.specs.ClosureText.{closure_text, value_text};
+ghost use Rattle.route_replay.specs.Gathering.{Breaks, Gathers, page_view};
 ghost use Rattle.route_replay.specs.Lines.{further, listed};
-ghost use Rattle.route_replay.specs.Views.{past_of};
+ghost use Rattle.route_replay.specs.Past.{past_of};
 
+use crate::ends::RunEnd;
 use crate::log_text::triggers_words;
+use crate::node_views::node_of;
 use crate::numbers::{push_node, push_number};
-use crate::views::node_of;
+use crate::page::Page;
 use incomplete_closure::{Report, Value, uncounted_closure};
 use node_core::Node;
 use path_vector::Policy;
+use route_io::Sink;
 use std::alloc::{AllocError, Global};
 use std::rc::Rc;
 use topology::{Epoch, NoMemory, NodeId};
@@ -91,9 +95,9 @@ pub(crate) fn value_words(out: &mut String, value: &Value) -> Result<(), AllocEr
     triggers_words(out, value.incomplete.as_slice())
 }
 
-/// Adds the line of the value of an epoch, over the reports of all nodes that have a cut of it.
+// The line of the value of an epoch, over the reports of all nodes that have a cut of it.
 #[tactic(auto, unfolding(crate::specs::ClosureText::closure_text))]
-pub fn closure_line<P: Policy + Copy>(
+fn closure_line<P: Policy + Copy>(
     out: &mut String,
     alloc: Global,
     world: &World<P>,
@@ -110,5 +114,24 @@ pub fn closure_line<P: Policy + Copy>(
     out.push_str(": ")?;
     value_words(out, &value)?;
     out.push('\n')?;
+    Ok(())
+}
+
+/// Adds the line of the value of an epoch, over the reports of all nodes that have a cut of it.
+pub fn add_closure<P: Policy + Copy, O: Sink>(
+    page: &mut Page<'_, String, O>,
+    alloc: Global,
+    world: &World<P>,
+    epoch: Epoch,
+) -> Result<(), RunEnd>
+    ensures gathers { let rules = P.rules world.now.policy in
+        OnOk result (Gathers (page_view O.seen page.old) (page_view O.seen page.new)
+        (closure_text rules world.now.net (past_of rules world.now) epoch)) }
+    ensures breaks { let rules = P.rules world.now.policy in
+        IfErr result (Breaks (O.seen page.old.sink.now) (O.seen page.new.sink.now)
+        (string_bytes page.old.text ++ closure_text rules world.now.net (past_of rules world.now) epoch)) }
+    ensures same_sink { page.new.sink.ghost_name ≡ page.old.sink.ghost_name }
+{
+    closure_line(&mut page.text, alloc, world, epoch)?;
     Ok(())
 }

@@ -1,10 +1,10 @@
 //! The text of control messages.
-ghost use Rattle.std.specs.Prelude.{◌≡◌, ◌<◌, ◌-◌, ◌++◌, codes, decimal, slice_get, IfErr, IfSome, OnOk};
+ghost use Rattle.std.specs.Prelude.{◌≡◌, ◌<◌, ◌++◌, codes, decimal, IfErr, OnOk};
 ghost use Rattle.std.specs.String.{string_bytes};
 ghost use Rattle.consolidator.specs.Seen.{message_seen};
 ghost use Rattle.route_replay.specs.ControlText.{about, control_text, mail_line, mail_lines, message_text, named_text};
 ghost use Rattle.route_replay.specs.ReasonText.{ballot_text};
-ghost use Rattle.route_replay.specs.Gathering.{Gathers, Breaks, page_view};
+ghost use Rattle.route_replay.specs.Gathering.{AddsLine, Gathers, Breaks, page_view};
 
 use crate::closure_text::value_words;
 use crate::ends::RunEnd;
@@ -129,8 +129,7 @@ fn add_mail<P: Policy + Copy>(
 ) -> Result<(), AllocError>
     requires { 0 < number }
     ensures { let rules = P.rules world.now.policy in
-        OnOk result (IfSome (slice_get (mail_lines rules world.now.net world.now.events) (number - 1))
-        (λ words. string_bytes out.new ≡ string_bytes out.old ++ words)) }
+        OnOk result (AddsLine (mail_lines rules world.now.net world.now.events) number out.old out.new) }
 {
     let Some(kept) = world.mail(number) else {
         return Ok(());

@@ -1,13 +1,14 @@
 //! The text of cuts and recordings.
-ghost use Rattle.std.specs.Prelude.{◌≡◌, ◌<◌, ◌≤◌, ◌-◌, ◌++◌, codes, decimal, length, slice_get, IfSome, OnOk};
+ghost use Rattle.std.specs.Prelude.{◌≡◌, ◌<◌, ◌≤◌, ◌++◌, codes, decimal, length, OnOk};
 ghost use Rattle.std.specs.List.{range_with_len};
 ghost use Rattle.std.specs.String.{string_bytes};
-ghost use Rattle.route_replay.specs.Views.{pieces_in, IsNodeOf};
+ghost use Rattle.route_replay.specs.Gathering.{AddsLine};
+ghost use Rattle.route_replay.specs.NodeViews.{pieces_in, IsNodeOf};
 ghost use Rattle.route_replay.specs.CutText.{entries_text, cut_line, numbers_text, state_text, recording_line, recording_of};
 
 use crate::log_text::session_words;
+use crate::node_views::NodeView;
 use crate::numbers::{push_node, push_number, push_wide};
-use crate::views::View;
 use marker_snapshot::Recording;
 use node_core::Node;
 use path_vector::Policy;
@@ -28,10 +29,9 @@ pub fn cut_words<P: Policy + Copy>(
 ) -> Result<(), AllocError>
     requires node { IsNodeOf (P.rules world.now.policy) world.now id node.now }
     requires from_one { 0 < number }
-    requires inside { number ≤ length (pieces_in (P.rules world.now.policy) world.now (View.Cut epoch) id) }
-    ensures { OnOk result (IfSome
-        (slice_get (pieces_in (P.rules world.now.policy) world.now (View.Cut epoch) id) (number - 1))
-        (λ words. string_bytes out.new ≡ string_bytes out.old ++ words)) }
+    requires inside { number ≤ length (pieces_in (P.rules world.now.policy) world.now (NodeView.Cut epoch) id) }
+    ensures { OnOk result
+        (AddsLine (pieces_in (P.rules world.now.policy) world.now (NodeView.Cut epoch) id) number out.old out.new) }
 {
     let snapshots = node.snapshots();
     if number == 1 {

@@ -1,7 +1,6 @@
 //! What each directive does and writes.
-ghost use Rattle.std.specs.Prelude.{◌≡◌, ◌++◌, ◌&&◌, nat_lt, length, None, is_some, IsTrue, IfOk, IfErr, OnOk};
+ghost use Rattle.std.specs.Prelude.{◌≡◌, ◌++◌, None, is_some, IsTrue, IfOk, IfErr, OnOk};
 ghost use Rattle.std.specs.String.{string_bytes};
-ghost use Rattle.topology.specs.Lists.{has};
 ghost use Rattle.chronicle.specs.declared.events.Event.TheVariants as Happens;
 ghost use Rattle.chronicle.specs.Facts.{Chronicle};
 ghost use Rattle.chronicle.specs.Walks.{ending};
@@ -9,31 +8,21 @@ ghost use Rattle.chronicle.specs.Run.{run, step};
 ghost use Rattle.chronicle.specs.Steps.{Step};
 ghost use Rattle.world_core.specs.Effects.{Tells};
 ghost use Rattle.world_core.specs.Fits.{fits};
-ghost use Rattle.route_replay.specs.ClosureText.{closure_text};
-ghost use Rattle.route_replay.specs.ControlText.{control_text};
-ghost use Rattle.route_replay.specs.ProbeText.{probe_text};
-ghost use Rattle.route_replay.specs.TablesText.{tables_text};
 ghost use Rattle.route_replay.specs.Text.{idle_line, task_of, said, step_text, course, controlled, drained, hopped, is_idle, with_event};
-ghost use Rattle.route_replay.specs.Views.{past_of, view_text};
-ghost use Rattle.route_replay.specs.WalkText.{walk_text};
+ghost use Rattle.route_replay.specs.Past.{past_of};
 ghost use Rattle.route_replay.specs.Running.{Fitting, Advances, StopsIn, lines_by, limit_by, Runs};
 
-use crate::closure_text::closure_line;
-use crate::control_text::all_mails;
 use crate::ends::RunEnd;
 use crate::numbers::push_number;
 use crate::page::Page;
-use crate::probe_text::probe_words;
 use crate::reason_text::reason_words;
-use crate::tables_text::{all_tables, published_in};
 use crate::tasks::{Task, task_of};
-use crate::views::{View, all_nodes};
-use crate::walk_text::walk_words;
+use crate::views::show;
 use path_vector::Policy;
 use route_io::Sink;
 use schedule_file::Numbered;
 use std::alloc::{AllocError, Global};
-use topology::{Epoch, NoMemory, NodeId, PrefixId, Reason};
+use topology::Reason;
 use world_core::{Event, Outcome, Stop, World};
 
 // Adds the line of an event that did nothing.
@@ -61,22 +50,6 @@ fn event_line<O: Sink>(
         Outcome::Did(_) => Ok(()),
         Outcome::Idle(reason) => idle_line(&mut page.text, line, *reason),
     }
-}
-
-// Adds the line of the value of an epoch.
-fn add_closure<P: Policy + Copy, O: Sink>(
-    page: &mut Page<'_, String, O>,
-    alloc: Global,
-    world: &World<P>,
-    epoch: Epoch,
-) -> Result<(), NoMemory>
-    ensures text { let rules = P.rules world.now.policy in
-        OnOk result (string_bytes page.new.text ≡ string_bytes page.old.text
-        ++ closure_text rules world.now.net (past_of rules world.now) epoch) }
-    ensures sink { page.new.sink.now ≡ page.old.sink.now }
-    ensures same_sink { page.new.sink.ghost_name ≡ page.old.sink.ghost_name }
-{
-    closure_line(&mut page.text, alloc, world, epoch)
 }
 
 // Writes what is shown of an event.
@@ -193,106 +166,6 @@ pub(crate) fn hop<P: Policy + Copy>(
     Ok(world)
 }
 
-// Writes a view.
-fn show<P: Policy + Copy, O: Sink>(
-    alloc: Global,
-    world: &World<P>,
-    view: View,
-    sink: &mut O,
-) -> Result<(), RunEnd>
-    ensures { let rules = P.rules world.now.policy in
-        Runs (O.seen sink.old) (O.seen sink.new)
-        (view_text rules world.now.net (past_of rules world.now) view) None result }
-{
-    let mut page = Page::new(alloc, sink);
-    all_nodes(&mut page, world, &view)?;
-    page.flush()?;
-    Ok(())
-}
-
-// Writes the value of an epoch.
-fn show_closure<P: Policy + Copy, O: Sink>(
-    alloc: Global,
-    world: &World<P>,
-    epoch: Epoch,
-    sink: &mut O,
-) -> Result<(), RunEnd>
-    ensures { let rules = P.rules world.now.policy in
-        Runs (O.seen sink.old) (O.seen sink.new)
-        (closure_text rules world.now.net (past_of rules world.now) epoch) None result }
-{
-    let mut page = Page::new(alloc, sink);
-    add_closure(&mut page, alloc, world, epoch)?;
-    page.flush()?;
-    Ok(())
-}
-
-// Writes the control messages.
-fn show_control<P: Policy + Copy, O: Sink>(
-    alloc: Global,
-    world: &World<P>,
-    sink: &mut O,
-) -> Result<(), RunEnd>
-    ensures { Runs (O.seen sink.old) (O.seen sink.new)
-        (control_text (P.rules world.now.policy) world.now.net world.now.events) None result }
-{
-    let mut page = Page::new(alloc, sink);
-    all_mails(&mut page, world)?;
-    page.flush()?;
-    Ok(())
-}
-
-// Writes the tables of an epoch.
-fn show_tables<P: Policy + Copy, O: Sink>(
-    alloc: Global,
-    world: &World<P>,
-    epoch: Epoch,
-    sink: &mut O,
-) -> Result<(), RunEnd>
-    ensures { Runs (O.seen sink.old) (O.seen sink.new)
-        (tables_text world.now.net (past_of (P.rules world.now.policy) world.now) epoch) None result }
-{
-    let publications = published_in(alloc, world, epoch)?;
-    let mut page = Page::new(alloc, sink);
-    all_tables(&mut page, world, epoch, &publications)?;
-    page.flush()?;
-    Ok(())
-}
-
-// Writes the walk of a packet.
-fn show_walk<P: Policy + Copy, O: Sink>(
-    alloc: Global,
-    world: &World<P>,
-    packet: u32,
-    sink: &mut O,
-) -> Result<(), RunEnd>
-    ensures { Runs (O.seen sink.old) (O.seen sink.new)
-        (walk_text packet (past_of (P.rules world.now.policy) world.now)) None result }
-{
-    let mut page = Page::new(alloc, sink);
-    walk_words(&mut page, world, packet)?;
-    page.flush()?;
-    Ok(())
-}
-
-// Writes the walk that a packet of the prefix has from the node, if nothing happens any more.
-fn show_probe<P: Policy + Copy, O: Sink>(
-    alloc: Global,
-    world: &World<P>,
-    node: NodeId,
-    prefix: PrefixId,
-    sink: &mut O,
-) -> Result<(), RunEnd>
-    requires { IsTrue (has world.now.net.nodes node && nat_lt prefix (length world.now.net.prefixes)) }
-    ensures { Runs (O.seen sink.old) (O.seen sink.new)
-        (probe_text (P.rules world.now.policy) world.now.net (past_of (P.rules world.now.policy) world.now) node prefix) None result }
-{
-    let mut page = Page::new(alloc, sink);
-    probe_words(&mut page, alloc, world, node, prefix)?;
-    page.flush()?;
-    Ok(())
-}
-
 /// The world after a directive, whose lines are written.
 pub fn advance<P: Policy + Copy, O: Sink>(
     alloc: Global,
@@ -311,30 +184,10 @@ pub fn advance<P: Policy + Copy, O: Sink>(
     match task_of(&numbered.directive) {
         Task::Event(event) => act(alloc, world, numbered.line, event, sink),
         Task::Deliveries(times) => Ok(drain(world, times)?),
+        Task::ControlMessages(times) => Ok(control_all(world, times)?),
+        Task::Hops { packet, times } => Ok(hop(world, packet, times)?),
         Task::Show(view) => {
             show(alloc, &world, view, sink)?;
-            Ok(world)
-        }
-        Task::ControlMessages(times) => Ok(control_all(world, times)?),
-        Task::ShowClosure(epoch) => {
-            show_closure(alloc, &world, epoch, sink)?;
-            Ok(world)
-        }
-        Task::ShowControl => {
-            show_control(alloc, &world, sink)?;
-            Ok(world)
-        }
-        Task::ShowTables(epoch) => {
-            show_tables(alloc, &world, epoch, sink)?;
-            Ok(world)
-        }
-        Task::Hops { packet, times } => Ok(hop(world, packet, times)?),
-        Task::ShowWalk(packet) => {
-            show_walk(alloc, &world, packet, sink)?;
-            Ok(world)
-        }
-        Task::Probe { node, prefix } => {
-            show_probe(alloc, &world, node, prefix, sink)?;
             Ok(world)
         }
     }

@@ -12,6 +12,7 @@ pub mod load_network;
 pub mod load_schedule;
 pub mod loading;
 pub mod log_text;
+pub mod node_views;
 mod numbers;
 pub mod page;
 pub mod plain;

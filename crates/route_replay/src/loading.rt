@@ -1,9 +1,10 @@
 //! Makes a load, runs it, and writes its counts.
 ghost use Rattle.std.specs.Prelude.{[], IfOk, IfErr};
 ghost use Rattle.path_vector.specs.GaoRexford.{gao_rexford};
-ghost use Rattle.route_replay.specs.Loaded.{AllFit, Loaded, Performs, StopsLoad};
+ghost use Rattle.route_replay.specs.Loaded.{Loaded};
 ghost use Rattle.route_replay.specs.LoadSchedule.{unnumbered};
 ghost use Rattle.route_replay.specs.LoadText.{counted};
+ghost use Rattle.route_replay.specs.Performing.{AllFit, Performs, StopsLoad};
 ghost use Rattle.route_replay.specs.Running.{Advances, Fitting, Runs, StopsIn};
 ghost use Rattle.route_replay.specs.Text.{course, stop, task_of};
 
@@ -36,12 +37,7 @@ fn perform<P: Policy + Copy>(world: World<P>, task: &Task) -> Result<World<P>, S
         Task::Deliveries(times) => drain(world, *times),
         Task::ControlMessages(times) => control_all(world, *times),
         Task::Hops { packet, times } => hop(world, *packet, *times),
-        Task::Show(_)
-        | Task::ShowClosure(_)
-        | Task::ShowControl
-        | Task::ShowTables(_)
-        | Task::ShowWalk(_)
-        | Task::Probe { .. } => Ok(world),
+        Task::Show(_) => Ok(world),
     }
 }
 

@@ -1,5 +1,5 @@
 //! The text of logs.
-ghost use Rattle.std.specs.Prelude.{ℕ, ◌≡◌, ◌<◌, ◌≤◌, ◌-◌, [], ◌∷◌, ◌++◌, codes, decimal, length, slice_get, IfSome, OnOk};
+ghost use Rattle.std.specs.Prelude.{ℕ, ◌≡◌, ◌<◌, ◌≤◌, ◌-◌, [], ◌∷◌, ◌++◌, codes, decimal, length, OnOk};
 ghost use Rattle.std.specs.List.{flat_map};
 ghost use Rattle.std.specs.String.{string_bytes};
 ghost use Rattle.topology.specs.Net.{Net};
@@ -9,13 +9,14 @@ ghost use Rattle.chronicle.specs.Drops.{dropped};
 ghost use Rattle.chronicle.specs.Facts.{Chronicle};
 ghost use Rattle.chronicle.specs.Logs.{log_of};
 ghost use Rattle.node_core.specs.Standing.{StandsFor};
-ghost use Rattle.route_replay.specs.Views.{pieces_in, IsNodeOf};
+ghost use Rattle.route_replay.specs.Gathering.{AddsLine};
+ghost use Rattle.route_replay.specs.NodeViews.{pieces_in, IsNodeOf};
 ghost use Rattle.route_replay.specs.Lines.{further};
 ghost use Rattle.route_replay.specs.LogText.{trigger_text, triggers_text, scope_text, received_path, received_nodes, further_nodes, session_text, cause_text, item_text, line_of};
 
+use crate::node_views::NodeView;
 use crate::numbers::{push_node, push_number};
 use crate::rib_text::prefix_words;
-use crate::views::View;
 use node_core::Node;
 use path_vector::{Cause, Policy};
 use std::alloc::AllocError;
@@ -45,10 +46,9 @@ pub fn log_words<P: Policy + Copy>(
 ) -> Result<(), AllocError>
     requires node { IsNodeOf (P.rules world.now.policy) world.now id node.now }
     requires from_one { 0 < number }
-    requires inside { number ≤ length (pieces_in (P.rules world.now.policy) world.now View.Log id) }
-    ensures { OnOk result (IfSome
-        (slice_get (pieces_in (P.rules world.now.policy) world.now View.Log id) (number - 1))
-        (λ words. string_bytes out.new ≡ string_bytes out.old ++ words)) }
+    requires inside { number ≤ length (pieces_in (P.rules world.now.policy) world.now NodeView.Log id) }
+    ensures { OnOk result
+        (AddsLine (pieces_in (P.rules world.now.policy) world.now NodeView.Log id) number out.old out.new) }
 {
     let log = node.log();
     let dropped = log.kept_from().saturating_sub(1);

@@ -6,7 +6,7 @@ ghost use Rattle.deflect_delivery.specs.Progress.{Over};
 ghost use Rattle.route_replay.specs.Gathering.{Breaks, Gathers, page_view};
 ghost use Rattle.route_replay.specs.LogText.{known_prefix};
 ghost use Rattle.route_replay.specs.ProbeText.{probe_head, probe_line, probe_text};
-ghost use Rattle.route_replay.specs.Views.{past_of};
+ghost use Rattle.route_replay.specs.Past.{past_of};
 
 use crate::ends::RunEnd;
 use crate::numbers::push_node;

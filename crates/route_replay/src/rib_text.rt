@@ -1,14 +1,15 @@
 //! The text of routes.
-ghost use Rattle.std.specs.Prelude.{ℕ, ◌≡◌, ◌<◌, ◌≤◌, ◌-◌, ◌∷◌, [], ◌++◌, codes, decimal, length, slice_get, IfSome, OnOk};
+ghost use Rattle.std.specs.Prelude.{ℕ, ◌≡◌, ◌<◌, ◌≤◌, ◌∷◌, [], ◌++◌, codes, decimal, length, OnOk};
 ghost use Rattle.std.specs.String.{string_bytes};
 ghost use Rattle.path_vector.specs.Selection.{Route, path_of};
 ghost use Rattle.path_vector.specs.Answers.{Shows};
 ghost use Rattle.schedule_file.specs.Spelling.{prefix_text};
-ghost use Rattle.route_replay.specs.Views.{pieces_in, IsNodeOf};
+ghost use Rattle.route_replay.specs.Gathering.{AddsLine};
+ghost use Rattle.route_replay.specs.NodeViews.{pieces_in, IsNodeOf};
 ghost use Rattle.route_replay.specs.RibText.{rib_line, path_text, nodes_text};
 
+use crate::node_views::NodeView;
 use crate::numbers::{push_node, push_number};
-use crate::views::View;
 use node_core::Node;
 use path_vector::{Best, Policy};
 use std::alloc::AllocError;
@@ -26,10 +27,9 @@ pub fn rib_words<P: Policy + Copy>(
 ) -> Result<(), AllocError>
     requires node { IsNodeOf (P.rules world.now.policy) world.now id node.now }
     requires from_one { 0 < number }
-    requires inside { number ≤ length (pieces_in (P.rules world.now.policy) world.now View.Rib id) }
-    ensures { OnOk result (IfSome
-        (slice_get (pieces_in (P.rules world.now.policy) world.now View.Rib id) (number - 1))
-        (λ words. string_bytes out.new ≡ string_bytes out.old ++ words)) }
+    requires inside { number ≤ length (pieces_in (P.rules world.now.policy) world.now NodeView.Rib id) }
+    ensures { OnOk result
+        (AddsLine (pieces_in (P.rules world.now.policy) world.now NodeView.Rib id) number out.old out.new) }
 {
     let topology = world.topology();
     // There are at most 256.

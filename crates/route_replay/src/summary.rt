@@ -6,13 +6,13 @@ ghost use Rattle.chronicle.specs.Logs.{log_of};
 ghost use Rattle.world_core.specs.Walks.{walk_of};
 ghost use Rattle.route_replay.specs.LoadText.{count_line, entries_of, same_end, size_lines, standing_so, stands_at, summary, walk_lines, walk_stands};
 ghost use Rattle.route_replay.specs.Running.{Runs};
-ghost use Rattle.route_replay.specs.Views.{past_of};
+ghost use Rattle.route_replay.specs.Past.{past_of};
 
 use crate::ends::RunEnd;
 use crate::load_schedule::PACKETS;
+use crate::node_views::node_of;
 use crate::numbers::push_wide;
 use crate::page::Page;
-use crate::views::node_of;
 use epoch_packet::End;
 use path_vector::Policy;
 use route_io::Sink;

@@ -4,7 +4,7 @@ ghost use Rattle.std.specs.String.{string_bytes};
 ghost use Rattle.route_replay.specs.Gathering.{Gathers, Breaks, page_view};
 ghost use Rattle.route_replay.specs.RibText.{path_text};
 ghost use Rattle.route_replay.specs.TablesText.{last_of, published_for, table_head, table_in, table_line, table_text, tables_text, unpublished_line};
-ghost use Rattle.route_replay.specs.Views.{past_of};
+ghost use Rattle.route_replay.specs.Past.{past_of};
 
 use crate::ends::RunEnd;
 use crate::numbers::{push_node, push_number};
@@ -16,8 +16,8 @@ use std::alloc::{AllocError, Global};
 use topology::{Epoch, NoMemory, NodeId, Prefix, PrefixId, Topology};
 use world_core::{Publication, World};
 
-/// What was published for the epoch, the oldest first. The tables are shared.
-pub fn published_in<P: Policy + Copy>(
+// What was published for the epoch, the oldest first. The tables are shared.
+fn published_in<P: Policy + Copy>(
     alloc: Global,
     world: &World<P>,
     epoch: Epoch,
@@ -155,9 +155,9 @@ fn one_table<O: Sink>(
     }
 }
 
-/// Adds the lines of all nodes, ascending, by what was published for the epoch.
+// Adds the lines of all nodes, ascending, by what was published for the epoch.
 #[tactic(auto, unfolding(crate::specs::TablesText::tables_text))]
-pub fn all_tables<P: Policy + Copy, O: Sink>(
+fn all_tables<P: Policy + Copy, O: Sink>(
     page: &mut Page<'_, String, O>,
     world: &World<P>,
     epoch: Epoch,
@@ -177,4 +177,23 @@ pub fn all_tables<P: Policy + Copy, O: Sink>(
         one_table(page, topology, epoch, publications, *node)?;
     }
     Ok(())
+}
+
+/// Adds the lines of all nodes, ascending: their tables of the epoch.
+pub fn add_tables<P: Policy + Copy, O: Sink>(
+    page: &mut Page<'_, String, O>,
+    alloc: Global,
+    world: &World<P>,
+    epoch: Epoch,
+) -> Result<(), RunEnd>
+    ensures gathers { let past = past_of (P.rules world.now.policy) world.now in
+        OnOk result (Gathers (page_view O.seen page.old) (page_view O.seen page.new)
+        (tables_text world.now.net past epoch)) }
+    ensures breaks { let past = past_of (P.rules world.now.policy) world.now in
+        IfErr result (Breaks (O.seen page.old.sink.now) (O.seen page.new.sink.now)
+        (string_bytes page.old.text ++ tables_text world.now.net past epoch)) }
+    ensures same_sink { page.new.sink.ghost_name ≡ page.old.sink.ghost_name }
+{
+    let publications = published_in(alloc, world, epoch)?;
+    all_tables(page, world, epoch, &publications)
 }

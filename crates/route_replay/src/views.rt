@@ -1,118 +1,78 @@
-//! Views: what is shown of each node of a world, line by line.
-ghost use Rattle.std.specs.Prelude.{◌≡◌, ◌<◌, ◌≤◌, ◌-◌, ◌++◌, true, length, slice_get, IfErr, IfSome, OnOk};
+//! Views: what the lines `show` and `probe` write.
+ghost use Rattle.std.specs.Prelude.{◌≡◌, ◌++◌, None, IfErr, OnOk};
 ghost use Rattle.std.specs.String.{string_bytes};
-ghost use Rattle.topology.specs.Lists.{has};
 ghost use Rattle.route_replay.specs.Gathering.{Gathers, Breaks, page_view};
-ghost use Rattle.route_replay.specs.Views.{pieces_in, node_text, past_of, view_text, IsNodeOf};
+ghost use Rattle.route_replay.specs.Running.{Runs};
+ghost use Rattle.route_replay.specs.Views.{FittingView, view_text};
 
-use crate::cut_text::cut_words;
+use crate::closure_text::add_closure;
+use crate::control_text::all_mails;
 use crate::ends::RunEnd;
-use crate::log_text::{kept_count, log_words};
+use crate::node_views::{NodeView, all_nodes};
 use crate::page::Page;
-use crate::rib_text::rib_words;
-use node_core::Node;
+use crate::probe_text::probe_words;
+use crate::tables_text::add_tables;
+use crate::walk_text::walk_words;
 use path_vector::Policy;
 use route_io::Sink;
-use std::alloc::AllocError;
-use topology::{Epoch, NodeId};
+use std::alloc::Global;
+use topology::{Epoch, NodeId, PrefixId};
 use world_core::World;
 
-/// What is shown of each node.
+/// What is shown of a world.
 #[derive(Clone, Copy, Debug, PartialEq, Eq)]
 pub enum View {
-    /// Its routes to all prefixes, in the order of the file.
-    Rib,
-    /// The entries that its log keeps, the oldest first.
-    Log,
-    /// Its cut of an epoch, and what it recorded after it of each neighbour, ascending.
-    Cut(Epoch),
+    /// The lines of each node.
+    Nodes(NodeView),
+    /// The control messages.
+    Control,
+    /// The value of the reports of an epoch.
+    Closure(Epoch),
+    /// The tables of an epoch.
+    Tables(Epoch),
+    /// The walk of a packet.
+    Walk(u32),
+    /// The walk that a packet of the prefix has from the node, if nothing happens any more.
+    Probe { node: NodeId, prefix: PrefixId },
 }
 
-/// Adds the lines of all nodes, ascending.
-#[tactic(auto, unfolding(crate::specs::Views::view_text))]
-pub fn all_nodes<P: Policy + Copy, O: Sink>(
+// Adds the text of a view.
+fn add_view<P: Policy + Copy, O: Sink>(
     page: &mut Page<'_, String, O>,
+    alloc: Global,
     world: &World<P>,
     view: &View,
 ) -> Result<(), RunEnd>
-    ensures gathers { let rules = P.rules world.now.policy in
-        OnOk result (Gathers (page_view O.seen page.old) (page_view O.seen page.new)
-        (view_text rules world.now.net (past_of rules world.now) view.now)) }
-    ensures breaks { let rules = P.rules world.now.policy in
-        IfErr result (Breaks (O.seen page.old.sink.now) (O.seen page.new.sink.now)
-        (string_bytes page.old.text ++ view_text rules world.now.net (past_of rules world.now) view.now)) }
+    requires { FittingView world.now.net view.now }
+    ensures gathers { OnOk result (Gathers (page_view O.seen page.old) (page_view O.seen page.new)
+        (view_text (P.rules world.now.policy) world.now.net world.now.events view.now)) }
+    ensures breaks { IfErr result (Breaks (O.seen page.old.sink.now) (O.seen page.new.sink.now)
+        (string_bytes page.old.text ++ view_text (P.rules world.now.policy) world.now.net world.now.events view.now)) }
     ensures same_sink { page.new.sink.ghost_name ≡ page.old.sink.ghost_name }
 {
-    for id in world.topology().nodes() {
-        one_node(page, world, view, *id)?;
+    match view {
+        View::Nodes(nodes) => all_nodes(page, world, nodes),
+        View::Control => all_mails(page, world),
+        View::Closure(epoch) => add_closure(page, alloc, world, *epoch),
+        View::Tables(epoch) => add_tables(page, alloc, world, *epoch),
+        View::Walk(packet) => walk_words(page, world, *packet),
+        View::Probe { node, prefix } => probe_words(page, alloc, world, *node, *prefix),
     }
-    Ok(())
 }
 
-// Adds the lines of a node.
-#[tactic(auto, unfolding(crate::specs::Views::node_text))]
-fn one_node<P: Policy + Copy, O: Sink>(
-    page: &mut Page<'_, String, O>,
+/// Writes a view.
+pub(crate) fn show<P: Policy + Copy, O: Sink>(
+    alloc: Global,
     world: &World<P>,
-    view: &View,
-    id: NodeId,
+    view: View,
+    sink: &mut O,
 ) -> Result<(), RunEnd>
-    requires { has world.now.net.nodes id ≡ true }
-    ensures gathers { let rules = P.rules world.now.policy in
-        OnOk result (Gathers (page_view O.seen page.old) (page_view O.seen page.new)
-        (node_text rules world.now.net (past_of rules world.now) view.now id)) }
-    ensures breaks { let rules = P.rules world.now.policy in
-        IfErr result (Breaks (O.seen page.old.sink.now) (O.seen page.new.sink.now)
-        (string_bytes page.old.text ++ node_text rules world.now.net (past_of rules world.now) view.now id)) }
-    ensures same_sink { page.new.sink.ghost_name ≡ page.old.sink.ghost_name }
+    requires { FittingView world.now.net view }
+    ensures { Runs (O.seen sink.old) (O.seen sink.new)
+        (view_text (P.rules world.now.policy) world.now.net world.now.events view) None result }
 {
-    let node = node_of(world, id);
-    for place in 0..piece_count(world, view, id, node) {
-        add_piece(&mut page.text, world, view, id, node, place + 1)?;
-        page.spill()?;
-    }
+    let mut page = Page::new(alloc, sink);
+    add_view(&mut page, alloc, world, &view)?;
+    page.flush()?;
     Ok(())
-}
-
-// A node of the network.
-pub(crate) fn node_of<P: Policy + Copy>(world: &World<P>, id: NodeId) -> &Node<P>
-    requires { has world.now.net.nodes id ≡ true }
-    ensures { IsNodeOf (P.rules world.now.policy) world.now id result.now }
-{
-    world.node(id).unwrap()
-}
-
-// How many pieces the text of a node has.
-fn piece_count<P: Policy + Copy>(world: &World<P>, view: &View, id: NodeId, node: &Node<P>) -> u32
-    requires { IsNodeOf (P.rules world.now.policy) world.now id node.now }
-    ensures { result ≡ length (pieces_in (P.rules world.now.policy) world.now view.now id) }
-{
-    match view {
-        View::Rib => u32::from(world.topology().prefix_count()),
-        View::Log => kept_count(node),
-        View::Cut(_) => world.topology().neighbours(id).len() as u32 + 1,
-    }
-}
-
-// Adds the piece with this number, from 1, of the text of a node.
-fn add_piece<P: Policy + Copy>(
-    out: &mut String,
-    world: &World<P>,
-    view: &View,
-    id: NodeId,
-    node: &Node<P>,
-    number: u32,
-) -> Result<(), AllocError>
-    requires node { IsNodeOf (P.rules world.now.policy) world.now id node.now }
-    requires from_one { 0 < number }
-    requires inside { number ≤ length (pieces_in (P.rules world.now.policy) world.now view.now id) }
-    ensures { OnOk result (IfSome
-        (slice_get (pieces_in (P.rules world.now.policy) world.now view.now id) (number - 1))
-        (λ words. string_bytes out.new ≡ string_bytes out.old ++ words)) }
-{
-    match view {
-        View::Rib => rib_words(out, world, id, node, number),
-        View::Log => log_words(out, world, id, node, number),
-        View::Cut(epoch) => cut_words(out, world, id, node, *epoch, number),
-    }
 }

@@ -3,7 +3,7 @@ ghost use Rattle.std.specs.Prelude.{◌≡◌, ◌++◌, Some, None, codes, IfEr
 ghost use Rattle.std.specs.List.{flat_map};
 ghost use Rattle.std.specs.String.{string_bytes};
 ghost use Rattle.route_replay.specs.Gathering.{Gathers, Breaks, page_view};
-ghost use Rattle.route_replay.specs.Views.{past_of};
+ghost use Rattle.route_replay.specs.Past.{past_of};
 ghost use Rattle.route_replay.specs.Lines.{ended};
 ghost use Rattle.route_replay.specs.WalkText.{end_text, mode_text, visit_text, walk_head, walk_line, walk_text};
 

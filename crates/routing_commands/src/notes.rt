@@ -1,26 +1,39 @@
 //! The line that says why a run ended before its time.
-ghost use Rattle.std.specs.Prelude.{◌≡◌, ◌+◌, ◌≤◌, [], ◌++◌, length};
+ghost use Rattle.std.specs.Prelude.{◌≡◌, ◌+◌, ◌≤◌, [], ◌++◌, codes, decimal, length};
+ghost use Rattle.topology.specs.Words.{fault_words};
 ghost use Rattle.routing_commands.specs.Notes.{Noted, fault_numbers, note_words};
 
 use arrayvec::ArrayString;
 use itoa::Buffer;
 use route_io::{Sink, write_all};
-use topology::{AuditKind, BadKind, FrameFault, LimitKind, NodeId, Status};
+use topology::{FrameFault, LimitKind, Status};
 
 /// More than the bytes of the longest line.
 const ROOM: usize = 128;
 
-// What is wrong with a line of the schedule.
-fn bad_schedule(text: &mut ArrayString<ROOM>, line: u32, kind: BadKind)
-    requires { text.old.bytes ≡ [] }
-    ensures words { text.new.bytes ≡ note_words (Status.BadSchedule line kind) }
-    ensures short { length text.new.bytes ≤ 127 }
+// Words, and a number behind them.
+fn push_number(text: &mut ArrayString<ROOM>, what: &str, number: u64)
+    requires empty { text.old.bytes ≡ [] }
+    requires few { length what.now ≤ 20 }
+    ensures words { text.new.bytes ≡ what.now ++ decimal number }
+    ensures short { length text.new.bytes ≤ 40 }
 {
-    let mut number = Buffer::new();
-    text.push_str("bad schedule: line ");
-    text.push_str(number.format(line));
+    let mut digits = Buffer::new();
+    text.push_str(what);
+    text.push_str(digits.format(number));
+}
+
+// Words, a number, and what is wrong there.
+fn push_place(text: &mut ArrayString<ROOM>, what: &str, number: u64, why: &str)
+    requires empty { text.old.bytes ≡ [] }
+    requires few { length what.now ≤ 20 }
+    requires short { length why.now ≤ 64 }
+    ensures words { text.new.bytes ≡ what.now ++ decimal number ++ codes ": " ++ why.now }
+    ensures short { length text.new.bytes ≤ 42 + length why.now }
+{
+    push_number(text, what, number);
     text.push_str(": ");
-    text.push_str(kind.words());
+    text.push_str(why);
 }
 
 // The count that would pass its number.
@@ -51,67 +64,16 @@ fn numbers_of(text: &mut ArrayString<ROOM>, fault: FrameFault)
     }
 }
 
-// Where the frame begins that is refused, and why it is.
-fn bad_frame(text: &mut ArrayString<ROOM>, offset: u64, fault: FrameFault)
-    requires { text.old.bytes ≡ [] }
-    ensures words { text.new.bytes ≡ note_words (Status.BadFrame offset fault) }
+// Where in the bytes what is refused begins, and why it is, behind words for what it is.
+fn push_fault(text: &mut ArrayString<ROOM>, what: &str, offset: u64, fault: FrameFault)
+    requires empty { text.old.bytes ≡ [] }
+    requires few { length what.now ≤ 20 }
+    ensures words { text.new.bytes
+        ≡ what.now ++ decimal offset ++ codes ": " ++ fault_words fault ++ fault_numbers fault }
     ensures short { length text.new.bytes ≤ 127 }
 {
-    let mut number = Buffer::new();
-    text.push_str("bad frame: offset ");
-    text.push_str(number.format(offset));
-    text.push_str(": ");
-    text.push_str(fault.words());
+    push_place(text, what, offset, fault.words());
     numbers_of(text, fault);
-}
-
-// Where the record of a journal begins that is refused, and why it is.
-fn bad_journal(text: &mut ArrayString<ROOM>, offset: u64, fault: FrameFault)
-    requires { text.old.bytes ≡ [] }
-    ensures words { text.new.bytes ≡ note_words (Status.BadJournal offset fault) }
-    ensures short { length text.new.bytes ≤ 127 }
-{
-    let mut number = Buffer::new();
-    text.push_str("bad journal: offset ");
-    text.push_str(number.format(offset));
-    text.push_str(": ");
-    text.push_str(fault.words());
-    numbers_of(text, fault);
-}
-
-// The line that begins like one of a table and is none.
-fn bad_tables(text: &mut ArrayString<ROOM>, line: u32)
-    requires { text.old.bytes ≡ [] }
-    ensures words { text.new.bytes ≡ note_words (Status.BadTables line) }
-    ensures short { length text.new.bytes ≤ 127 }
-{
-    let mut number = Buffer::new();
-    text.push_str("bad tables: line ");
-    text.push_str(number.format(line));
-}
-
-// The line of the first bad row, and what is wrong with it.
-fn inconsistent(text: &mut ArrayString<ROOM>, line: u32, kind: AuditKind)
-    requires { text.old.bytes ≡ [] }
-    ensures words { text.new.bytes ≡ note_words (Status.Inconsistent line kind) }
-    ensures short { length text.new.bytes ≤ 127 }
-{
-    let mut number = Buffer::new();
-    text.push_str("inconsistent: line ");
-    text.push_str(number.format(line));
-    text.push_str(": ");
-    text.push_str(kind.words());
-}
-
-// The node that the network has not.
-fn no_such_node(text: &mut ArrayString<ROOM>, node: NodeId)
-    requires { text.old.bytes ≡ [] }
-    ensures words { text.new.bytes ≡ note_words (Status.NoSuchNode node) }
-    ensures short { length text.new.bytes ≤ 127 }
-{
-    let mut number = Buffer::new();
-    text.push_str("no such node: ");
-    text.push_str(number.format(node.number()));
 }
 
 // The words of the line.
@@ -128,17 +90,37 @@ fn words_of(status: &Status) -> ArrayString<ROOM>
             );
         }
         Status::NoMemory => text.push_str("no memory"),
-        Status::BadSchedule(line, kind) => bad_schedule(&mut text, *line, *kind),
+        Status::BadSchedule(line, kind) => {
+            push_place(
+                &mut text,
+                "bad schedule: line ",
+                u64::from(*line),
+                kind.words(),
+            )
+        }
         Status::Limit(kind, most) => limit(&mut text, *kind, *most),
         Status::ReadFault => text.push_str("read fault"),
         Status::WriteFault => text.push_str("write fault"),
         Status::LinkFault => text.push_str("link fault"),
-        Status::BadFrame(offset, fault) => bad_frame(&mut text, *offset, *fault),
-        Status::NoSuchNode(node) => no_such_node(&mut text, *node),
+        Status::BadFrame(offset, fault) => {
+            push_fault(&mut text, "bad frame: offset ", *offset, *fault)
+        }
+        Status::NoSuchNode(node) => {
+            push_number(&mut text, "no such node: ", u64::from(node.number()))
+        }
         Status::DiskFault => text.push_str("disk fault"),
-        Status::BadJournal(offset, fault) => bad_journal(&mut text, *offset, *fault),
-        Status::BadTables(line) => bad_tables(&mut text, *line),
-        Status::Inconsistent(line, kind) => inconsistent(&mut text, *line, *kind),
+        Status::BadJournal(offset, fault) => {
+            push_fault(&mut text, "bad journal: offset ", *offset, *fault)
+        }
+        Status::BadTables(line) => push_number(&mut text, "bad tables: line ", u64::from(*line)),
+        Status::Inconsistent(line, kind) => {
+            push_place(
+                &mut text,
+                "inconsistent: line ",
+                u64::from(*line),
+                kind.words(),
+            )
+        }
     }
     text
 }

@@ -1,26 +1,19 @@
-use Rattle.std.proofs.Common.{List, ℕ, [], ◌∷◌, ◌++◌, ◌+◌, take, map, sym, subst, ◌∙◌, ap, ◌≡◌, arith}
+use Rattle.std.proofs.Common.{[], ◌∷◌, ◌++◌, ◌+◌, take, map, sym, subst, ◌∙◌, ap, ◌≡◌, arith}
 use Rattle.std.specs.Rc.{rc_value}
 use Rattle.std.specs.List.Sorted.{IsStrictlyIncreasing}
 use Rattle.std.proofs.lemmas.List.{get_or_read, take_more, take_all}
-use Rattle.topology.specs.Lists.{has}
-use Rattle.topology.specs.Net.{Net}
-use Rattle.topology.proofs.Ascending.{has-ascending, increasing_ascending}
-use Rattle.topology.proofs.Sets.{has_at}
+use Rattle.topology.proofs.Ascending.{increasing_ascending}
 use Rattle.agreement_laws.specs.Decided.{told_reports}
-use Rattle.route_replay.specs.Views.{past_of}
+use Rattle.route_replay.specs.Past.{past_of}
 use Rattle.route_replay.proofs.Closures.{reports_more, together}
+use Rattle.route_replay.proofs.Shown.{node_at}
 use Rattle.route_replay.proofs.closure_text.reports_of.Goals as goal
 
 -- the node at hand is one of the network
 pub node_of-requires : goal.node_of-requires
 node_of-requires g c =
-    let n = c.id-item.result in
-    let nodes = c.nodes-id-items.result.now in
-    let read = get_or_read nodes c.loop-id.id-index n c.loop-id-test.true c.id-item.is 0 in
-    ap (λ (net : Net). has net.nodes n) (sym c.topology.ensures)
-    ∙ sym (has-ascending c.topology.result.now.nodes n)
-    ∙ ap (λ (ns : List ℕ). has ns n) (sym c.nodes-id-items.ensures.nodes)
-    ∙ has_at nodes n c.loop-id.id-index c.loop-id-test.true (sym read)
+    node_at c.args.world.now.net c.topology.result.now c.nodes-id-items.result.now c.loop-id.id-index c.id-item.result
+    c.topology.ensures c.nodes-id-items.ensures.nodes c.loop-id-test.true c.id-item.is
 
 -- one node more
 pub loop-id-preserved : goal.loop-id-preserved

@@ -2,7 +2,7 @@ use Rattle.std.proofs.Common.{◌≡◌, take, map}
 use Rattle.std.specs.Rc.{rc_value}
 use Rattle.incomplete_closure.specs.Seen.{reports_seen}
 use Rattle.agreement_laws.specs.Decided.{told_reports}
-use Rattle.route_replay.specs.Views.{past_of}
+use Rattle.route_replay.specs.Past.{past_of}
 use Rattle.route_replay.proofs.closure_text.reports_of.Given as goal
 
 -- the reports of the nodes so far are there

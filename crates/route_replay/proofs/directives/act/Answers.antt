@@ -2,7 +2,7 @@ use Rattle.std.proofs.Common.{◌≡◌, ◌∷◌, [], ◌++◌, Option, Ok, Er
 use Rattle.node_core.specs.NodeLimits.{Reached}
 use Rattle.chronicle.specs.Run.{step}
 use Rattle.route_replay.specs.Text.{Leads, unless, step_text, with_event}
-use Rattle.route_replay.specs.Views.{past_of}
+use Rattle.route_replay.specs.Past.{past_of}
 use Rattle.route_replay.proofs.Acts.{handed_runs, runs_stop, stops_event, runs_led_on, runs_as, runs_answer}
 use Rattle.route_replay.proofs.directives.act.Goals as goal
 

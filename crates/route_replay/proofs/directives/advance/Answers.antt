@@ -32,32 +32,6 @@ returns-in_ok-drain-in-Deliveries-clause-runs g c =
     task_runs (g.P.Policy.rules world.policy) world.net world.events c.args.numbered.now.line _ _ _ _ _ (sym c.task_of.ensures ∙ c.in-Deliveries.is)
     (runs_led _ _ c.in_ok-drain-in-Deliveries.field-0.events _ c.in_ok-drain-in-Deliveries.ensures.world.leads)
 
-pub returns-in_err-show-in-Show-clause-runs : goal.returns-in_err-show-in-Show-clause-runs
-returns-in_err-show-in-Show-clause-runs g c =
-    let world = c.args.world in
-    task_runs (g.P.Policy.rules world.policy) world.net world.events c.args.numbered.now.line _ _ _ _ _ (sym c.task_of.ensures ∙ c.in-Show.is)
-    (handed_runs c.from_residual-in_err-show-in-Show.result _ _ _ _ _ c.from_residual-in_err-show-in-Show.ensures (λ why same.
-    runs_as _ _ _ _ why c.in_err-show-in-Show.field-0.0 c.in_err-show-in-Show.ensures same))
-
-pub returns-in_ok-show-in-Show-clause-runs : goal.returns-in_ok-show-in-Show-clause-runs
-returns-in_ok-show-in-Show-clause-runs g c =
-    let world = c.args.world in
-    task_runs (g.P.Policy.rules world.policy) world.net world.events c.args.numbered.now.line _ _ _ _ _ (sym c.task_of.ensures ∙ c.in-Show.is)
-    (runs_answer _ _ _ _ c.in_ok-show-in-Show.field-0 world c.in_ok-show-in-Show.ensures)
-
-pub returns-in_err-show_closure-in-ShowClosure-clause-runs : goal.returns-in_err-show_closure-in-ShowClosure-clause-runs
-returns-in_err-show_closure-in-ShowClosure-clause-runs g c =
-    let world = c.args.world in
-    task_runs (g.P.Policy.rules world.policy) world.net world.events c.args.numbered.now.line _ _ _ _ _ (sym c.task_of.ensures ∙ c.in-ShowClosure.is)
-    (handed_runs c.from_residual-in_err-show_closure-in-ShowClosure.result _ _ _ _ _ c.from_residual-in_err-show_closure-in-ShowClosure.ensures (λ why same.
-    runs_as _ _ _ _ why c.in_err-show_closure-in-ShowClosure.field-0.0 c.in_err-show_closure-in-ShowClosure.ensures same))
-
-pub returns-in_ok-show_closure-in-ShowClosure-clause-runs : goal.returns-in_ok-show_closure-in-ShowClosure-clause-runs
-returns-in_ok-show_closure-in-ShowClosure-clause-runs g c =
-    let world = c.args.world in
-    task_runs (g.P.Policy.rules world.policy) world.net world.events c.args.numbered.now.line _ _ _ _ _ (sym c.task_of.ensures ∙ c.in-ShowClosure.is)
-    (runs_answer _ _ _ _ c.in_ok-show_closure-in-ShowClosure.field-0 world c.in_ok-show_closure-in-ShowClosure.ensures)
-
 pub returns-in_err-control_all-in-ControlMessages-clause-runs : goal.returns-in_err-control_all-in-ControlMessages-clause-runs
 returns-in_err-control_all-in-ControlMessages-clause-runs g c =
     let world = c.args.world in
@@ -70,32 +44,6 @@ returns-in_ok-control_all-in-ControlMessages-clause-runs g c =
     let world = c.args.world in
     task_runs (g.P.Policy.rules world.policy) world.net world.events c.args.numbered.now.line _ _ _ _ _ (sym c.task_of.ensures ∙ c.in-ControlMessages.is)
     (runs_led _ _ c.in_ok-control_all-in-ControlMessages.field-0.events _ c.in_ok-control_all-in-ControlMessages.ensures.world.leads)
-
-pub returns-in_err-show_control-in-ShowControl-clause-runs : goal.returns-in_err-show_control-in-ShowControl-clause-runs
-returns-in_err-show_control-in-ShowControl-clause-runs g c =
-    let world = c.args.world in
-    task_runs (g.P.Policy.rules world.policy) world.net world.events c.args.numbered.now.line _ _ _ _ _ (sym c.task_of.ensures ∙ c.in-ShowControl.is)
-    (handed_runs c.from_residual-in_err-show_control-in-ShowControl.result _ _ _ _ _ c.from_residual-in_err-show_control-in-ShowControl.ensures (λ why same.
-    runs_as _ _ _ _ why c.in_err-show_control-in-ShowControl.field-0.0 c.in_err-show_control-in-ShowControl.ensures same))
-
-pub returns-in_ok-show_control-in-ShowControl-clause-runs : goal.returns-in_ok-show_control-in-ShowControl-clause-runs
-returns-in_ok-show_control-in-ShowControl-clause-runs g c =
-    let world = c.args.world in
-    task_runs (g.P.Policy.rules world.policy) world.net world.events c.args.numbered.now.line _ _ _ _ _ (sym c.task_of.ensures ∙ c.in-ShowControl.is)
-    (runs_answer _ _ _ _ c.in_ok-show_control-in-ShowControl.field-0 world c.in_ok-show_control-in-ShowControl.ensures)
-
-pub returns-in_err-show_tables-in-ShowTables-clause-runs : goal.returns-in_err-show_tables-in-ShowTables-clause-runs
-returns-in_err-show_tables-in-ShowTables-clause-runs g c =
-    let world = c.args.world in
-    task_runs (g.P.Policy.rules world.policy) world.net world.events c.args.numbered.now.line _ _ _ _ _ (sym c.task_of.ensures ∙ c.in-ShowTables.is)
-    (handed_runs c.from_residual-in_err-show_tables-in-ShowTables.result _ _ _ _ _ c.from_residual-in_err-show_tables-in-ShowTables.ensures (λ why same.
-    runs_as _ _ _ _ why c.in_err-show_tables-in-ShowTables.field-0.0 c.in_err-show_tables-in-ShowTables.ensures same))
-
-pub returns-in_ok-show_tables-in-ShowTables-clause-runs : goal.returns-in_ok-show_tables-in-ShowTables-clause-runs
-returns-in_ok-show_tables-in-ShowTables-clause-runs g c =
-    let world = c.args.world in
-    task_runs (g.P.Policy.rules world.policy) world.net world.events c.args.numbered.now.line _ _ _ _ _ (sym c.task_of.ensures ∙ c.in-ShowTables.is)
-    (runs_answer _ _ _ _ c.in_ok-show_tables-in-ShowTables.field-0 world c.in_ok-show_tables-in-ShowTables.ensures)
 
 pub hop-requires : goal.hop-requires
 hop-requires g c = subst (Fitting c.args.world.net) (sym c.task_of.ensures ∙ c.in-Hops.is) c.requires
@@ -113,31 +61,18 @@ returns-in_ok-hop-in-Hops-clause-runs g c =
     task_runs (g.P.Policy.rules world.policy) world.net world.events c.args.numbered.now.line _ _ _ _ _ (sym c.task_of.ensures ∙ c.in-Hops.is)
     (runs_led _ _ c.in_ok-hop-in-Hops.field-0.events _ c.in_ok-hop-in-Hops.ensures.world.leads)
 
-pub returns-in_err-show_walk-in-ShowWalk-clause-runs : goal.returns-in_err-show_walk-in-ShowWalk-clause-runs
-returns-in_err-show_walk-in-ShowWalk-clause-runs g c =
-    let world = c.args.world in
-    task_runs (g.P.Policy.rules world.policy) world.net world.events c.args.numbered.now.line _ _ _ _ _ (sym c.task_of.ensures ∙ c.in-ShowWalk.is)
-    (handed_runs c.from_residual-in_err-show_walk-in-ShowWalk.result _ _ _ _ _ c.from_residual-in_err-show_walk-in-ShowWalk.ensures (λ why same.
-    runs_as _ _ _ _ why c.in_err-show_walk-in-ShowWalk.field-0.0 c.in_err-show_walk-in-ShowWalk.ensures same))
+pub show-requires : goal.show-requires
+show-requires g c = subst (Fitting c.args.world.net) (sym c.task_of.ensures ∙ c.in-Show.is) c.requires
 
-pub returns-in_ok-show_walk-in-ShowWalk-clause-runs : goal.returns-in_ok-show_walk-in-ShowWalk-clause-runs
-returns-in_ok-show_walk-in-ShowWalk-clause-runs g c =
+pub returns-in_err-show-in-Show-clause-runs : goal.returns-in_err-show-in-Show-clause-runs
+returns-in_err-show-in-Show-clause-runs g c =
     let world = c.args.world in
-    task_runs (g.P.Policy.rules world.policy) world.net world.events c.args.numbered.now.line _ _ _ _ _ (sym c.task_of.ensures ∙ c.in-ShowWalk.is)
-    (runs_answer _ _ _ _ c.in_ok-show_walk-in-ShowWalk.field-0 world c.in_ok-show_walk-in-ShowWalk.ensures)
+    task_runs (g.P.Policy.rules world.policy) world.net world.events c.args.numbered.now.line _ _ _ _ _ (sym c.task_of.ensures ∙ c.in-Show.is)
+    (handed_runs c.from_residual-in_err-show-in-Show.result _ _ _ _ _ c.from_residual-in_err-show-in-Show.ensures (λ why same.
+    runs_as _ _ _ _ why c.in_err-show-in-Show.field-0.0 c.in_err-show-in-Show.ensures same))
 
-pub show_probe-requires : goal.show_probe-requires
-show_probe-requires g c = subst (Fitting c.args.world.net) (sym c.task_of.ensures ∙ c.in-Probe.is) c.requires
-
-pub returns-in_err-show_probe-in-Probe-clause-runs : goal.returns-in_err-show_probe-in-Probe-clause-runs
-returns-in_err-show_probe-in-Probe-clause-runs g c =
+pub returns-in_ok-show-in-Show-clause-runs : goal.returns-in_ok-show-in-Show-clause-runs
+returns-in_ok-show-in-Show-clause-runs g c =
     let world = c.args.world in
-    task_runs (g.P.Policy.rules world.policy) world.net world.events c.args.numbered.now.line _ _ _ _ _ (sym c.task_of.ensures ∙ c.in-Probe.is)
-    (handed_runs c.from_residual-in_err-show_probe-in-Probe.result _ _ _ _ _ c.from_residual-in_err-show_probe-in-Probe.ensures (λ why same.
-    runs_as _ _ _ _ why c.in_err-show_probe-in-Probe.field-0.0 c.in_err-show_probe-in-Probe.ensures same))
-
-pub returns-in_ok-show_probe-in-Probe-clause-runs : goal.returns-in_ok-show_probe-in-Probe-clause-runs
-returns-in_ok-show_probe-in-Probe-clause-runs g c =
-    let world = c.args.world in
-    task_runs (g.P.Policy.rules world.policy) world.net world.events c.args.numbered.now.line _ _ _ _ _ (sym c.task_of.ensures ∙ c.in-Probe.is)
-    (runs_answer _ _ _ _ c.in_ok-show_probe-in-Probe.field-0 world c.in_ok-show_probe-in-Probe.ensures)
+    task_runs (g.P.Policy.rules world.policy) world.net world.events c.args.numbered.now.line _ _ _ _ _ (sym c.task_of.ensures ∙ c.in-Show.is)
+    (runs_answer _ _ _ _ c.in_ok-show-in-Show.field-0 world c.in_ok-show-in-Show.ensures)

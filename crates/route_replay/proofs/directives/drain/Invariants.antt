@@ -1,14 +1,8 @@
-use Rattle.std.proofs.Common.{◌≡◌, ◌-◌}
 use Rattle.route_replay.specs.Text.{drained}
+use Rattle.route_replay.proofs.Repeating.{LeadsOn}
 use Rattle.route_replay.proofs.directives.drain.Given as goal
 
--- what is left to deliver leads where the whole does
 abbrev pub invariant-loop : goal.invariant-loop
 invariant-loop g l =
     let rules = g.P.Policy.rules l.fn.world.policy in
-    let net = l.fn.world.net in
-    record {
-      same_policy : l.world.policy ≡ l.fn.world.policy;
-      same_net : l.world.net ≡ net;
-      leads : drained rules net (l.times - l.counter) l.world.events ≡ drained rules net l.times l.fn.world.events;
-    }
+    LeadsOn (drained rules l.fn.world.net) l.fn.world l.world l.times l.counter

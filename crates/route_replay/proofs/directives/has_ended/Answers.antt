@@ -1,7 +1,7 @@
 use Rattle.std.proofs.Common.{reverse, sym, ap}
 use Rattle.std.specs.Prelude.{is_some}
 use Rattle.chronicle.specs.Walks.{standing, walk, ending}
-use Rattle.route_replay.specs.Views.{past_of}
+use Rattle.route_replay.specs.Past.{past_of}
 use Rattle.delivery_laws.proofs.Ended.{none_ended, no_walk_read}
 use Rattle.route_replay.proofs.directives.has_ended.Goals as goal
 

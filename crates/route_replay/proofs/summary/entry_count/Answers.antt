@@ -1,25 +1,19 @@
-use Rattle.std.proofs.Common.{◌≡◌, ◌+◌, List, ℕ, length, sym, ap, ◌∙◌, arith}
-use Rattle.std.proofs.lemmas.List.{get_or_read}
-use Rattle.topology.specs.Lists.{has, ascending}
+use Rattle.std.proofs.Common.{◌≡◌, ◌+◌, List, ℕ, length, ap, ◌∙◌, arith}
+use Rattle.topology.specs.Lists.{ascending}
 use Rattle.topology.specs.Net.{Net}
-use Rattle.topology.proofs.Ascending.{has-ascending, length-ascending}
-use Rattle.topology.proofs.Sets.{has_at}
+use Rattle.topology.proofs.Ascending.{length-ascending}
 use Rattle.chronicle.specs.Logs.{log_of}
 use Rattle.route_replay.specs.LoadText.{entries_of}
-use Rattle.route_replay.specs.Views.{past_of}
+use Rattle.route_replay.specs.Past.{past_of}
 use Rattle.route_replay.proofs.Counts.{sum_more, sum_all}
+use Rattle.route_replay.proofs.Shown.{node_at}
 use Rattle.route_replay.proofs.summary.entry_count.Goals as goal
 
 -- the node at hand is one of the network
 pub log_length-requires : goal.log_length-requires
 log_length-requires g c =
-    let n = c.id-item.result in
-    let nodes = c.nodes-id-items.result.now in
-    let read = get_or_read nodes c.loop-id.id-index n c.loop-id-test.true c.id-item.is 0 in
-    ap (λ (net : Net). has net.nodes n) (sym c.topology.ensures)
-    ∙ sym (has-ascending c.topology.result.now.nodes n)
-    ∙ ap (λ (ns : List ℕ). has ns n) (sym c.nodes-id-items.ensures.nodes)
-    ∙ has_at nodes n c.loop-id.id-index c.loop-id-test.true (sym read)
+    node_at c.args.world.now.net c.topology.result.now c.nodes-id-items.result.now c.loop-id.id-index c.id-item.result
+    c.topology.ensures c.nodes-id-items.ensures.nodes c.loop-id-test.true c.id-item.is
 
 pub overflow_add-count : goal.overflow_add-count
 overflow_add-count g c =

@@ -1,6 +1,6 @@
 use Rattle.std.proofs.Common.{◌≡◌, ◌≤◌, ◌*◌, ◌^◌, length, take, sum_by}
 use Rattle.chronicle.specs.Logs.{log_of}
-use Rattle.route_replay.specs.Views.{past_of}
+use Rattle.route_replay.specs.Past.{past_of}
 use Rattle.route_replay.proofs.summary.entry_count.Given as goal
 
 -- the entries of the nodes so far

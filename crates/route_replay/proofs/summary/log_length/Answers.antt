@@ -1,5 +1,5 @@
 use Rattle.chronicle.specs.Logs.{log_of}
-use Rattle.route_replay.specs.Views.{past_of}
+use Rattle.route_replay.specs.Past.{past_of}
 use Rattle.route_replay.proofs.summary.log_length.Goals as goal
 
 pub returns-clause-length : goal.returns-clause-length

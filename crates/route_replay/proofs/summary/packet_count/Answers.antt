@@ -3,7 +3,7 @@ use Rattle.std.specs.List.{range_with_len}
 use Rattle.world_core.specs.Walks.{walk_of}
 use Rattle.route_replay.specs.LoadSchedule.{load_packets}
 use Rattle.route_replay.specs.LoadText.{standing_so, walk_stands}
-use Rattle.route_replay.specs.Views.{past_of}
+use Rattle.route_replay.specs.Past.{past_of}
 use Rattle.route_replay.proofs.Counts.{counted_if, few_if}
 use Rattle.route_replay.proofs.summary.packet_count.Goals as goal
 

@@ -10,7 +10,7 @@ use Rattle.chronicle.specs.Publications.{published}
 use Rattle.world_core.specs.Publications.{PublicationView}
 use Rattle.route_replay.specs.Gathering.{Breaks, Gathers, page_view}
 use Rattle.route_replay.specs.TablesText.{last_of, published_for, table_in, table_text, tables_text}
-use Rattle.route_replay.specs.Views.{past_of}
+use Rattle.route_replay.specs.Past.{past_of}
 use Rattle.route_replay.proofs.Gathered.{handed_on, gathers_all, gathers_nothing, gathers_step, breaks_step}
 use Rattle.route_replay.proofs.Tables.{published_last}
 use Rattle.route_replay.proofs.tables_text.all_tables.Goals as goal

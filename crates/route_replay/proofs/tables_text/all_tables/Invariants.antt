@@ -3,7 +3,7 @@ use Rattle.std.specs.List.{flat_map}
 use Rattle.chronicle.specs.Publications.{published}
 use Rattle.route_replay.specs.Gathering.{Gathers, page_view}
 use Rattle.route_replay.specs.TablesText.{table_text}
-use Rattle.route_replay.specs.Views.{past_of}
+use Rattle.route_replay.specs.Past.{past_of}
 use Rattle.route_replay.proofs.tables_text.all_tables.Given as goal
 
 -- the text of the nodes so far is gathered

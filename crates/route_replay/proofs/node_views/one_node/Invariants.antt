@@ -1,8 +1,8 @@
 use Rattle.std.proofs.Common.{◌≡◌, take}
 use Rattle.std.specs.List.{flat_map}
 use Rattle.route_replay.specs.Gathering.{Gathers, page_view}
-use Rattle.route_replay.specs.Views.{pieces_in}
-use Rattle.route_replay.proofs.views.one_node.Given as goal
+use Rattle.route_replay.specs.NodeViews.{pieces_in}
+use Rattle.route_replay.proofs.node_views.one_node.Given as goal
 
 -- the pieces so far are gathered
 abbrev pub invariant-loop-place : goal.invariant-loop-place

@@ -1,8 +1,8 @@
 use Rattle.std.proofs.Common.{ℕ, List, [], ◌<◌, ◌≤◌, ◌+◌, ◌-◌, length, get_or, arith, refl, sym, ◌∙◌, subst}
 use Rattle.route_replay.specs.Gathering.{Breaks}
-use Rattle.route_replay.specs.Views.{pieces_in, node_text}
+use Rattle.route_replay.specs.NodeViews.{pieces_in, node_text}
 use Rattle.route_replay.proofs.Gathered.{handed_on, gathers_nothing, words_spilled, gathers_step, gathers_all, breaks_step, breaks_short, line_at, line_made}
-use Rattle.route_replay.proofs.views.one_node.Goals as goal
+use Rattle.route_replay.proofs.node_views.one_node.Goals as goal
 
 abbrev as_it_is : List ℕ → List ℕ
 as_it_is piece = piece

@@ -1,8 +1,9 @@
 use Rattle.std.proofs.Common.{◌≡◌, take}
 use Rattle.std.specs.List.{flat_map}
 use Rattle.route_replay.specs.Gathering.{Gathers, page_view}
-use Rattle.route_replay.specs.Views.{node_text, past_of}
-use Rattle.route_replay.proofs.views.all_nodes.Given as goal
+use Rattle.route_replay.specs.NodeViews.{node_text}
+use Rattle.route_replay.specs.Past.{past_of}
+use Rattle.route_replay.proofs.node_views.all_nodes.Given as goal
 
 -- the text of the nodes so far is gathered
 abbrev pub invariant-loop-id : goal.invariant-loop-id

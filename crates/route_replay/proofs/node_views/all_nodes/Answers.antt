@@ -1,16 +1,15 @@
-use Rattle.std.proofs.Common.{List, ℕ, ◌++◌, refl, sym, subst, ◌∙◌, ap, ◌≡◌}
+use Rattle.std.proofs.Common.{◌++◌, refl, sym, subst, ◌∙◌, ap, ◌≡◌}
 use Rattle.std.specs.List.{flat_map}
 use Rattle.std.specs.String.{string_bytes}
-use Rattle.std.proofs.lemmas.List.{get_or_read}
 use Rattle.std.proofs.lemmas.Option.{slice_get_read}
-use Rattle.topology.specs.Lists.{has, ascending}
+use Rattle.topology.specs.Lists.{ascending}
 use Rattle.topology.specs.Net.{Net}
-use Rattle.topology.proofs.Ascending.{has-ascending}
-use Rattle.topology.proofs.Sets.{has_at}
 use Rattle.route_replay.specs.Gathering.{Breaks}
-use Rattle.route_replay.specs.Views.{node_text, past_of, view_text}
+use Rattle.route_replay.specs.NodeViews.{node_text, all_nodes_text}
+use Rattle.route_replay.specs.Past.{past_of}
 use Rattle.route_replay.proofs.Gathered.{handed_on, gathers_nothing, gathers_step, breaks_step}
-use Rattle.route_replay.proofs.views.all_nodes.Goals as goal
+use Rattle.route_replay.proofs.Shown.{node_at}
+use Rattle.route_replay.proofs.node_views.all_nodes.Goals as goal
 
 pub loop-id-init : goal.loop-id-init
 loop-id-init g c = record { gathers = gathers_nothing _; same_sink = refl }
@@ -18,13 +17,8 @@ loop-id-init g c = record { gathers = gathers_nothing _; same_sink = refl }
 -- the node at hand is one of the network
 pub one_node-requires : goal.one_node-requires
 one_node-requires g c =
-    let n = c.id-item.result in
-    let nodes = c.nodes-id-items.result.now in
-    let read = get_or_read nodes c.loop-id.id-index n c.loop-id-test.true c.id-item.is 0 in
-    ap (λ (net : Net). has net.nodes n) (sym c.topology.ensures)
-    ∙ sym (has-ascending c.topology.result.now.nodes n)
-    ∙ ap (λ (ns : List ℕ). has ns n) (sym c.nodes-id-items.ensures.nodes)
-    ∙ has_at nodes n c.loop-id.id-index c.loop-id-test.true (sym read)
+    node_at c.args.world.now.net c.topology.result.now c.nodes-id-items.result.now c.loop-id.id-index c.id-item.result
+    c.topology.ensures c.nodes-id-items.ensures.nodes c.loop-id-test.true c.id-item.is
 
 -- one more node is shown
 pub loop-id-preserved : goal.loop-id-preserved
@@ -41,7 +35,7 @@ loop-id-preserved g c =
     }
 
 pub returns-in_err-one_node-clause-breaks : goal.returns-in_err-one_node-clause-breaks
-unfolding view_text
+unfolding all_nodes_text
 returns-in_err-one_node-clause-breaks g c =
     let world = c.args.world.now in
     let rules = g.P.Policy.rules world.policy in
