@@ -1,4 +1,4 @@
--- What the facts of a run show to a user.
+-- The effects of the facts of a run.
 use Rattle.std.specs.Prelude.{suc, ◌≡◌, List, [], ◌∷◌, ◌++◌, length, if◌then◌else◌}
 use Rattle.chronicle.specs.Facts.{Fact, Chronicle, Log, Sent, Took, Fail, Restore, Raise, Start, Mail, Heard, Crash, Restart, Publish, Visit, End}
 use Rattle.chronicle.specs.Control.{mailed}
@@ -10,11 +10,11 @@ use Rattle.world_core.specs.declared.outcomes.Effect.TheVariants.{Logged, Queued
 use Rattle.world_core.specs.declared.outcomes.Outcome.{Outcome}
 use Rattle.world_core.specs.declared.outcomes.Outcome.TheVariants as outcome
 
--- an entry shows its place in the log, counted from 1; an item that is sent shows its way, and whether
--- it was queued or lost; a control message that is sent shows its number, counted from 1; an epoch that rose shows
--- its cut, a table that is published its epoch, a packet that comes to a node the visit, a walk that ends how; that an
--- item was taken or a message heard, that a ballot started, that a link changed, or that a node crashed or came back is
--- the event itself, and not shown
+-- the effect of an entry has its place in the log, counted from 1; that of an item its way, and whether it was queued
+-- or lost; that of a control message its number, counted from 1; that of a higher epoch the epoch; that of a published
+-- table its epoch; that of a packet at a node the visit; that of the end of a walk the end. Other facts have no effect:
+-- the event itself says that an item was taken, a message heard or a ballot started, that a link changed, or that a
+-- node crashed or restarted
 abbrev pub effect_by : Fact → Chronicle → List Effect
 effect_by (Log u entry) past = Logged u (suc (length (log_of u past))) ∷ []
 effect_by (Sent from to session item queued) past = if queued then Queued from to ∷ [] else Lost from to ∷ []
@@ -36,7 +36,7 @@ abbrev pub effects : Chronicle → List Effect
 effects [] = []
 effects (f ∷ past) = effects past ++ effect_by f past
 
--- the outcome is the reason for which nothing was done, or the list of the effects that are new
+-- an outcome tells of a step: of an idle step its reason, of another the list of the new effects
 abbrev pub Tells : Chronicle → Step → Outcome → Type 0
 Tells past (Idle reason) (outcome.Idle told) = told ≡ reason
 Tells past (Idle reason) (outcome.Did list) = ⊥

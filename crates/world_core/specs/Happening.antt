@@ -1,4 +1,4 @@
--- What an event leaves of a network, and what came of it.
+-- The network after an event, and the outcome of the event.
 use Rattle.std.specs.Prelude.{ℕ, ◌≡◌, ◌<◌, ◌≤◌, ◌-◌, ◌^◌, ◌==◌, Bool, true, false, is_some, Some, List, ◌∷◌, ◌++◌, length, if◌then◌else◌}
 use Rattle.topology.specs.declared.ballots.Ballot.{Ballot}
 use Rattle.topology.specs.declared.items.Pending.{Pending}
@@ -41,8 +41,8 @@ use Rattle.world_core.specs.Matching.{AreCrashed, AreLinks, AreMails, AreNodes, 
 use Rattle.world_core.specs.Publications.{all_published}
 use Rattle.world_core.specs.Walks.{AreWalksBut}
 
--- what holds after every list of events: each node may enter what is in front of each way to it, and may
--- hear it; each way is joined; and no link has used up the numbers of its sessions
+-- facts that hold after every list of events: each node may enter and hear the first item of each way to it; each way
+-- is joined; no link has used up the numbers of its sessions
 pub record IsRegular (net : Net) (past : Chronicle) : Type 0 where
   pub fronts : (v u : ℕ) → FrontFits net past v u
   pub heard : (v u s : ℕ) (x : Item) (rest : List Item) → link v u past ≡ Up s → channel v u past ≡ x ∷ rest → MayHear net v x
@@ -55,23 +55,23 @@ ValuesAreSmall net now =
     (from to e : ℕ) (b : Ballot) (value : Value) → Among (Mail from to (Agrees e (Accept b value))) now
     → length value.incomplete ≤ triggers_of net now
 
--- nor does an item that a node of the network sent list more, or an update that it holds back
+-- so it is with the values, with each item that a node of the network sent, and with each update that it holds back
 pub record ListsAreShort (rules : Rules) (net : Net) (now : Chronicle) : Type 0 where
   pub values : ValuesAreSmall net now
   pub sent : (u : ℕ) (item : Sent) → has net.nodes u ≡ true → Among item (sent_of rules net u (log_of u now)) → length item.triggers ≤ triggers_of net now
   pub waiting : (u : ℕ) (row : Pending) → has net.nodes u ≡ true → Among row (pending_rows rules net u (log_of u now)) → length row.triggers ≤ triggers_of net now
 
--- the stop is at the limit that the step reaches, where that is so after it
+-- the stop is at the limit that the step reaches, where lists are short after the step
 abbrev pub Stops : Rules → Net → Chronicle → Step → Stop → Type 0
 Stops rules net past step stop = ListsAreShort rules net (chronicle_of past step) → StopsAt (above_by rules net step) stop
 
--- an item stands in front of the way from v to u, and would arrive in session s
+-- an item stands first on the way from v to u, and would arrive in session s
 pub record MayArrive (past : Chronicle) (v u s : ℕ) : Type 0 where
   pub up : link v u past ≡ Up s
   pub held : held_with u v past ≡ Some s
   pub front : (x : Item) × (rest : List Item) × (channel v u past ≡ x ∷ rest)
 
--- the list tells the effects since the first of the two chronicles
+-- the list has the effects between the two chronicles
 abbrev pub Since : Chronicle → List Effect → Chronicle → Type 0
 Since first list now = effects first ++ list ≡ effects now
 
@@ -84,7 +84,7 @@ pub record AreSending {P : Type 0} (away : ℕ → Bool) (first now : Chronicle)
   pub are_walks : AreWalksBut away network.topology.value now network.walks
   pub since : account.wanted ≡ Effects → Since first account.list now
 
--- what is known when a node is handed an input: the item of an arrival is taken from its way already
+-- the chronicle when a node gets its input: the item of an arrival is taken from its way already
 abbrev pub handed : ℕ → Input → Chronicle → Chronicle
 handed u (input.Arrive v s item) past = Took v u s item ∷ past
 handed u (input.Originate p) past = past
@@ -115,14 +115,14 @@ abbrev pub away_with : Input → ℕ → Bool
 away_with (input.Hop packet up) k = packet.id == k
 away_with other k = false
 
--- an item that was taken from its way is not declined, nor a packet that was taken from its place
+-- the node does not decline an item that was taken from its way, or a packet that was taken from its place
 abbrev pub GoesWhere : Input → Step → Type 0
 GoesWhere (input.Arrive v s item) step = Did step
 GoesWhere (input.Hop packet up) step = Did step
 GoesWhere other step = Unit {0}
 
--- node u may be handed the input: all is as the run has it, but that the item of an arrival and the packet that goes on are
--- taken; its names are those of the network; and what was taken is not declined
+-- the network may give node u the input: it is as the run has it, but for the item of an arrival and the packet that
+-- goes on, which are taken; the input's names are those of the network; and u does not decline what was taken
 pub record MayHand {P : Type 0} (rules : Rules) (past : Chronicle) (counts : Counts) (u : ℕ) (input : Input) (network : Network P) : Type 0 where
   pub are_nodes : AreNodes network.policy rules network.topology.value past network.nodes.items
   pub are_crashed : AreCrashed network.topology.value past network.crashed.items
@@ -136,22 +136,23 @@ pub record MayHand {P : Type 0} (rules : Rules) (past : Chronicle) (counts : Cou
   pub passing : PacketIsIn network.topology.value past input
   pub goes : GoesWhere input (given rules network.topology.value past u input)
 
--- the network is as the run has it after the step, and the outcome tells what that did
+-- the network is as the run has it after the step, and the outcome tells of the step
 pub record IsAfterStep {P : Type 0} (rules : Rules) (past : Chronicle) (counts : Counts) (step : Step) (network : Network P) (outcome : Outcome) : Type 0 where
   pub stands : Stands rules (chronicle_of past step) counts network
   pub tells : Tells past step outcome
 
--- so it is of whatever run the network stands for
+-- it holds of each run that the network stands for
 abbrev pub InEachRun : {P : Type 0} → Rules → Network P → (Chronicle → Type 0) → Type 0
 InEachRun rules network is = (past : Chronicle) (counts : Counts) → Stands rules past counts network → is past
 
--- the event was done: whatever run the network stood for, it is as that run has it then, and the outcome tells what was done
+-- the event was done: of each run that the network stood for, it is as that run has it after the event, and the outcome
+-- tells of the event there
 abbrev pub Does : {P : Type 0} → Rules → (old : Network P) → Event → (new : Network P) → Outcome → Type 0
 Does rules old event new outcome =
     (past : Chronicle) (counts : Counts) → Stands rules past counts old → IsRegular old.topology.value past
     → IsAfterStep rules past counts (does rules old.topology.value past event) new outcome
 
--- the event was stopped: whatever run the network stood for, the stop is at the limit that the event reaches there
+-- the event was stopped: of each run that the network stood for, the stop is at the limit that the event reaches there
 abbrev pub StopsDoing : {P : Type 0} → Rules → Network P → Event → Stop → Type 0
 StopsDoing rules old event stop =
     (past : Chronicle) (counts : Counts) → Stands rules past counts old → IsRegular old.topology.value past
@@ -192,7 +193,7 @@ pub record KeepsNodes {P : Type 0} (old new : Network P) : Type 0 where
   pub crashed : new.crashed ≡ old.crashed
   pub triggers : new.triggers ≡ old.triggers
 
--- from the one chronicle to the other u comes to be crashed, or not; the other nodes stay as they were
+-- from the one chronicle to the other, u becomes crashed, or running; each other node stays as it was
 abbrev pub Turns : ℕ → Bool → Chronicle → Chronicle → Type 0
 Turns u is past now = (v : ℕ) → crashed v now ≡ (if u == v then is else crashed v past)
 

@@ -14,7 +14,7 @@ use Rattle.world_core.specs.Matching.{Stands}
 use Rattle.world_core.specs.OpenWays.{AreOpen}
 use Rattle.world_core.specs.WaySets.{has_way}
 
--- the network is as the events leave it, and the ways are those that are open then
+-- the network is as the events leave it, and the set has the ways that are open then
 pub record Holds {P : Type 0} (rules : P → Rules) (state : WorldState P) : Type 0 where
   pub stands : Stands (rules state.network.policy) (run (rules state.network.policy) state.network.topology.value state.events.items)
       (deliveries (rules state.network.policy) state.network.topology.value state.events.items) state.network
@@ -38,7 +38,7 @@ pub record IsOver (net : Net) (past : Chronicle) (way : Way) : Type 0 where
   pub waits : arrives past way.from way.to ≡ true
   pub first : next_delivery net past ≡ Some way
 
--- it is over the one with this number
+-- the next delivery is over the way with this number
 pub record IsNext (net : Net) (past : Chronicle) (number : ℕ) : Type 0 where
   pub way : Way
   pub here : slice_get (ways_of net) number ≡ Some way

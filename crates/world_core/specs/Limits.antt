@@ -41,11 +41,11 @@ has_more_entries net past = list_any (λ u. nat_lt MOST_ENTRIES (length (log_of 
 unfoldable pub has_more_updates : Rules → Net → Chronicle → Bool
 has_more_updates rules net past = list_any (λ u. nat_lt MOST_UPDATES (length (sent_of rules net u (log_of u past)))) net.nodes
 
--- more control messages were sent than may be
+-- more control messages were sent than a run may have
 unfoldable pub has_more_control : Chronicle → Bool
 has_more_control past = nat_lt MOST_CONTROL (length (mailed past))
 
--- more packets entered the network than may
+-- more packets entered the network than a run may have
 unfoldable pub has_more_packets : Chronicle → Bool
 has_more_packets past = nat_lt MOST_PACKETS (packets past)
 
@@ -89,24 +89,24 @@ above rules net now =
       marks = has_more_marks rules net now;
     })
 
--- the same of what an event comes to: an idle one takes no count above its number
+-- the first count above its number after a step; none after an idle step
 abbrev pub above_by : Rules → Net → Step → Option Reached
 above_by rules net (Idle reason) = None
 above_by rules net (Goes now) = above rules net now
 
--- the limit that one more event reaches, where it does: that of the events, once there are as many as
--- there may be; else the first that is above its number after the event
+-- the limit that one more event reaches, if any: that of the events where the run has as many as it may have; otherwise
+-- the first count above its number after the event
 unfoldable pub limit_of : Rules → Net → List Event → Event → Option Reached
 limit_of rules net events event =
     if nat_le MOST_EVENTS (length events) then Some (record { kind = Events; number = MOST_EVENTS })
     else above_by rules net (step rules net (run rules net events) event)
 
--- a stop at a limit is at this one; want of memory may come at any step
+-- a stop at a limit is at this one; memory may run out at any step
 abbrev pub StopsAt : Option Reached → Stop → Type 0
 StopsAt limit stop.NoMemory = Unit {0}
 StopsAt limit (stop.Limit kind number) = limit ≡ Some (record { kind = kind; number = number })
 
--- an entry that comes of the input gets a trigger of its node: any but that of an update, or of a flush
+-- an entry of the input gets a trigger of its node; entries of updates and of flushes do not
 abbrev pub makes_local : Input → Bool
 makes_local (input.Arrive v s (News number x)) = false
 makes_local (input.Arrive v s (Marker e)) = true

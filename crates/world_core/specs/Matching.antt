@@ -1,4 +1,4 @@
--- When all that a world keeps is what is read of its run.
+-- When the parts of a network are those of a run.
 use Rattle.std.specs.Prelude.{ℕ, ◌≡◌, ◌≤◌, Bool, true, false, Some, List, length, map, slice_get}
 use Rattle.std.specs.List.{AllByRecursion}
 use Rattle.topology.specs.Lists.{has, ascending}
@@ -41,8 +41,8 @@ pub record AreCrashed (net : Net) (past : Chronicle) (flags : List Bool) : Type 
   pub flag_is : (i u : ℕ) (flag : Bool) → slice_get (ascending net.nodes) i ≡ Some u → slice_get flags i ≡ Some flag
       → flag ≡ crashed u past
 
--- the links are those of the run: they stand for acts after which each link is like that, and carries
--- that
+-- the links are those of the run: they stand for acts that leave each link in its state of the run, with its items of
+-- the run
 pub record AreLinks (net : Net) (past : Chronicle) (links : Links) : Type 0 where
   pub acts : LinkActs
   pub stands : LinksStandFor net links acts
@@ -57,8 +57,8 @@ Counts = ℕ → ℕ
 abbrev pub IsInside : Net → Letter → Type 0
 IsInside net m = (has net.nodes m.from ≡ true) × (has net.nodes m.to ≡ true)
 
--- the control messages are those of the run, and so are the nodes that are crashed; and each message was delivered so
--- often: the mails stand for acts after which it is so
+-- the control messages and the crashed nodes are those of the run, and each message was delivered as often as the
+-- counts say: the mails stand for acts that leave them so
 pub record AreMails (net : Net) (past : Chronicle) (counts : Counts) (mails : Office) : Type 0 where
   pub acts : MailActs
   pub stands : MailsStandFor net mails acts
@@ -67,8 +67,8 @@ pub record AreMails (net : Net) (past : Chronicle) (counts : Counts) (mails : Of
   pub deliveries : (k : ℕ) → deliveries k acts ≡ counts k
   pub inside : AllByRecursion (IsInside net) (mailed past)
 
--- so many triggers were given, and no more than may be; nor were more control messages sent, nor did more packets enter;
--- and no node has more marks than it may
+-- the nodes gave this many triggers; triggers, control messages, packets and the marks of each node are within their
+-- limits
 pub record IsCounted (rules : Rules) (net : Net) (past : Chronicle) (triggers : ℕ) : Type 0 where
   pub total : triggers ≡ triggers_of net past
   pub few : triggers ≤ MOST_TRIGGERS

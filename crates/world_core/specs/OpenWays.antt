@@ -1,4 +1,4 @@
--- The ways that are open, as a world keeps them.
+-- The set of open ways that a world keeps.
 use Rattle.std.specs.Prelude.{ℕ, ◌≡◌, Bool, false, not, ◌&&◌, Option}
 use Rattle.topology.specs.declared.links.LinkState.{LinkState}
 use Rattle.topology.specs.declared.links.LinkState.TheVariants.{Up, Down}
@@ -15,10 +15,10 @@ abbrev pub is_joined : LinkState → Option ℕ → Bool
 is_joined (Down s) session = false
 is_joined (Up s) session = is_session session s
 
--- node u runs, and holds the session in which the link from v is up: what comes from v, if anything does, is not idle
+-- node u runs, and holds the session in which the link from v is up: the delivery of an item from v is not idle
 abbrev pub is_open : Chronicle → ℕ → ℕ → Bool
 is_open past v u = not (crashed u past) && is_joined (link v u past) (held_with u v past)
 
--- a set has the ways that go over a link and are open, and no others; `has` says which ones it has
+-- the set, which `has` tests, has exactly the ways that go over a link and are open
 abbrev pub AreOpen : Net → Chronicle → (Way → Bool) → Type 0
 AreOpen net past has = (way : Way) → has way ≡ (linked net way.from way.to && is_open past way.from way.to)

@@ -1,4 +1,4 @@
--- Which ways an event may have changed, and what a set keeps of the others.
+-- The ways that an event may open or close, and a set of open ways but for these.
 use Rattle.std.specs.Prelude.{ℕ, ◌≡◌, Bool, true, false, ◌&&◌, List, [], ◌∷◌, ◌++◌, map}
 use Rattle.std.specs.List.{list_any, AllByRecursion}
 use Rattle.topology.specs.Net.{Net, linked, neighbours}
@@ -31,8 +31,8 @@ is_outage (Restart node) = false
 is_outage (Inject packet node prefix) = false
 is_outage (Hop packet) = false
 
--- the ways over the link of the event that it may open or close: both where the link changes, else the way to the node
--- that opens or closes its session
+-- the ways over the link of the event that it may open or close: both ways where the event fails or restores the link,
+-- otherwise the way to the node that opens or closes its session
 abbrev pub link_ways : Event → List Way
 link_ways (Originate node prefix) = []
 link_ways (Withdraw node prefix) = []
@@ -55,7 +55,7 @@ link_ways (Hop packet) = []
 abbrev pub ways_to : Net → ℕ → List Way
 ways_to net u = map (λ v. way v u) (neighbours net u)
 
--- those to a node that crashes or comes back: a delivery to it does nothing, or may do something again
+-- the ways to a node that crashes or restarts; a delivery to a crashed node is idle
 abbrev pub node_ways : Net → Event → List Way
 node_ways net (Originate node prefix) = []
 node_ways net (Withdraw node prefix) = []
@@ -82,8 +82,7 @@ turned_ways net event = node_ways net event ++ link_ways event
 abbrev pub AreLinked : Net → List Way → Type 0
 AreLinked net ways = AllByRecursion (λ (w : Way). linked net w.from w.to ≡ true) ways
 
--- the set has each way that is open, and no other, but for these that the event may have opened or closed: of them nothing
--- is known
+-- but for these ways, the set has exactly the open ways; of these ways nothing is known
 pub record AreOpenBut (net : Net) (past : Chronicle) (turned : List Way) (has : Way → Bool) : Type 0 where
   pub near : AreLinked net turned
   pub right : (one : Way) → list_any (same_way one) turned ≡ false → has one ≡ (linked net one.from one.to && is_open past one.from one.to)

@@ -1,4 +1,4 @@
--- What a crash and a restart leave as it was, and what a crash loses.
+-- The parts of a run that a crash and a restart keep, and those that a crash loses.
 use Rattle.std.specs.Prelude.{ℕ, ◌≡◌, ◌≢◌, None, List, [], ◌∷◌, ◌++◌, true, false}
 use Rattle.topology.specs.Net.{Net}
 use Rattle.path_vector.specs.Rules.{Rules}
@@ -22,8 +22,8 @@ use Rattle.chronicle.specs.Run.{run}
 use Rattle.world_core.specs.Publications.{all_published}
 use Rattle.world_core.specs.Walks.{walk_of}
 
--- node v has what it had: its log, how much of it is dropped, its epoch, its cuts and recordings, what it reports, what it
--- promised and accepted in each agreement and the ballot that it started last, the decisions that it knows, and its tables
+-- node v keeps its log and the count of dropped entries, its epoch, its cuts and recordings, its reports, its promises,
+-- acceptances and last started ballot in each agreement, the decisions that it knows, and its tables
 pub record KeepsItsOwn (net : Net) (past now : Chronicle) (v : ℕ) : Type 0 where
   pub log : log_of v now ≡ log_of v past
   pub drops : dropped net v now ≡ dropped net v past
@@ -37,8 +37,8 @@ pub record KeepsItsOwn (net : Net) (past now : Chronicle) (v : ℕ) : Type 0 whe
   pub decisions : (e : ℕ) → decision v e now ≡ decision v e past
   pub tables : publications v now ≡ publications v past
 
--- node v has what a crash loses: the reports that it collected for each epoch, and the ballot that it has open in each
--- agreement, for which it counts promises and acceptances
+-- node v keeps what a crash loses: the reports that it collected for each epoch, and the ballot that it has open in
+-- each agreement, for which it counts promises and acceptances
 pub record KeepsItsTallies (past now : Chronicle) (v : ℕ) : Type 0 where
   pub collected : (e : ℕ) → reports_held v e (control now) ≡ reports_held v e (control past)
   pub ballots : (e : ℕ) → open_ballot (agreement e (control now)) v ≡ open_ballot (agreement e (control past)) v
@@ -48,7 +48,7 @@ pub record HasNoTallies (now : Chronicle) (u : ℕ) : Type 0 where
   pub collected : (e : ℕ) → reports_held u e (control now) ≡ []
   pub ballots : (e : ℕ) → open_ballot (agreement e (control now)) u ≡ None
 
--- all is as it was, but whether node u is crashed, and its tallies
+-- everything is as it was, but whether node u is crashed, and its tallies
 pub record StaysBut (net : Net) (past now : Chronicle) (u : ℕ) : Type 0 where
   pub own : (v : ℕ) → KeepsItsOwn net past now v
   pub tallies : (v : ℕ) → v ≢ u → KeepsItsTallies past now v
@@ -59,8 +59,8 @@ pub record StaysBut (net : Net) (past now : Chronicle) (u : ℕ) : Type 0 where
   pub published : all_published now ≡ all_published past
   pub walks : (k : ℕ) → walk_of k now ≡ walk_of k past
 
--- a crash stops its node, which loses its tallies where it ran; all else is as it was, how often each control message was
--- delivered as well
+-- a crash stops its node, and the node loses its tallies if it ran; everything else is as it was, the counts of
+-- deliveries too
 pub record IsCrash (rules : Rules) (net : Net) (events : List Event) (u : ℕ) : Type 0 where
   pub stays : StaysBut net (run rules net events) (run rules net (events ++ Crash u ∷ [])) u
   pub delivered : (k : ℕ) → deliveries rules net (events ++ Crash u ∷ []) k ≡ deliveries rules net events k
@@ -74,7 +74,7 @@ pub record IsRestart (rules : Rules) (net : Net) (events : List Event) (u : ℕ)
   pub runs : crashed u (run rules net (events ++ Restart u ∷ [])) ≡ false
   pub tallies : KeepsItsTallies (run rules net events) (run rules net (events ++ Restart u ∷ [])) u
 
--- so it is where the event is one of the two
+-- what holds of the event, where it is a crash or a restart
 pub record LosesTalliesAlone (rules : Rules) (net : Net) (events : List Event) (event : Event) : Type 0 where
   pub crash : (u : ℕ) → event ≡ Crash u → IsCrash rules net events u
   pub restart : (u : ℕ) → event ≡ Restart u → IsRestart rules net events u

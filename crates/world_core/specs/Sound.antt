@@ -1,4 +1,4 @@
--- What holds in every network, whatever happened.
+-- The properties of every run in every network.
 use Rattle.std.specs.Prelude.{ℕ, ◌≡◌, ◌≢◌, true, List, drop}
 use Rattle.topology.specs.declared.ballots.Ballot.{Ballot}
 use Rattle.topology.specs.declared.links.LinkState.TheVariants.{Up}
@@ -24,7 +24,7 @@ use Rattle.delivery_laws.specs.Deflected.{DeflectionDelivers}
 use Rattle.world_core.specs.declared.outcomes.Outcome.{Outcome}
 use Rattle.world_core.specs.declared.outcomes.Outcome.TheVariants as outcome
 
--- all of this holds of every run
+-- all properties of a run
 pub record IsSound (rules : Rules) (net : Net) (past : Chronicle) : Type 0 where
   -- what a node said in a session is what its log sends, what it heard is what its log received, and
   -- each entry fits those before it
@@ -68,8 +68,8 @@ pub record IsSound (rules : Rules) (net : Net) (past : Chronicle) : Type 0 where
   -- to an owner
   pub delivered : DeflectionDelivers rules net past
 
--- no update was out of turn, no session an old one, and rounds did not come to their end: these reasons only a node
--- alone meets
+-- the outcome is none of these reasons: an update out of turn, an old session, no round left. Only a node without a
+-- world meets them
 abbrev pub IsNoStray : Outcome → Type 0
 IsNoStray (outcome.Did list) = Unit {0}
 IsNoStray (outcome.Idle why) =

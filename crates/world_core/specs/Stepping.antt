@@ -1,4 +1,4 @@
--- What holds of every step, in every network.
+-- The properties of every step in every network.
 use Rattle.std.specs.Prelude.{ℕ, ◌≡◌, ◌⊎◌, None, List, [], ◌∷◌, ◌++◌}
 use Rattle.topology.specs.Net.{Net}
 use Rattle.path_vector.specs.Rules.{Rules}
@@ -10,9 +10,9 @@ use Rattle.world_core.specs.Limits.{limit_of}
 use Rattle.world_core.specs.Restarts.{LosesTalliesAlone}
 use Rattle.world_core.specs.Sound.{IsSound}
 
--- the run that the step leaves is sound; a node that gets both the cut and the decision of an epoch publishes its table in
--- this step, as the last thing of it, and in no other step does it publish; a crash and a restart leave all else as it was;
--- and no count is above its number
+-- the run after the step is sound; a node that now has both the cut and the decision of an epoch publishes its table in
+-- this step, as the last fact, and publishes in no other step; a crash and a restart change nothing else; and no count
+-- is above its number
 pub record IsStep (rules : Rules) (net : Net) (events : List Event) (event : Event) : Type 0 where
   pub sound : IsSound rules net (run rules net (events ++ event ∷ []))
   pub at_once : (u e : ℕ) → Completes (run rules net events) (run rules net (events ++ event ∷ [])) u e

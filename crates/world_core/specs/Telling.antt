@@ -1,4 +1,4 @@
--- The facts that a node adds and tells.
+-- The facts that a node adds and hands out.
 use Rattle.std.specs.Prelude.{ℕ, ◌≡◌, true, is_some, List, [], ◌∷◌, ◌++◌}
 use Rattle.topology.specs.LinkStates.{carries}
 use Rattle.topology.specs.Lists.{has}
@@ -9,9 +9,9 @@ use Rattle.chronicle.specs.Walks.{standing}
 use Rattle.node_core.specs.Outputs.{Output, output_by}
 use Rattle.world_core.specs.Walks.{IsPassing}
 
--- after these facts u enters something, raises its epoch, publishes a table, sends a control message to a node of the
--- network, or an item over one of its links, queued where the link carries the session; or it passes a packet on, or ends
--- the walk of one that entered the network
+-- the fact is one that u adds behind these facts: an entry, a higher epoch, a table, a control message to a node of the
+-- network, an item over one of its links, queued where the link carries the session, a packet that u passes on, or the
+-- end of the walk of a packet that entered the network
 abbrev pub IsTold : Net → ℕ → Chronicle → Fact → Type 0
 IsTold net u past (Log node entry) = node ≡ u
 IsTold net u past (Sent from to session item queued) =
@@ -29,12 +29,12 @@ IsTold net u past (Publish node epoch value paths) = node ≡ u
 IsTold net u past (Visit node packet) = IsPassing net node packet
 IsTold net u past (End packet ending) = is_some (standing packet past) ≡ true
 
--- so it is with each of the facts, the oldest first
+-- each of these facts, the oldest first, is such a fact behind those before it
 abbrev pub AreTold : Net → ℕ → Chronicle → List Fact → Type 0
 AreTold net u past [] = Unit {0}
 AreTold net u past (f ∷ facts) = IsTold net u past f × AreTold net u (f ∷ past) facts
 
--- what these facts show, the oldest first
+-- the outputs of these facts, the oldest first
 abbrev pub shown : Chronicle → List Fact → List Output
 shown past [] = []
 shown past (f ∷ facts) = output_by f past ++ shown (f ∷ past) facts

@@ -1,4 +1,4 @@
--- What holds at each moment of a run.
+-- The properties of each moment of a run.
 use Rattle.std.specs.Prelude.{ℕ, ◌≡◌, ◌⊎◌, List, [], ◌∷◌, ◌++◌}
 use Rattle.topology.specs.Lists.{Begins}
 use Rattle.topology.specs.Net.{Net}

@@ -1,4 +1,4 @@
--- What a node promises of an input, as its own call says it.
+-- The promise of `Node::handle_into`, as a record.
 use Rattle.std.specs.Prelude.{ℕ, Option, Some, None, List, [], ◌∷◌, ◌++◌, slice_get, slice_set}
 use Rattle.topology.specs.Net.{Net}
 use Rattle.path_vector.specs.Rules.{Rules}
@@ -26,8 +26,8 @@ pub record Handles {P : Type 0} (rules : P → Rules) (old : Node P) (input : In
       → StandsFor policy (rules policy) net u old past → MayCome net u (input_of input)
       → Answers past (give (rules policy) net carried u past (input_of input)) outputs
 
--- for every chronicle that the node stands for: it stops where the step would take a count of its own above
--- its number, but for its marks
+-- for every chronicle that the node stands for: the stop is where the step would take a count of the node above its
+-- number; marks do not count here
 abbrev pub IsStopped : {P : Type 0} → (P → Rules) → Node P → Input → Stop → Type 0
 IsStopped {P} rules old input stop =
     (policy : P) (net : Net) (u : ℕ) (carried : Carried) (past : Chronicle)
@@ -38,6 +38,6 @@ abbrev pub returned_by : {A : Type 0} → List A → ℕ → A → Option A → 
 returned_by xs i x None = xs ++ x ∷ []
 returned_by xs i x (Some other) = slice_set xs i x ++ other ∷ []
 
--- the list with this element at a place, and the one that stood there at the end
+-- the list with this element at a place, and the element that stood there at the end
 abbrev pub returned : {A : Type 0} → List A → ℕ → A → List A
 returned xs i x = returned_by xs i x (slice_get xs i)

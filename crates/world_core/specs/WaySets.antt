@@ -6,11 +6,11 @@ use Rattle.link_model.specs.Tables.{ways_of}
 use Rattle.link_model.specs.WaySets.{has_number}
 use Rattle.topology.specs.declared.ways.Way.{Way}
 
--- the same two nodes, in this order
+-- the two ways are the same
 abbrev pub same_way : Way → Way → Bool
 same_way v w = v.from == w.from && v.to == w.to
 
--- the number of the way is one of these
+-- the number of the way is in the set
 abbrev pub has_in : (ℕ → Bool) → List Way → Way → Bool
 has_in numbers [] way = false
 has_in numbers (e ∷ es) way = if same_way e way then numbers 0 else has_in (λ number. numbers (suc number)) es way

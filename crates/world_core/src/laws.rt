@@ -1,4 +1,4 @@
-//! What holds of every run of a world. A call of a law brings what it says into the caller's proof.
+//! Laws of every run of a world. A call of a law brings its statement into the caller's proof.
 ghost use Rattle.std.specs.Prelude.{◌≡◌, ◌<◌, None, List, length};
 ghost use Rattle.topology.specs.Net.{Net, IsValid};
 ghost use Rattle.path_vector.specs.Rules.{Rules};
@@ -20,7 +20,7 @@ use drop_laws::laws as of_drops;
 use rest_laws::laws as of_rest;
 use walk_laws::laws as of_walks;
 
-/// Whatever happened, the network is sound.
+/// After any events, the network is sound.
 pub fn every_run_is_sound()
     ensures { (rules : Rules) (net : Net) (events : List Event) → IsValid net →
         IsSound rules net (run rules net events) }
@@ -41,8 +41,8 @@ pub fn every_run_is_sound()
     of_delivery::deflection_delivers();
 }
 
-/// So it is at each moment of a run; and tables are published in the steps that complete what they are made of, and in no
-/// others.
+/// The network is sound at each moment of a run. A node publishes a table in the step that completes its cut and the
+/// decision, and in no other step.
 pub fn a_run_holds_throughout()
     ensures { (rules : Rules) (net : Net) (events : List Event) → IsValid net → HoldsThroughout rules net events }
 {
@@ -50,9 +50,9 @@ pub fn a_run_holds_throughout()
     of_agreement::a_table_is_published_in_time();
 }
 
-/// What one more event may rest on, while there are fewer than there may be: what stands in front of a way is what its
-/// receiver may enter, and no list of triggers is too long. And what holds of it, whatever it is: a reason that only a
-/// node alone meets is not its outcome, and within the limits it is as each step is.
+/// What the code of a step rests on, while the run has fewer events than it may have: the receiver may enter the first
+/// item of each way, and no list of triggers is too long. What holds of the step: its outcome is no reason that only a
+/// node without a world meets, and within the limits it is a step as `IsStep` says.
 pub fn a_step_is_lawful()
     ensures regular { (rules : Rules) (net : Net) (events : List Event) → IsValid net → length events < MOST_EVENTS →
         IsRegular net (run rules net events) }

@@ -1,4 +1,4 @@
-//! All nodes and links of a network, its control messages, and what each event does to them.
+//! A world: the nodes, links, control messages and packets of a network, and what each event does to them.
 #![tactic(auto)]
 
 pub mod laws;

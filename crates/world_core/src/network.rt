@@ -1,4 +1,4 @@
-//! The nodes, the links, the control network and the packets of a world.
+//! The network of a world: its nodes, links, control messages, publications and packets.
 use crate::publications::Publication;
 use crate::walks::Walks;
 use control_mail::Mails;
@@ -31,14 +31,14 @@ pub struct Network<P: Policy + Copy> {
     /// At the rank of each node, whether it is crashed.
     pub crashed: Vec<bool>,
     pub links: Links,
-    /// All control messages. They are told which nodes are crashed, too.
+    /// All control messages. They know which nodes are crashed, too.
     pub mails: Mails,
-    /// What was published, the oldest first.
+    /// All tables that were published, the oldest first.
     pub publications: Vec<Publication>,
     /// All packets.
     pub walks: Walks,
-    /// The triggers that all nodes gave.
+    /// The count of the triggers that all nodes gave.
     pub triggers: u32,
-    /// A list for what a node hands out, used again for each input: it is empty, but while they are handed on.
+    /// The list of a node's outputs, used again for each input. It is empty between inputs.
     pub outputs: OutputList,
 }

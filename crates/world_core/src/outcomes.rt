@@ -1,4 +1,4 @@
-//! What an event comes to.
+//! The outcome of an event.
 ghost use Rattle.std.specs.Prelude.{◌≡◌};
 ghost use Rattle.world_core.specs.declared.outcomes.Stop.TheVariants.{NoMemory};
 
@@ -6,16 +6,16 @@ use epoch_packet::{End, Visit};
 use std::marker::Model;
 use topology::{Epoch, LimitKind, NoMemory, NodeId, Reason};
 
-/// Something that an event did.
+/// One thing that an event did.
 #[derive(Clone, Copy, Debug, PartialEq, Eq)]
 pub enum Effect {
-    /// The node accepted an entry: its log has this many entries now.
+    /// The node made an entry. Its log has this many entries now.
     Logged { node: NodeId, index: u32 },
-    /// A message was sent, and is on its way.
+    /// An item was sent, and is on its way.
     Queued { from: NodeId, to: NodeId },
-    /// A message was sent in a session that the link does not carry, and is lost.
+    /// An item was sent in a session that the link does not carry, and is lost.
     Lost { from: NodeId, to: NodeId },
-    /// A control message was sent: it has this number.
+    /// A control message was sent, with this number.
     Mailed { number: u32 },
     /// The epoch of the node rose to this one, and it took its cut.
     Cut { node: NodeId, epoch: Epoch },
@@ -27,7 +27,7 @@ pub enum Effect {
     Ended { packet: u32, end: End },
 }
 
-/// What an event did, in the order in which it did it.
+/// The effects of an event, in their order.
 #[derive(Debug, Drop)]
 pub struct Effects {
     list: Vec<Effect>,
@@ -57,11 +57,11 @@ impl Effects {
     }
 }
 
-/// What an event came to.
+/// The outcome of an event.
 #[derive(Debug, Drop)]
 pub enum Outcome {
     Did(Effects),
-    /// Nothing was done, for this reason.
+    /// The event did nothing, for this reason.
     Idle(Reason),
 }
 

@@ -1,4 +1,4 @@
-//! The network as it is now, as one that does not move, and the walk of a packet over it.
+//! The network as it stands now, and the walk of a packet over it if nothing more happens.
 ghost use Rattle.std.specs.Prelude.{◌≡◌, ◌<◌, true, length, map, slice_get, IfOk};
 ghost use Rattle.topology.specs.Lists.{has};
 ghost use Rattle.path_vector.specs.History.{owns};
@@ -23,10 +23,10 @@ use std::alloc::Global;
 use topology::limits::MOST_LINKS;
 use topology::{NoMemory, NodeId, PrefixId, Topology};
 
-// The most links of a network, as a place among them.
+// The most links that a network has.
 const LINK_PLACES: u16 = MOST_LINKS as u16;
 
-// The ends of the link at the place in file order, where there is one, and it is up.
+// The ends of the link at this place in file order. None where no link has the place, and where the link is down.
 fn up_at(topology: &Topology, links: &Links, place: u16) -> Option<(NodeId, NodeId)>
     ensures { (past : Chronicle) → AreLinks topology.now past links.now →
         result ≡ up_among past (slice_get topology.now.links place) }
@@ -99,7 +99,7 @@ impl<P: Policy + Copy> World<P> {
         Ok(owners)
     }
 
-    // The order of each node, ascending.
+    // For each node, ascending, the order in which it tries its neighbours.
     fn orders(&self, alloc: Global, prefix: PrefixId) -> Result<Vec<NodeList>, NoMemory>
         requires { prefix < length self.now.net.prefixes }
         ensures { IfOk result (λ orders. orders.items
@@ -114,8 +114,8 @@ impl<P: Policy + Copy> World<P> {
         Ok(orders)
     }
 
-    /// The network as it is now, for a prefix: the links that are up, the owners, and the order of each node, crashed ones
-    /// among them.
+    /// The network as it stands now, for a prefix: the links that are up, the nodes that own the prefix, and the order
+    /// of each node. Crashed nodes are included.
     pub fn still(&self, alloc: Global, prefix: PrefixId) -> Result<Still, NoMemory>
         requires { prefix < length self.now.net.prefixes }
         ensures { IfOk result (λ still. still ≡ still_now (P.rules self.now.policy) self.now.net (run (P.rules self.now.policy) self.now.net self.now.events) prefix) }
@@ -129,8 +129,8 @@ impl<P: Policy + Copy> World<P> {
         Ok(Still { up, owners, orders })
     }
 
-    /// The walk that a packet of the prefix has from the node, over the network as it is now, if nothing happens any more. It is
-    /// delivered exactly where links that are up connect the node with an owner, else it is stuck.
+    /// The walk of a packet of the prefix from the node, over the network as it stands now, if nothing more happens.
+    /// The packet is delivered exactly where links that are up connect the node with an owner. Otherwise it is stuck.
     pub fn probe(
         &self,
         alloc: Global,

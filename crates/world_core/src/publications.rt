@@ -1,4 +1,4 @@
-//! What was published.
+//! The tables that nodes published.
 ghost use Rattle.std.specs.Prelude.{◌≡◌, option_map, option_and_then, slice_get, IfOk};
 
 use incomplete_closure::Value;
@@ -8,7 +8,7 @@ use std::marker::Model;
 use std::rc::Rc;
 use topology::{Epoch, NoMemory, NodeId, Path, PrefixId};
 
-// What stays of a table for as long as the run: its backups go with the node's older tables.
+// The part of a table that stays for the whole run. Its backups go when the node drops the table.
 #[derive(Debug, Drop)]
 struct Paths {
     epoch: Epoch,
@@ -37,7 +37,7 @@ impl Model for Publication {
 }
 
 impl Publication {
-    /// The node published this table.
+    /// The publication of this table by the node.
     pub fn new(alloc: Global, node: NodeId, table: &Table) -> Result<Publication, NoMemory>
         ensures { IfOk result (λ publication. publication
             ≡ record { node = node; epoch = table.now.epoch; value = table.now.value; paths = table.now.paths }) }
@@ -77,14 +77,14 @@ impl Publication {
         self.table.epoch
     }
 
-    /// The value that the table is by.
+    /// The value from which the table was made.
     pub fn value(&self) -> &Value
         ensures { result.now ≡ self.now.value }
     {
         &self.table.value
     }
 
-    /// The path of a prefix. None where the table has none.
+    /// The path of a prefix. None where the table has no path of it.
     pub fn path(&self, prefix: PrefixId) -> Option<&[NodeId]>
         ensures { option_map (λ nodes. nodes.now) result
             ≡ option_and_then (λ path. path) (slice_get self.now.paths prefix) }

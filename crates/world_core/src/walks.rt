@@ -16,7 +16,7 @@ use std::alloc::Global;
 use std::marker::Model;
 use topology::{NoMemory, NodeId, Reason};
 
-/// A visit, as a walk tells it, of a packet that comes to the node or leaves the tables there.
+/// The visit of a packet that comes to the node, or leaves the stable tables there.
 pub fn visit_of(node: NodeId, packet: &Packet) -> Visit
     ensures { result ≡ visit_of node packet.now }
 {
@@ -27,12 +27,12 @@ pub fn visit_of(node: NodeId, packet: &Packet) -> Visit
     }
 }
 
-/// A packet: where it stands, what it is like there, where it was, and how its walk ended.
+/// A packet that entered the network: the node where it stands, its state there, its visits, and the end of its walk.
 #[derive(Drop)]
 pub struct Journey {
     number: u32,
     node: NodeId,
-    // None while a node has it, and once its walk has ended.
+    // None while a node handles it, and after its walk has ended.
     packet: Option<Box<Packet>>,
     // The oldest first.
     visits: Vec<Visit>,
@@ -49,7 +49,7 @@ impl Model for Journey {
 }
 
 impl Journey {
-    // The packet has just entered the network at the node.
+    // The packet enters the network at the node.
     fn begin(alloc: Global, node: NodeId, packet: Box<Packet>) -> Result<Journey, NoMemory>
         ensures { IfOk result (λ journey. journey ≡ record { number = packet.value.id; node = node; packet = Some packet.value; visits = visit_of node packet.value ∷ []; ending = None }) }
     {
@@ -64,7 +64,7 @@ impl Journey {
         })
     }
 
-    // The packet comes to the node, or leaves the tables there.
+    // The packet comes to the node, or leaves the stable tables there.
     fn go_on(&mut self, node: NodeId, packet: Box<Packet>) -> Result<(), NoMemory>
         ensures ok { OnOk result (self.new ≡ record self.old { node = node; packet = Some packet.value; visits = self.old.visits ++ visit_of node packet.value ∷ [] }) }
         ensures err { OnErr result (self.new ≡ self.old) }
@@ -75,7 +75,7 @@ impl Journey {
         Ok(())
     }
 
-    // Its walk ended.
+    // Its walk ends.
     fn finish(&mut self, end: End)
         ensures { self.new ≡ record self.old { ending = Some end } }
     {
@@ -89,7 +89,7 @@ impl Journey {
         self.node
     }
 
-    // The packet, which a node gets.
+    // Takes the packet out, for a node that handles it.
     fn take(&mut self) -> Box<Packet>
         requires { is_some self.old.packet ≡ true }
         ensures packet { self.old.packet ≡ Some result.value }
@@ -105,7 +105,7 @@ impl Journey {
         &self.visits
     }
 
-    /// How the walk ended. None while it has not.
+    /// The end of the walk. None while the walk goes on.
     pub fn end(&self) -> Option<End>
         ensures { result ≡ self.now.ending }
     {
@@ -113,7 +113,7 @@ impl Journey {
     }
 }
 
-/// All packets in the order in which they entered the network, found by their numbers.
+/// All packets, in the order in which they entered the network. They are found by their numbers.
 #[derive(Drop)]
 pub struct Walks {
     numbers: IndexSet<u32>,
@@ -172,7 +172,7 @@ impl Walks {
         Ok(())
     }
 
-    /// The packet comes to a node, or leaves the tables there. After want of memory the walks are as they were.
+    /// The packet comes to a node, or leaves the stable tables there. After want of memory the walks are as they were.
     pub fn visit(&mut self, node: NodeId, packet: Box<Packet>) -> Result<(), NoMemory>
         ensures ok { OnOk result ((away : ℕ → Bool) (net : Net) (past : Chronicle) → AreWalksBut away net past self.old →
             IsPassing net node packet.value →
@@ -187,8 +187,8 @@ impl Walks {
         Ok(())
     }
 
-    /// The packet with the node where it stands, or why it does not go on. It is away until it comes to a node, or its
-    /// walk ends.
+    /// Takes out the packet and the node where it stands, or returns the reason for which it does not go on. The packet
+    /// is away until it comes to a node, or its walk ends.
     pub fn take(&mut self, number: u32) -> Result<(NodeId, Box<Packet>), Reason>
         requires { MayGo number self.old }
         ensures taken { IfOk result (λ r. (net : Net) (past : Chronicle) → AreWalks net past self.old →
@@ -209,7 +209,7 @@ impl Walks {
         Ok((node, packet))
     }
 
-    /// The walk of the packet ended.
+    /// The walk of the packet ends.
     pub fn end(&mut self, number: u32, end: End)
         ensures { (away : ℕ → Bool) (net : Net) (past : Chronicle) → AreWalksBut away net past self.old →
             is_some (standing number past) ≡ true →

@@ -1,4 +1,4 @@
-//! The world: a network and what happened in it.
+//! A world: a network and the events so far.
 ghost use Rattle.std.specs.Prelude.{ℕ, ◌≡◌, ◌⊎◌, ◌≤◌, [], ◌∷◌, ◌++◌, ◌&&◌, false, nat_lt, nat_le, length, Some, None, IsTrue, IsNone, IfOk, IfErr, OnOk, IfSome, option_map, ◌↔◌};
 ghost use Rattle.topology.specs.Lists.{has};
 ghost use Rattle.topology.specs.Net.{linked};
@@ -43,7 +43,7 @@ use topology::{Epoch, NoMemory, NodeId, PrefixId, Topology};
 /// All nodes and links of a network, its control messages, what was published, and the events so far.
 #[derive(Drop)]
 pub struct World<P: Policy + Copy> {
-    // Behind a box, so that a world that moves carries one word, and its state changes in place.
+    // A box, so that a world moves as one word, and its state changes in place.
     state: Box<WorldState<P>>,
 }
 
@@ -72,7 +72,7 @@ fn joined(topology: &Topology, a: NodeId, b: NodeId) -> bool
     topology.relation(a, b).is_some()
 }
 
-// Whether there is such a node, and such an epoch may be.
+// Whether there is such a node, and the epoch is in its range.
 fn proposes(topology: &Topology, node: NodeId, epoch: Epoch) -> bool
     ensures { result ≡ (has topology.now.nodes node && (nat_le 1 epoch && nat_le epoch MOST_EPOCHS)) }
 {
@@ -81,7 +81,7 @@ fn proposes(topology: &Topology, node: NodeId, epoch: Epoch) -> bool
 }
 
 impl<P: Policy + Copy> World<P> {
-    /// The world in which nothing has happened.
+    /// The world before its first event.
     pub fn new(alloc: Global, topology: Rc<Topology>, policy: P) -> Result<World<P>, NoMemory>
         ensures world { IfOk result (λ world. world ≡ record { policy = policy; net = topology.value; events = [] }) }
         ensures run { OnOk result (IsSound (P.rules policy) topology.value (run (P.rules policy) topology.value [])) }
@@ -115,8 +115,9 @@ impl<P: Policy + Copy> World<P> {
         &self.state.network.topology
     }
 
-    /// Whether the names of the event are in the network, a preference is a million at most, an epoch 1 to 32, the
-    /// number of a control message 1 to a million, and packets are numbered from 1.
+    /// Whether the names of the event are in the network and its numbers in their ranges: a preference at most a
+    /// million, an epoch from 1 to 32, the number of a control message from 1 to a million, the number of a packet from
+    /// 1.
     pub fn fits(&self, event: &Event) -> bool
         ensures { result ≡ fits self.now.net event.now }
     {
@@ -157,22 +158,22 @@ impl<P: Policy + Copy> World<P> {
         Some(&self.state.network.nodes[rank])
     }
 
-    /// Whether the node is crashed. Not so where there is no such node. Takes no memory.
+    /// Whether the node is crashed. False where there is no such node. Takes no memory.
     pub fn crashed(&self, id: NodeId) -> bool
         ensures { result ≡ (has self.now.net.nodes id && crashed id (run (P.rules self.now.policy) self.now.net self.now.events)) }
     {
         self.state.network.topology.rank_of(id).is_some() && self.state.network.is_crashed(id)
     }
 
-    /// The links, and what is on its way over them.
+    /// The links, and the items on them.
     pub fn links(&self) -> &Links
         ensures { AreLinks self.now.net (run (P.rules self.now.policy) self.now.net self.now.events) result.now }
     {
         &self.state.network.links
     }
 
-    /// The first way, by sender, then receiver, over which a delivery would not be idle. Takes no
-    /// memory, and looks at no channel.
+    /// The first way, by sender, then receiver, over which a delivery would not be idle. Takes no memory, and reads no
+    /// channel.
     pub fn next_delivery(&self) -> Option<(NodeId, NodeId)>
         ensures { result ≡ option_map (λ (way : Way). (way.from, way.to))
             (next_delivery self.now.net (run (P.rules self.now.policy) self.now.net self.now.events)) }
@@ -182,8 +183,8 @@ impl<P: Policy + Copy> World<P> {
         Some((way.from, way.to))
     }
 
-    /// The control message with this number: who sent it, what it is with its addressee, and how often it was
-    /// delivered. None exactly where no message has the number. Takes no memory.
+    /// The control message with this number: its sender, the message with its addressee, and the count of its
+    /// deliveries. None exactly where no message has the number. Takes no memory.
     pub fn mail(&self, number: u32) -> Option<(NodeId, &Mail, u32)>
         ensures some { IfSome result (λ mail. let past = run (P.rules self.now.policy) self.now.net self.now.events in
             (mail_with number past ≡ Some (record { from = mail.0; to = mail.1.now.to; message = message_seen mail.1.now.message }))
@@ -194,15 +195,15 @@ impl<P: Policy + Copy> World<P> {
         Some((kept.from, &kept.mail, kept.deliveries))
     }
 
-    /// How many control messages there are: the number of the last one. Takes no memory.
+    /// The count of control messages, which is the number of the last one. Takes no memory.
     pub fn mail_count(&self) -> u32
         ensures { result ≡ length (mailed (run (P.rules self.now.policy) self.now.net self.now.events)) }
     {
         self.state.network.mails.count()
     }
 
-    /// The number of the next control message: the lowest that was never delivered and whose addressee is not
-    /// crashed. It is 16,384 at most. Goes once over the nodes, and takes no memory.
+    /// The number of the next control message: the lowest that was never delivered and whose addressee runs. It is
+    /// 16,384 at most. Goes once over the nodes, and takes no memory.
     pub fn next_mail(&self) -> Option<u32>
         ensures next { result ≡ next_mail (P.rules self.now.policy) self.now.net self.now.events }
         ensures bound { IfSome result (λ number. number ≤ MOST_CONTROL) }
@@ -210,15 +211,15 @@ impl<P: Policy + Copy> World<P> {
         self.state.network.mails.next()
     }
 
-    /// All that was published, the oldest first.
+    /// All tables that were published, the oldest first.
     pub fn publications(&self) -> &[Publication]
         ensures { result.now ≡ all_published (run (P.rules self.now.policy) self.now.net self.now.events) }
     {
         &self.state.network.publications
     }
 
-    /// The walk of a packet: its visits, the oldest first, and how it ended. None exactly where no packet with this
-    /// number entered the network; no end while it goes on. Takes no memory.
+    /// The walk of a packet: its visits, the oldest first, and its end. None exactly where no packet with this number
+    /// entered the network. The end is None while the walk goes on. Takes no memory.
     pub fn walk(&self, packet: u32) -> Option<(&[Visit], Option<End>)>
         ensures { option_map (λ walk. (walk.0.now, walk.1)) result
             ≡ walk_of packet (run (P.rules self.now.policy) self.now.net self.now.events) }
@@ -227,12 +228,12 @@ impl<P: Policy + Copy> World<P> {
         Some((journey.visits(), journey.end()))
     }
 
-    /// The world after one more event, and what came of it. Stops at a limit exactly where the
-    /// event would take a count above its number, unless memory is wanted first. A node that published lower
-    /// epochs alone publishes the table of an epoch in the step that completes its cut and the decision, as the last
-    /// thing of that step; in no other step does it publish. A crash stops a node, and loses the reports that it collected
-    /// and the ballots that it has open; a restart brings the node back; neither changes anything else. The cost is that of what the event touches: the node's
-    /// neighbours, and the prefix.
+    /// Does one more event, and returns the world and the outcome, which lists the effects. Stops at a limit exactly
+    /// where the event would take a count above its number, unless memory runs out first. A node that published only
+    /// tables of lower epochs publishes the table of an epoch in the step that completes its cut and the decision, as
+    /// the last fact of that step. It publishes in no other step. A crash stops a node, and loses the reports that it
+    /// collected and the ballots that it has open. A restart brings the node back. Neither changes anything else. The
+    /// cost is that of what the event touches: the node's neighbours, and the prefix.
     pub fn step(self, event: Event) -> Result<(World<P>, Outcome), Stop>
         requires { IsTrue (fits self.net event) }
         ensures world { IfOk result (λ r. r.0 ≡ record self { events = self.events ++ event ∷ [] }) }
@@ -260,8 +261,8 @@ impl<P: Policy + Copy> World<P> {
         Ok((World { state }, outcome))
     }
 
-    /// The world after its next delivery, and over which way that was; the same world and none where there is none.
-    /// Nobody is told what came of it, and so no list of it is made.
+    /// Does the next delivery without effects, and returns the world and the way of the delivery. Where there is no
+    /// delivery, returns the same world and None. A drain wants no effects, and this call makes no list of them.
     pub fn deliver_next(self) -> Result<(World<P>, Option<(NodeId, NodeId)>), Stop>
         ensures way { IfOk result (λ r. r.1 ≡ option_map (λ (way : Way). (way.from, way.to))
             (next_delivery self.net (run (P.rules self.policy) self.net self.events))) }

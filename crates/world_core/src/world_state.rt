@@ -1,4 +1,4 @@
-//! What a world keeps, which changes in place.
+//! The state of a world, which each step changes in place.
 ghost use Rattle.std.specs.Prelude.{◌≡◌, ◌<◌, ◌≤◌, [], ◌∷◌, ◌++◌, Some, None, length, option_map, IsTrue, IfOk, IfErr, IfSome, IfNone, OnOk};
 ghost use Rattle.topology.specs.declared.ways.Way.{Way};
 ghost use Rattle.chronicle.specs.Deliveries.{next_delivery};
@@ -21,18 +21,17 @@ use path_vector::Policy;
 use topology::limits::MOST_EVENTS;
 use topology::{LimitKind, NoMemory, NodeId};
 
-/// A network, which ways are open in it, and what happened in it.
+/// A network, its open ways, and the events so far.
 #[derive(Drop)]
 pub struct WorldState<P: Policy + Copy> {
     pub network: Network<P>,
-    /// The ways that are open: where something is on one, its delivery would not be idle.
+    /// The open ways. A way is open where the delivery of an item on it would not be idle.
     pub open_ways: WaySet,
     /// The events so far, the oldest first.
     pub events: Vec<Event>,
 }
 
-// Keeps one more event. A push that may fail gives its value back where it does, and so it is copied each time: room
-// is asked for first.
+// Adds an event. Reserve first, which saves a copy.
 #[inline(always)]
 fn keep(events: &mut Vec<Event>, event: Event) -> Result<(), NoMemory>
     ensures { OnOk result (events.new.items ≡ events.old.items ++ event ∷ []) }
@@ -43,7 +42,7 @@ fn keep(events: &mut Vec<Event>, event: Event) -> Result<(), NoMemory>
 }
 
 impl<P: Policy + Copy> WorldState<P> {
-    // Stops where there are as many events as there may be.
+    // Stops where the run has as many events as it may have.
     #[inline(always)]
     fn check_events(&self) -> Result<(), Stop>
         ensures ok { OnOk result (length self.now.events.items < MOST_EVENTS) }
@@ -55,7 +54,7 @@ impl<P: Policy + Copy> WorldState<P> {
         Ok(())
     }
 
-    /// One more event, and what came of it. After an `Err` the state is of no use.
+    /// Does the event, adds it to the events, and returns its outcome. After an `Err` the state is of no use.
     #[inline(always)]
     pub fn happen(&mut self, event: Event) -> Result<Outcome, Stop>
         requires holds { Holds P.rules self.old }
@@ -78,8 +77,8 @@ impl<P: Policy + Copy> WorldState<P> {
         Ok(outcome)
     }
 
-    /// The number of the way of the next delivery: the first open one on which something is. Takes no memory, and looks
-    /// at no channel.
+    /// The number of the way of the next delivery: the first open way with an item on it. Takes no memory, and reads no
+    /// channel.
     #[inline(always)]
     pub fn next(&self) -> Option<usize>
         requires { Holds P.rules self.now }
@@ -91,8 +90,8 @@ impl<P: Policy + Copy> WorldState<P> {
         self.open_ways.first_common(self.network.links.busy())
     }
 
-    /// The next delivery is made, and nobody is told what came of it; its way, and none where there is no delivery.
-    /// After an `Err` the state is of no use.
+    /// Does the next delivery without effects, and returns its way, or None where there is no delivery. After an `Err`
+    /// the state is of no use.
     #[inline(always)]
     pub fn deliver_next(&mut self) -> Result<Option<(NodeId, NodeId)>, Stop>
         requires { Holds P.rules self.old }

@@ -24,8 +24,8 @@ use path_vector::Policy;
 use topology::{LinkState, NodeId, Reason};
 
 impl<P: Policy + Copy> Network<P> {
-    // The oldest item on the way with this number arrives, where a delivery over the way would not be idle. What it did
-    // is told where it is asked for.
+    // Delivers the oldest item on the way with this number, on which a delivery would not be idle. Lists its effects
+    // where the caller wants them.
     #[inline(always)]
     pub(crate) fn take(
         &mut self,
@@ -67,7 +67,7 @@ impl<P: Policy + Copy> Network<P> {
         )
     }
 
-    // The number of the way, where it is open and something is on it.
+    // The number of the way, where it is open and has an item on it.
     #[inline(always)]
     fn waiting_way(&self, from: NodeId, to: NodeId, open_ways: &WaySet) -> Option<usize>
         ensures placed { IfSome result (IsPlaced self.now.links from to) }
@@ -84,7 +84,7 @@ impl<P: Policy + Copy> Network<P> {
         Some(way)
     }
 
-    // A delivery: over an open way on which something is it asks nothing but its channel.
+    // Delivers the oldest item on the way. Over an open way with an item on it, it reads the channel alone.
     fn pass_over(&mut self, from: NodeId, to: NodeId, open_ways: &WaySet) -> Result<Outcome, Stop>
         requires near { linked self.old.topology.value from to ≡ true }
         requires places { HasPlaces self.old.topology.value (length self.old.nodes.items) }
@@ -108,8 +108,8 @@ impl<P: Policy + Copy> Network<P> {
         self.take(from, to, way, Wanted::Effects)
     }
 
-    /// Does the event, and answers what came of it, where these ways are open. They are not looked at again. After an
-    /// `Err` the network is of no use.
+    /// Does the event, and returns its outcome. Reads the open ways, and does not update them. After an `Err` the
+    /// network is of no use.
     pub fn advance(&mut self, event: &Event, open_ways: &WaySet) -> Result<Outcome, Stop>
         requires fits { IsTrue (fits self.old.topology.value event.now) }
         requires places { HasPlaces self.old.topology.value (length self.old.nodes.items) }

@@ -1,4 +1,4 @@
-//! What each event does to the nodes, the links and the control messages.
+//! What each event does to the network.
 ghost use Rattle.std.specs.Prelude.{◌≡◌, ◌∷◌, false, true, Some, None, length, IsTrue, OnOk, IfOk, IfErr, if◌then◌else◌};
 ghost use Rattle.topology.specs.Net.{linked};
 ghost use Rattle.chronicle.specs.Facts.{Chronicle, Crash};
@@ -46,8 +46,7 @@ fn is_session(held: Option<Session>, session: Session) -> bool
 }
 
 impl<P: Policy + Copy> Network<P> {
-    /// Does the event, and answers what came of it. The ways that are open are not looked at again. After
-    /// an `Err` the network is of no use.
+    /// Does the event, and returns its outcome. Does not update the open ways. After an `Err` the network is of no use.
     pub fn happen(&mut self, event: &Event) -> Result<Outcome, Stop>
         requires fits { IsTrue (fits self.old.topology.value event.now) }
         requires places { HasPlaces self.old.topology.value (length self.old.nodes.items) }
@@ -71,7 +70,7 @@ impl<P: Policy + Copy> Network<P> {
         self.act(event)
     }
 
-    // A delivery of a control message is counted, whatever comes of it.
+    // Counts the delivery of a control message, also where it is idle.
     fn count(&mut self, event: &Event)
         ensures others { IsAsWas self.old self.new }
         ensures kept { KeepsAllButMails self.old self.new }
@@ -84,7 +83,7 @@ impl<P: Policy + Copy> Network<P> {
         }
     }
 
-    // The node, where it is a consolidator: no other proposes.
+    // The node, where it is a consolidator. No other node proposes a value.
     fn proposer(&self, node: NodeId) -> Option<NodeId>
         ensures { result ≡ (if has self.now.topology.value.consolidators node then Some node else None) }
     {
@@ -94,14 +93,14 @@ impl<P: Policy + Copy> Network<P> {
         None
     }
 
-    // The node to which the control message goes, where there is one with the number.
+    // The addressee of the control message with this number. None where no message has the number.
     fn addressee(&self, number: u32) -> Option<NodeId>
         ensures { InEachRun (P.rules self.now.policy) self.now (λ past. result ≡ addressee number past) }
     {
         Some(self.mails.kept(number)?.mail.to)
     }
 
-    // The node that has to run for the event, if there is one.
+    // The node that must run for the event. None where no node must run.
     fn actor(&self, event: &Event) -> Option<NodeId>
         ensures { InEachRun (P.rules self.now.policy) self.now (λ past.
             result ≡ actor self.now.topology.value past event.now) }
@@ -124,7 +123,7 @@ impl<P: Policy + Copy> Network<P> {
         }
     }
 
-    // Whether the node that has to run for the event is crashed.
+    // Whether the node that must run for the event is crashed.
     fn is_stopped(&self, event: &Event) -> bool
         ensures { InEachRun (P.rules self.now.policy) self.now (λ past.
             IsTrue (fits self.now.topology.value event.now) →
@@ -150,7 +149,7 @@ impl<P: Policy + Copy> Network<P> {
         }
     }
 
-    // Does the event, whose node runs.
+    // Does the event. Its node runs.
     fn act(&mut self, event: &Event) -> Result<Outcome, Stop>
         requires fits { IsTrue (fits self.old.topology.value event.now) }
         requires places { HasPlaces self.old.topology.value (length self.old.nodes.items) }
@@ -206,7 +205,7 @@ impl<P: Policy + Copy> Network<P> {
         self.nodes.get(rank)?.log().held(nbr)
     }
 
-    /// The session in which the oldest item on its way would arrive, or why a delivery does nothing.
+    /// The session in which the oldest item on the way would arrive, or the reason for which a delivery is idle.
     pub fn arrival(&self, from: NodeId, to: NodeId) -> Result<Session, Reason>
         ensures session { IfOk result (λ s. InEachRun (P.rules self.now.policy) self.now (λ past.
             linked self.now.topology.value from to ≡ true → MayArrive past from to s)) }
@@ -230,7 +229,7 @@ impl<P: Policy + Copy> Network<P> {
         Ok(session)
     }
 
-    // The oldest item on its way from the one node to the other arrives.
+    // Delivers the oldest item on the way from the one node to the other.
     fn deliver(&mut self, from: NodeId, to: NodeId) -> Result<Outcome, Stop>
         requires near { linked self.old.topology.value from to ≡ true }
         requires places { HasPlaces self.old.topology.value (length self.old.nodes.items) }
@@ -256,7 +255,7 @@ impl<P: Policy + Copy> Network<P> {
         )
     }
 
-    // The node gives the candidates of its neighbour this preference.
+    // The node sets its preference for the candidates of the neighbour.
     fn prefer(&mut self, node: NodeId, nbr: NodeId, value: u32) -> Result<Outcome, Stop>
         requires near { linked self.old.topology.value node nbr ≡ true }
         requires places { HasPlaces self.old.topology.value (length self.old.nodes.items) }
@@ -267,7 +266,7 @@ impl<P: Policy + Copy> Network<P> {
         self.give(node, Input::Prefer { nbr, value }, Wanted::Effects)
     }
 
-    // The node notices that the link does not carry the session that it holds, and closes it.
+    // The node notices that the link does not carry the session that it holds, and closes the session.
     fn notice(&mut self, node: NodeId, nbr: NodeId) -> Result<Outcome, Stop>
         requires near { linked self.old.topology.value node nbr ≡ true }
         requires places { HasPlaces self.old.topology.value (length self.old.nodes.items) }
@@ -281,7 +280,7 @@ impl<P: Policy + Copy> Network<P> {
         self.give(node, Input::Notice(nbr), Wanted::Effects)
     }
 
-    // The node sends its neighbour what it holds back from it.
+    // The node sends the updates that it holds back from the neighbour.
     fn flush(&mut self, node: NodeId, nbr: NodeId) -> Result<Outcome, Stop>
         requires near { linked self.old.topology.value node nbr ≡ true }
         requires places { HasPlaces self.old.topology.value (length self.old.nodes.items) }
@@ -292,7 +291,7 @@ impl<P: Policy + Copy> Network<P> {
         self.give(node, Input::Flush(nbr), Wanted::Effects)
     }
 
-    // A copy of the control message comes to its addressee.
+    // Delivers a copy of the control message to its addressee.
     fn control(&mut self, number: u32) -> Result<Outcome, Stop>
         requires places { HasPlaces self.old.topology.value (length self.old.nodes.items) }
         requires mails { HasMails self.old.topology.value self.old.mails }
@@ -325,7 +324,7 @@ impl<P: Policy + Copy> Network<P> {
         self.give(node, Input::OpenSession { nbr, session }, Wanted::Effects)
     }
 
-    // The link fails: what is on its way over it is lost.
+    // The link fails, and loses the items on it.
     fn fail(&mut self, a: NodeId, b: NodeId) -> Outcome
         requires { linked self.old.topology.value a b ≡ true }
         ensures others { IsAsWas self.old self.new }
@@ -354,7 +353,7 @@ impl<P: Policy + Copy> Network<P> {
         Outcome::Did(unseen)
     }
 
-    // Puts down that the node is crashed, or that it is not.
+    // Sets whether the node is crashed.
     fn set_crashed(&mut self, node: NodeId, is: bool)
         requires node { has self.old.topology.value.nodes node ≡ true }
         requires flags { HasPlaces self.old.topology.value (length self.old.crashed.items) }
@@ -367,7 +366,7 @@ impl<P: Policy + Copy> Network<P> {
         self.crashed[rank] = is;
     }
 
-    // The node loses what it loses in a crash.
+    // The node loses the reports and ballots that a crash loses.
     fn forget(&mut self, node: NodeId)
         requires node { has self.old.topology.value.nodes node ≡ true }
         requires places { HasPlaces self.old.topology.value (length self.old.nodes.items) }
@@ -382,7 +381,7 @@ impl<P: Policy + Copy> Network<P> {
         self.nodes[rank].lose_tallies();
     }
 
-    // The node stops.
+    // The node crashes.
     fn crash(&mut self, node: NodeId) -> Outcome
         requires node { has self.old.topology.value.nodes node ≡ true }
         requires places { HasPlaces self.old.topology.value (length self.old.nodes.items) }
@@ -398,7 +397,7 @@ impl<P: Policy + Copy> Network<P> {
         Outcome::Did(unseen)
     }
 
-    // The node runs again.
+    // The node restarts.
     fn restart(&mut self, node: NodeId) -> Outcome
         requires node { has self.old.topology.value.nodes node ≡ true }
         requires flags { HasPlaces self.old.topology.value (length self.old.crashed.items) }

@@ -1,4 +1,4 @@
-//! A node of the network is given an input.
+//! Gives a node of the network an input.
 ghost use Rattle.std.specs.Prelude.{ℕ, ◌≡◌, ◌<◌, ◌≤◌, true, false, Some, length, slice_get, OnOk, IfOk, IfErr};
 ghost use Rattle.topology.specs.Lists.{ascending, has};
 ghost use Rattle.topology.specs.Net.{Net};
@@ -25,7 +25,7 @@ use topology::limits::{MOST_CONTROL, MOST_MARKS, MOST_PACKETS};
 use topology::{LimitKind, NodeId};
 
 impl<P: Policy + Copy> Network<P> {
-    // Stops where more control messages were sent than may be.
+    // Stops where more control messages were sent than a run may have.
     fn check_control(&self) -> Result<(), Stop>
         ensures ok { OnOk result ((past : Chronicle) (counts : Counts) →
             AreMails self.now.topology.value past counts self.now.mails → length (mailed past) ≤ MOST_CONTROL) }
@@ -38,7 +38,7 @@ impl<P: Policy + Copy> Network<P> {
         Ok(())
     }
 
-    // Stops where more packets entered the network than may.
+    // Stops where more packets entered the network than a run may have.
     fn check_packets(&self) -> Result<(), Stop>
         ensures ok { OnOk result ((past : Chronicle) → AreWalks self.now.topology.value past self.now.walks → packets past ≤ MOST_PACKETS) }
         ensures stopped { IfErr result (λ stop. (stop ≡ Stop.Limit LimitKind.Packets MOST_PACKETS) × ((past : Chronicle) →
@@ -67,8 +67,8 @@ impl<P: Policy + Copy> Network<P> {
         }
     }
 
-    /// The node handles the input: what it hands out goes over the links, or is lost there. What it did is told where
-    /// it is asked for. After an `Err` the network is of no use.
+    /// The node handles the input, and the network handles the node's outputs. Lists the effects where the caller wants
+    /// them. After an `Err` the network is of no use.
     #[inline(always)]
     pub fn give(&mut self, node: NodeId, input: Input, wanted: Wanted) -> Result<Outcome, Stop>
         requires node { has self.old.topology.value.nodes node ≡ true }

@@ -1,4 +1,4 @@
-//! How many events and triggers a run may have.
+//! The limit on the triggers of a run, beside the limits of one node.
 ghost use Rattle.std.specs.Prelude.{◌≡◌, ◌≤◌, ◌<◌, ◌+◌, ◌-◌, IfOk, IfErr};
 ghost use Rattle.node_core.specs.Inputs.{input_of};
 ghost use Rattle.topology.specs.declared.limits.TheConstants.{MOST_TRIGGERS};
@@ -9,7 +9,7 @@ use node_core::{Input, Stop as NodeStop};
 use topology::limits::MOST_TRIGGERS;
 use topology::{Item, LimitKind};
 
-/// Whether an entry that the input makes gets a trigger of its node: any but that of an update, or of a flush.
+/// Whether an entry of this input gets a trigger of its node. Entries of updates and of flushes do not.
 pub fn is_local(input: &Input) -> bool
     ensures { result ≡ makes_local (input_of input.now) }
 {
@@ -22,8 +22,8 @@ pub fn is_local(input: &Input) -> bool
     )
 }
 
-/// The triggers of all nodes, where the next trigger of one had this count before, and has that one
-/// after. Stops where they are too many.
+/// The number of triggers of all nodes, after the next trigger of one node went from the count `before` to the count
+/// `after`. Stops where the number is above its limit.
 pub fn counted(triggers: u32, before: u32, after: u32) -> Result<u32, Stop>
     ensures ok { IfOk result (λ total. (total ≡ triggers + (after - before)) × (total ≤ MOST_TRIGGERS)) }
     ensures stopped { IfErr result (λ stop. (stop ≡ Stop.Limit LimitKind.Triggers MOST_TRIGGERS) × (MOST_TRIGGERS < triggers + (after - before))) }
@@ -35,8 +35,8 @@ pub fn counted(triggers: u32, before: u32, after: u32) -> Result<u32, Stop>
     Ok(total)
 }
 
-/// The stop of the run where a node stops. The triggers of all nodes come after the epochs of one, and
-/// before its entries: an entry that is one too many for its node may be one too many for all.
+/// The stop of the run where a node stops. The limit on the triggers of all nodes stands behind the epochs of a node
+/// and before its entries, so a run may stop at its triggers where the node stops at its entries.
 pub fn stop_of(triggers: u32, is_local: bool, stop: NodeStop) -> Stop
     ensures { result ≡ run_stop triggers is_local stop }
 {

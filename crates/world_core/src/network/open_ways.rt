@@ -1,4 +1,4 @@
-//! After an event the ways that it may have opened or closed are looked at again.
+//! Updates the set of open ways after an event.
 ghost use Rattle.std.specs.Prelude.{◌≡◌, true, ◌∷◌, ◌++◌, [], List, IfSome, IsTrue, IfNone, if◌then◌else◌};
 ghost use Rattle.topology.specs.declared.ways.Way.{Way as Direction};
 ghost use Rattle.topology.specs.Net.{Net, linked};
@@ -17,8 +17,8 @@ use link_model::WaySet;
 use path_vector::Policy;
 use topology::{NodeId, Way};
 
-// The way over the link of the event, where the event opens or closes the link or a session over it: to the node whose
-// session that is. One of the two where the link changes.
+// The way that the event may open or close: over its link, to the node whose session it opens or closes. Where the
+// event fails or restores the link, one of the two ways. None where the event changes neither link nor session.
 fn way_of(event: &Event) -> Option<Way>
     ensures some { IfSome result (λ one. link_ways event.now ≡ one ∷ (if is_outage event.now then way one.to one.from ∷ [] else [])) }
     ensures none { IfNone result (link_ways event.now ≡ []) }
@@ -45,7 +45,7 @@ fn is_outage(event: &Event) -> bool
     matches!(event, Event::Fail { .. } | Event::Restore { .. })
 }
 
-// The node that the event stops, or starts again.
+// The node that the event crashes or restarts.
 fn node_of(event: &Event) -> Option<NodeId>
     ensures some { IfSome result (λ node. (net : Net) → node_ways net event.now ≡ ways_to net node) }
     ensures none { IfNone result ((net : Net) → node_ways net event.now ≡ []) }
@@ -63,7 +63,7 @@ fn node_of(event: &Event) -> Option<NodeId>
 }
 
 impl<P: Policy + Copy> Network<P> {
-    // Whether the way is open: where something is on it, its delivery would not be idle.
+    // Whether the way is open: the delivery of an item on it would not be idle.
     fn opens(&self, way: &Way) -> bool
         ensures { (past : Chronicle) (counts : Counts) → Stands (P.rules self.now.policy) past counts self.now →
             linked self.now.topology.value way.now.from way.now.to ≡ true →
@@ -78,7 +78,7 @@ impl<P: Policy + Copy> Network<P> {
         )
     }
 
-    // Looks at the way again, of which nothing is known.
+    // Updates the set for this way.
     fn look(&self, way: &Way, open_ways: &mut WaySet)
         ensures { (past : Chronicle) (counts : Counts) (turned : List Direction) → Stands (P.rules self.now.policy) past counts self.now →
             AreOpenBut self.now.topology.value past (way.now ∷ turned) (has_way self.now.topology.value open_ways.old) →
@@ -90,7 +90,7 @@ impl<P: Policy + Copy> Network<P> {
         open_ways.put(number, self.opens(way));
     }
 
-    // Looks again at each way to the node.
+    // Updates the set for each way to the node.
     fn look_at_node(&self, node: NodeId, open_ways: &mut WaySet)
         ensures { (past : Chronicle) (counts : Counts) (turned : List Direction) → Stands (P.rules self.now.policy) past counts self.now →
             AreOpenBut self.now.topology.value past (ways_to self.now.topology.value node ++ turned) (has_way self.now.topology.value open_ways.old) →
@@ -105,7 +105,7 @@ impl<P: Policy + Copy> Network<P> {
         }
     }
 
-    // Looks again at the ways to the node of the event, where the event stops it or starts it again.
+    // Updates the set for each way to the node that the event crashes or restarts.
     fn look_at_turned(&self, event: &Event, open_ways: &mut WaySet)
         ensures { (past : Chronicle) (counts : Counts) (turned : List Direction) → Stands (P.rules self.now.policy) past counts self.now →
             AreOpenBut self.now.topology.value past (node_ways self.now.topology.value event.now ++ turned) (has_way self.now.topology.value open_ways.old) →
@@ -117,7 +117,7 @@ impl<P: Policy + Copy> Network<P> {
         self.look_at_node(node, open_ways);
     }
 
-    // Looks again at the ways over the link of the event that it may have opened or closed.
+    // Updates the set for the ways over the link of the event that the event may have opened or closed.
     fn look_at_link(&self, event: &Event, open_ways: &mut WaySet)
         ensures { (past : Chronicle) (counts : Counts) → Stands (P.rules self.now.policy) past counts self.now →
             AreOpenBut self.now.topology.value past (link_ways event.now) (has_way self.now.topology.value open_ways.old) →
@@ -136,9 +136,9 @@ impl<P: Policy + Copy> Network<P> {
         }
     }
 
-    /// Looks again at the ways that are open, after the event. Only those are looked at that the event may have opened or
-    /// closed: one way over its link, or both where the link changes, and those to its node where that stops or starts
-    /// again.
+    /// Updates the set of open ways after the event. It looks only at the ways that the event may have opened or
+    /// closed: one way over its link, both ways where the link fails or is restored, and the ways to a node that
+    /// crashes or restarts.
     pub fn refresh(&self, event: &Event, open_ways: &mut WaySet)
         requires { IsTrue (fits self.now.topology.value event.now) }
         ensures { (past : Chronicle) (counts : Counts) →

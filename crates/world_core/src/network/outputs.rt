@@ -1,4 +1,5 @@
-//! What a node hands out goes to the links, to the control network and to the account of the event.
+//! The outputs of a node go to the links, the control network, the publications and the packets, and their effects to
+//! the account.
 ghost use Rattle.std.specs.Prelude.{◌≡◌, ◌∷◌, ◌++◌, [], ℕ, suc, Bool, true, is_some, List, Some, map, length, IfOk, OnOk, if◌then◌else◌};
 ghost use Rattle.topology.specs.LinkStates.{carries};
 ghost use Rattle.topology.specs.Lists.{has};
@@ -36,7 +37,7 @@ use std::rc::Rc;
 use topology::{NoMemory, NodeId};
 use trigger_log::Outgoing;
 
-// What is shown of an item.
+// The effect of an item that was sent.
 fn shown(from: NodeId, to: NodeId, queued: bool) -> Effect
     ensures { result ≡ (if queued then Queued from to else Lost from to) }
 {
@@ -46,7 +47,7 @@ fn shown(from: NodeId, to: NodeId, queued: bool) -> Effect
     Effect::Lost { from, to }
 }
 
-// Sends an item: it is queued where the link carries its session, and lost elsewhere.
+// Sends an item. The item is queued where the link carries its session, and lost otherwise.
 #[inline(always)]
 fn send(
     from: NodeId,
@@ -66,7 +67,7 @@ fn send(
     Ok(())
 }
 
-// Posts a control message: it gets the next number.
+// Posts a control message under the next number.
 fn post(from: NodeId, mail: Mail, mails: &mut Mails, account: &mut Account) -> Result<(), NoMemory>
     ensures wanted { OnOk result (account.new.wanted ≡ account.old.wanted) }
     ensures done { OnOk result ((net : Net) (past : Chronicle) (counts : Counts) → AreMails net past counts mails.old →
@@ -80,7 +81,7 @@ fn post(from: NodeId, mail: Mail, mails: &mut Mails, account: &mut Account) -> R
     Ok(())
 }
 
-// Keeps what a node published.
+// Keeps a table that a node published.
 fn publish(
     alloc: Global,
     node: NodeId,
@@ -99,7 +100,7 @@ fn publish(
     Ok(())
 }
 
-// A packet comes to a node, or leaves the tables there.
+// A packet comes to a node, or leaves the stable tables there.
 fn forward(
     next: NodeId,
     packet: Box<Packet>,
@@ -137,8 +138,8 @@ fn end(number: u32, end: End, walks: &mut Walks, account: &mut Account) -> Resul
 }
 
 impl<P: Policy + Copy> Network<P> {
-    // Hands on one output of a node: an item is sent, a control message posted, a table kept, and a packet passed on;
-    // an entry, a cut and the end of a walk are told.
+    // Handles one output of a node, and adds its effect. It sends an item, posts a control message, keeps a table,
+    // passes a packet on, or ends a walk. An entry and a cut change the account alone.
     #[inline(always)]
     fn hand(&mut self, node: NodeId, output: Output, account: &mut Account) -> Result<(), NoMemory>
         ensures kept { OnOk result (KeepsNodes self.old self.new) }
@@ -163,7 +164,7 @@ impl<P: Policy + Copy> Network<P> {
         Ok(())
     }
 
-    // Hands on an entry and what goes out with it.
+    // Handles an entry, then the items that go out with it.
     #[inline(always)]
     fn hand_entry(
         &mut self,
@@ -189,7 +190,7 @@ impl<P: Policy + Copy> Network<P> {
         Ok(())
     }
 
-    // Hands on what stands first, if it is an entry.
+    // Handles the entry that stands first among the outputs, if one does.
     #[inline(always)]
     fn hand_first(
         &mut self,
@@ -212,8 +213,8 @@ impl<P: Policy + Copy> Network<P> {
         }
     }
 
-    // Hands on the outputs that are left, in their order, behind those that were handed on before. Most inputs hand out an
-    // entry and items alone: what else there is stays out of their way.
+    // Handles the outputs behind the first entry, in their order. It is a call of its own, as most inputs have no such
+    // outputs.
     #[inline(never)]
     fn hand_more(&mut self, node: NodeId, account: &mut Account) -> Result<(), NoMemory>
         ensures kept { OnOk result (KeepsNodes self.old self.new) }
@@ -233,7 +234,7 @@ impl<P: Policy + Copy> Network<P> {
         Ok(())
     }
 
-    /// Hands on the outputs of a node, in their order, and tells what they did where it is asked.
+    /// Handles the outputs of a node, in their order, and returns their effects where the caller wants them.
     #[inline(always)]
     pub fn hand_all(&mut self, node: NodeId, wanted: Wanted) -> Result<Vec<Effect>, NoMemory>
         ensures kept { OnOk result (KeepsNodes self.old self.new) }

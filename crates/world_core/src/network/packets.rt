@@ -26,7 +26,7 @@ pub(crate) fn is_up(state: LinkState) -> bool
 }
 
 impl<P: Policy + Copy> Network<P> {
-    /// The node where the packet enters the network: none where the packet is known.
+    /// The node where the packet enters the network. None where a packet with its number has entered before.
     pub fn entrance(&self, packet: u32, node: NodeId) -> Option<NodeId>
         ensures { (past : Chronicle) → AreWalks self.now.topology.value past self.now.walks →
             result ≡ (if is_some (standing packet past) then None else Some node) }
@@ -37,7 +37,7 @@ impl<P: Policy + Copy> Network<P> {
         Some(node)
     }
 
-    /// The node where the packet stands, while its walk goes on.
+    /// The node where the packet stands. None before the packet enters, and after its walk has ended.
     pub fn stand(&self, packet: u32) -> Option<NodeId>
         ensures { (past : Chronicle) → AreWalks self.now.topology.value past self.now.walks →
             result ≡ stands_at (standing packet past) (ending packet past) }
@@ -64,7 +64,7 @@ impl<P: Policy + Copy> Network<P> {
         Ok(up)
     }
 
-    /// The packet enters the network at the node, unless one with its number did.
+    /// The packet enters the network at the node, unless a packet with its number has entered before.
     pub fn inject(&mut self, packet: u32, node: NodeId, prefix: PrefixId) -> Result<Outcome, Stop>
         requires node { has self.old.topology.value.nodes node ≡ true }
         requires prefix { prefix < length self.old.topology.value.prefixes }
@@ -84,8 +84,8 @@ impl<P: Policy + Copy> Network<P> {
         self.give(node, Input::Inject { id: packet, prefix }, Wanted::Effects)
     }
 
-    /// The packet goes on from the node where it stands, unless its walk has ended. The node gets the packet itself:
-    /// after an `Err` it is gone, as the network is of no use then.
+    /// The packet goes on from the node where it stands, unless its walk has ended. The node gets the packet itself, so
+    /// after an `Err` the packet is gone and the network is of no use.
     pub fn hop(&mut self, packet: u32) -> Result<Outcome, Stop>
         requires places { HasPlaces self.old.topology.value (length self.old.nodes.items) }
         requires walks { HasWalks self.old.topology.value self.old.walks }

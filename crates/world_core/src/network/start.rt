@@ -1,4 +1,4 @@
-//! A network in which nothing has happened.
+//! A network before its first event.
 ghost use Rattle.std.specs.Prelude.{◌≡◌, [], IfOk};
 ghost use Rattle.world_core.specs.Matching.{AreCrashed, AreNodes, Stands};
 ghost use Rattle.world_core.specs.Counting.{no_deliveries};
@@ -13,7 +13,7 @@ use std::alloc::Global;
 use std::rc::Rc;
 use topology::{NoMemory, Topology};
 
-// The nodes when nothing has happened, each at its rank.
+// The nodes before the first event, each at its rank.
 fn fresh_nodes<P: Policy + Copy>(
     alloc: Global,
     topology: &Rc<Topology>,
@@ -28,7 +28,7 @@ fn fresh_nodes<P: Policy + Copy>(
     Ok(nodes)
 }
 
-// No node is crashed when nothing has happened.
+// The flags of crashed nodes before the first event: no node is crashed.
 fn running(alloc: Global, topology: &Topology) -> Result<Vec<bool>, NoMemory>
     ensures { IfOk result (λ flags. AreCrashed topology.now [] flags.items) }
 {
@@ -36,7 +36,7 @@ fn running(alloc: Global, topology: &Topology) -> Result<Vec<bool>, NoMemory>
 }
 
 impl<P: Policy + Copy> Network<P> {
-    /// The network in which nothing has happened.
+    /// The network before its first event.
     pub fn new(alloc: Global, topology: Rc<Topology>, policy: P) -> Result<Network<P>, NoMemory>
         ensures stands { IfOk result (λ network. Stands (P.rules network.policy) [] no_deliveries network) }
         ensures policy { IfOk result (λ network. network.policy ≡ policy) }

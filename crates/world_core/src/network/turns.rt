@@ -1,4 +1,4 @@
-//! A node takes its turn.
+//! One node of the list handles an input.
 ghost use Rattle.std.specs.Prelude.{◌≡◌, ◌<◌, Some, length, slice_get, slice_set, IfOk, IfErr};
 ghost use Rattle.std.specs.Vec.{vec_capacity, vec_len};
 ghost use Rattle.world_core.specs.Turning.{Handles, IsStopped, returned};
@@ -10,7 +10,7 @@ use path_vector::Policy;
 use std::mem;
 use topology::Reason;
 
-// Puts the node back at its rank, and the one that took its place back at the end, for which there is room.
+// Puts the node back at its rank, and the node that took its place back at the end. The list has room for it.
 #[inline(always)]
 fn put_back<P: Policy + Copy>(nodes: &mut Vec<Node<P>>, rank: usize, node: Node<P>)
     requires room { vec_len nodes.old < vec_capacity nodes.old }
@@ -24,8 +24,9 @@ fn put_back<P: Policy + Copy>(nodes: &mut Vec<Node<P>>, rank: usize, node: Node<
     nodes.push_reserved(other);
 }
 
-/// The node at this rank handles the input, with its outputs in the list, or the reason for which it does nothing; the
-/// others stay. The node moves out of the list and back, which copies nothing that it holds.
+/// The node at this rank handles the input. Its outputs are in the list `outputs` then. Returns the reason where the
+/// node does nothing. The other nodes stay as they are. The node moves out of the list and back, which copies two
+/// words.
 #[inline(always)]
 pub fn turn<P: Policy + Copy>(
     nodes: &mut Vec<Node<P>>,
