@@ -183,12 +183,12 @@ most_so_far rows q row s t w f some within is before one more =
 
 -- ---- the steps of the whole
 
--- up to the graph, and with the search
-pub steps_searched : (names : List Trigger) (rs : List Report) (os : List OpenTrigger) (roots : List ℕ) (graph : List (List ℕ)) (before named rows wired searched : ℕ)
-    → named ≤ before + (rows_of rs + triggers_of rs + length os) → rows ≤ named + (rows_of rs + triggers_of rs) → wired ≤ rows + length os
+-- from the names on: up to the graph, and with the search
+pub steps_searched : (names : List Trigger) (rs : List Report) (os : List OpenTrigger) (roots : List ℕ) (graph : List (List ℕ)) (named rows wired searched : ℕ)
+    → rows ≤ named + (rows_of rs + triggers_of rs) → wired ≤ rows + length os
     → roots ≡ roots_of names os → graph ≡ wire_open names (graph_of_rows names rs) os → searched ≤ wired + (length roots + edges graph)
-    → searched ≤ before + (2 * rows_of rs + 4 * triggers_of rs + 3 * length os)
-steps_searched names rs os roots graph before named rows wired searched a b c is made d =
+    → searched ≤ named + (rows_of rs + 3 * triggers_of rs + 2 * length os)
+steps_searched names rs os roots graph named rows wired searched b c is made d =
     let all = graph_edges names rs os in
     let these = ap edges made in
     let those = ap length is in

@@ -1,5 +1,5 @@
 -- Receipts: what they show of an item.
-use Rattle.std.proofs.Common.{ℕ, zero, suc, ◌≤◌, ◌⊎◌, inl, inr, Bool, nat_lt, Option, Some, List, [], ◌∷◌, ◌++◌, map, slice_get, ◌≡◌, refl, sym, ◌∙◌, ap, ap₂, subst, arith, true, false}
+use Rattle.std.proofs.Common.{ℕ, zero, suc, ◌≤◌, ◌⊎◌, inl, inr, Bool, nat_lt, Some, List, [], ◌∷◌, ◌++◌, map, slice_get, ◌≡◌, refl, sym, ◌∙◌, ap, ap₂, subst, arith, true, false}
 use Rattle.std.specs.Prelude.{if◌then◌else◌}
 use Rattle.std.proofs.lemmas.Bool.Decides.{nat_tests}
 use Rattle.topology.specs.declared.items.Sent.{Sent}

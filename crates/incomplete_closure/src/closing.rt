@@ -6,11 +6,12 @@ ghost use Rattle.incomplete_closure.specs.Seen.{reports_seen};
 ghost use Rattle.incomplete_closure.specs.Values.{IsValue};
 ghost use Rattle.incomplete_closure.specs.Collecting.{value_of};
 ghost use Rattle.incomplete_closure.specs.Collection.{collect_names};
-ghost use Rattle.incomplete_closure.specs.Graphs.{has_seen};
+ghost use Rattle.incomplete_closure.specs.Graphs.{has_seen, IsReached};
 ghost use Rattle.incomplete_closure.specs.Opening.{is_start, open_triggers};
 ghost use Rattle.incomplete_closure.specs.Closed.{IsLeast};
 ghost use Rattle.incomplete_closure.specs.Together.{OfOneEpoch, nodes_of};
 ghost use Rattle.incomplete_closure.specs.Sizes.{rows_of, triggers_of, entries_of, size_of};
+ghost use Rattle.incomplete_closure.specs.Wiring.{wire_open, roots_of, graph_of_rows};
 
 use crate::collection::Collection;
 use crate::names::Names;
@@ -52,6 +53,25 @@ fn has_start(opened: &[OpenTrigger]) -> bool
     false
 }
 
+// The triggers that the search finds from what is open, by their numbers.
+fn reach<L: Ledger>(
+    alloc: Global,
+    names: &Names,
+    reports: &[Rc<Report>],
+    opened: &[OpenTrigger],
+    steps: &mut Steps<L>,
+) -> Result<Reached, NoMemory>
+    ensures reached { IfOk result (IsReached
+        (wire_open names.now (graph_of_rows names.now (map rc_value reports.now)) opened.now) (roots_of names.now opened.now)) }
+    ensures most { steps.new ≤ steps.old + (rows_of (map rc_value reports.now)
+        + 3 * triggers_of (map rc_value reports.now) + 2 * length opened.now) }
+    ensures more { steps.old ≤ steps.new }
+{
+    let mut graph = graph_of_rows(alloc, names, reports, steps)?;
+    let roots = wire_open(alloc, &mut graph, names, opened, steps)?;
+    search(alloc, &mut graph, &roots, steps)
+}
+
 // The incomplete triggers, if these are open.
 fn lead_on<L: Ledger>(
     alloc: Global,
@@ -65,11 +85,8 @@ fn lead_on<L: Ledger>(
     ensures more { steps.old ≤ steps.new }
 {
     let names = Names::of(alloc, reports, opened, steps)?;
-    let mut graph = graph_of_rows(alloc, &names, reports, steps)?;
-    let roots = wire_open(alloc, &mut graph, &names, opened, steps)?;
-    let reached = search(alloc, &mut graph, &roots, steps)?;
-    let collection = collect(alloc, &names, &reached)?;
-    Ok(collection)
+    let reached = reach(alloc, &names, reports, opened, steps)?;
+    collect(alloc, &names, &reached)
 }
 
 // The incomplete triggers. If no chain of blocked triggers can begin, there are none, and no graph is built.
