@@ -28,9 +28,9 @@ impl HeldBack {
     {
         let near = topology.neighbours(node);
         let mut from = Vec::new(alloc);
-        for i in 0..near.len() {
-            if topology.holds(node, near[i]) {
-                from.push(near[i])?;
+        for nbr in near {
+            if topology.holds(node, *nbr) {
+                from.push(*nbr)?;
             }
         }
         Ok(HeldBack {
