@@ -1,5 +1,6 @@
 -- Parts of all epochs.
-use Rattle.std.proofs.Common.{ℕ, suc, true, false, Bool, ◌≡◌, ◌==◌, ◌<◌, ◌++◌, ◌||◌, refl, sym, ◌∙◌, ap, subst, arith, Some, List, [], ◌∷◌, length, map, set, get_or, not, if◌then◌else◌}
+use Rattle.std.proofs.Common.{ℕ, suc, true, false, Bool, ◌≡◌, ◌==◌, ◌<◌, ◌++◌, ◌||◌, refl, sym, ◌∙◌, ap, subst, arith, Some, List, [], ◌∷◌, length, map, set, get_or, not, if◌then◌else◌, Result, Ok, Err}
+use Rattle.std.specs.Result.{IfOk}
 use Rattle.std.proofs.lemmas.Bool.Decides.{nat_tests}
 use Rattle.topology.specs.declared.status.Reason.TheVariants as reason
 use Rattle.topology.specs.Lists.{has, ascending}
@@ -19,6 +20,11 @@ use Rattle.consolidator.specs.Replies.{Says}
 use Rattle.consolidator.specs.Standing.{IsPart, AreParts, StandsFor, Hears, HearsAll, ProposesAll, Handles, Proposes}
 use Rattle.consolidator.proofs.Parting.{crashes, nothing_stands}
 use Rattle.consolidator.proofs.Projecting.{hears_other, proposes_other, proposes_in, asks_so}
+
+-- a fact of the value of a call, from two others
+pub ok_from_two : {A E : Type 0} (r : Result A E) (P Q R : A → Type 0) → ((a : A) → P a → Q a → R a) → IfOk r P → IfOk r Q → IfOk r R
+ok_from_two (Ok a) P Q R both p q = both a p q
+ok_from_two (Err e) P Q R both p q = tt
 
 same_number : (e : ℕ) → (e == e) ≡ true
 same_number e = grind (arith, nat_tests)

@@ -87,8 +87,7 @@ fn hear_in(
 {
     let epoch = message.epoch();
     let place = place_for(alloc, parts, node, epoch)?;
-    let reply = parts[place].hear(alloc, topology, from, message)?;
-    Ok(reply)
+    parts[place].hear(alloc, topology, from, message)
 }
 
 // Has a consolidator propose a value for the epoch.
@@ -105,8 +104,7 @@ fn propose_in(
 {
     let place = place_for(alloc, parts, node, epoch)?;
     let members = topology.consolidators();
-    let reply = parts[place].propose(alloc, members, node)?;
-    Ok(reply)
+    parts[place].propose(alloc, members, node)
 }
 
 fn is_consolidator(topology: &Topology, node: NodeId) -> bool

@@ -90,6 +90,41 @@ fn value_to_propose(
     }
 }
 
+// The request to accept the value, for each consolidator.
+fn accept_mails(
+    alloc: Global,
+    members: &[NodeId],
+    epoch: Epoch,
+    ballot: Ballot,
+    value: &Value,
+) -> Result<Outbox, NoMemory>
+    ensures { IfOk result (λ mails. mails_seen mails ≡
+        of_epoch epoch (to_each members.now (paxos.Accept ballot value.now))) }
+{
+    let copy = value.copy()?;
+    let message = Message::Accept {
+        epoch,
+        ballot,
+        value: copy,
+    };
+    to_each(alloc, members, &message)
+}
+
+// The decision, for each node.
+fn decision_mails(
+    alloc: Global,
+    nodes: &[NodeId],
+    epoch: Epoch,
+    value: &Value,
+) -> Result<Outbox, NoMemory>
+    ensures { IfOk result (λ mails. mails_seen mails ≡
+        of_epoch epoch (announce nodes.now (Some value.now))) }
+{
+    let copy = value.copy()?;
+    let message = Message::Decision { epoch, value: copy };
+    to_each(alloc, nodes, &message)
+}
+
 impl Part {
     /// The part of a node before it has seen anything of the epoch. Takes no memory.
     pub fn new(alloc: Global, epoch: Epoch, node: NodeId) -> Part
@@ -193,16 +228,9 @@ impl Part {
             decision past u ≡ None → StandsFor n self.old past reports u →
             StandsFor n self.new (posted u (to_each members.now (paxos.Accept ballot value)) past) reports u) }
     {
-        let epoch = self.reports.epoch();
-        let proposed = value.copy()?;
-        let message = Message::Accept {
-            epoch,
-            ballot,
-            value,
-        };
-        let mails = to_each(alloc, members, &message)?;
+        let mails = accept_mails(alloc, members, self.reports.epoch(), ballot, &value)?;
         self.proposer.propose();
-        self.proposed = Some(proposed);
+        self.proposed = Some(value);
         Ok(mails)
     }
 
@@ -249,13 +277,7 @@ impl Part {
     {
         match chosen {
             None => Ok(Outbox::new(Vec::new(alloc))),
-            Some(value) => {
-                let epoch = self.reports.epoch();
-                let copy = value.copy()?;
-                let message = Message::Decision { epoch, value: copy };
-                let mails = to_each(alloc, nodes, &message)?;
-                Ok(mails)
-            }
+            Some(value) => decision_mails(alloc, nodes, self.reports.epoch(), value),
         }
     }
 
@@ -334,8 +356,7 @@ impl Part {
         let ballot = self.proposer.start(round_of(self.acceptor.promised()));
         let epoch = self.reports.epoch();
         let message = Message::Prepare { epoch, ballot };
-        let mails = to_each(alloc, members, &message)?;
-        Ok(mails)
+        to_each(alloc, members, &message)
     }
 
     /// Has the node propose a value.

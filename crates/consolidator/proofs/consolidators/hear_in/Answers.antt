@@ -1,6 +1,6 @@
 use Rattle.std.proofs.Common.{◌∙◌, sym}
 use Rattle.consolidator.specs.Seen.{message_seen}
-use Rattle.consolidator.proofs.Keeping.{place_epoch, hears_at}
+use Rattle.consolidator.proofs.Keeping.{ok_from_two, place_epoch, hears_at}
 use Rattle.consolidator.proofs.consolidators.hear_in.Goals as goal
 
 pub hear-requires : goal.hear-requires
@@ -9,7 +9,10 @@ hear-requires c =
     ∙ c.epoch-epoch.ensures)
 
 pub returns : goal.returns
-returns c past here h =
-    hears_at c.args.topology.now c.in_ok-reply.reply c.args.node c.epoch-epoch.result c.in_ok-place.place c.args.parts.now.items c.place_for.new.parts.items c.index_mut.result.now c.hear.new.self past c.args.from (message_seen c.args.message)
-    c.epoch-epoch.ensures c.in_ok-place.ensures.place c.in_ok-place.ensures.within c.in_ok-place.ensures.same c.index_mut.ensures.value c.in_ok-reply.ensures.epoch h
-    (λ is. c.in_ok-reply.ensures.heard past c.args.node here is)
+returns c =
+    ok_from_two c.hear.result _ _ _
+    (λ reply epoch heard past here h.
+    hears_at c.args.topology.now reply c.args.node c.epoch-epoch.result c.in_ok-place.place c.args.parts.now.items c.place_for.new.parts.items c.index_mut.result.now c.hear.new.self past c.args.from (message_seen c.args.message)
+    c.epoch-epoch.ensures c.in_ok-place.ensures.place c.in_ok-place.ensures.within c.in_ok-place.ensures.same c.index_mut.ensures.value epoch h
+    (λ is. heard past c.args.node here is))
+    c.hear.ensures.epoch c.hear.ensures.heard
