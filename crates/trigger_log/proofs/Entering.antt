@@ -1,5 +1,6 @@
 -- A log with one more entry.
-use Rattle.std.proofs.Common.{ℕ, suc, ◌≤◌, Bool, true, false, List, [], ◌∷◌, ◌≡◌, refl, sym, ◌∙◌, ap, subst, length, flat_map, map, take}
+use Rattle.std.proofs.Common.{ℕ, suc, ◌≤◌, Bool, true, false, List, [], ◌∷◌, ◌≡◌, refl, sym, ◌∙◌, ap, subst, length, flat_map, map, take, Result, Ok, Err}
+use Rattle.std.specs.Result.{OnOk}
 use Rattle.std.specs.Prelude.{if◌then◌else◌, is_some}
 use Rattle.std.proofs.lemmas.List.{take_all}
 use Rattle.topology.specs.declared.names.Trigger.{Trigger}
@@ -35,6 +36,11 @@ use Rattle.trigger_log.specs.Midway.{AreOffers, IsMidway}
 use Rattle.trigger_log.specs.Offered.{Covers, IsPlaced, asked, updates_over}
 use Rattle.trigger_log.proofs.Holding.{accepted}
 use Rattle.trigger_log.proofs.Rounds.{told_all}
+
+-- what holds after each success of a last call holds after the function
+pub on_ok_by : {T E Q : Type 0} (r : Result T E) → ((x : T) → r ≡ Ok x → Q) → OnOk r Q
+on_ok_by (Ok x) q = q x refl
+on_ok_by (Err e) q = tt
 
 module _ {P : Type 0} (policy : P) (rules : Rules) (net : Net) (u : ℕ) (h : List Entry) (triggers : List Trigger) (scope : Scope) (cause : Cause) where
   abbrev made : Entry

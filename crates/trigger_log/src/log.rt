@@ -228,11 +228,9 @@ impl<P: Policy + Copy> NodeLog<P> {
             return Ok(());
         }
         if place == self.kept.next() {
-            self.kept.drop_all(&self.routes)?;
-            return Ok(());
+            return self.kept.drop_all(&self.routes);
         }
-        self.kept.drop_before(place)?;
-        Ok(())
+        self.kept.drop_before(place)
     }
 
     /// The number of entries ever made, dropped entries included.
@@ -431,8 +429,7 @@ impl<P: Policy + Copy> NodeLog<P> {
             scope,
             cause,
             sent,
-        })?;
-        Ok(())
+        })
     }
 
     // Adds an entry, and tells each neighbour what changes for it.
@@ -455,9 +452,9 @@ impl<P: Policy + Copy> NodeLog<P> {
         ensures dropped { OnOk result (dropped_of self.new ≡ dropped_of self.old) }
     {
         match scope {
-            Scope::One(prefix) => Ok(self.enter_one(prefix, triggers, cause)?),
-            Scope::All => Ok(self.enter_all(topology, triggers, cause)?),
-            Scope::Nothing => Ok(self.enter_nothing(triggers, cause)?),
+            Scope::One(prefix) => self.enter_one(prefix, triggers, cause),
+            Scope::All => self.enter_all(topology, triggers, cause),
+            Scope::Nothing => self.enter_nothing(triggers, cause),
         }
     }
 
@@ -488,7 +485,7 @@ impl<P: Policy + Copy> NodeLog<P> {
             after: slice::from_ref(&after),
             same: slice::from_ref(&same),
         };
-        Ok(self.finish(triggers, Scope::One(prefix), cause, offers)?)
+        self.finish(triggers, Scope::One(prefix), cause, offers)
     }
 
     // Adds an entry of all prefixes, and tells each neighbour what changes for it.
@@ -509,11 +506,31 @@ impl<P: Policy + Copy> NodeLog<P> {
         ensures dropped { OnOk result (dropped_of self.new ≡ dropped_of self.old) }
     {
         if let Cause::Ready { nbr, session } = cause {
-            return Ok(self.enter_ready(topology, triggers, nbr, session)?);
+            return self.enter_ready(topology, triggers, nbr, session);
         }
         if let Cause::Down { nbr, session } = cause {
-            return Ok(self.enter_down(topology, triggers, nbr, session)?);
+            return self.enter_down(topology, triggers, nbr, session);
         }
+        self.enter_compared(topology, triggers, cause)
+    }
+
+    // Adds an entry of all prefixes, and compares all offers before and after it.
+    fn enter_compared(
+        &mut self,
+        topology: &Topology,
+        triggers: Triggers,
+        cause: Cause,
+    ) -> Result<(), NoMemory>
+        ensures log { OnOk result ((policy : P) (u : ℕ) (h : List Logged) →
+            StandsFor policy (P.rules policy) topology.now u self.old h → IsOfNeighbour topology.now u cause →
+            CauseFits h All cause → ListsFor All triggers →
+            StandsFor policy (P.rules policy) topology.now u self.new (entry triggers All cause ∷ h)) }
+        ensures outgoing { OnOk result ((policy : P) (u : ℕ) (h : List Logged) →
+            StandsFor policy (P.rules policy) topology.now u self.old h → IsOfNeighbour topology.now u cause →
+            CauseFits h All cause → ListsFor All triggers →
+            map going_of self.new.said.outgoing.items ≡ going_by (P.rules policy) topology.now u h (entry triggers All cause)) }
+        ensures dropped { OnOk result (dropped_of self.new ≡ dropped_of self.old) }
+    {
         let before = offers_for(self.alloc, &self.routes, topology, &cause)?;
         self.routes.apply(Scope::All, &cause)?;
         let after = offers_for(self.alloc, &self.routes, topology, &cause)?;
@@ -523,7 +540,7 @@ impl<P: Policy + Copy> NodeLog<P> {
             after: &after,
             same: &same,
         };
-        Ok(self.finish(triggers, Scope::All, cause, offers)?)
+        self.finish(triggers, Scope::All, cause, offers)
     }
 
     // Makes a session ready. This changes no best route, so the routes after the entry are also those before it.
@@ -553,7 +570,7 @@ impl<P: Policy + Copy> NodeLog<P> {
             after: &offers,
             same: &same,
         };
-        Ok(self.finish(triggers, Scope::All, cause, offers)?)
+        self.finish(triggers, Scope::All, cause, offers)
     }
 
     // Ends a session. This can change only the best routes that went by its neighbour, so only those are compared.
@@ -584,7 +601,7 @@ impl<P: Policy + Copy> NodeLog<P> {
             after: &after,
             same: &same,
         };
-        Ok(self.finish(triggers, Scope::All, cause, offers)?)
+        self.finish(triggers, Scope::All, cause, offers)
     }
 
     // Adds an entry that concerns no prefix. It changes no route.
@@ -605,7 +622,7 @@ impl<P: Policy + Copy> NodeLog<P> {
             after: &[],
             same: &[],
         };
-        Ok(self.finish(triggers, Scope::Nothing, cause, offers)?)
+        self.finish(triggers, Scope::Nothing, cause, offers)
     }
 
     // Does the rest of an entry that the routes took already: marks its sessions, tells each neighbour, and keeps the
@@ -648,8 +665,7 @@ impl<P: Policy + Copy> NodeLog<P> {
             scope,
             cause,
             sent,
-        })?;
-        Ok(())
+        })
     }
 
     // Keeps the entry, and counts it.
@@ -669,8 +685,7 @@ impl<P: Policy + Copy> NodeLog<P> {
         ensures dropped { OnOk result (dropped_of self.new ≡ dropped_of self.old) }
     {
         self.next_count = counted(self.next_count, &entry.cause)?;
-        self.kept.push(entry)?;
-        Ok(())
+        self.kept.push(entry)
     }
 
     // Whether an entry of one prefix may follow.

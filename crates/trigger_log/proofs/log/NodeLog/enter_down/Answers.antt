@@ -1,4 +1,5 @@
 use Rattle.std.proofs.Common.{◌∷◌, ◌∙◌, ap, subst, sym}
+use Rattle.std.proofs.lemmas.Result.{on_ok_weaker}
 use Rattle.topology.specs.declared.names.Scope.TheVariants.{All}
 use Rattle.path_vector.specs.declared.causes.Cause.TheVariants.{Down}
 use Rattle.trigger_log.specs.Entries.{entry, reads}
@@ -11,7 +12,8 @@ use Rattle.trigger_log.proofs.Entering.{midway, as_offered}
 use Rattle.trigger_log.proofs.log.NodeLog.enter_down.Goals as goal
 
 pub returns-clause-log : goal.returns-clause-log
-returns-clause-log g c = λ policy u h was near fits lists.
+returns-clause-log g c =
+    on_ok_weaker c.finish.result (λ made policy u h was near fits lists.
     let rules = g.P.Policy.rules policy in
     let net = c.args.topology.now in
     let triggers = c.args.triggers in
@@ -26,11 +28,12 @@ returns-clause-log g c = λ policy u h was near fits lists.
       chosen_before = c.in_ok-before.ensures.chosen policy u (reads h) was.routes;
       chosen_after = c.in_ok-after.ensures.chosen policy net u (k.read ∷ reads h) stands (subst (ArePlaced net) (sym c.deref.ensures.value) c.in_ok-before.ensures.placed);
     } in
-    (c.in_ok-finish.ensures.made policy net u h c.args.self.now.routes (midway policy rules net u h triggers All cause c.args.self.now c.apply.new.self was near tt fits lists stands)
-    (as_offered (making rules net u h k) c.deref-4.ensures.value c.deref-5.ensures.value offers)).stands
+    (made policy net u h c.args.self.now.routes (midway policy rules net u h triggers All cause c.args.self.now c.apply.new.self was near tt fits lists stands)
+    (as_offered (making rules net u h k) c.deref-4.ensures.value c.deref-5.ensures.value offers)).stands) c.finish.ensures.made
 
 pub returns-clause-outgoing : goal.returns-clause-outgoing
-returns-clause-outgoing g c = λ policy u h was near fits lists.
+returns-clause-outgoing g c =
+    on_ok_weaker c.finish.result (λ made policy u h was near fits lists.
     let rules = g.P.Policy.rules policy in
     let net = c.args.topology.now in
     let triggers = c.args.triggers in
@@ -45,5 +48,5 @@ returns-clause-outgoing g c = λ policy u h was near fits lists.
       chosen_before = c.in_ok-before.ensures.chosen policy u (reads h) was.routes;
       chosen_after = c.in_ok-after.ensures.chosen policy net u (k.read ∷ reads h) stands (subst (ArePlaced net) (sym c.deref.ensures.value) c.in_ok-before.ensures.placed);
     } in
-    (c.in_ok-finish.ensures.made policy net u h c.args.self.now.routes (midway policy rules net u h triggers All cause c.args.self.now c.apply.new.self was near tt fits lists stands)
-    (as_offered (making rules net u h k) c.deref-4.ensures.value c.deref-5.ensures.value offers)).goes
+    (made policy net u h c.args.self.now.routes (midway policy rules net u h triggers All cause c.args.self.now c.apply.new.self was near tt fits lists stands)
+    (as_offered (making rules net u h k) c.deref-4.ensures.value c.deref-5.ensures.value offers)).goes) c.finish.ensures.made

@@ -1,4 +1,5 @@
 use Rattle.std.proofs.Common.{◌≡◌, ◌∷◌, true, arith, rules, replicate}
+use Rattle.std.proofs.lemmas.Result.{on_ok_weaker}
 use Rattle.topology.specs.declared.names.Scope.TheVariants.{All}
 use Rattle.path_vector.specs.declared.causes.Cause.TheVariants.{Ready}
 use Rattle.trigger_log.specs.Entries.{entry, reads}
@@ -18,7 +19,8 @@ finish-requires-clause-same g c =
     rw (c.deref.ensures.value, c.deref-2.ensures.value, c.deref-3.ensures.value, flags) (all_flags offers.items c.len.result (omega (arith, c.len.ensures, offers.ok.0)))
 
 pub returns-clause-log : goal.returns-clause-log
-returns-clause-log g c = λ policy u h was near fits lists.
+returns-clause-log g c =
+    on_ok_weaker c.finish.result (λ made policy u h was near fits lists.
     let rules = g.P.Policy.rules policy in
     let net = c.args.topology.now in
     let triggers = c.args.triggers in
@@ -31,11 +33,12 @@ returns-clause-log g c = λ policy u h was near fits lists.
       chosen_before = chosen_ready rules net u (reads h) c.args.nbr c.args.session c.in_ok-offers.offers.items chosen;
       chosen_after = chosen;
     } in
-    (c.in_ok-finish.ensures.made policy net u h c.args.self.now.routes (midway policy rules net u h triggers All cause c.args.self.now c.apply.new.self was near tt fits lists stands)
-    (as_offered (making rules net u h k) c.deref.ensures.value c.deref-2.ensures.value offers)).stands
+    (made policy net u h c.args.self.now.routes (midway policy rules net u h triggers All cause c.args.self.now c.apply.new.self was near tt fits lists stands)
+    (as_offered (making rules net u h k) c.deref.ensures.value c.deref-2.ensures.value offers)).stands) c.finish.ensures.made
 
 pub returns-clause-outgoing : goal.returns-clause-outgoing
-returns-clause-outgoing g c = λ policy u h was near fits lists.
+returns-clause-outgoing g c =
+    on_ok_weaker c.finish.result (λ made policy u h was near fits lists.
     let rules = g.P.Policy.rules policy in
     let net = c.args.topology.now in
     let triggers = c.args.triggers in
@@ -48,5 +51,5 @@ returns-clause-outgoing g c = λ policy u h was near fits lists.
       chosen_before = chosen_ready rules net u (reads h) c.args.nbr c.args.session c.in_ok-offers.offers.items chosen;
       chosen_after = chosen;
     } in
-    (c.in_ok-finish.ensures.made policy net u h c.args.self.now.routes (midway policy rules net u h triggers All cause c.args.self.now c.apply.new.self was near tt fits lists stands)
-    (as_offered (making rules net u h k) c.deref.ensures.value c.deref-2.ensures.value offers)).goes
+    (made policy net u h c.args.self.now.routes (midway policy rules net u h triggers All cause c.args.self.now c.apply.new.self was near tt fits lists stands)
+    (as_offered (making rules net u h k) c.deref.ensures.value c.deref-2.ensures.value offers)).goes) c.finish.ensures.made

@@ -1,4 +1,5 @@
 use Rattle.std.proofs.Common.{◌≡◌, ◌∙◌, ◌∷◌, ◌≤◌, refl, sym, ap, subst, arith, length, map}
+use Rattle.std.proofs.lemmas.Result.{IfOk-at_ok}
 use Rattle.topology.specs.Net.{neighbours}
 use Rattle.path_vector.specs.Standing.{StandsFor as RoutesStandFor}
 use Rattle.trigger_log.specs.Entries.{entry, reads}
@@ -11,11 +12,12 @@ use Rattle.trigger_log.specs.Marked.{ToldTo}
 use Rattle.trigger_log.specs.Rows.{MarkRows}
 use Rattle.trigger_log.specs.HoldingBack.{HoldsBack}
 use Rattle.trigger_log.proofs.Rounds.{told_all, told_none}
-use Rattle.trigger_log.proofs.Entering.{entered, went_out, enters}
+use Rattle.trigger_log.proofs.Entering.{on_ok_by, entered, went_out, enters}
 use Rattle.trigger_log.proofs.log.NodeLog.finish.Goals as goal
 
 pub returns-clause-made : goal.returns-clause-made
-returns-clause-made g c = λ policy net u h routes mid offers.
+returns-clause-made g c =
+    on_ok_by c.keep.result (λ x is policy net u h routes mid offers.
     let rules = g.P.Policy.rules policy in
     let triggers = c.args.triggers in
     let scope = c.args.scope in
@@ -34,11 +36,11 @@ returns-clause-made g c = λ policy net u h routes mid offers.
     record {
       stands = entered policy rules net u h triggers scope cause (record log { routes = routes }) c.keep.new.self
           n said c.in_ok-sent.sent
-          mid.was mid.fits mid.lists (subst (λ r. RoutesStandFor policy net u r (k.read ∷ reads h)) (sym c.in_ok-keep.ensures.routes) mid.routes) c.in_ok-keep.ensures.node
-          (ap (λ (s : MarkRows). s.near) c.in_ok-keep.ensures.sessions ∙ (c.tell_all.ensures.near ∙ c.mark.ensures.near)) c.in_ok-keep.ensures.next (c.in_ok-keep.ensures.kept policy net u h) (c.in_ok-sent.ensures.items ∙ c.deref.ensures.value) whole
-          (subst (λ (s : MarkRows). ToldTo (making rules net u h k) n s.rows silence said) (sym c.in_ok-keep.ensures.sessions) told)
-          (subst (HoldsBack rules net u (k ∷ h)) (sym c.in_ok-keep.ensures.held)
+          mid.was mid.fits mid.lists (subst (λ r. RoutesStandFor policy net u r (k.read ∷ reads h)) (sym (IfOk-at_ok _ is c.keep.ensures.routes)) mid.routes) (IfOk-at_ok _ is c.keep.ensures.node)
+          (ap (λ (s : MarkRows). s.near) (IfOk-at_ok _ is c.keep.ensures.sessions) ∙ (c.tell_all.ensures.near ∙ c.mark.ensures.near)) (IfOk-at_ok _ is c.keep.ensures.next) (IfOk-at_ok _ is c.keep.ensures.kept policy net u h) (c.in_ok-sent.ensures.items ∙ c.deref.ensures.value) whole
+          (subst (λ (s : MarkRows). ToldTo (making rules net u h k) n s.rows silence said) (sym (IfOk-at_ok _ is c.keep.ensures.sessions)) told)
+          (subst (HoldsBack rules net u (k ∷ h)) (sym (IfOk-at_ok _ is c.keep.ensures.held))
           (c.in_ok-hold_back.ensures.kept policy net u h k entering mid.lists (told_all rules net u h k fitting n c.tell_all.new.sessions.rows silence said whole told) mid.was.held));
-      goes = ap (λ (s : Said). map going_of s.outgoing.items) c.in_ok-keep.ensures.said
+      goes = ap (λ (s : Said). map going_of s.outgoing.items) (IfOk-at_ok _ is c.keep.ensures.said)
           ∙ went_out policy rules net u h triggers scope cause n c.tell_all.new.sessions.rows said whole told;
-    }
+    })
