@@ -1,5 +1,6 @@
 //! The control messages.
 ghost use Rattle.std.specs.Prelude.{ℕ, suc, ◌≡◌, ◌<◌, ◌≤◌, ◌-◌, ◌^◌, ◌&&◌, [], ◌∷◌, Some, None, true, false, nat_lt, nat_le, length, IfOk, OnOk, OnErr, IfSome, IfNone};
+ghost use Rattle.std.specs.Vec.{vec_capacity, vec_len};
 ghost use Rattle.consolidator.specs.Seen.{message_seen};
 ghost use Rattle.topology.specs.Lists.{has};
 ghost use Rattle.topology.specs.Net.{Net};
@@ -45,6 +46,20 @@ fn number_after(count: usize) -> Option<u32>
     Some(count as u32 + 1)
 }
 
+// Makes room for one more message, and returns its number. If no number is left, there is no room.
+fn make_room(kept: &mut Vec<Kept>) -> Result<u32, NoMemory>
+    ensures items { kept.new.items ≡ kept.old.items }
+    ensures number { IfOk result (λ number. number ≡ suc (length kept.old.items)) }
+    ensures few { OnOk result (suc (length kept.old.items) < 2 ^ 32) }
+    ensures room { OnOk result (vec_len kept.new < vec_capacity kept.new) }
+{
+    let Some(number) = number_after(kept.len()) else {
+        return Err(NoMemory);
+    };
+    kept.reserve(1)?;
+    Ok(number)
+}
+
 // The place of the message with a number, among so many messages; `None` if no message has it.
 fn place_of(number: u32, count: usize) -> Option<usize>
     ensures some { IfSome result (λ place. (number ≡ suc place) × (place < count)) }
@@ -80,18 +95,13 @@ impl Mails {
             StandsFor net self.new (Posts from mail.to (message_seen mail.message) ∷ acts)) }
         ensures err { OnErr result (self.new ≡ self.old) }
     {
-        let Some(number) = number_after(self.kept.len()) else {
-            return Err(NoMemory);
-        };
-        self.kept.reserve(1)?;
+        let number = make_room(&mut self.kept)?;
         self.inboxes.put(mail.to, number)?;
-        self.kept
-            .push(Kept {
-                from,
-                mail,
-                deliveries: 0,
-            })
-            .unwrap();
+        self.kept.push_reserved(Kept {
+            from,
+            mail,
+            deliveries: 0,
+        });
         Ok(())
     }
 

@@ -30,6 +30,14 @@ fn complete_first(entries: &[Entry], incomplete: &Incomplete) -> usize
     count
 }
 
+// Whether all nodes of the network responded.
+fn all_responded(alloc: Global, topology: &Topology, value: &Value) -> Result<bool, NoMemory>
+    ensures { IfOk result (λ all. all ≡ all_responded value.now topology.now.nodes) }
+{
+    let responders = Responders::new(alloc, value)?;
+    Ok(responders.all_responded(topology.nodes()))
+}
+
 /// The place before which a node may drop its entries, after it has published its table of an epoch by this value. The
 /// first `cut` entries are its cut of the epoch. If all nodes responded, the entries that may go are the longest run
 /// from the start of the cut in which each entry was dropped before or lists no incomplete trigger. If some node did
@@ -48,8 +56,8 @@ pub fn droppable_before<P: Policy + Copy>(
         then droppable (lists value.now.incomplete) (dropped_of log.now) entries else dropped_of log.now)) }
 {
     let from = log.kept_from();
-    let responders = Responders::new(alloc, value)?;
-    if !responders.all_responded(topology.nodes()) {
+    let all = all_responded(alloc, topology, value)?;
+    if !all {
         return Ok(from);
     }
     let dropped = from.saturating_sub(1);

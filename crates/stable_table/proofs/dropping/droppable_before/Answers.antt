@@ -2,21 +2,18 @@ use Rattle.std.proofs.Common.{◌≡◌, ◌-◌, suc, true, false, ◌++◌, le
 use Rattle.std.specs.Prelude.{if◌then◌else◌}
 use Rattle.topology.specs.Triggers.{lists}
 use Rattle.trigger_log.specs.Dropping.{droppable}
-use Rattle.incomplete_closure.specs.declared.values.Value.{Value}
 use Rattle.trigger_log.specs.Standing.{dropped_of}
 use Rattle.stable_table.specs.Keeping.{complete_first}
 use Rattle.stable_table.specs.Tables.{all_responded}
 use Rattle.stable_table.proofs.Leading.{first_alike, first_droppable, counted_short}
-use Rattle.stable_table.proofs.Responding.{responded_ascending}
 use Rattle.stable_table.proofs.dropping.droppable_before.Goals as goal
 
-pub returns-then-not-all_responded : goal.returns-then-not-all_responded
-returns-then-not-all_responded g c = λ policy u newer entries stands is few.
+pub returns-then-not-all : goal.returns-then-not-all
+returns-then-not-all g c = λ policy u newer entries stands is few.
     let value = c.args.value.now in
     let net = c.args.topology.now in
     let n = dropped_of c.args.log.now in
-    let test : c.all_responded.result ≡ all_responded value net.nodes = c.all_responded.ensures ∙ (ap (λ (v : Value). all_responded v c.nodes.result.now) c.in_ok-responders.ensures ∙ ap (all_responded value) c.nodes.ensures.nodes ∙ responded_ascending value net.nodes) in
-    let off : all_responded value net.nodes ≡ false = grind (arith, test, c.if-not-all_responded.true) in
+    let off : all_responded value net.nodes ≡ false = grind (arith, c.in_ok-all.ensures, c.if-not-all.true) in
     c.kept_from-from.ensures.place policy net u (newer ++ entries) stands
     ∙ ap suc (sym (ap (λ b. if b then droppable (lists value.incomplete) n entries else n) off))
 
@@ -28,8 +25,7 @@ returns g c = λ policy u newer entries stands is few.
     let n = dropped_of c.args.log.now in
     let cut = c.args.cut in
     let items = c.entries.result.now in
-    let test : c.all_responded.result ≡ all_responded value net.nodes = c.all_responded.ensures ∙ (ap (λ (v : Value). all_responded v c.nodes.result.now) c.in_ok-responders.ensures ∙ ap (all_responded value) c.nodes.ensures.nodes ∙ responded_ascending value net.nodes) in
-    let on : all_responded value net.nodes ≡ true = grind (arith, test, c.if-not-all_responded.false) in
+    let on : all_responded value net.nodes ≡ true = grind (arith, c.in_ok-all.ensures, c.if-not-all.false) in
     let from = c.kept_from-from.ensures.place policy net u (newer ++ entries) stands in
     let room = c.kept_from-from.ensures.few policy net u (newer ++ entries) stands in
     let left : c.saturating_sub-left.result ≡ cut - n = omega (arith, c.saturating_sub-left.ensures, c.saturating_sub-dropped.ensures, from) in

@@ -1,4 +1,4 @@
-use Rattle.std.proofs.Common.{ℕ, suc, ◌+◌, ◌-◌, ◌/◌, ◌<◌, ◌≡◌, ◌==◌, ◌∙◌, true, arith, sym, ap, ap₂, subst, take, drop, length}
+use Rattle.std.proofs.Common.{ℕ, suc, ◌+◌, ◌-◌, ◌/◌, ◌<◌, ◌≡◌, ◌==◌, ◌∙◌, true, arith, sym, ap₂, subst, take, drop, length}
 use Rattle.std.specs.List.{AllByRecursion}
 use Rattle.topology.proofs.Tests.{and_left, and_right, same_is}
 use Rattle.trigger_log.specs.HeldLists.{is_row}

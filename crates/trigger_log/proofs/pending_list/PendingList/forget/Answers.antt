@@ -1,6 +1,6 @@
-use Rattle.std.proofs.Common.{rules, ◌≡◌, ◌∙◌, not, filter, sym, ap, subst}
+use Rattle.std.proofs.Common.{rules, ◌≡◌, ◌∙◌, sym, ap, subst}
 use Rattle.std.proofs.lemmas.Fn.{filter_same}
-use Rattle.trigger_log.specs.Putting.{is_to, rows_without, RowsRise}
+use Rattle.trigger_log.specs.Putting.{rows_without, RowsRise}
 use Rattle.trigger_log.proofs.RowOrder.{without_rises}
 use Rattle.trigger_log.proofs.pending_list.PendingList.forget.Goals as goal
 
