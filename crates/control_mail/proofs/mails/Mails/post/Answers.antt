@@ -1,4 +1,4 @@
-use Rattle.std.proofs.Common.{suc, ◌≡◌, true, [], ◌∷◌, ◌++◌, length, arith, refl, sym, ◌∙◌, ap, subst}
+use Rattle.std.proofs.Common.{◌≡◌, true, [], ◌∷◌, ◌++◌, refl, sym, ◌∙◌, ap, subst}
 use Rattle.consolidator.specs.Seen.{message_seen}
 use Rattle.control_mail.specs.declared.kept.Kept.{Kept}
 use Rattle.control_mail.specs.Acts.{Posts}
