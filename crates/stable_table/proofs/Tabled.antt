@@ -27,7 +27,7 @@ use Rattle.stable_table.specs.declared.rows.Row.{Row}
 use Rattle.stable_table.specs.Keeping.{kept_by}
 use Rattle.stable_table.specs.Rows.{RowView, IsRow, prefix_row}
 use Rattle.stable_table.specs.Tables.{View, all_responded, answered}
-use Rattle.stable_table.specs.Trimming.{trimmed_complete, trimmed_path, trimmed_table, trimmed_backups, trimmed_table_of}
+use Rattle.stable_table.specs.Trimming.{ShowsTable, trimmed_complete, trimmed_path, trimmed_table, trimmed_backups, trimmed_table_of}
 use Rattle.stable_table.proofs.Based.{kept_on_base, trimmed_reads}
 use Rattle.stable_table.proofs.Keeping.{all_kept, reads_kept, kept_accepted, scoped_of}
 
@@ -99,14 +99,19 @@ module _ (rules : Rules) (net : Net) (u : ℕ) (value : Value) (log : Trimmed) (
   unfolding trimmed_backups
   backups_is p row r = r.backups ∙ ap (λ (cs : List Choice). if has value.responding u then filter (all_responded value) (map (λ (c : Choice). c.path) cs) else []) (ranks_are p)
 
-  pub table_is : (epoch : ℕ) (copied : Value) (rows : List Row) → copied ≡ value → AllZip (λ p. IsRow (kept_row rules net u value log p)) (places net) rows
-      → record { epoch = epoch; value = copied; paths = map (λ (r : Row). r.path) rows; backups = map (λ (r : Row). r.backups.items) rows } ≡ trimmed_table_of rules net u epoch value log
-  unfolding made trimmed_table
-  table_is epoch copied rows same z =
-      ap (λ v. made epoch v (map (λ (r : Row). r.path) rows) (map (λ (r : Row). r.backups.items) rows)) same
-      ∙ ap₂ (made epoch value)
-      (zip_same (λ p. IsRow (kept_row rules net u value log p)) (trimmed_path rules net u value log) (λ (r : Row). r.path) path_is (places net) rows z)
-      (zip_same (λ p. IsRow (kept_row rules net u value log p)) (trimmed_backups rules net u value log) (λ (r : Row). r.backups.items) backups_is (places net) rows z)
+  pub shows_table : (rows : List Row) → AllZip (λ p. IsRow (kept_row rules net u value log p)) (places net) rows → ShowsTable rules net u value log rows
+  unfolding trimmed_table
+  shows_table rows z = record {
+    paths = zip_same (λ p. IsRow (kept_row rules net u value log p)) (trimmed_path rules net u value log) (λ (r : Row). r.path) path_is (places net) rows z;
+    backups = zip_same (λ p. IsRow (kept_row rules net u value log p)) (trimmed_backups rules net u value log) (λ (r : Row). r.backups.items) backups_is (places net) rows z;
+  }
+
+pub table_is : (rules : Rules) (net : Net) (u epoch : ℕ) (value copied : Value) (log : Trimmed) (rows : List Row) → copied ≡ value → ShowsTable rules net u value log rows
+    → record { epoch = epoch; value = copied; paths = map (λ (r : Row). r.path) rows; backups = map (λ (r : Row). r.backups.items) rows } ≡ trimmed_table_of rules net u epoch value log
+unfolding made
+table_is rules net u epoch value copied log rows same shows =
+    ap (λ v. made epoch v (map (λ (r : Row). r.path) rows) (map (λ (r : Row). r.backups.items) rows)) same
+    ∙ ap₂ (made epoch value) shows.paths shows.backups
 
 -- ---- what is shown of a cut
 

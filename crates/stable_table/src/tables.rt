@@ -3,7 +3,7 @@ ghost use Rattle.std.specs.Prelude.{ℕ, List, [], ◌≡◌, ◌≤◌, ◌++�
 ghost use Rattle.trigger_log.specs.Entries.{Entry as Logged};
 ghost use Rattle.trigger_log.specs.Dropping.{trimmed};
 ghost use Rattle.trigger_log.specs.Standing.{StandsFor, dropped_of};
-ghost use Rattle.stable_table.specs.Trimming.{trimmed_table_of};
+ghost use Rattle.stable_table.specs.Trimming.{ShowsTable, trimmed_table_of};
 
 use crate::incomplete::Incomplete;
 use crate::responders::Responders;
@@ -131,6 +131,31 @@ pub(crate) fn first_of(entries: &[Entry], count: u32) -> &[Entry]
     &entries[..entries.len().min(count as usize)]
 }
 
+// The rows of the table that `table_of` describes.
+fn rows_by<P: Policy + Copy>(
+    alloc: Global,
+    topology: &Topology,
+    log: &NodeLog<P>,
+    cut: u32,
+    value: &Value,
+) -> Result<Rc<Vec<Row>>, NoMemory>
+    ensures { IfOk result (λ rows. (policy : P) (u : ℕ) (newer entries : List Logged) →
+        StandsFor policy (P.rules policy) topology.now u log.now (newer ++ entries) → cut ≡ length entries →
+        dropped_of log.now ≤ cut →
+        ShowsTable (P.rules policy) topology.now u value.now (trimmed (dropped_of log.now) entries) rows.value.items) }
+{
+    let node = log.next_trigger().node;
+    let dropped = log.kept_from().saturating_sub(1);
+    let entries = first_of(log.entries(), cut.saturating_sub(dropped));
+    let incomplete = Incomplete::new(alloc, value.incomplete.as_slice())?;
+    let responders = Responders::new(alloc, value)?;
+    if cut == log.len() && !has_incomplete(entries, &incomplete) {
+        return rows_of(alloc, topology, log.live(), &responders, node);
+    }
+    let state = routes_of(log.base(), entries, &incomplete)?;
+    rows_of(alloc, topology, &state, &responders, node)
+}
+
 /// The table of an epoch at the node of a log. The first `cut` entries of the log are the cut, and `value` is the value
 /// that was agreed on. For each prefix the table has the best path over the complete entries of the cut, if the own
 /// node and all nodes of the path responded. It also has, by rank, all candidates over these entries whose nodes all
@@ -151,21 +176,7 @@ pub fn table_of<P: Policy + Copy>(
         dropped_of log.now ≤ cut →
         table ≡ trimmed_table_of (P.rules policy) topology.now u epoch value.now (trimmed (dropped_of log.now) entries)) }
 {
-    let node = log.next_trigger().node;
-    let dropped = log.kept_from().saturating_sub(1);
-    let entries = first_of(log.entries(), cut.saturating_sub(dropped));
-    let incomplete = Incomplete::new(alloc, value.incomplete.as_slice())?;
-    let responders = Responders::new(alloc, value)?;
-    if cut == log.len() && !has_incomplete(entries, &incomplete) {
-        let rows = rows_of(alloc, topology, log.live(), &responders, node)?;
-        return Ok(Table {
-            epoch,
-            value: value.copy()?,
-            rows,
-        });
-    }
-    let state = routes_of(log.base(), entries, &incomplete)?;
-    let rows = rows_of(alloc, topology, &state, &responders, node)?;
+    let rows = rows_by(alloc, topology, log, cut, value)?;
     Ok(Table {
         epoch,
         value: value.copy()?,
