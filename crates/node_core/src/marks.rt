@@ -32,7 +32,7 @@ use incomplete_closure::Report;
 use path_vector::Policy;
 use std::rc::Rc;
 use topology::{Epoch, Item, NoMemory, NodeId, Session};
-use trigger_log::Outgoing;
+use trigger_log::{NodeLog, Outgoing};
 
 // Mails the report to each consolidator.
 fn mail_report(
@@ -49,6 +49,42 @@ fn mail_report(
         outputs.push(Output::Mail(mail))?;
     }
     Ok(())
+}
+
+// The parts of the node after it took its cut, and kept the report of it.
+fn cut_parts<P: Policy + Copy>(
+    parts: NodeParts,
+    log: &NodeLog<P>,
+    epoch: Epoch,
+    report: Rc<Report>,
+) -> Result<NodeParts, NoMemory>
+    ensures rest { IfOk result (λ cut. cut
+        ≡ record parts { snapshots = cut.snapshots; agreement = record parts.agreement { reports = cut.agreement.reports } }) }
+    ensures snapshots { IfOk result (λ cut. (policy : P) (u : ℕ) (h : List Entry) (acts : SnapshotActs) →
+        SnapshotsStandFor parts.topology.value u parts.snapshots acts →
+        LogStandsFor policy (P.rules policy) parts.topology.value u log.now h → epoch_of acts < epoch →
+        SnapshotsStandFor parts.topology.value u cut.snapshots (Takes epoch h ∷ acts)) }
+    ensures reports { IfOk result (λ cut. cut.agreement.reports
+        ≡ parts.agreement.reports ++ report_seen report.value ∷ []) }
+{
+    let NodeParts {
+        alloc,
+        topology,
+        id,
+        counts,
+        snapshots,
+        mut agreement,
+    } = parts;
+    let snapshots = snapshots.take(epoch, log, &topology)?;
+    agreement.reports.keep(report)?;
+    Ok(NodeParts {
+        alloc,
+        topology,
+        id,
+        counts,
+        snapshots,
+        agreement,
+    })
 }
 
 impl<P: Policy + Copy> Node<P> {
@@ -72,6 +108,25 @@ impl<P: Policy + Copy> Node<P> {
         Ok(())
     }
 
+    // Hands out the cut, sends the markers, and mails the report of the cut. Returns the report.
+    fn tell_cut(&self, epoch: Epoch, outputs: &mut OutputList) -> Result<Rc<Report>, NoMemory>
+        ensures report { IfOk result (λ report. (policy : P) (net : Net) (u : ℕ) (h : List Entry) →
+            LogStandsFor policy (P.rules policy) net u self.now.log.value h → DownsListOne h →
+            report_seen report.value ≡ trimmed_report (P.rules policy) net u epoch (trimmed (dropped_of self.now.log.value) h)) }
+        ensures outputs { OnOk result ((policy : P) (net : Net) (u : ℕ) (carried : Carried) (first past : Chronicle) →
+            self.now.parts.value.topology.value ≡ net → self.now.parts.value.id ≡ u →
+            LogStandsFor policy (P.rules policy) net u self.now.log.value (log_of u past) → DownsListOne (log_of u past) →
+            dropped_of self.now.log.value ≡ dropped net u past → Hands first outputs.old past →
+            Hands first outputs.new (raise (P.rules policy) net carried u epoch past)) }
+    {
+        outputs.push(Output::Cut { epoch })?;
+        self.send_markers(epoch, outputs)?;
+        let made = report_of(self.parts.alloc, &self.log, epoch)?;
+        let report = Rc::new(self.parts.alloc, made)?;
+        mail_report(self.parts.topology.consolidators(), &report, outputs)?;
+        Ok(report)
+    }
+
     /// Raises the epoch: the node takes its cut, sends its markers, and keeps and mails its report of the cut.
     #[inline(always)]
     pub(crate) fn raise(self, epoch: Epoch, outputs: &mut OutputList) -> Result<Node<P>, NoMemory>
@@ -90,33 +145,10 @@ impl<P: Policy + Copy> Node<P> {
             dropped_of self.log.value ≡ dropped net u past → Hands first outputs.old past →
             Hands first outputs.new (raise (P.rules policy) net carried u epoch past)) }
     {
-        outputs.push(Output::Cut { epoch })?;
-        self.send_markers(epoch, outputs)?;
-        let report = Rc::new(
-            self.parts.alloc,
-            report_of(self.parts.alloc, &self.log, epoch)?,
-        )?;
-        mail_report(self.parts.topology.consolidators(), &report, outputs)?;
+        let report = self.tell_cut(epoch, outputs)?;
         let Node { log, parts } = self;
-        let NodeParts {
-            alloc,
-            topology,
-            id,
-            counts,
-            snapshots,
-            mut agreement,
-        } = Box::into_inner(parts);
-        let snapshots = snapshots.take(epoch, &log, &topology)?;
-        agreement.reports.keep(report)?;
-        let parts = NodeParts {
-            alloc,
-            topology,
-            id,
-            counts,
-            snapshots,
-            agreement,
-        };
-        let parts = parts.boxed()?;
+        let cut = cut_parts(Box::into_inner(parts), &log, epoch, report)?;
+        let parts = cut.boxed()?;
         Ok(Node { log, parts })
     }
 
