@@ -10,6 +10,7 @@ use Rattle.topology.specs.declared.status.BadKind.{BadKind}
 use Rattle.topology.specs.declared.status.LimitKind.{LimitKind}
 use Rattle.topology.specs.declared.status.LimitKind.TheVariants as count
 use Rattle.topology.specs.declared.limits.TheConstants.{MOST_BYTES, MOST_CONTROL, MOST_EVENTS}
+use Rattle.leadership.specs.Ends.{status_of}
 use Rattle.leadership.specs.declared.ends.RunEnd.{RunEnd}
 use Rattle.leadership.specs.declared.ends.RunEnd.TheVariants as end
 use Rattle.leadership.specs.declared.events.LeadEvent.{LeadEvent}
@@ -82,13 +83,6 @@ module _ (source source' : SourceView) (bytes : List ℕ) (read : (told : List �
         too_long = λ told t long. never_long told t long;
         same_room = refl;
       }
-
--- the script was run, and ended like this
-abbrev pub status_of : Result (Unit {0}) RunEnd → Status
-status_of (Ok _) = Done
-status_of (Err end.NoMemory) = NoMemory
-status_of (Err end.WriteFault) = WriteFault
-status_of (Err (end.Limit kind number)) = Limit kind number
 
 -- the limits that stop a run are those of events and of messages
 abbrev pub OfRun : Option (LimitKind × ℕ) → Type 0

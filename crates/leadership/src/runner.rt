@@ -2,6 +2,7 @@
 ghost use Rattle.std.specs.Prelude.{◌≡◌, [], true, IfOk};
 ghost use Rattle.topology.specs.Lists.{ascending};
 ghost use Rattle.topology.specs.Paths.{differ};
+ghost use Rattle.leadership.specs.Ends.{status_of};
 ghost use Rattle.leadership.specs.Led.{Led};
 ghost use Rattle.leadership.specs.Parsing.{AllKnown};
 ghost use Rattle.leadership.specs.Running.{Runs};
@@ -50,6 +51,18 @@ fn run_script<O: Sink>(alloc: Global, script: &Script, sink: &mut O) -> Result<(
     run_lines(alloc, world, &script.directives, sink)
 }
 
+// The status at the end of a run.
+fn status_of(ran: Result<(), RunEnd>) -> Status
+    ensures { result ≡ status_of ran }
+{
+    match ran {
+        Ok(()) => Status::Done,
+        Err(RunEnd::NoMemory) => Status::NoMemory,
+        Err(RunEnd::WriteFault) => Status::WriteFault,
+        Err(RunEnd::Limit(kind, number)) => Status::Limit(kind, number),
+    }
+}
+
 /// Reads a script from the source, runs it, and writes its text to the sink. `specs/Led.antt` says what a user may rely
 /// on.
 pub fn lead<I: Source, O: Sink>(alloc: Global, source: &mut I, sink: &mut O) -> Status
@@ -67,10 +80,5 @@ pub fn lead<I: Source, O: Sink>(alloc: Global, source: &mut I, sink: &mut O) -> 
         Err(ScriptEnd::NoMemory) => return Status::NoMemory,
         Err(ScriptEnd::Bad { line, kind }) => return Status::BadSchedule(line, kind),
     };
-    match run_script(alloc, &script, sink) {
-        Ok(()) => Status::Done,
-        Err(RunEnd::NoMemory) => Status::NoMemory,
-        Err(RunEnd::WriteFault) => Status::WriteFault,
-        Err(RunEnd::Limit(kind, number)) => Status::Limit(kind, number),
-    }
+    status_of(run_script(alloc, &script, sink))
 }

@@ -1,5 +1,6 @@
 -- The outputs of a node are what its facts show, one for each fact.
-use Rattle.std.proofs.Common.{ℕ, suc, true, is_some, Option, Some, List, [], ◌∷◌, ◌++◌, ◌≡◌, refl, sym, ◌∙◌, ap, ap₂, subst, map, arith, drop, length, append_assoc}
+use Rattle.std.proofs.Common.{ℕ, suc, true, is_some, Option, Some, List, [], ◌∷◌, ◌++◌, ◌≡◌, refl, sym, ◌∙◌, ap, ap₂, subst, map, arith, drop, length, append_assoc, Result, Ok, Err}
+use Rattle.std.specs.Result.{OnOk}
 use Rattle.std.specs.Prelude.{option_to_list}
 use Rattle.std.proofs.lemmas.List.{append-nil, append_cancel_left}
 use Rattle.topology.specs.LinkStates.{carries}
@@ -20,6 +21,11 @@ use Rattle.node_core.specs.declared.outputs.Output.{Output as Given}
 use Rattle.node_core.specs.Outputs.{Output, Logged, Cut, Send, Mail, Published, Forward, Ended, Hands, output_by, output_of, outputs}
 use Rattle.world_core.specs.Telling.{AreTold, IsTold, shown}
 use Rattle.world_core.specs.Walks.{IsPassing}
+
+-- what holds after each success of a last call holds after the function
+pub on_ok_by : {T E Q : Type 0} (r : Result T E) → ((x : T) → r ≡ Ok x → Q) → OnOk r Q
+on_ok_by (Ok x) q = q x refl
+on_ok_by (Err e) q = tt
 
 -- what was handed out, fact by fact
 outputs_after : (past : Chronicle) (facts : List Fact) → outputs (happen past facts) ≡ outputs past ++ shown past facts

@@ -151,17 +151,16 @@ impl<P: Policy + Copy> Network<P> {
             AreSending (still f away) first (f ∷ past) counts self.new account.new) }
     {
         match output {
-            Output::Logged { index } => account.tell(Effect::Logged { node, index })?,
-            Output::Cut { epoch } => account.tell(Effect::Cut { node, epoch })?,
-            Output::Send(out) => send(node, out, &mut self.links, account)?,
-            Output::Mail(mail) => post(node, mail, &mut self.mails, account)?,
+            Output::Logged { index } => account.tell(Effect::Logged { node, index }),
+            Output::Cut { epoch } => account.tell(Effect::Cut { node, epoch }),
+            Output::Send(out) => send(node, out, &mut self.links, account),
+            Output::Mail(mail) => post(node, mail, &mut self.mails, account),
             Output::Published(table) => {
-                publish(self.alloc, node, table, &mut self.publications, account)?
+                publish(self.alloc, node, table, &mut self.publications, account)
             }
-            Output::Forward { next, packet } => forward(next, packet, &mut self.walks, account)?,
-            Output::Ended { id, end: how } => end(id, how, &mut self.walks, account)?,
+            Output::Forward { next, packet } => forward(next, packet, &mut self.walks, account),
+            Output::Ended { id, end: how } => end(id, how, &mut self.walks, account),
         }
-        Ok(())
     }
 
     // Handles an entry, then the items that go out with it.
@@ -208,8 +207,8 @@ impl<P: Policy + Copy> Network<P> {
     {
         match leading {
             First::Nothing => Ok(()),
-            First::Quiet(index) => Ok(self.hand(node, Output::Logged { index }, account)?),
-            First::Telling(index, sent) => Ok(self.hand_entry(node, index, sent, account)?),
+            First::Quiet(index) => self.hand(node, Output::Logged { index }, account),
+            First::Telling(index, sent) => self.hand_entry(node, index, sent, account),
         }
     }
 

@@ -10,39 +10,12 @@ returns-in-Err-Bad g c =
     let bad : first_bad bytes ≡ Some (c.in-Err-Bad.line, c.in-Err-Bad.kind) = rw (c.deref.ensures.value, c.in-Err-Bad.field-0-is) at c.in-Err-Bad.ensures.err in
     rw (c.in-Err-Bad.line-is, c.in-Err-Bad.kind-is) (ends_bad _ _ bytes (known _ bytes c.in-Ok.ensures.ok) c.in-Ok.ensures.within c.in-Ok.ensures.end (c.in-Ok.ensures.cause.quiet (λ e. cc e)) _ c.in-Err-Bad.line c.in-Err-Bad.kind bad)
 
-pub returns-in-Ok-run_script : goal.returns-in-Ok-run_script
-returns-in-Ok-run_script g c =
-    let bytes = c.in-Ok.bytes.items in
-    let good : first_bad bytes ≡ None = subst (λ b. first_bad b ≡ None) c.deref.ensures.value c.in-Ok-parse.ensures.good in
-    let nodes = c.in-Ok-parse.ensures.members ∙ ap members_of c.deref.ensures.value in
-    let directives = c.in-Ok-parse.ensures.directives ∙ ap directives_of c.deref.ensures.value in
-    let runs = rw (nodes, directives) at c.in-Ok-run_script.ensures in
-    ends_run _ _ _ _ bytes (known _ bytes c.in-Ok.ensures.ok) c.in-Ok.ensures.within c.in-Ok.ensures.end (c.in-Ok.ensures.cause.quiet (λ e. cc e)) good (Ok c.in-Ok-run_script.field-0) runs
-
-pub returns-in-Err-NoMemory-run_script : goal.returns-in-Err-NoMemory-run_script
-returns-in-Err-NoMemory-run_script g c =
-    let bytes = c.in-Ok.bytes.items in
-    let good : first_bad bytes ≡ None = subst (λ b. first_bad b ≡ None) c.deref.ensures.value c.in-Ok-parse.ensures.good in
-    let nodes = c.in-Ok-parse.ensures.members ∙ ap members_of c.deref.ensures.value in
-    let directives = c.in-Ok-parse.ensures.directives ∙ ap directives_of c.deref.ensures.value in
-    let runs = rw (nodes, directives, c.in-Err-NoMemory-run_script.field-0-is) at c.in-Err-NoMemory-run_script.ensures in
-    ends_run _ _ _ _ bytes (known _ bytes c.in-Ok.ensures.ok) c.in-Ok.ensures.within c.in-Ok.ensures.end (c.in-Ok.ensures.cause.quiet (λ e. cc e)) good (Err NoMemory) runs
-
-pub returns-in-Err-WriteFault : goal.returns-in-Err-WriteFault
-returns-in-Err-WriteFault g c =
-    let bytes = c.in-Ok.bytes.items in
-    let good : first_bad bytes ≡ None = subst (λ b. first_bad b ≡ None) c.deref.ensures.value c.in-Ok-parse.ensures.good in
-    let nodes = c.in-Ok-parse.ensures.members ∙ ap members_of c.deref.ensures.value in
-    let directives = c.in-Ok-parse.ensures.directives ∙ ap directives_of c.deref.ensures.value in
-    let runs = rw (nodes, directives, c.in-Err-WriteFault.field-0-is) at c.in-Err-WriteFault.ensures in
-    ends_run _ _ _ _ bytes (known _ bytes c.in-Ok.ensures.ok) c.in-Ok.ensures.within c.in-Ok.ensures.end (c.in-Ok.ensures.cause.quiet (λ e. cc e)) good (Err WriteFault) runs
-
 pub returns : goal.returns
 returns g c =
     let bytes = c.in-Ok.bytes.items in
     let good : first_bad bytes ≡ None = subst (λ b. first_bad b ≡ None) c.deref.ensures.value c.in-Ok-parse.ensures.good in
     let nodes = c.in-Ok-parse.ensures.members ∙ ap members_of c.deref.ensures.value in
     let directives = c.in-Ok-parse.ensures.directives ∙ ap directives_of c.deref.ensures.value in
-    let runs = rw (nodes, directives, c.in-Err-Limit.field-0-is) at c.in-Err-Limit.ensures in
-    rw (c.in-Err-Limit.kind-is, c.in-Err-Limit.number-is)
-    (ends_run _ _ _ _ bytes (known _ bytes c.in-Ok.ensures.ok) c.in-Ok.ensures.within c.in-Ok.ensures.end (c.in-Ok.ensures.cause.quiet (λ e. cc e)) good (Err (Limit c.in-Err-Limit.kind c.in-Err-Limit.number)) runs)
+    let runs = rw (nodes, directives) at c.run_script.ensures in
+    rw c.status_of.ensures
+    (ends_run _ _ _ _ bytes (known _ bytes c.in-Ok.ensures.ok) c.in-Ok.ensures.within c.in-Ok.ensures.end (c.in-Ok.ensures.cause.quiet (λ e. cc e)) good c.run_script.result runs)

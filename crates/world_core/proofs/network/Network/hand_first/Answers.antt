@@ -1,4 +1,5 @@
 use Rattle.std.proofs.Common.{List, ◌≡◌, map, subst}
+use Rattle.std.proofs.lemmas.Result.{on_ok_weaker}
 use Rattle.chronicle.specs.Facts.{Fact, happen}
 use Rattle.node_core.specs.Firsts.{seen_first}
 use Rattle.node_core.specs.Outputs.{Logged, output_of}
@@ -15,12 +16,14 @@ returns-in-Nothing-clause-sending g c away first past counts facts told shows wa
     handed_none c.args.self.now.topology.value past c.args.node before before
     facts told (subst (λ l. map output_of (seen_first l) ≡ shown past facts) c.in-Nothing.is shows) was
 
-pub returns-in_ok-hand-in-Quiet-clause-sending : goal.returns-in_ok-hand-in-Quiet-clause-sending
-returns-in_ok-hand-in-Quiet-clause-sending g c away first past counts facts told shows was =
+pub returns-in-Quiet-clause-sending : goal.returns-in-Quiet-clause-sending
+returns-in-Quiet-clause-sending g c =
+    on_ok_weaker c.hand.result (λ sending away first past counts facts told shows was.
     handed_first c.args.self.now.topology.value c.args.node away first past counts c.args.self.now c.hand.new.self c.args.account.now c.hand.new.account facts (Logged c.in-Quiet.index) told
     (subst (λ l. map output_of (seen_first l) ≡ shown past facts) c.in-Quiet.is shows) was
-    (λ away past f. c.in_ok-hand-in-Quiet.ensures.sending away first past counts f)
+    (λ away past f. sending away first past counts f)) c.hand.ensures.sending
 
-pub returns-in_ok-hand_entry-in-Telling-clause-sending : goal.returns-in_ok-hand_entry-in-Telling-clause-sending
-returns-in_ok-hand_entry-in-Telling-clause-sending g c away first past counts facts told shows was =
-    c.in_ok-hand_entry-in-Telling.ensures.sending away first past counts facts told (subst (λ l. map output_of (seen_first l) ≡ shown past facts) c.in-Telling.is shows) was
+pub returns-in-Telling-clause-sending : goal.returns-in-Telling-clause-sending
+returns-in-Telling-clause-sending g c =
+    on_ok_weaker c.hand_entry.result (λ sending away first past counts facts told shows was.
+    sending away first past counts facts told (subst (λ l. map output_of (seen_first l) ≡ shown past facts) c.in-Telling.is shows) was) c.hand_entry.ensures.sending
