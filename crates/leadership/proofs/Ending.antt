@@ -4,8 +4,7 @@ use Rattle.std.specs.Prelude.{MatchBool, if◌then◌else◌}
 use Rattle.std.specs.Io.KnownBytes.{IsAtEnd}
 use Rattle.route_io.specs.Views.{SourceView, SinkView}
 use Rattle.route_io.proofs.Bytes.{stays_quiet, risen_as}
-use Rattle.topology.specs.declared.status.Status.{Status}
-use Rattle.topology.specs.declared.status.Status.TheVariants.{Done, NoMemory, BadSchedule, Limit, WriteFault}
+use Rattle.topology.specs.declared.status.Status.TheVariants.{BadSchedule, Limit}
 use Rattle.topology.specs.declared.status.BadKind.{BadKind}
 use Rattle.topology.specs.declared.status.LimitKind.{LimitKind}
 use Rattle.topology.specs.declared.status.LimitKind.TheVariants as count

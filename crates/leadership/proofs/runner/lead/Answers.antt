@@ -1,5 +1,4 @@
-use Rattle.std.proofs.Common.{◌≡◌, Ok, Err, Some, None, subst, ap, ◌∙◌}
-use Rattle.leadership.specs.declared.ends.RunEnd.TheVariants.{NoMemory, WriteFault, Limit}
+use Rattle.std.proofs.Common.{◌≡◌, Some, None, subst, ap, ◌∙◌}
 use Rattle.leadership.specs.Scripts.{directives_of, first_bad, members_of}
 use Rattle.leadership.proofs.Ending.{ends_bad, ends_run, known}
 use Rattle.leadership.proofs.runner.lead.Goals as goal
