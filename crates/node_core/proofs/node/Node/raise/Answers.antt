@@ -1,8 +1,7 @@
-use Rattle.std.proofs.Common.{◌≡◌, ◌++◌, List, [], ◌∷◌, ◌∙◌, ap, ap₂, refl, subst, sym}
+use Rattle.std.proofs.Common.{◌++◌, List, [], ◌∷◌, ◌∙◌, ap, ap₂, refl, subst, sym}
 use Rattle.marker_snapshot.specs.Acts.{Takes}
 use Rattle.marker_snapshot.specs.Standing.{StandsFor as SnapshotsStandFor}
 use Rattle.incomplete_closure.specs.Reports.{Report}
-use Rattle.incomplete_closure.specs.Seen.{report_seen}
 use Rattle.node_core.specs.declared.parts.NodeParts.{NodeParts}
 use Rattle.node_core.proofs.Raising.{taken_at}
 use Rattle.node_core.proofs.node.Node.raise.Goals as goal
