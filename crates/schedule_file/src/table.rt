@@ -117,34 +117,54 @@ pub fn keyword_named(word: &[u8]) -> Option<Keyword>
     ensures some { IfSome result (λ keyword. word.now ≡ keyword_text keyword) }
     ensures none { IfNone result ((keyword : Keyword) → word.now ≢ keyword_text keyword) }
 {
+    if let Some(keyword) = declaring_named(word) {
+        return Some(keyword);
+    }
+    directing_named(word)
+}
+
+// The kind of line that the word begins, if such lines stand up to `begin`.
+fn declaring_named(word: &[u8]) -> Option<Keyword>
+    ensures some { IfSome result (λ keyword. word.now ≡ keyword_text keyword) }
+    ensures none { IfNone result ((keyword : Keyword) → (shape_of keyword).directs ≡ false
+        → word.now ≢ keyword_text keyword) }
+{
     match word {
         b"node" => Some(Keyword::Node),
         b"link" => Some(Keyword::Link),
         b"pref" => Some(Keyword::Pref),
         b"hold" => Some(Keyword::Hold),
         b"prefix" => Some(Keyword::Prefix),
+        b"hops" => Some(Keyword::Hops),
+        b"transient" => Some(Keyword::Transient),
         b"begin" => Some(Keyword::Begin),
-        b"originate" => Some(Keyword::Origin(OriginVerb::Originate)),
-        b"withdraw" => Some(Keyword::Origin(OriginVerb::Withdraw)),
-        b"probe" => Some(Keyword::Origin(OriginVerb::Probe)),
-        b"snap" => Some(Keyword::Single(NodeEvent::Snap)),
-        b"crash" => Some(Keyword::Single(NodeEvent::Crash)),
-        b"restart" => Some(Keyword::Single(NodeEvent::Restart)),
-        b"deliver" => Some(Keyword::Pair(PairEvent::Deliver)),
-        b"fail" => Some(Keyword::Pair(PairEvent::Fail)),
-        b"restore" => Some(Keyword::Pair(PairEvent::Restore)),
-        b"notice" => Some(Keyword::Pair(PairEvent::Notice)),
-        b"open" => Some(Keyword::Pair(PairEvent::Open)),
-        b"flush" => Some(Keyword::Pair(PairEvent::Flush)),
+        _ => None,
+    }
+}
+
+// The kind of line that the word begins, if such lines stand after `begin`.
+fn directing_named(word: &[u8]) -> Option<Keyword>
+    ensures some { IfSome result (λ keyword. word.now ≡ keyword_text keyword) }
+    ensures none { IfNone result ((keyword : Keyword) → (shape_of keyword).directs ≡ true
+        → word.now ≢ keyword_text keyword) }
+{
+    if let Some(verb) = OriginVerb::named(word) {
+        return Some(Keyword::Origin(verb));
+    }
+    if let Some(event) = NodeEvent::named(word) {
+        return Some(Keyword::Single(event));
+    }
+    if let Some(event) = PairEvent::named(word) {
+        return Some(Keyword::Pair(event));
+    }
+    match word {
         b"prefer" => Some(Keyword::Prefer),
         b"propose" => Some(Keyword::Propose),
         b"drain" => Some(Keyword::Drain),
         b"ctl" => Some(Keyword::Control),
-        b"show" => Some(Keyword::Show),
-        b"hop" => Some(Keyword::Hop),
         b"inject" => Some(Keyword::Inject),
-        b"hops" => Some(Keyword::Hops),
-        b"transient" => Some(Keyword::Transient),
+        b"hop" => Some(Keyword::Hop),
+        b"show" => Some(Keyword::Show),
         _ => None,
     }
 }
@@ -263,6 +283,19 @@ impl Keyword {
 }
 
 impl OriginVerb {
+    // The verb that the word names.
+    fn named(word: &[u8]) -> Option<OriginVerb>
+        ensures some { IfSome result (λ verb. word.now ≡ origin_text verb) }
+        ensures none { IfNone result ((verb : OriginVerb) → word.now ≢ origin_text verb) }
+    {
+        match word {
+            b"originate" => Some(OriginVerb::Originate),
+            b"withdraw" => Some(OriginVerb::Withdraw),
+            b"probe" => Some(OriginVerb::Probe),
+            _ => None,
+        }
+    }
+
     /// The word for the verb.
     pub fn word(self) -> &'static str
         ensures { result.now ≡ origin_text self }
@@ -287,6 +320,19 @@ impl OriginVerb {
 }
 
 impl NodeEvent {
+    // The event that the word names.
+    fn named(word: &[u8]) -> Option<NodeEvent>
+        ensures some { IfSome result (λ event. word.now ≡ node_text event) }
+        ensures none { IfNone result ((event : NodeEvent) → word.now ≢ node_text event) }
+    {
+        match word {
+            b"snap" => Some(NodeEvent::Snap),
+            b"crash" => Some(NodeEvent::Crash),
+            b"restart" => Some(NodeEvent::Restart),
+            _ => None,
+        }
+    }
+
     /// The word for the event.
     pub fn word(self) -> &'static str
         ensures { result.now ≡ node_text self }
@@ -311,6 +357,22 @@ impl NodeEvent {
 }
 
 impl PairEvent {
+    // The event that the word names.
+    fn named(word: &[u8]) -> Option<PairEvent>
+        ensures some { IfSome result (λ event. word.now ≡ pair_text event) }
+        ensures none { IfNone result ((event : PairEvent) → word.now ≢ pair_text event) }
+    {
+        match word {
+            b"deliver" => Some(PairEvent::Deliver),
+            b"fail" => Some(PairEvent::Fail),
+            b"restore" => Some(PairEvent::Restore),
+            b"notice" => Some(PairEvent::Notice),
+            b"open" => Some(PairEvent::Open),
+            b"flush" => Some(PairEvent::Flush),
+            _ => None,
+        }
+    }
+
     /// The word for the event.
     pub fn word(self) -> &'static str
         ensures { result.now ≡ pair_text self }
