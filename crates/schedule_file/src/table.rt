@@ -174,13 +174,13 @@ pub fn view_named(word: &[u8]) -> Option<View>
     ensures some { IfSome result (λ view. word.now ≡ view_text view) }
     ensures none { IfNone result ((view : View) → word.now ≢ view_text view) }
 {
+    if let Some(view) = PlainView::named(word) {
+        return Some(View::Plain(view));
+    }
+    if let Some(view) = EpochView::named(word) {
+        return Some(View::OfEpoch(view));
+    }
     match word {
-        b"rib" => Some(View::Plain(PlainView::Rib)),
-        b"log" => Some(View::Plain(PlainView::Log)),
-        b"ctl" => Some(View::Plain(PlainView::Control)),
-        b"cut" => Some(View::OfEpoch(EpochView::Cut)),
-        b"closure" => Some(View::OfEpoch(EpochView::Closure)),
-        b"tables" => Some(View::OfEpoch(EpochView::Tables)),
         b"walk" => Some(View::Walk),
         _ => None,
     }
@@ -403,6 +403,19 @@ impl PairEvent {
 }
 
 impl PlainView {
+    // The view that the word names.
+    fn named(word: &[u8]) -> Option<PlainView>
+        ensures some { IfSome result (λ view. word.now ≡ plain_text view) }
+        ensures none { IfNone result ((view : PlainView) → word.now ≢ plain_text view) }
+    {
+        match word {
+            b"rib" => Some(PlainView::Rib),
+            b"log" => Some(PlainView::Log),
+            b"ctl" => Some(PlainView::Control),
+            _ => None,
+        }
+    }
+
     /// The word for the view.
     pub fn word(self) -> &'static str
         ensures { result.now ≡ plain_text self }
@@ -426,6 +439,19 @@ impl PlainView {
 }
 
 impl EpochView {
+    // The view that the word names.
+    fn named(word: &[u8]) -> Option<EpochView>
+        ensures some { IfSome result (λ view. word.now ≡ epoch_text view) }
+        ensures none { IfNone result ((view : EpochView) → word.now ≢ epoch_text view) }
+    {
+        match word {
+            b"cut" => Some(EpochView::Cut),
+            b"closure" => Some(EpochView::Closure),
+            b"tables" => Some(EpochView::Tables),
+            _ => None,
+        }
+    }
+
     /// The word for the view.
     pub fn word(self) -> &'static str
         ensures { result.now ≡ epoch_text self }
