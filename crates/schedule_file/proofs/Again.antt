@@ -15,20 +15,20 @@ use Rattle.topology.proofs.Tests.{and_left, and_right, same_is}
 use Rattle.schedule_file.specs.declared.lines.Line.{Line}
 use Rattle.schedule_file.specs.declared.lines.Line.TheVariants.{Begin, Directs}
 use Rattle.schedule_file.specs.declared.lines.Instruction.{Instruction}
-use Rattle.schedule_file.specs.declared.lines.Instruction.TheVariants.{Origin, Single, Pair, Prefer, Propose, Drain, Control, ControlAll, Inject, Hop, HopTimes, Show, ShowEpoch, ShowWalk}
+use Rattle.schedule_file.specs.declared.lines.Instruction.TheVariants.{Origin, Single, Pair, Inject, Show, ShowEpoch}
 use Rattle.schedule_file.specs.declared.lines.Numbered.{Numbered}
 use Rattle.schedule_file.specs.declared.lines.Schedule.{Schedule}
-use Rattle.schedule_file.specs.declared.table.OriginVerb.TheVariants.{Originate, Withdraw, Probe}
-use Rattle.schedule_file.specs.declared.table.NodeEvent.TheVariants.{Snap, Crash, Restart}
-use Rattle.schedule_file.specs.declared.table.PairEvent.TheVariants.{Deliver, Fail, Restore, Notice, Open, Flush}
+use Rattle.schedule_file.specs.declared.table.OriginVerb.TheVariants.{Originate}
+use Rattle.schedule_file.specs.declared.table.NodeEvent.TheVariants.{Snap}
+use Rattle.schedule_file.specs.declared.table.PairEvent.TheVariants.{Deliver}
 use Rattle.schedule_file.specs.declared.table.PlainView.TheVariants as plain
-use Rattle.schedule_file.specs.declared.table.EpochView.TheVariants.{Cut, Closure, Tables}
+use Rattle.schedule_file.specs.declared.table.EpochView.TheVariants.{Cut}
 use Rattle.schedule_file.specs.declared.table.Part.TheVariants.{Network, Run}
 use Rattle.schedule_file.specs.Spelling.{words_by_line}
-use Rattle.schedule_file.specs.Table.{may_declare, may_direct}
+use Rattle.schedule_file.specs.Table.{may_declare, may_direct, prefix_at, instruction_of}
 use Rattle.schedule_file.specs.Lines.{InRange, DirectsInRange}
 use Rattle.schedule_file.specs.Grammar.{net_of, begun, directives_of, directive_of, directed_fault, origin_fault, place_in, allowed, Reads, IsFile, IsInstructed, AreInstructed}
-use Rattle.schedule_file.specs.Printing.{node_line, link_line, prefix_line, pref_line, hold_line, packet_lines, sorted_preferences, sorted_holds, prefix_at, instruction_of, directive_line, network_lines, printed_lines, printed, SameNet, unnumbered, IsSame, IsFileAgain}
+use Rattle.schedule_file.specs.Printing.{node_line, link_line, prefix_line, pref_line, hold_line, packet_lines, sorted_preferences, sorted_holds, directive_line, network_lines, printed_lines, printed, SameNet, unnumbered, IsSame, IsFileAgain}
 use Rattle.schedule_file.specs.Refusals.{FirstBad}
 use Rattle.schedule_file.proofs.Steps.{allowed_from}
 use Rattle.schedule_file.proofs.Readings.{same_lines, none_first}
@@ -72,32 +72,17 @@ prefix_found net node p e = ap (λ o. unwrap_or o (record { bits = 0; len = 0 })
 -- the instruction of a directive is the one that it came from
 same_instruction : (net : Net) (i : Instruction) → directed_fault net i ≡ None → instruction_of net (directive_of net i) ≡ i
 same_instruction net (Origin Originate node p) e = ap (λ q. Origin Originate node q) (prefix_found net node p e)
-same_instruction net (Origin Withdraw node p) e = ap (λ q. Origin Withdraw node q) (prefix_found net node p e)
-same_instruction net (Origin Probe node p) e = ap (λ q. Origin Probe node q) (prefix_found net node p e)
+same_instruction net (Origin verb node p) e = ap (λ q. Origin verb node q) (prefix_found net node p e)
 same_instruction net (Single Snap node) e = refl
-same_instruction net (Single Crash node) e = refl
-same_instruction net (Single Restart node) e = refl
+same_instruction net (Single event node) e = refl
 same_instruction net (Pair Deliver a b) e = refl
-same_instruction net (Pair Fail a b) e = refl
-same_instruction net (Pair Restore a b) e = refl
-same_instruction net (Pair Notice a b) e = refl
-same_instruction net (Pair Open a b) e = refl
-same_instruction net (Pair Flush a b) e = refl
-same_instruction net (Prefer node nbr value) e = refl
-same_instruction net (Propose node epoch) e = refl
-same_instruction net (Drain times) e = refl
-same_instruction net (Control number) e = refl
-same_instruction net (ControlAll times) e = refl
+same_instruction net (Pair event a b) e = refl
 same_instruction net (Inject packet node p) e = ap (λ q. Inject packet node q) (prefix_found net node p e)
-same_instruction net (Hop packet) e = refl
-same_instruction net (HopTimes packet times) e = refl
 same_instruction net (Show plain.Rib) e = refl
-same_instruction net (Show plain.Log) e = refl
-same_instruction net (Show plain.Control) e = refl
+same_instruction net (Show view) e = refl
 same_instruction net (ShowEpoch Cut epoch) e = refl
-same_instruction net (ShowEpoch Closure epoch) e = refl
-same_instruction net (ShowEpoch Tables epoch) e = refl
-same_instruction net (ShowWalk packet) e = refl
+same_instruction net (ShowEpoch view epoch) e = refl
+same_instruction net i e = refl
 
 -- preferences do not matter for the names of an instruction
 
@@ -106,36 +91,12 @@ module _ (net : Net) (valid : IsValid net) where
   final = with_packets net valid
 
   same_fault : (i : Instruction) → directed_fault final i ≡ directed_fault net i
-  same_fault (Origin event node p) = refl
-  same_fault (Single event node) = refl
-  same_fault (Pair event a b) = refl
-  same_fault (Prefer node nbr value) = refl
-  same_fault (Propose node epoch) = refl
-  same_fault (Drain times) = refl
-  same_fault (Control number) = refl
-  same_fault (ControlAll times) = refl
-  same_fault (Inject packet node p) = refl
-  same_fault (Hop packet) = refl
-  same_fault (HopTimes packet times) = refl
-  same_fault (Show view) = refl
-  same_fault (ShowEpoch view epoch) = refl
-  same_fault (ShowWalk packet) = refl
+  same_fault (Origin verb node p) = refl
+  same_fault i = refl
 
   same_directive : (i : Instruction) → directive_of final i ≡ directive_of net i
-  same_directive (Origin event node p) = refl
-  same_directive (Single event node) = refl
-  same_directive (Pair event a b) = refl
-  same_directive (Prefer node nbr value) = refl
-  same_directive (Propose node epoch) = refl
-  same_directive (Drain times) = refl
-  same_directive (Control number) = refl
-  same_directive (ControlAll times) = refl
-  same_directive (Inject packet node p) = refl
-  same_directive (Hop packet) = refl
-  same_directive (HopTimes packet times) = refl
-  same_directive (Show view) = refl
-  same_directive (ShowEpoch view epoch) = refl
-  same_directive (ShowWalk packet) = refl
+  same_directive (Origin verb node p) = refl
+  same_directive i = refl
 
   -- after begin: the whole network, and the directives so far
   record Behind (front : List Numbered) (e : List Line) : Type 0 where

@@ -153,28 +153,11 @@ fine_instruction (ShowWalk packet) h = record {
 -- a line stands where lines of its keyword do
 declares_here : (part : Part) (d : Declaration) → stands part (Declares d) ≡ may_stand part (shape_of (declaring d))
 declares_here part (Node id consolidator) = refl
-declares_here part (Link a b relation) = refl
-declares_here part (Pref a b value) = refl
-declares_here part (Hold a b) = refl
-declares_here part (Prefix p) = refl
-declares_here part (Hops hops) = refl
-declares_here part (Transient chosen) = refl
+declares_here part d = refl
 
 directs_here : (part : Part) (i : Instruction) → stands part (Directs i) ≡ may_stand part (shape_of (directing i))
-directs_here part (Origin event node p) = refl
-directs_here part (Single event node) = refl
-directs_here part (Pair event a b) = refl
-directs_here part (Prefer node nbr value) = refl
-directs_here part (Propose node epoch) = refl
-directs_here part (Drain times) = refl
-directs_here part (Control number) = refl
-directs_here part (ControlAll times) = refl
-directs_here part (Inject packet node p) = refl
-directs_here part (Hop packet) = refl
-directs_here part (HopTimes packet times) = refl
-directs_here part (Show view) = refl
-directs_here part (ShowEpoch view epoch) = refl
-directs_here part (ShowWalk packet) = refl
+directs_here part (Origin verb node p) = refl
+directs_here part i = refl
 
 by_keyword : (part : Part) (k : Keyword) (words : List (List ℕ)) → may_stand part (shape_of k) ≡ true → Fine k words → word_fault part (keyword_text k ∷ words) ≡ None
 by_keyword part k words here f =

@@ -1,5 +1,5 @@
 -- The text that `print` writes for a schedule, and what it means that a text is read as the same schedule.
-use Rattle.std.specs.Prelude.{ℕ, ◌≡◌, List, [], ◌∷◌, ◌++◌, map, Option, Some, None, option_map, unwrap_or, slice_get, find, codes, if◌then◌else◌}
+use Rattle.std.specs.Prelude.{ℕ, ◌≡◌, List, [], ◌∷◌, ◌++◌, map, Option, Some, None, option_map, find, codes, if◌then◌else◌}
 use Rattle.std.specs.List.{flat_map, join_with_byte}
 use Rattle.topology.specs.declared.links.Link.{Link}
 use Rattle.topology.specs.declared.links.Pref.{Pref}
@@ -10,18 +10,11 @@ use Rattle.topology.specs.Net.{Net, neighbours, prefers, holds_back}
 use Rattle.schedule_file.specs.declared.lines.Line.{Line}
 use Rattle.schedule_file.specs.declared.lines.Line.TheVariants.{Begin, Declares, Directs}
 use Rattle.schedule_file.specs.declared.lines.Declaration.TheVariants as declares
-use Rattle.schedule_file.specs.declared.lines.Instruction.{Instruction}
-use Rattle.schedule_file.specs.declared.lines.Instruction.TheVariants.{Origin, Single, Pair, Prefer, Propose, Drain, Control, ControlAll, Inject, Hop, HopTimes, Show, ShowEpoch, ShowWalk}
 use Rattle.schedule_file.specs.declared.lines.Directive.{Directive}
-use Rattle.schedule_file.specs.declared.lines.Directive.TheVariants as directive
 use Rattle.schedule_file.specs.declared.lines.Numbered.{Numbered}
 use Rattle.schedule_file.specs.declared.lines.Schedule.{Schedule}
-use Rattle.schedule_file.specs.declared.table.OriginVerb.TheVariants.{Originate, Withdraw, Probe}
-use Rattle.schedule_file.specs.declared.table.NodeEvent.TheVariants.{Snap, Crash, Restart}
-use Rattle.schedule_file.specs.declared.table.PairEvent.TheVariants.{Deliver, Fail, Restore, Notice, Open, Flush}
-use Rattle.schedule_file.specs.declared.table.PlainView.TheVariants as plain
-use Rattle.schedule_file.specs.declared.table.EpochView.TheVariants.{Cut, Closure, Tables}
 use Rattle.schedule_file.specs.Spelling.{words_by_line}
+use Rattle.schedule_file.specs.Table.{instruction_of}
 use Rattle.schedule_file.specs.Lines.{line_words}
 use Rattle.schedule_file.specs.Grammar.{Reads, net_of, directives_of}
 
@@ -75,44 +68,6 @@ held net u w = if holds_back net u w then record { a = u; b = w } ∷ [] else []
 -- all holds, ascending by node and then by neighbour
 abbrev pub sorted_holds : Net → List Hold
 sorted_holds net = flat_map (λ u. flat_map (held net u) (neighbours net u)) (ascending net.nodes)
-
--- the prefix at a place in file order; any prefix where there is none
-abbrev pub prefix_at : Net → ℕ → Range
-prefix_at net place = unwrap_or (slice_get net.prefixes place) (record { bits = 0; len = 0 })
-
--- the next move of a packet, or at most so many
-abbrev pub hop_instruction : ℕ → Option ℕ → Instruction
-hop_instruction packet None = Hop packet
-hop_instruction packet (Some times) = HopTimes packet times
-
--- the instruction of a directive, with the prefix itself
-abbrev pub instruction_of : Net → Directive → Instruction
-instruction_of net (directive.Originate node place) = Origin Originate node (prefix_at net place)
-instruction_of net (directive.Withdraw node place) = Origin Withdraw node (prefix_at net place)
-instruction_of net (directive.Probe node place) = Origin Probe node (prefix_at net place)
-instruction_of net (directive.Prefer node nbr value) = Prefer node nbr value
-instruction_of net (directive.Deliver a b) = Pair Deliver a b
-instruction_of net (directive.Fail a b) = Pair Fail a b
-instruction_of net (directive.Restore a b) = Pair Restore a b
-instruction_of net (directive.Notice a b) = Pair Notice a b
-instruction_of net (directive.OpenSession a b) = Pair Open a b
-instruction_of net (directive.Flush a b) = Pair Flush a b
-instruction_of net (directive.Snap node) = Single Snap node
-instruction_of net (directive.Crash node) = Single Crash node
-instruction_of net (directive.Restart node) = Single Restart node
-instruction_of net (directive.Propose node epoch) = Propose node epoch
-instruction_of net (directive.Drain times) = Drain times
-instruction_of net (directive.Control number) = Control number
-instruction_of net (directive.ControlAll times) = ControlAll times
-instruction_of net (directive.Inject packet node place) = Inject packet node (prefix_at net place)
-instruction_of net (directive.Hop packet times) = hop_instruction packet times
-instruction_of net directive.ShowRib = Show plain.Rib
-instruction_of net directive.ShowLog = Show plain.Log
-instruction_of net directive.ShowControl = Show plain.Control
-instruction_of net (directive.ShowCut epoch) = ShowEpoch Cut epoch
-instruction_of net (directive.ShowClosure epoch) = ShowEpoch Closure epoch
-instruction_of net (directive.ShowTables epoch) = ShowEpoch Tables epoch
-instruction_of net (directive.ShowWalk packet) = ShowWalk packet
 
 -- the line of a directive
 abbrev pub directive_line : Net → Numbered → Line

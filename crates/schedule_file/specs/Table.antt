@@ -1,11 +1,14 @@
 -- The table of the grammar: each word that begins a line, how many words such a line has, on which side of begin it
--- stands, which words may follow the first, and its directive.
-use Rattle.std.specs.Prelude.{ℕ, Bool, true, false, ◌&&◌, nat_le, is_some, List, [], ◌∷◌, Option, Some, None, codes, bytes_eq, if◌then◌else◌}
+-- stands, which words may follow the first, and its directive, both ways.
+use Rattle.std.specs.Prelude.{ℕ, Bool, true, false, ◌&&◌, nat_le, is_some, List, [], ◌∷◌, Option, Some, None, unwrap_or, slice_get, codes, bytes_eq, if◌then◌else◌}
 use Rattle.std.specs.List.{find}
+use Rattle.topology.specs.declared.prefixes.Prefix.{Prefix as Range}
 use Rattle.topology.specs.declared.status.BadKind.{BadKind}
 use Rattle.topology.specs.declared.status.BadKind.TheVariants.{UnknownWord, WrongCount, BadNumber, BadPrefix}
 use Rattle.schedule_file.specs.declared.lines.Directive.{Directive}
 use Rattle.schedule_file.specs.declared.lines.Directive.TheVariants as directive
+use Rattle.schedule_file.specs.declared.lines.Instruction.{Instruction}
+use Rattle.schedule_file.specs.declared.lines.Instruction.TheVariants as instruction
 use Rattle.schedule_file.specs.declared.table.Keyword.{Keyword}
 use Rattle.schedule_file.specs.declared.table.Keyword.TheVariants.{Node, Link, Pref, Hold, Prefix, Hops, Transient, Begin, Origin, Single, Pair, Prefer, Propose, Drain, Control, Inject, Hop, Show}
 use Rattle.schedule_file.specs.declared.table.OriginVerb.{OriginVerb}
@@ -25,6 +28,7 @@ use Rattle.schedule_file.specs.declared.table.SchemeName.TheVariants.{Deflect, D
 use Rattle.schedule_file.specs.declared.table.Part.{Part}
 use Rattle.schedule_file.specs.declared.table.Part.TheVariants.{Network, Run, Over}
 use Rattle.schedule_file.specs.declared.table.Shape.{Shape}
+use Rattle.topology.specs.Net.{Net}
 use Rattle.topology.specs.declared.limits.TheConstants.{HIGHEST_NODE, HIGHEST_PREFERENCE, HIGHEST_HOPS, MOST_TIMES, HIGHEST_MESSAGE, HIGHEST_PACKET, HIGHEST_EPOCH}
 use Rattle.schedule_file.specs.Words.{has_word, word_at, spells_number, spells_prefix}
 
@@ -93,6 +97,44 @@ abbrev pub epoch_directive : EpochView → ℕ → Directive
 epoch_directive Cut epoch = directive.ShowCut epoch
 epoch_directive Closure epoch = directive.ShowClosure epoch
 epoch_directive Tables epoch = directive.ShowTables epoch
+
+-- the prefix at a place in file order; any prefix where there is none
+abbrev pub prefix_at : Net → ℕ → Range
+prefix_at net place = unwrap_or (slice_get net.prefixes place) (record { bits = 0; len = 0 })
+
+-- the next move of a packet, or at most so many
+abbrev pub hop_instruction : ℕ → Option ℕ → Instruction
+hop_instruction packet None = instruction.Hop packet
+hop_instruction packet (Some times) = instruction.HopTimes packet times
+
+-- the instruction of a directive, with the prefix itself
+abbrev pub instruction_of : Net → Directive → Instruction
+instruction_of net (directive.Originate node place) = instruction.Origin Originate node (prefix_at net place)
+instruction_of net (directive.Withdraw node place) = instruction.Origin Withdraw node (prefix_at net place)
+instruction_of net (directive.Probe node place) = instruction.Origin Probe node (prefix_at net place)
+instruction_of net (directive.Prefer node nbr value) = instruction.Prefer node nbr value
+instruction_of net (directive.Deliver a b) = instruction.Pair Deliver a b
+instruction_of net (directive.Fail a b) = instruction.Pair Fail a b
+instruction_of net (directive.Restore a b) = instruction.Pair Restore a b
+instruction_of net (directive.Notice a b) = instruction.Pair Notice a b
+instruction_of net (directive.OpenSession a b) = instruction.Pair Open a b
+instruction_of net (directive.Flush a b) = instruction.Pair Flush a b
+instruction_of net (directive.Snap node) = instruction.Single Snap node
+instruction_of net (directive.Crash node) = instruction.Single Crash node
+instruction_of net (directive.Restart node) = instruction.Single Restart node
+instruction_of net (directive.Propose node epoch) = instruction.Propose node epoch
+instruction_of net (directive.Drain times) = instruction.Drain times
+instruction_of net (directive.Control number) = instruction.Control number
+instruction_of net (directive.ControlAll times) = instruction.ControlAll times
+instruction_of net (directive.Inject packet node place) = instruction.Inject packet node (prefix_at net place)
+instruction_of net (directive.Hop packet times) = hop_instruction packet times
+instruction_of net directive.ShowRib = instruction.Show plain.Rib
+instruction_of net directive.ShowLog = instruction.Show plain.Log
+instruction_of net directive.ShowControl = instruction.Show plain.Control
+instruction_of net (directive.ShowCut epoch) = instruction.ShowEpoch Cut epoch
+instruction_of net (directive.ShowClosure epoch) = instruction.ShowEpoch Closure epoch
+instruction_of net (directive.ShowTables epoch) = instruction.ShowEpoch Tables epoch
+instruction_of net (directive.ShowWalk packet) = instruction.ShowWalk packet
 
 -- the word after show
 abbrev pub view_text : View → List ℕ

@@ -4,116 +4,14 @@ ghost use Rattle.std.specs.List.{flat_map};
 ghost use Rattle.std.specs.String.{string_bytes};
 ghost use Rattle.topology.specs.Lists.{ascending};
 ghost use Rattle.topology.specs.Net.{neighbours};
-ghost use Rattle.schedule_file.specs.declared.lines.Instruction.TheVariants as Instruction;
 ghost use Rattle.schedule_file.specs.Grammar.{IsFile};
-ghost use Rattle.schedule_file.specs.Printing.{line_text, node_line, link_line, prefix_line, pref_line, hold_line, packet_lines, added, sorted_preferences, held, sorted_holds, prefix_at, hop_instruction, instruction_of, directive_line, network_lines, printed, IsFileAgain};
+ghost use Rattle.schedule_file.specs.Printing.{line_text, node_line, link_line, prefix_line, pref_line, hold_line, packet_lines, added, sorted_preferences, held, sorted_holds, directive_line, network_lines, printed, IsFileAgain};
 
-use crate::lines::{Declaration, Directive, Instruction, Line, Schedule};
+use crate::lines::{Declaration, Line, Schedule};
 use crate::spelling::push_line;
-use crate::table::{EpochView, NodeEvent, OriginVerb, PairEvent, PlainView};
+use crate::table::instruction_of;
 use std::alloc::{AllocError, Global};
-use topology::{Epoch, NoMemory, NodeId, Prefix, PrefixId, Topology};
-
-// The prefix at a place. If there is none, the answer does not matter.
-fn prefix_at(topology: &Topology, place: PrefixId) -> Prefix
-    ensures { result ≡ prefix_at topology.now place }
-{
-    match topology.prefix(place) {
-        Some(prefix) => prefix,
-        None => Prefix { bits: 0, len: 0 },
-    }
-}
-
-// The instruction of a verb for the prefix at this place.
-fn origin(topology: &Topology, verb: OriginVerb, node: NodeId, place: PrefixId) -> Instruction
-    ensures { result ≡ Instruction.Origin verb node (prefix_at topology.now place) }
-{
-    Instruction::Origin {
-        verb,
-        node,
-        prefix: prefix_at(topology, place),
-    }
-}
-
-// The instruction of an event of two nodes.
-fn pair(event: PairEvent, a: NodeId, b: NodeId) -> Instruction
-    ensures { result ≡ Instruction.Pair event a b }
-{
-    Instruction::Pair { event, a, b }
-}
-
-// The instruction of an event of one node.
-fn single(event: NodeEvent, node: NodeId) -> Instruction
-    ensures { result ≡ Instruction.Single event node }
-{
-    Instruction::Single { event, node }
-}
-
-// The instruction to show a view.
-fn show(view: PlainView) -> Instruction
-    ensures { result ≡ Instruction.Show view }
-{
-    Instruction::Show { view }
-}
-
-// The instruction to show a view of an epoch.
-fn show_epoch(view: EpochView, epoch: Epoch) -> Instruction
-    ensures { result ≡ Instruction.ShowEpoch view epoch }
-{
-    Instruction::ShowEpoch { view, epoch }
-}
-
-// The instruction that the packet makes its next move, or at most so many.
-fn hop(packet: u32, times: Option<u32>) -> Instruction
-    ensures { result ≡ hop_instruction packet times }
-{
-    match times {
-        None => Instruction::Hop { packet },
-        Some(times) => Instruction::HopTimes { packet, times },
-    }
-}
-
-// The instruction of a directive, with the prefix itself.
-fn instruction_of(net: &Topology, directive: &Directive) -> Instruction
-    ensures { result ≡ instruction_of net.now directive.now }
-{
-    match *directive {
-        Directive::Originate { node, prefix } => origin(net, OriginVerb::Originate, node, prefix),
-        Directive::Withdraw { node, prefix } => origin(net, OriginVerb::Withdraw, node, prefix),
-        Directive::Probe { node, prefix } => origin(net, OriginVerb::Probe, node, prefix),
-        Directive::Prefer { node, nbr, value } => Instruction::Prefer { node, nbr, value },
-        Directive::Deliver { from, to } => pair(PairEvent::Deliver, from, to),
-        Directive::Fail { a, b } => pair(PairEvent::Fail, a, b),
-        Directive::Restore { a, b } => pair(PairEvent::Restore, a, b),
-        Directive::Notice { node, nbr } => pair(PairEvent::Notice, node, nbr),
-        Directive::OpenSession { node, nbr } => pair(PairEvent::Open, node, nbr),
-        Directive::Flush { node, nbr } => pair(PairEvent::Flush, node, nbr),
-        Directive::Snap { node } => single(NodeEvent::Snap, node),
-        Directive::Crash { node } => single(NodeEvent::Crash, node),
-        Directive::Restart { node } => single(NodeEvent::Restart, node),
-        Directive::Propose { node, epoch } => Instruction::Propose { node, epoch },
-        Directive::Drain { times } => Instruction::Drain { times },
-        Directive::Control { number } => Instruction::Control { number },
-        Directive::ControlAll { times } => Instruction::ControlAll { times },
-        Directive::Inject {
-            packet,
-            node,
-            prefix,
-        } => Instruction::Inject {
-            packet,
-            node,
-            prefix: prefix_at(net, prefix),
-        },
-        Directive::Hop { packet, times } => hop(packet, times),
-        Directive::ShowRib => show(PlainView::Rib),
-        Directive::ShowLog => show(PlainView::Log),
-        Directive::ShowControl => show(PlainView::Control),
-        Directive::ShowCut(epoch) => show_epoch(EpochView::Cut, epoch),
-        Directive::ShowClosure(epoch) => show_epoch(EpochView::Closure, epoch),
-        Directive::ShowTables(epoch) => show_epoch(EpochView::Tables, epoch),
-        Directive::ShowWalk(packet) => Instruction::ShowWalk { packet },
-    }
-}
+use topology::{NoMemory, NodeId, PrefixId, Topology};
 
 // The nodes, in file order.
 fn node_lines(out: &mut String, topology: &Topology) -> Result<(), AllocError>

@@ -1,11 +1,12 @@
 //! The table of the grammar: the words that begin a line, how many words such a line has, on which side of `begin` it
-//! stands, and its directive. `specs/Table.antt` is its definition. docs/CONTRIBUTING.md says what a new line needs.
+//! stands, and its directive, both ways. `specs/Table.antt` is its definition. docs/CONTRIBUTING.md says what a new line needs.
 ghost use Rattle.std.specs.Prelude.{◌≡◌, ◌≢◌, true, false, IfSome, IfNone};
+ghost use Rattle.schedule_file.specs.declared.lines.Instruction.TheVariants as Instruction;
 ghost use Rattle.schedule_file.specs.Spelling.{relation_text};
-ghost use Rattle.schedule_file.specs.Table.{keyword_text, view_text, scheme_text, origin_text, node_text, pair_text, plain_text, epoch_text, shape_of, may_stand, origin_directive, node_directive, pair_directive, plain_directive, epoch_directive};
+ghost use Rattle.schedule_file.specs.Table.{keyword_text, view_text, scheme_text, origin_text, node_text, pair_text, plain_text, epoch_text, shape_of, may_stand, origin_directive, node_directive, pair_directive, plain_directive, epoch_directive, prefix_at, hop_instruction, instruction_of};
 
-use crate::lines::Directive;
-use topology::{Epoch, NodeId, PrefixId, Relation};
+use crate::lines::{Directive, Instruction};
+use topology::{Epoch, NodeId, Prefix, PrefixId, Relation, Topology};
 
 /// The first word of a line about a node and a prefix.
 #[derive(Clone, Copy, Debug, PartialEq, Eq)]
@@ -485,5 +486,106 @@ impl SchemeName {
             SchemeName::Detour => "detour",
             SchemeName::Backup => "backup",
         }
+    }
+}
+
+// The prefix at a place. If there is none, the answer does not matter.
+fn prefix_at(topology: &Topology, place: PrefixId) -> Prefix
+    ensures { result ≡ prefix_at topology.now place }
+{
+    match topology.prefix(place) {
+        Some(prefix) => prefix,
+        None => Prefix { bits: 0, len: 0 },
+    }
+}
+
+// The instruction of a verb for the prefix at this place.
+fn origin(topology: &Topology, verb: OriginVerb, node: NodeId, place: PrefixId) -> Instruction
+    ensures { result ≡ Instruction.Origin verb node (prefix_at topology.now place) }
+{
+    Instruction::Origin {
+        verb,
+        node,
+        prefix: prefix_at(topology, place),
+    }
+}
+
+// The instruction of an event of two nodes.
+fn pair(event: PairEvent, a: NodeId, b: NodeId) -> Instruction
+    ensures { result ≡ Instruction.Pair event a b }
+{
+    Instruction::Pair { event, a, b }
+}
+
+// The instruction of an event of one node.
+fn single(event: NodeEvent, node: NodeId) -> Instruction
+    ensures { result ≡ Instruction.Single event node }
+{
+    Instruction::Single { event, node }
+}
+
+// The instruction to show a view.
+fn show(view: PlainView) -> Instruction
+    ensures { result ≡ Instruction.Show view }
+{
+    Instruction::Show { view }
+}
+
+// The instruction to show a view of an epoch.
+fn show_epoch(view: EpochView, epoch: Epoch) -> Instruction
+    ensures { result ≡ Instruction.ShowEpoch view epoch }
+{
+    Instruction::ShowEpoch { view, epoch }
+}
+
+// The instruction that the packet makes its next move, or at most so many.
+fn hop(packet: u32, times: Option<u32>) -> Instruction
+    ensures { result ≡ hop_instruction packet times }
+{
+    match times {
+        None => Instruction::Hop { packet },
+        Some(times) => Instruction::HopTimes { packet, times },
+    }
+}
+
+/// The instruction of a directive, with the prefix itself.
+pub fn instruction_of(net: &Topology, directive: &Directive) -> Instruction
+    ensures { result ≡ instruction_of net.now directive.now }
+{
+    match *directive {
+        Directive::Originate { node, prefix } => origin(net, OriginVerb::Originate, node, prefix),
+        Directive::Withdraw { node, prefix } => origin(net, OriginVerb::Withdraw, node, prefix),
+        Directive::Probe { node, prefix } => origin(net, OriginVerb::Probe, node, prefix),
+        Directive::Prefer { node, nbr, value } => Instruction::Prefer { node, nbr, value },
+        Directive::Deliver { from, to } => pair(PairEvent::Deliver, from, to),
+        Directive::Fail { a, b } => pair(PairEvent::Fail, a, b),
+        Directive::Restore { a, b } => pair(PairEvent::Restore, a, b),
+        Directive::Notice { node, nbr } => pair(PairEvent::Notice, node, nbr),
+        Directive::OpenSession { node, nbr } => pair(PairEvent::Open, node, nbr),
+        Directive::Flush { node, nbr } => pair(PairEvent::Flush, node, nbr),
+        Directive::Snap { node } => single(NodeEvent::Snap, node),
+        Directive::Crash { node } => single(NodeEvent::Crash, node),
+        Directive::Restart { node } => single(NodeEvent::Restart, node),
+        Directive::Propose { node, epoch } => Instruction::Propose { node, epoch },
+        Directive::Drain { times } => Instruction::Drain { times },
+        Directive::Control { number } => Instruction::Control { number },
+        Directive::ControlAll { times } => Instruction::ControlAll { times },
+        Directive::Inject {
+            packet,
+            node,
+            prefix,
+        } => Instruction::Inject {
+            packet,
+            node,
+            prefix: prefix_at(net, prefix),
+        },
+        Directive::Hop { packet, times } => hop(packet, times),
+        Directive::ShowRib => show(PlainView::Rib),
+        Directive::ShowLog => show(PlainView::Log),
+        Directive::ShowControl => show(PlainView::Control),
+        Directive::ShowCut(epoch) => show_epoch(EpochView::Cut, epoch),
+        Directive::ShowClosure(epoch) => show_epoch(EpochView::Closure, epoch),
+        Directive::ShowTables(epoch) => show_epoch(EpochView::Tables, epoch),
+        Directive::ShowWalk(packet) => Instruction::ShowWalk { packet },
     }
 }
