@@ -11,13 +11,12 @@ use Rattle.topology.specs.declared.status.BadKind.TheVariants as bad
 use Rattle.topology.proofs.Tests.{and_both}
 use Rattle.schedule_file.specs.declared.lines.Directive.{Directive}
 use Rattle.schedule_file.specs.declared.lines.Instruction.{Instruction}
-use Rattle.schedule_file.specs.declared.lines.Instruction.TheVariants.{Origin, Single, Pair, Prefer, Propose, Drain, Control, ControlAll, Inject, Hop, HopTimes, Show, ShowEpoch, ShowWalk}
-use Rattle.schedule_file.specs.declared.table.OriginVerb.TheVariants.{Originate, Withdraw, Probe}
-use Rattle.schedule_file.specs.declared.table.NodeEvent.TheVariants.{Snap, Crash, Restart}
-use Rattle.schedule_file.specs.declared.table.PairEvent.TheVariants.{Deliver, Fail, Restore, Notice, Open, Flush}
-use Rattle.schedule_file.specs.declared.table.PlainView.TheVariants.{Rib, Log}
-use Rattle.schedule_file.specs.declared.table.PlainView.TheVariants.{Control as Messages}
-use Rattle.schedule_file.specs.declared.table.EpochView.TheVariants.{Cut, Closure, Tables}
+use Rattle.schedule_file.specs.declared.lines.Instruction.TheVariants.{Origin, Single, Pair, Prefer, Propose, Control, Inject, Hop, HopTimes, Show, ShowEpoch}
+use Rattle.schedule_file.specs.declared.table.OriginVerb.TheVariants.{Originate}
+use Rattle.schedule_file.specs.declared.table.NodeEvent.TheVariants.{Snap}
+use Rattle.schedule_file.specs.declared.table.PairEvent.TheVariants.{Deliver}
+use Rattle.schedule_file.specs.declared.table.PlainView.TheVariants.{Rib}
+use Rattle.schedule_file.specs.declared.table.EpochView.TheVariants.{Cut}
 use Rattle.schedule_file.specs.declared.lines.Numbered.{Numbered}
 use Rattle.schedule_file.specs.Lines.{DirectsInRange}
 use Rattle.schedule_file.specs.Grammar.{place_in, fault_from, origin_fault, directed_fault, directive_of, IsInstructed, AreInstructed}
@@ -77,34 +76,24 @@ module _ (net : Net) where
 
   instruction_fits : (i : Instruction) → DirectsInRange i → directed_fault net i ≡ None → Fitting net (task_of (directive_of net i))
   instruction_fits (Origin Originate node p) r fine = origin_fits node p fine
-  instruction_fits (Origin Withdraw node p) r fine = origin_fits node p fine
-  instruction_fits (Origin Probe node p) r fine = origin_fits node p fine
+  instruction_fits (Origin verb node p) r fine = origin_fits node p fine
   instruction_fits (Single Snap node) r fine = node_named (has net.nodes node) fine
-  instruction_fits (Single Crash node) r fine = node_named (has net.nodes node) fine
-  instruction_fits (Single Restart node) r fine = node_named (has net.nodes node) fine
+  instruction_fits (Single event node) r fine = node_named (has net.nodes node) fine
   instruction_fits (Pair Deliver a b) r fine = joined a b fine
-  instruction_fits (Pair Fail a b) r fine = joined a b fine
-  instruction_fits (Pair Restore a b) r fine = joined a b fine
-  instruction_fits (Pair Notice a b) r fine = joined a b fine
-  instruction_fits (Pair Open a b) r fine = joined a b fine
-  instruction_fits (Pair Flush a b) r fine = joined a b fine
+  instruction_fits (Pair event a b) r fine = joined a b fine
   instruction_fits (Prefer node nbr value) r fine =
       and_both _ _ (near_linked (has net.nodes node) (has net.nodes nbr) (linked net node nbr) fine) (small value _ r.2)
   instruction_fits (Propose node epoch) r fine =
       and_both _ _ (node_named (has net.nodes node) fine) (and_both _ _ (small 1 epoch r.1) (small epoch _ r.2))
-  instruction_fits (Drain times) r fine = tt
   instruction_fits (Control number) r fine = and_both _ _ (small 1 number r.0) (small number _ r.1)
-  instruction_fits (ControlAll times) r fine = tt
   instruction_fits (Inject packet node p) r fine = and_both _ _ (small 1 packet r.0) (origin_fits node p fine)
   instruction_fits (Hop packet) r fine = small 1 packet r.0
   instruction_fits (HopTimes packet times) r fine = small 1 packet r.0
   instruction_fits (Show Rib) r fine = tt
-  instruction_fits (Show Log) r fine = tt
-  instruction_fits (Show Messages) r fine = tt
+  instruction_fits (Show view) r fine = tt
   instruction_fits (ShowEpoch Cut epoch) r fine = tt
-  instruction_fits (ShowEpoch Closure epoch) r fine = tt
-  instruction_fits (ShowEpoch Tables epoch) r fine = tt
-  instruction_fits (ShowWalk packet) r fine = tt
+  instruction_fits (ShowEpoch view epoch) r fine = tt
+  instruction_fits i r fine = tt
 
   directive_fits : (d : Directive) → IsInstructed net d → Fitting net (task_of d)
   directive_fits d f =
