@@ -21,9 +21,30 @@ fn keyword_named(word: &[u8]) -> Option<Keyword>
     ensures some { IfSome result (λ keyword. word.now ≡ keyword_text keyword) }
     ensures none { IfNone result ((keyword : Word) → word.now ≢ keyword_text keyword) }
 {
+    if let Some(keyword) = declaring_named(word) {
+        return Some(keyword);
+    }
+    directing_named(word)
+}
+
+// The kind of line that the word begins, if such lines stand up to `begin`.
+fn declaring_named(word: &[u8]) -> Option<Keyword>
+    ensures some { IfSome result (λ keyword. word.now ≡ keyword_text keyword) }
+    ensures none { IfNone result ((keyword : Word) → directs keyword ≡ false → word.now ≢ keyword_text keyword) }
+{
     match word {
         b"member" => Some(Keyword::Member),
         b"begin" => Some(Keyword::Begin),
+        _ => None,
+    }
+}
+
+// The kind of line that the word begins, if such lines stand after `begin`.
+fn directing_named(word: &[u8]) -> Option<Keyword>
+    ensures some { IfSome result (λ keyword. word.now ≡ keyword_text keyword) }
+    ensures none { IfNone result ((keyword : Word) → directs keyword ≡ true → word.now ≢ keyword_text keyword) }
+{
+    match word {
         b"lead" => Some(Keyword::Lead),
         b"offer" => Some(Keyword::Offer),
         b"ctl" => Some(Keyword::Control),
