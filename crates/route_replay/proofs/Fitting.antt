@@ -11,7 +11,7 @@ use Rattle.topology.specs.declared.status.BadKind.TheVariants as bad
 use Rattle.topology.proofs.Tests.{and_both}
 use Rattle.schedule_file.specs.declared.lines.Directive.{Directive}
 use Rattle.schedule_file.specs.declared.lines.Instruction.{Instruction}
-use Rattle.schedule_file.specs.declared.lines.Instruction.TheVariants.{Origin, Single, Pair, Prefer, Propose, Control, Inject, Hop, HopTimes, Show, ShowEpoch}
+use Rattle.schedule_file.specs.declared.lines.Instruction.TheVariants.{Origin, Single, Pair, Prefer, Propose, Control, Inject, Hop, Show, ShowEpoch}
 use Rattle.schedule_file.specs.declared.table.OriginVerb.TheVariants.{Originate}
 use Rattle.schedule_file.specs.declared.table.NodeEvent.TheVariants.{Snap}
 use Rattle.schedule_file.specs.declared.table.PairEvent.TheVariants.{Deliver}
@@ -87,8 +87,8 @@ module _ (net : Net) where
       and_both _ _ (node_named (has net.nodes node) fine) (and_both _ _ (small 1 epoch r.1) (small epoch _ r.2))
   instruction_fits (Control number) r fine = and_both _ _ (small 1 number r.0) (small number _ r.1)
   instruction_fits (Inject packet node p) r fine = and_both _ _ (small 1 packet r.0) (origin_fits node p fine)
-  instruction_fits (Hop packet) r fine = small 1 packet r.0
-  instruction_fits (HopTimes packet times) r fine = small 1 packet r.0
+  instruction_fits (Hop packet None) r fine = small 1 packet r.0
+  instruction_fits (Hop packet (Some times)) r fine = small 1 packet r.0
   instruction_fits (Show Rib) r fine = tt
   instruction_fits (Show view) r fine = tt
   instruction_fits (ShowEpoch Cut epoch) r fine = tt

@@ -1,6 +1,6 @@
 -- A text of spelled lines is cut into these lines, and each line into its words.
 use Rattle.std.proofs.Common.{◌≡◌, ℕ, ◌<◌, ◌≤◌, ◌^◌, ◌/◌, ◌%◌, ◌==◌, ◌||◌, Bool, true, false, List, [], ◌∷◌, ◌++◌, append_assoc, refl, ap, ◌∙◌, arith}
-use Rattle.std.specs.Prelude.{map, nat_lt}
+use Rattle.std.specs.Prelude.{Some, None, map, nat_lt}
 use Rattle.std.specs.List.{list_any, flat_map, join_with_byte, All, AllByRecursion}
 use Rattle.std.specs.Fmt.{decimal}
 use Rattle.std.specs.Str.Parse.{AllDigits}
@@ -24,7 +24,7 @@ use Rattle.schedule_file.specs.declared.lines.Line.TheVariants.{Blank, Begin, De
 use Rattle.schedule_file.specs.declared.lines.Declaration.{Declaration}
 use Rattle.schedule_file.specs.declared.lines.Declaration.TheVariants.{Node, Link, Pref, Hold, Prefix, Hops, Transient}
 use Rattle.schedule_file.specs.declared.lines.Instruction.{Instruction}
-use Rattle.schedule_file.specs.declared.lines.Instruction.TheVariants.{Origin, Single, Pair, Prefer, Propose, Drain, Control, ControlAll, Inject, Hop, HopTimes, Show, ShowEpoch, ShowWalk}
+use Rattle.schedule_file.specs.declared.lines.Instruction.TheVariants.{Origin, Single, Pair, Prefer, Propose, Drain, Control, ControlAll, Inject, Hop, Show, ShowEpoch, ShowWalk}
 use Rattle.schedule_file.specs.declared.table.Keyword.{Keyword}
 use Rattle.schedule_file.specs.declared.table.Keyword.TheVariants as keyword
 use Rattle.schedule_file.specs.declared.table.OriginVerb.TheVariants.{Originate}
@@ -159,8 +159,8 @@ directed_plain (Drain times) h = (plain_decimal times (omega (arith, h.1)), tt)
 directed_plain (Control number) h = (plain_decimal number (omega (arith, h.1)), tt)
 directed_plain (ControlAll times) h = (record { some = refl; high = refl }, (plain_decimal times (omega (arith, h.1)), tt))
 directed_plain (Inject packet node p) h = (plain_decimal packet (omega (arith, h.1)), (plain_number node h.2, (plain_prefix p h.3, tt)))
-directed_plain (Hop packet) h = (plain_decimal packet (omega (arith, h.1)), tt)
-directed_plain (HopTimes packet times) h = (plain_decimal packet (omega (arith, h.1)), (plain_decimal times (omega (arith, h.3)), tt))
+directed_plain (Hop packet None) h = (plain_decimal packet (omega (arith, h.1)), tt)
+directed_plain (Hop packet (Some times)) h = (plain_decimal packet (omega (arith, h.1)), (plain_decimal times (omega (arith, h.3)), tt))
 directed_plain (Show view) h = (plain_view view, tt)
 directed_plain (ShowEpoch view epoch) h = (plain_epoch_view view, (plain_decimal epoch (omega (arith, h.1)), tt))
 directed_plain (ShowWalk packet) h = (record { some = refl; high = refl }, (plain_decimal packet (omega (arith, h.1)), tt))

@@ -1,6 +1,6 @@
 -- A line in its part has no fault in its words, and is read back from them. So words spell only one line.
 use Rattle.std.proofs.Common.{◌≡◌, ℕ, suc, ◌≤◌, true, false, List, [], ◌∷◌, length, refl, sym, ap, ap₂, ◌∙◌, arith}
-use Rattle.std.specs.Prelude.{None, codes}
+use Rattle.std.specs.Prelude.{Some, None, codes}
 use Rattle.std.specs.Option.{option_or}
 use Rattle.std.specs.Fmt.{decimal}
 use Rattle.topology.specs.declared.names.Scheme.TheVariants as scheme
@@ -9,7 +9,7 @@ use Rattle.schedule_file.specs.declared.lines.Line.TheVariants.{Blank, Begin, De
 use Rattle.schedule_file.specs.declared.lines.Declaration.{Declaration}
 use Rattle.schedule_file.specs.declared.lines.Declaration.TheVariants.{Node, Link, Pref, Hold, Prefix, Hops, Transient}
 use Rattle.schedule_file.specs.declared.lines.Instruction.{Instruction}
-use Rattle.schedule_file.specs.declared.lines.Instruction.TheVariants.{Origin, Single, Pair, Prefer, Propose, Drain, Control, ControlAll, Inject, Hop, HopTimes, Show, ShowEpoch, ShowWalk}
+use Rattle.schedule_file.specs.declared.lines.Instruction.TheVariants.{Origin, Single, Pair, Prefer, Propose, Drain, Control, ControlAll, Inject, Hop, Show, ShowEpoch, ShowWalk}
 use Rattle.schedule_file.specs.declared.table.Keyword.{Keyword}
 use Rattle.schedule_file.specs.declared.table.Part.{Part}
 use Rattle.schedule_file.specs.declared.table.Keyword.TheVariants as keyword
@@ -127,8 +127,8 @@ fine_instruction (Inject packet node p) h = record {
   counted = refl;
   fine_words = three_fine PacketNumber NodeNumber Masked (decimal packet) (decimal node) (prefix_text p) (packet_fine packet h.0 h.1) (node_fine node h.2) (spells_text p h.3);
 }
-fine_instruction (Hop packet) h = record { counted = refl; fine_words = one_fine PacketNumber (decimal packet) (packet_fine packet h.0 h.1) }
-fine_instruction (HopTimes packet times) h = record {
+fine_instruction (Hop packet None) h = record { counted = refl; fine_words = one_fine PacketNumber (decimal packet) (packet_fine packet h.0 h.1) }
+fine_instruction (Hop packet (Some times)) h = record {
   counted = refl;
   fine_words = two_fine PacketNumber Times (decimal packet) (decimal times) (packet_fine packet h.0 h.1) (times_fine times h.2 h.3);
 }
@@ -200,8 +200,8 @@ directed_back (Control number) h = ap (λ n. Directs (Control n)) (decimal_value
 directed_back (ControlAll times) h = ap (λ n. Directs (ControlAll n)) (decimal_value times (omega (arith, h.1)))
 directed_back (Inject packet node p) h =
     ap₂ (λ k n. Directs (Inject k n (prefix_of (prefix_text p)))) (decimal_value packet (omega (arith, h.1))) (value_back node h.2) ∙ ap (λ q. Directs (Inject packet node q)) (prefix_of_text p h.3)
-directed_back (Hop packet) h = ap (λ k. Directs (Hop k)) (decimal_value packet (omega (arith, h.1)))
-directed_back (HopTimes packet times) h = ap₂ (λ k n. Directs (HopTimes k n)) (decimal_value packet (omega (arith, h.1))) (decimal_value times (omega (arith, h.3)))
+directed_back (Hop packet None) h = ap (λ k. Directs (Hop k None)) (decimal_value packet (omega (arith, h.1)))
+directed_back (Hop packet (Some times)) h = ap₂ (λ k n. Directs (Hop k (Some n))) (decimal_value packet (omega (arith, h.1))) (decimal_value times (omega (arith, h.3)))
 directed_back (Show view) h = ap (λ v. shown_by v (plain_text view ∷ [])) (view_found (Plain view))
 directed_back (ShowEpoch view epoch) h =
     ap (λ v. shown_by v (epoch_text view ∷ decimal epoch ∷ [])) (view_found (OfEpoch view))

@@ -14,7 +14,7 @@ use Rattle.schedule_file.specs.declared.lines.Line.TheVariants.{Blank, Begin, De
 use Rattle.schedule_file.specs.declared.lines.Declaration.{Declaration}
 use Rattle.schedule_file.specs.declared.lines.Declaration.TheVariants.{Node, Link, Pref, Hold, Prefix, Hops, Transient}
 use Rattle.schedule_file.specs.declared.lines.Instruction.{Instruction}
-use Rattle.schedule_file.specs.declared.lines.Instruction.TheVariants.{Origin, Single, Pair, Prefer, Propose, Drain, Control, ControlAll, Inject, Hop, HopTimes, Show, ShowEpoch, ShowWalk}
+use Rattle.schedule_file.specs.declared.lines.Instruction.TheVariants.{Origin, Single, Pair, Prefer, Propose, Drain, Control, ControlAll, Inject, Hop, Show, ShowEpoch, ShowWalk}
 use Rattle.schedule_file.specs.declared.lines.Directive.{Directive}
 use Rattle.schedule_file.specs.declared.lines.Directive.TheVariants as directive
 use Rattle.schedule_file.specs.declared.lines.Numbered.{Numbered}
@@ -127,8 +127,7 @@ directed_fault net (Drain times) = None
 directed_fault net (Control number) = None
 directed_fault net (ControlAll times) = None
 directed_fault net (Inject packet node p) = origin_fault net node p
-directed_fault net (Hop packet) = None
-directed_fault net (HopTimes packet times) = None
+directed_fault net (Hop packet times) = None
 directed_fault net (Show view) = None
 directed_fault net (ShowEpoch view epoch) = None
 directed_fault net (ShowWalk packet) = None
@@ -160,8 +159,7 @@ directive_of net (Drain times) = directive.Drain times
 directive_of net (Control number) = directive.Control number
 directive_of net (ControlAll times) = directive.ControlAll times
 directive_of net (Inject packet node p) = directive.Inject packet node (place_in p net.prefixes)
-directive_of net (Hop packet) = directive.Hop packet None
-directive_of net (HopTimes packet times) = directive.Hop packet (Some times)
+directive_of net (Hop packet times) = directive.Hop packet times
 directive_of net (Show view) = plain_directive view
 directive_of net (ShowEpoch view epoch) = epoch_directive view epoch
 directive_of net (ShowWalk packet) = directive.ShowWalk packet

@@ -1,5 +1,5 @@
 -- How lines are spelled.
-use Rattle.std.specs.Prelude.{ℕ, true, false, ◌≡◌, ◌≤◌, List, [], ◌∷◌, codes}
+use Rattle.std.specs.Prelude.{ℕ, true, false, ◌≡◌, ◌≤◌, Some, None, List, [], ◌∷◌, codes}
 use Rattle.std.specs.Fmt.{decimal}
 use Rattle.topology.specs.declared.names.Scheme.{Scheme}
 use Rattle.topology.specs.declared.names.Scheme.TheVariants.{Deflect, Detour, Backup}
@@ -8,7 +8,7 @@ use Rattle.schedule_file.specs.declared.lines.Line.TheVariants.{Blank, Begin, De
 use Rattle.schedule_file.specs.declared.lines.Declaration.{Declaration}
 use Rattle.schedule_file.specs.declared.lines.Declaration.TheVariants.{Node, Link, Pref, Hold, Prefix, Hops, Transient}
 use Rattle.schedule_file.specs.declared.lines.Instruction.{Instruction}
-use Rattle.schedule_file.specs.declared.lines.Instruction.TheVariants.{Origin, Single, Pair, Prefer, Propose, Drain, Control, ControlAll, Inject, Hop, HopTimes, Show, ShowEpoch, ShowWalk}
+use Rattle.schedule_file.specs.declared.lines.Instruction.TheVariants.{Origin, Single, Pair, Prefer, Propose, Drain, Control, ControlAll, Inject, Hop, Show, ShowEpoch, ShowWalk}
 use Rattle.schedule_file.specs.declared.table.Keyword.{Keyword}
 use Rattle.schedule_file.specs.declared.table.Keyword.TheVariants as keyword
 use Rattle.schedule_file.specs.declared.table.View.TheVariants.{Walk}
@@ -55,8 +55,7 @@ directing (Drain times) = keyword.Drain
 directing (Control number) = keyword.Control
 directing (ControlAll times) = keyword.Control
 directing (Inject packet node p) = keyword.Inject
-directing (Hop packet) = keyword.Hop
-directing (HopTimes packet times) = keyword.Hop
+directing (Hop packet times) = keyword.Hop
 directing (Show view) = keyword.Show
 directing (ShowEpoch view epoch) = keyword.Show
 directing (ShowWalk packet) = keyword.Show
@@ -72,8 +71,8 @@ directed_words (Drain times) = decimal times ∷ []
 directed_words (Control number) = decimal number ∷ []
 directed_words (ControlAll times) = codes "all" ∷ decimal times ∷ []
 directed_words (Inject packet node p) = decimal packet ∷ decimal node ∷ prefix_text p ∷ []
-directed_words (Hop packet) = decimal packet ∷ []
-directed_words (HopTimes packet times) = decimal packet ∷ decimal times ∷ []
+directed_words (Hop packet None) = decimal packet ∷ []
+directed_words (Hop packet (Some times)) = decimal packet ∷ decimal times ∷ []
 directed_words (Show view) = plain_text view ∷ []
 directed_words (ShowEpoch view epoch) = epoch_text view ∷ decimal epoch ∷ []
 directed_words (ShowWalk packet) = view_text Walk ∷ decimal packet ∷ []
@@ -112,8 +111,8 @@ DirectsInRange (Drain times) = (1 ≤ times) × (times ≤ MOST_TIMES)
 DirectsInRange (Control number) = (1 ≤ number) × (number ≤ HIGHEST_MESSAGE)
 DirectsInRange (ControlAll times) = (1 ≤ times) × (times ≤ MOST_TIMES)
 DirectsInRange (Inject packet node p) = (1 ≤ packet) × (packet ≤ HIGHEST_PACKET) × IsNumber node × IsRange p
-DirectsInRange (Hop packet) = (1 ≤ packet) × (packet ≤ HIGHEST_PACKET)
-DirectsInRange (HopTimes packet times) = (1 ≤ packet) × (packet ≤ HIGHEST_PACKET) × (1 ≤ times) × (times ≤ MOST_TIMES)
+DirectsInRange (Hop packet None) = (1 ≤ packet) × (packet ≤ HIGHEST_PACKET)
+DirectsInRange (Hop packet (Some times)) = (1 ≤ packet) × (packet ≤ HIGHEST_PACKET) × (1 ≤ times) × (times ≤ MOST_TIMES)
 DirectsInRange (Show view) = Unit {0}
 DirectsInRange (ShowEpoch view epoch) = (1 ≤ epoch) × (epoch ≤ HIGHEST_EPOCH)
 DirectsInRange (ShowWalk packet) = (1 ≤ packet) × (packet ≤ HIGHEST_PACKET)

@@ -73,8 +73,8 @@ line_by Drain words = form.Directs (directs.Drain (number_at 0 words))
 line_by Control (all ∷ times ∷ others) = form.Directs (directs.ControlAll (number_at 1 (all ∷ times ∷ others)))
 line_by Control words = form.Directs (directs.Control (number_at 0 words))
 line_by Inject words = form.Directs (directs.Inject (number_at 0 words) (number_at 1 words) (prefix_of (word_at 2 words)))
-line_by Hop (packet ∷ times ∷ others) = form.Directs (directs.HopTimes (number_at 0 (packet ∷ times ∷ others)) (number_at 1 (packet ∷ times ∷ others)))
-line_by Hop words = form.Directs (directs.Hop (number_at 0 words))
+line_by Hop (packet ∷ times ∷ others) = form.Directs (directs.Hop (number_at 0 (packet ∷ times ∷ others)) (Some (number_at 1 (packet ∷ times ∷ others))))
+line_by Hop words = form.Directs (directs.Hop (number_at 0 words) None)
 line_by Show words = shown_by (view_in (word_at 0 words)) words
 
 -- the line that begins with a keyword; any line without one

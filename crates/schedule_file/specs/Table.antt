@@ -102,11 +102,6 @@ epoch_directive Tables epoch = directive.ShowTables epoch
 abbrev pub prefix_at : Net → ℕ → Range
 prefix_at net place = unwrap_or (slice_get net.prefixes place) (record { bits = 0; len = 0 })
 
--- the next move of a packet, or at most so many
-abbrev pub hop_instruction : ℕ → Option ℕ → Instruction
-hop_instruction packet None = instruction.Hop packet
-hop_instruction packet (Some times) = instruction.HopTimes packet times
-
 -- the instruction of a directive, with the prefix itself
 abbrev pub instruction_of : Net → Directive → Instruction
 instruction_of net (directive.Originate node place) = instruction.Origin Originate node (prefix_at net place)
@@ -127,7 +122,7 @@ instruction_of net (directive.Drain times) = instruction.Drain times
 instruction_of net (directive.Control number) = instruction.Control number
 instruction_of net (directive.ControlAll times) = instruction.ControlAll times
 instruction_of net (directive.Inject packet node place) = instruction.Inject packet node (prefix_at net place)
-instruction_of net (directive.Hop packet times) = hop_instruction packet times
+instruction_of net (directive.Hop packet times) = instruction.Hop packet times
 instruction_of net directive.ShowRib = instruction.Show plain.Rib
 instruction_of net directive.ShowLog = instruction.Show plain.Log
 instruction_of net directive.ShowControl = instruction.Show plain.Control

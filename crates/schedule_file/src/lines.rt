@@ -101,14 +101,10 @@ pub enum Instruction {
         node: NodeId,
         prefix: Prefix,
     },
-    /// The packet makes its next move.
+    /// The packet makes its next move. With `times` it makes at most so many.
     Hop {
         packet: u32,
-    },
-    /// At most this many moves of the packet.
-    HopTimes {
-        packet: u32,
-        times: u32,
+        times: Option<u32>,
     },
     Show {
         view: PlainView,

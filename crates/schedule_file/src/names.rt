@@ -145,13 +145,6 @@ fn inject(
     })
 }
 
-// The directive that the packet makes its next move, or at most so many.
-fn hop(packet: u32, times: Option<u32>) -> Directive
-    ensures { result ≡ directive.Hop packet times }
-{
-    Directive::Hop { packet, times }
-}
-
 /// The directive of the instruction, with its names looked up.
 pub fn look_up(topology: &Topology, instruction: &Instruction) -> Result<Directive, BadKind>
     ensures ok { IfOk result (λ directive. directive ≡ directive_of topology.now instruction.now) }
@@ -187,8 +180,7 @@ pub fn look_up(topology: &Topology, instruction: &Instruction) -> Result<Directi
             node,
             prefix,
         } => inject(topology, packet, node, prefix),
-        Instruction::Hop { packet } => Ok(hop(packet, None)),
-        Instruction::HopTimes { packet, times } => Ok(hop(packet, Some(times))),
+        Instruction::Hop { packet, times } => Ok(Directive::Hop { packet, times }),
         Instruction::Show { view } => Ok(view.directive()),
         Instruction::ShowEpoch { view, epoch } => Ok(view.directive(epoch)),
         Instruction::ShowWalk { packet } => Ok(Directive::ShowWalk(packet)),

@@ -233,7 +233,10 @@ fn hop_line(packet: &[u8]) -> Result<Line, BadKind>
     ensures { ReadsAs keyword.Hop (packet.now ∷ []) result }
 {
     let packet = packet_of(packet)?;
-    Ok(Line::Directs(Instruction::Hop { packet }))
+    Ok(Line::Directs(Instruction::Hop {
+        packet,
+        times: None,
+    }))
 }
 
 // The line `hop` with two more words.
@@ -242,7 +245,10 @@ fn hop_times_line(packet: &[u8], times: &[u8]) -> Result<Line, BadKind>
 {
     let packet = packet_of(packet)?;
     let times = times_of(times)?;
-    Ok(Line::Directs(Instruction::HopTimes { packet, times }))
+    Ok(Line::Directs(Instruction::Hop {
+        packet,
+        times: Some(times),
+    }))
 }
 
 // The line `show` with one more word.

@@ -165,7 +165,7 @@ fn first_word(instruction: &Instruction) -> &'static str
         Instruction::Drain { .. } => "drain",
         Instruction::Control { .. } | Instruction::ControlAll { .. } => "ctl",
         Instruction::Inject { .. } => "inject",
-        Instruction::Hop { .. } | Instruction::HopTimes { .. } => "hop",
+        Instruction::Hop { .. } => "hop",
         Instruction::Show { .. } | Instruction::ShowEpoch { .. } | Instruction::ShowWalk { .. } =>
             "show",
     }
@@ -201,8 +201,14 @@ fn push_instruction(out: &mut String, instruction: &Instruction) -> Result<(), A
             push_node(out, *node)?;
             push_prefix(out, prefix)
         }
-        Instruction::Hop { packet } => push_number(out, *packet),
-        Instruction::HopTimes { packet, times } => {
+        Instruction::Hop {
+            packet,
+            times: None,
+        } => push_number(out, *packet),
+        Instruction::Hop {
+            packet,
+            times: Some(times),
+        } => {
             push_number(out, *packet)?;
             push_number(out, *times)
         }

@@ -3,7 +3,7 @@
 ghost use Rattle.std.specs.Prelude.{◌≡◌, ◌≢◌, true, false, IfSome, IfNone};
 ghost use Rattle.schedule_file.specs.declared.lines.Instruction.TheVariants as Instruction;
 ghost use Rattle.schedule_file.specs.Spelling.{relation_text};
-ghost use Rattle.schedule_file.specs.Table.{keyword_text, view_text, scheme_text, origin_text, node_text, pair_text, plain_text, epoch_text, shape_of, may_stand, origin_directive, node_directive, pair_directive, plain_directive, epoch_directive, prefix_at, hop_instruction, instruction_of};
+ghost use Rattle.schedule_file.specs.Table.{keyword_text, view_text, scheme_text, origin_text, node_text, pair_text, plain_text, epoch_text, shape_of, may_stand, origin_directive, node_directive, pair_directive, plain_directive, epoch_directive, prefix_at, instruction_of};
 
 use crate::lines::{Directive, Instruction};
 use topology::{Epoch, NodeId, Prefix, PrefixId, Relation, Topology};
@@ -538,16 +538,6 @@ fn show_epoch(view: EpochView, epoch: Epoch) -> Instruction
     Instruction::ShowEpoch { view, epoch }
 }
 
-// The instruction that the packet makes its next move, or at most so many.
-fn hop(packet: u32, times: Option<u32>) -> Instruction
-    ensures { result ≡ hop_instruction packet times }
-{
-    match times {
-        None => Instruction::Hop { packet },
-        Some(times) => Instruction::HopTimes { packet, times },
-    }
-}
-
 /// The instruction of a directive, with the prefix itself.
 pub fn instruction_of(net: &Topology, directive: &Directive) -> Instruction
     ensures { result ≡ instruction_of net.now directive.now }
@@ -579,7 +569,7 @@ pub fn instruction_of(net: &Topology, directive: &Directive) -> Instruction
             node,
             prefix: prefix_at(net, prefix),
         },
-        Directive::Hop { packet, times } => hop(packet, times),
+        Directive::Hop { packet, times } => Instruction::Hop { packet, times },
         Directive::ShowRib => show(PlainView::Rib),
         Directive::ShowLog => show(PlainView::Log),
         Directive::ShowControl => show(PlainView::Control),
