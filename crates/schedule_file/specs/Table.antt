@@ -1,6 +1,6 @@
 -- The table of the grammar: each word that begins a line, how many words such a line has, on which side of begin it
 -- stands, which words may follow the first, and its directive, both ways.
-use Rattle.std.specs.Prelude.{ℕ, Bool, true, false, ◌&&◌, nat_le, is_some, List, [], ◌∷◌, Option, Some, None, unwrap_or, slice_get, codes, bytes_eq, if◌then◌else◌}
+use Rattle.std.specs.Prelude.{ℕ, Bool, true, false, ◌&&◌, nat_le, is_some, List, [], ◌∷◌, ◌++◌, Option, Some, None, unwrap_or, slice_get, codes, bytes_eq, if◌then◌else◌}
 use Rattle.std.specs.List.{find}
 use Rattle.topology.specs.declared.prefixes.Prefix.{Prefix as Range}
 use Rattle.topology.specs.declared.status.BadKind.{BadKind}
@@ -178,13 +178,23 @@ keyword_text Inject = codes "inject"
 keyword_text Hop = codes "hop"
 keyword_text Show = codes "show"
 
-abbrev pub keywords : List Keyword
-keywords =
-    Node ∷ Link ∷ Pref ∷ Hold ∷ Prefix ∷ Hops ∷ Transient ∷ Begin
-    ∷ Origin Originate ∷ Origin Withdraw ∷ Origin Probe
+-- the keywords of the first part, with begin
+abbrev pub network_keywords : List Keyword
+network_keywords = Node ∷ Link ∷ Pref ∷ Hold ∷ Prefix ∷ Hops ∷ Transient ∷ Begin ∷ []
+
+-- those of the second part that only names follow
+abbrev pub event_keywords : List Keyword
+event_keywords =
+    Origin Originate ∷ Origin Withdraw ∷ Origin Probe
     ∷ Single Snap ∷ Single Crash ∷ Single Restart
-    ∷ Pair Deliver ∷ Pair Fail ∷ Pair Restore ∷ Pair Notice ∷ Pair Open ∷ Pair Flush
-    ∷ Prefer ∷ Propose ∷ Drain ∷ Control ∷ Inject ∷ Hop ∷ Show ∷ []
+    ∷ Pair Deliver ∷ Pair Fail ∷ Pair Restore ∷ Pair Notice ∷ Pair Open ∷ Pair Flush ∷ []
+
+-- the others of the second part
+abbrev pub order_keywords : List Keyword
+order_keywords = Prefer ∷ Propose ∷ Drain ∷ Control ∷ Inject ∷ Hop ∷ Show ∷ []
+
+abbrev pub keywords : List Keyword
+keywords = network_keywords ++ (event_keywords ++ order_keywords)
 
 -- the kind of line that begins with this word
 abbrev pub keyword_in : List ℕ → Option Keyword

@@ -2,8 +2,9 @@
 //! stands, and its directive, both ways. `specs/Table.antt` is its definition. docs/CONTRIBUTING.md says what a new line needs.
 ghost use Rattle.std.specs.Prelude.{◌≡◌, ◌≢◌, true, false, IfSome, IfNone};
 ghost use Rattle.schedule_file.specs.declared.lines.Instruction.TheVariants as Instruction;
+ghost use Rattle.std.specs.List.{AllByRecursion};
 ghost use Rattle.schedule_file.specs.Spelling.{relation_text};
-ghost use Rattle.schedule_file.specs.Table.{keyword_text, view_text, scheme_text, origin_text, node_text, pair_text, plain_text, epoch_text, shape_of, may_stand, origin_directive, node_directive, pair_directive, plain_directive, epoch_directive, prefix_at, instruction_of};
+ghost use Rattle.schedule_file.specs.Table.{keyword_text, network_keywords, order_keywords, view_text, scheme_text, origin_text, node_text, pair_text, plain_text, epoch_text, shape_of, may_stand, origin_directive, node_directive, pair_directive, plain_directive, epoch_directive, prefix_at, instruction_of};
 
 use crate::lines::{Directive, Instruction};
 use topology::{Epoch, NodeId, Prefix, PrefixId, Relation, Topology};
@@ -127,8 +128,7 @@ pub fn keyword_named(word: &[u8]) -> Option<Keyword>
 // The kind of line that the word begins, if such lines stand up to `begin`.
 fn declaring_named(word: &[u8]) -> Option<Keyword>
     ensures some { IfSome result (λ keyword. word.now ≡ keyword_text keyword) }
-    ensures none { IfNone result ((keyword : Keyword) → (shape_of keyword).directs ≡ false
-        → word.now ≢ keyword_text keyword) }
+    ensures none { IfNone result (AllByRecursion (λ keyword. word.now ≢ keyword_text keyword) network_keywords) }
 {
     match word {
         b"node" => Some(Keyword::Node),
@@ -158,6 +158,14 @@ fn directing_named(word: &[u8]) -> Option<Keyword>
     if let Some(event) = PairEvent::named(word) {
         return Some(Keyword::Pair(event));
     }
+    ordering_named(word)
+}
+
+// The same, if more than names may follow the word.
+fn ordering_named(word: &[u8]) -> Option<Keyword>
+    ensures some { IfSome result (λ keyword. word.now ≡ keyword_text keyword) }
+    ensures none { IfNone result (AllByRecursion (λ keyword. word.now ≢ keyword_text keyword) order_keywords) }
+{
     match word {
         b"prefer" => Some(Keyword::Prefer),
         b"propose" => Some(Keyword::Propose),
