@@ -56,22 +56,11 @@ pub enum Declaration {
 #[derive(Clone, Copy, Debug, PartialEq, Eq)]
 pub enum Instruction {
     /// An event of a prefix at a node, or a probe of the prefix from there.
-    Origin {
-        verb: OriginVerb,
-        node: NodeId,
-        prefix: Prefix,
-    },
+    Origin(OriginVerb, NodeId, Prefix),
     /// An event of a node.
-    Single {
-        event: NodeEvent,
-        node: NodeId,
-    },
+    Single(NodeEvent, NodeId),
     /// An event of the link of two nodes.
-    Pair {
-        event: PairEvent,
-        a: NodeId,
-        b: NodeId,
-    },
+    Pair(PairEvent, NodeId, NodeId),
     /// The preference of `node` for `nbr` from now on.
     Prefer {
         node: NodeId,
@@ -106,17 +95,10 @@ pub enum Instruction {
         packet: u32,
         times: Option<u32>,
     },
-    Show {
-        view: PlainView,
-    },
-    ShowEpoch {
-        view: EpochView,
-        epoch: Epoch,
-    },
+    Show(PlainView),
+    ShowEpoch(EpochView, Epoch),
     /// Writes the walk of the packet.
-    ShowWalk {
-        packet: u32,
-    },
+    ShowWalk(u32),
 }
 
 /// What a line after `begin` orders, with its names looked up in the network.

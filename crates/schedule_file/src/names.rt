@@ -152,15 +152,15 @@ pub fn look_up(topology: &Topology, instruction: &Instruction) -> Result<Directi
     ensures err { IfErr result (λ kind. directed_fault topology.now instruction.now ≡ Some kind) }
 {
     match *instruction {
-        Instruction::Origin { verb, node, prefix } => Ok(verb.directive(
+        Instruction::Origin(verb, node, prefix) => Ok(verb.directive(
             node,
             origin(topology, node, prefix)?,
         )),
-        Instruction::Single { event, node } => {
+        Instruction::Single(event, node) => {
             check_node(topology, node)?;
             Ok(event.directive(node))
         }
-        Instruction::Pair { event, a, b } => {
+        Instruction::Pair(event, a, b) => {
             check_pair(topology, a, b)?;
             Ok(event.directive(a, b))
         }
@@ -181,8 +181,8 @@ pub fn look_up(topology: &Topology, instruction: &Instruction) -> Result<Directi
             prefix,
         } => inject(topology, packet, node, prefix),
         Instruction::Hop { packet, times } => Ok(Directive::Hop { packet, times }),
-        Instruction::Show { view } => Ok(view.directive()),
-        Instruction::ShowEpoch { view, epoch } => Ok(view.directive(epoch)),
-        Instruction::ShowWalk { packet } => Ok(Directive::ShowWalk(packet)),
+        Instruction::Show(view) => Ok(view.directive()),
+        Instruction::ShowEpoch(view, epoch) => Ok(view.directive(epoch)),
+        Instruction::ShowWalk(packet) => Ok(Directive::ShowWalk(packet)),
     }
 }

@@ -148,7 +148,7 @@ fn origin_line(verb: OriginVerb, node: &[u8], prefix: &[u8]) -> Result<Line, Bad
 {
     let node = node_of(node)?;
     let prefix = prefix_of(prefix)?;
-    Ok(Line::Directs(Instruction::Origin { verb, node, prefix }))
+    Ok(Line::Directs(Instruction::Origin(verb, node, prefix)))
 }
 
 // The line of an event of one node, from the word after it.
@@ -156,7 +156,7 @@ fn single_line(event: NodeEvent, node: &[u8]) -> Result<Line, BadKind>
     ensures { ReadsAs (keyword.Single event) (node.now ∷ []) result }
 {
     let node = node_of(node)?;
-    Ok(Line::Directs(Instruction::Single { event, node }))
+    Ok(Line::Directs(Instruction::Single(event, node)))
 }
 
 // The line of an event of two nodes, from the words after it.
@@ -165,7 +165,7 @@ fn pair_line(event: PairEvent, a: &[u8], b: &[u8]) -> Result<Line, BadKind>
 {
     let a = node_of(a)?;
     let b = node_of(b)?;
-    Ok(Line::Directs(Instruction::Pair { event, a, b }))
+    Ok(Line::Directs(Instruction::Pair(event, a, b)))
 }
 
 // The line `prefer` from the words after it.
@@ -256,7 +256,7 @@ fn show_line(view: &[u8]) -> Result<Line, BadKind>
     ensures { ReadsAs keyword.Show (view.now ∷ []) result }
 {
     match view_of(view)? {
-        View::Plain(view) => Ok(Line::Directs(Instruction::Show { view })),
+        View::Plain(view) => Ok(Line::Directs(Instruction::Show(view))),
         View::OfEpoch(_) => Err(BadKind::WrongCount),
         View::Walk => Err(BadKind::WrongCount),
     }
@@ -270,11 +270,11 @@ fn show_more_line(view: &[u8], more: &[u8]) -> Result<Line, BadKind>
         View::Plain(_) => Err(BadKind::WrongCount),
         View::OfEpoch(view) => {
             let epoch = epoch_of(more)?;
-            Ok(Line::Directs(Instruction::ShowEpoch { view, epoch }))
+            Ok(Line::Directs(Instruction::ShowEpoch(view, epoch)))
         }
         View::Walk => {
             let packet = packet_of(more)?;
-            Ok(Line::Directs(Instruction::ShowWalk { packet }))
+            Ok(Line::Directs(Instruction::ShowWalk(packet)))
         }
     }
 }

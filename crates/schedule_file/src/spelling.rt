@@ -157,17 +157,16 @@ fn first_word(instruction: &Instruction) -> &'static str
     ensures { result.now ≡ keyword_text (directing instruction.now) }
 {
     match instruction {
-        Instruction::Origin { verb, .. } => verb.word(),
-        Instruction::Single { event, .. } => event.word(),
-        Instruction::Pair { event, .. } => event.word(),
+        Instruction::Origin(verb, ..) => verb.word(),
+        Instruction::Single(event, _) => event.word(),
+        Instruction::Pair(event, ..) => event.word(),
         Instruction::Prefer { .. } => "prefer",
         Instruction::Propose { .. } => "propose",
         Instruction::Drain { .. } => "drain",
         Instruction::Control { .. } | Instruction::ControlAll { .. } => "ctl",
         Instruction::Inject { .. } => "inject",
         Instruction::Hop { .. } => "hop",
-        Instruction::Show { .. } | Instruction::ShowEpoch { .. } | Instruction::ShowWalk { .. } =>
-            "show",
+        Instruction::Show(_) | Instruction::ShowEpoch(..) | Instruction::ShowWalk(_) => "show",
     }
 }
 
@@ -178,12 +177,12 @@ fn push_instruction(out: &mut String, instruction: &Instruction) -> Result<(), A
 {
     out.push_str(first_word(instruction))?;
     match instruction {
-        Instruction::Origin { node, prefix, .. } => {
+        Instruction::Origin(_, node, prefix) => {
             push_node(out, *node)?;
             push_prefix(out, prefix)
         }
-        Instruction::Single { node, .. } => push_node(out, *node),
-        Instruction::Pair { a, b, .. } => push_nodes(out, *a, *b),
+        Instruction::Single(_, node) => push_node(out, *node),
+        Instruction::Pair(_, a, b) => push_nodes(out, *a, *b),
         Instruction::Prefer { node, nbr, value } => push_preference(out, *node, *nbr, *value),
         Instruction::Propose { node, epoch } => {
             push_node(out, *node)?;
@@ -212,9 +211,9 @@ fn push_instruction(out: &mut String, instruction: &Instruction) -> Result<(), A
             push_number(out, *packet)?;
             push_number(out, *times)
         }
-        Instruction::Show { view } => push_word(out, view.word()),
-        Instruction::ShowEpoch { view, epoch } => push_named(out, view.word(), epoch.number()),
-        Instruction::ShowWalk { packet } => push_named(out, "walk", *packet),
+        Instruction::Show(view) => push_word(out, view.word()),
+        Instruction::ShowEpoch(view, epoch) => push_named(out, view.word(), epoch.number()),
+        Instruction::ShowWalk(packet) => push_named(out, "walk", *packet),
     }
 }
 

@@ -511,39 +511,7 @@ fn prefix_at(topology: &Topology, place: PrefixId) -> Prefix
 fn origin(topology: &Topology, verb: OriginVerb, node: NodeId, place: PrefixId) -> Instruction
     ensures { result ≡ Instruction.Origin verb node (prefix_at topology.now place) }
 {
-    Instruction::Origin {
-        verb,
-        node,
-        prefix: prefix_at(topology, place),
-    }
-}
-
-// The instruction of an event of two nodes.
-fn pair(event: PairEvent, a: NodeId, b: NodeId) -> Instruction
-    ensures { result ≡ Instruction.Pair event a b }
-{
-    Instruction::Pair { event, a, b }
-}
-
-// The instruction of an event of one node.
-fn single(event: NodeEvent, node: NodeId) -> Instruction
-    ensures { result ≡ Instruction.Single event node }
-{
-    Instruction::Single { event, node }
-}
-
-// The instruction to show a view.
-fn show(view: PlainView) -> Instruction
-    ensures { result ≡ Instruction.Show view }
-{
-    Instruction::Show { view }
-}
-
-// The instruction to show a view of an epoch.
-fn show_epoch(view: EpochView, epoch: Epoch) -> Instruction
-    ensures { result ≡ Instruction.ShowEpoch view epoch }
-{
-    Instruction::ShowEpoch { view, epoch }
+    Instruction::Origin(verb, node, prefix_at(topology, place))
 }
 
 /// The instruction of a directive, with the prefix itself.
@@ -555,15 +523,15 @@ pub fn instruction_of(net: &Topology, directive: &Directive) -> Instruction
         Directive::Withdraw { node, prefix } => origin(net, OriginVerb::Withdraw, node, prefix),
         Directive::Probe { node, prefix } => origin(net, OriginVerb::Probe, node, prefix),
         Directive::Prefer { node, nbr, value } => Instruction::Prefer { node, nbr, value },
-        Directive::Deliver { from, to } => pair(PairEvent::Deliver, from, to),
-        Directive::Fail { a, b } => pair(PairEvent::Fail, a, b),
-        Directive::Restore { a, b } => pair(PairEvent::Restore, a, b),
-        Directive::Notice { node, nbr } => pair(PairEvent::Notice, node, nbr),
-        Directive::OpenSession { node, nbr } => pair(PairEvent::Open, node, nbr),
-        Directive::Flush { node, nbr } => pair(PairEvent::Flush, node, nbr),
-        Directive::Snap { node } => single(NodeEvent::Snap, node),
-        Directive::Crash { node } => single(NodeEvent::Crash, node),
-        Directive::Restart { node } => single(NodeEvent::Restart, node),
+        Directive::Deliver { from, to } => Instruction::Pair(PairEvent::Deliver, from, to),
+        Directive::Fail { a, b } => Instruction::Pair(PairEvent::Fail, a, b),
+        Directive::Restore { a, b } => Instruction::Pair(PairEvent::Restore, a, b),
+        Directive::Notice { node, nbr } => Instruction::Pair(PairEvent::Notice, node, nbr),
+        Directive::OpenSession { node, nbr } => Instruction::Pair(PairEvent::Open, node, nbr),
+        Directive::Flush { node, nbr } => Instruction::Pair(PairEvent::Flush, node, nbr),
+        Directive::Snap { node } => Instruction::Single(NodeEvent::Snap, node),
+        Directive::Crash { node } => Instruction::Single(NodeEvent::Crash, node),
+        Directive::Restart { node } => Instruction::Single(NodeEvent::Restart, node),
         Directive::Propose { node, epoch } => Instruction::Propose { node, epoch },
         Directive::Drain { times } => Instruction::Drain { times },
         Directive::Control { number } => Instruction::Control { number },
@@ -578,12 +546,12 @@ pub fn instruction_of(net: &Topology, directive: &Directive) -> Instruction
             prefix: prefix_at(net, prefix),
         },
         Directive::Hop { packet, times } => Instruction::Hop { packet, times },
-        Directive::ShowRib => show(PlainView::Rib),
-        Directive::ShowLog => show(PlainView::Log),
-        Directive::ShowControl => show(PlainView::Control),
-        Directive::ShowCut(epoch) => show_epoch(EpochView::Cut, epoch),
-        Directive::ShowClosure(epoch) => show_epoch(EpochView::Closure, epoch),
-        Directive::ShowTables(epoch) => show_epoch(EpochView::Tables, epoch),
-        Directive::ShowWalk(packet) => Instruction::ShowWalk { packet },
+        Directive::ShowRib => Instruction::Show(PlainView::Rib),
+        Directive::ShowLog => Instruction::Show(PlainView::Log),
+        Directive::ShowControl => Instruction::Show(PlainView::Control),
+        Directive::ShowCut(epoch) => Instruction::ShowEpoch(EpochView::Cut, epoch),
+        Directive::ShowClosure(epoch) => Instruction::ShowEpoch(EpochView::Closure, epoch),
+        Directive::ShowTables(epoch) => Instruction::ShowEpoch(EpochView::Tables, epoch),
+        Directive::ShowWalk(packet) => Instruction::ShowWalk(packet),
     }
 }
