@@ -1,6 +1,5 @@
 //! Looks up the names of lines in the network.
 ghost use Rattle.std.specs.Prelude.{◌≡◌, None, Some, IfOk, OnOk, IfErr};
-ghost use Rattle.schedule_file.specs.declared.lines.Directive.TheVariants as directive;
 ghost use Rattle.schedule_file.specs.declared.names.Refusal.TheVariants.{Bad};
 ghost use Rattle.schedule_file.specs.Lines.{DeclaresInRange};
 ghost use Rattle.schedule_file.specs.Grammar.{with_declaration, place_in, directive_of, origin_fault, node_fault, pair_fault, neighbour_fault, declared_fault, directed_fault};
@@ -125,26 +124,6 @@ fn check_neighbour(topology: &Topology, node: NodeId, nbr: NodeId) -> Result<(),
     Ok(())
 }
 
-// The directive that a packet starts at the node, for the prefix.
-fn inject(
-    topology: &Topology,
-    packet: u32,
-    node: NodeId,
-    prefix: Prefix,
-) -> Result<Directive, BadKind>
-    ensures ok { IfOk result (λ injected. injected
-        ≡ directive.Inject packet node (place_in prefix topology.now.prefixes)) }
-    ensures fine { OnOk result (origin_fault topology.now node prefix ≡ None) }
-    ensures err { IfErr result (λ kind. origin_fault topology.now node prefix ≡ Some kind) }
-{
-    let prefix = origin(topology, node, prefix)?;
-    Ok(Directive::Inject {
-        packet,
-        node,
-        prefix,
-    })
-}
-
 /// The directive of the instruction, with its names looked up.
 pub fn look_up(topology: &Topology, instruction: &Instruction) -> Result<Directive, BadKind>
     ensures ok { IfOk result (λ directive. directive ≡ directive_of topology.now instruction.now) }
@@ -179,7 +158,11 @@ pub fn look_up(topology: &Topology, instruction: &Instruction) -> Result<Directi
             packet,
             node,
             prefix,
-        } => inject(topology, packet, node, prefix),
+        } => Ok(Directive::Inject {
+            packet,
+            node,
+            prefix: origin(topology, node, prefix)?,
+        }),
         Instruction::Hop { packet, times } => Ok(Directive::Hop { packet, times }),
         Instruction::Show(view) => Ok(view.directive()),
         Instruction::ShowEpoch(view, epoch) => Ok(view.directive(epoch)),
