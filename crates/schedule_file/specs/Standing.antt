@@ -1,5 +1,5 @@
 -- What the parser holds after some lines, and what its steps promise.
-use Rattle.std.specs.Prelude.{ℕ, suc, ◌≡◌, IsTrue, Option, Some, None, Result, Ok, Err, List, ◌∷◌, length}
+use Rattle.std.specs.Prelude.{ℕ, suc, ◌≡◌, IsTrue, Option, Some, None, Result, Ok, Err, List, [], ◌∷◌, length}
 use Rattle.topology.specs.declared.building.BuildError.{BuildError}
 use Rattle.topology.specs.declared.building.BuildError.TheVariants as building
 use Rattle.topology.specs.declared.status.BadKind.{BadKind}
@@ -11,9 +11,10 @@ use Rattle.schedule_file.specs.declared.table.Keyword.{Keyword}
 use Rattle.schedule_file.specs.declared.words.Words.{Words}
 use Rattle.schedule_file.specs.declared.names.Refusal.{Refusal}
 use Rattle.schedule_file.specs.declared.names.Refusal.TheVariants.{NoMemory, Bad}
+use Rattle.schedule_file.specs.Spelling.{words_by_line}
 use Rattle.schedule_file.specs.Lines.{Spells}
 use Rattle.schedule_file.specs.Words.{word_at}
-use Rattle.schedule_file.specs.Grammar.{net_of, part_in, directives_of, allowed, name_fault}
+use Rattle.schedule_file.specs.Grammar.{net_of, part_in, directives_of, allowed, name_fault, ReadsIn}
 use Rattle.schedule_file.specs.Table.{fields, first_fault}
 use Rattle.schedule_file.specs.Refusals.{refusal, form_fault, line_by}
 
@@ -78,3 +79,7 @@ TakesLine old number words new =
 -- if the draft stands for some lines, this is the fault of a line of these words
 abbrev pub RefusesLine : Draft → List (List ℕ) → Refusal → Type 0
 RefusesLine old words why = (earlier : List Line) → IsAfter old earlier → NamesFault why (refusal old.behind earlier words)
+
+-- the text is spelled by lines, and the new draft stands for all of them
+abbrev pub TakesText : Draft → List ℕ → Draft → Type 0
+TakesText old text new = (lines : List Line) × ReadsIn old.behind [] (words_by_line text) lines × IsAfter new lines

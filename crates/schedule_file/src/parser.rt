@@ -1,11 +1,11 @@
 //! Reads a schedule file.
-ghost use Rattle.std.specs.Prelude.{ℕ, suc, ◌≡◌, ◌≤◌, ◌<◌, ◌-◌, ◌^◌, Some, true, List, length, slice_range, IfOk, IfErr, OnOk};
+ghost use Rattle.std.specs.Prelude.{ℕ, suc, ◌≡◌, ◌≤◌, ◌<◌, ◌-◌, ◌^◌, Some, true, List, [], length, slice_range, IfOk, IfErr, OnOk};
 ghost use Rattle.text_lines.specs.Words.{words_of};
 ghost use Rattle.topology.specs.declared.status.BadKind.{BadKind};
 ghost use Rattle.topology.specs.Net.{Net};
 ghost use Rattle.schedule_file.specs.Grammar.{IsRead, IsFile, IsTopologyFile, AreInstructed, stands};
 ghost use Rattle.schedule_file.specs.Refusals.{FirstBad, FirstBadOfTopology};
-ghost use Rattle.schedule_file.specs.Standing.{Takes, Refuses, TakesLine, RefusesLine};
+ghost use Rattle.schedule_file.specs.Standing.{IsAfter, Takes, Refuses, TakesLine, RefusesLine, TakesText};
 ghost use Rattle.schedule_file.specs.Ends.{SaysWhy, IsWantOfMemory, IsBadOrMemory};
 ghost use Rattle.schedule_file.specs.Lines.{InRange};
 ghost use Rattle.schedule_file.specs.declared.lines.Schedule.{Schedule};
@@ -39,6 +39,21 @@ struct Draft {
 }
 
 impl Draft {
+    // Nothing was read so far; `behind` says which lines may come after `begin`.
+    fn new(alloc: Global, behind: Part) -> Draft
+        ensures start { IsAfter result [] }
+        ensures behind { result.behind ≡ behind }
+    {
+        Draft {
+            schedule: Schedule {
+                topology: Topology::empty(alloc),
+                lines: Vec::new(alloc),
+            },
+            part: Part::Network,
+            behind,
+        }
+    }
+
     // Takes one line, if it may stand here.
     fn take(&mut self, number: u32, line: &Line) -> Result<(), Refusal>
         requires in_range { InRange line.now }
@@ -81,6 +96,29 @@ impl Draft {
             Err(kind) => Err(Refusal::Bad(kind)),
         }
     }
+
+    // Takes all lines of the text.
+    fn take_lines(&mut self, text: &[u8]) -> Result<(), ParseEnd>
+        requires short { length text.now < 2 ^ 32 - 1 }
+        requires start { IsAfter self.old [] }
+        ensures ok { OnOk result (TakesText self.old text.now self.new) }
+        ensures err { IfErr result (SaysWhy self.old.behind text.now) }
+    {
+        let mut lines = Lines::new(text);
+        while let Some(line) = lines.next() {
+            match self.take_line(text, line) {
+                Ok(()) => {}
+                Err(Refusal::NoMemory) => return Err(ParseEnd::NoMemory),
+                Err(Refusal::Bad(kind)) => {
+                    return Err(ParseEnd::Bad {
+                        line: line.number,
+                        kind,
+                    });
+                }
+            }
+        }
+        Ok(())
+    }
 }
 
 // Reads all lines of the text; `behind` says which lines may come after `begin`.
@@ -89,26 +127,11 @@ fn read(alloc: Global, text: &[u8], behind: Part) -> Result<Schedule, ParseEnd>
     ensures ok { IfOk result (λ schedule. IsRead behind text.now schedule) }
     ensures err { IfErr result (SaysWhy behind text.now) }
 {
-    let mut draft = Draft {
-        schedule: Schedule {
-            topology: Topology::empty(alloc),
-            lines: Vec::new(alloc),
-        },
-        part: Part::Network,
-        behind,
-    };
-    let mut lines = Lines::new(text);
-    while let Some(line) = lines.next() {
-        match draft.take_line(text, line) {
-            Ok(()) => {}
-            Err(Refusal::NoMemory) => return Err(ParseEnd::NoMemory),
-            Err(Refusal::Bad(kind)) => {
-                return Err(ParseEnd::Bad {
-                    line: line.number,
-                    kind,
-                });
-            }
-        }
+    let mut draft = Draft::new(alloc, behind);
+    if let Err(end) = draft.take_lines(text) {
+        // as a call, the drop is proved once for each type, and its collections are not opened here
+        drop(draft);
+        return Err(end);
     }
     Ok(draft.schedule)
 }

@@ -1,8 +1,9 @@
 //! The table of the grammar: the words that begin a line, how many words such a line has, on which side of `begin` it
-//! stands, and its directive, both ways. `specs/Table.antt` is its definition. docs/CONTRIBUTING.md says what a new line needs.
+//! stands, and its directive, both ways. `specs/Table.antt` is its definition. docs/CONTRIBUTING.md says what a new line
+//! needs.
 ghost use Rattle.std.specs.Prelude.{◌≡◌, ◌≢◌, true, false, IfSome, IfNone};
-ghost use Rattle.schedule_file.specs.declared.lines.Instruction.TheVariants as Instruction;
 ghost use Rattle.std.specs.List.{AllByRecursion};
+ghost use Rattle.schedule_file.specs.declared.lines.Instruction.TheVariants as Instruction;
 ghost use Rattle.schedule_file.specs.Spelling.{relation_text};
 ghost use Rattle.schedule_file.specs.Table.{keyword_text, network_keywords, order_keywords, view_text, scheme_text, origin_text, node_text, pair_text, plain_text, epoch_text, shape_of, may_stand, origin_directive, node_directive, pair_directive, plain_directive, epoch_directive, prefix_at, instruction_of};
 
@@ -161,7 +162,7 @@ fn directing_named(word: &[u8]) -> Option<Keyword>
     ordering_named(word)
 }
 
-// The same, if more than names may follow the word.
+// The kind of line after `begin` that the word begins, if more than names may follow the word.
 fn ordering_named(word: &[u8]) -> Option<Keyword>
     ensures some { IfSome result (λ keyword. word.now ≡ keyword_text keyword) }
     ensures none { IfNone result (AllByRecursion (λ keyword. word.now ≢ keyword_text keyword) order_keywords) }
