@@ -2,8 +2,8 @@
 use Rattle.std.proofs.Common.{◌≡◌, ℕ, suc, ◌-◌, ◌+◌, ◌≤◌, ◌<◌, true, List, [], ◌∷◌, ◌++◌, Result, Ok, Err, refl, sym, ap, ◌∙◌, append_assoc, arith}
 use Rattle.std.proofs.lemmas.List.{append-nil}
 use Rattle.topology.specs.declared.frame_faults.FrameKind.{FrameKind}
-use Rattle.wire_frames.specs.Formats.{Format, ◌>>=◌, Series, many_at, reached}
-use Rattle.wire_frames.proofs.Formats.{IsFormat, ok_is}
+use Rattle.wire_frames.specs.Formats.{Format, ◌>>=◌, Series, many_at, reached, IsFormat}
+use Rattle.wire_frames.proofs.Formats.{ok_is}
 
 -- what was read before, and what is still to be read
 abbrev pub with_front : {A : Type 0} → List A → Result (List A × List ℕ) FrameKind → Result (List A × List ℕ) FrameKind

@@ -19,9 +19,9 @@ use Rattle.incomplete_closure.specs.declared.reports.Report.{Report as TheReport
 use Rattle.epoch_packet.specs.declared.walks.End.{End}
 use Rattle.epoch_packet.specs.declared.walks.End.TheVariants.{Delivered, Expired, Stuck}
 use Rattle.incomplete_closure.proofs.Listing.{same_is, is_same}
-use Rattle.wire_frames.specs.Formats.{tested, number, ordered, pair, led, optional, listed}
+use Rattle.wire_frames.specs.Formats.{tested, number, ordered, pair, led, optional, listed, IsFormat}
 use Rattle.wire_frames.specs.Fields.{scope_number, is_scope, path_of, nodes_of, is_path, flag_meaning, scope_meaning, mode_meaning, end_meaning, first_of, is_one, is_alone, one_meaning, one_trigger, trigger_meaning, ballot_meaning, sent_meaning, path_meaning, value_meaning, row_meaning, session_row_meaning, report_meaning, packet_meaning, node, prefix, positive, epoch, epoch_or_none, preference, any16, any32, any64, few, many, flag, scope, mode, end, trigger, ballot, sent, in_any_order, rising, different, nodes, links, path, paths_in_order, paths, no_trigger, rising_triggers, value, named, items, more_items, row, rows, session_key, above, session_row, session_rows, report, carried, packet}
-use Rattle.wire_frames.proofs.Formats.{IsFormat, IsSeries, wide8, wide16, wide32, wide64, tested_law, number_law, ordered_law, pair_law, led_law, meant_law, optional_law, listed_law}
+use Rattle.wire_frames.proofs.Formats.{IsSeries, wide8, wide16, wide32, wide64, tested_law, number_law, ordered_law, pair_law, led_law, meant_law, optional_law, listed_law}
 
 -- ---- numbers
 

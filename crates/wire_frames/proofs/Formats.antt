@@ -8,7 +8,7 @@ use Rattle.std.proofs.lemmas.List.{take_at, drop_at, take-append-drop, length-ap
 use Rattle.std.proofs.lemmas.Nat.{be_bytes_2, be_bytes_4, be_bytes_8, from_be_bytes-to_be_bytes_2, from_be_bytes-to_be_bytes_4, from_be_bytes-to_be_bytes_8}
 use Rattle.topology.specs.declared.frame_faults.FrameKind.{FrameKind}
 use Rattle.topology.specs.declared.frame_faults.FrameKind.TheVariants as fault
-use Rattle.wire_frames.specs.Formats.{Format, IsBytes, ◌>>=◌, held, word_at, tested, number, guarded, ordered, pair, led, Meaning, meant, behind, optional, Series, many_at, many_fit, listed}
+use Rattle.wire_frames.specs.Formats.{Format, IsBytes, ◌>>=◌, held, word_at, tested, number, guarded, ordered, pair, led, Meaning, meant, behind, optional, Series, many_at, many_fit, listed, Takes, IsFormat}
 
 IsBytes-drop : (n : ℕ) (bytes : List ℕ) → IsBytes bytes → IsBytes (drop n bytes)
 IsBytes-drop n bytes h i = rw get_or-drop (h (n + i))
@@ -44,18 +44,8 @@ done x = Ok x
 pub ok_is : {A : Type 0} (x y : A) → done x ≡ done y → x ≡ y
 ok_is x y e = cc
 
--- what a field took from the front
-pub record Takes (bytes text rest : List ℕ) : Type 0 where
-  pub parts : bytes ≡ text ++ rest
-  pub rest_fits : IsBytes rest
-
 pub Takes-then : (a x b y c : List ℕ) → Takes a x b → Takes b y c → Takes a (x ++ y) c
 Takes-then a x b y c p q = record { parts = p.parts ∙ ap (λ (t : List ℕ). x ++ t) q.parts ∙ sym (append_assoc x y c); rest_fits = q.rest_fits }
-
--- what is read was spelled like that and has a spelling; what is spelled is read back, whatever follows
-pub record IsFormat {A : Type 0} (f : Format A) : Type 0 where
-  pub takes : (bytes : List ℕ) (x : A) (rest : List ℕ) → IsBytes bytes → f.reads bytes ≡ Ok (x, rest) → Takes bytes (f.spells x) rest × (f.fits x ≡ true)
-  pub again : (x : A) (rest : List ℕ) → f.fits x ≡ true → f.reads (f.spells x ++ rest) ≡ Ok (x, rest)
 
 -- ---- numbers
 

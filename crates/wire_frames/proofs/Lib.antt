@@ -4,6 +4,7 @@ pub mod Listing
 pub mod Versions
 pub mod Spelled
 pub mod Found
+pub mod Counting
 pub mod Skipping
 pub mod Passing
 pub mod Reporting

@@ -1,22 +1,19 @@
 -- The fields of version 2: each format reads exactly what it spells.
-use Rattle.std.proofs.Common.{◌≡◌, ℕ, zero, suc, ◌^◌, ◌+◌, ◌<◌, ◌≤◌, Bool, true, false, not, ◌&&◌, ◌||◌, cond, List, [], ◌∷◌, Option, Some, None, length, refl, sym, ap, ◌∙◌, arith, inl, inr}
+use Rattle.std.proofs.Common.{◌≡◌, ℕ, ◌^◌, ◌+◌, ◌<◌, ◌≤◌, Bool, true, false, not, ◌&&◌, cond, length, refl, sym, ◌∙◌, arith, inl, inr}
 use Rattle.std.specs.Prelude.{◌==◌, nat_le}
-use Rattle.std.specs.List.{list_all}
 use Rattle.std.specs.Int.{w16, is_in_range}
 use Rattle.std.proofs.lemmas.Bool.{leb-true, ne_eqb, or_cases, eqb-true, and_parts}
 use Rattle.topology.specs.declared.frame_faults.FrameKind.TheVariants as fault
-use Rattle.topology.specs.declared.names.Trigger.{Trigger}
 use Rattle.topology.specs.declared.names.Scope.{Scope}
 use Rattle.topology.specs.declared.names.Scope.TheVariants.{One, All, Nothing}
 use Rattle.topology.specs.declared.items.Sent.{Sent}
 use Rattle.topology.specs.declared.items.Pending.{Pending}
 use Rattle.topology.specs.declared.limits.TheConstants.{MOST_ENTRIES, MOST_MARKS, MOST_PENDING, MOST_SESSIONS, MOST_TRIGGERS}
 use Rattle.incomplete_closure.specs.declared.cut_rows.Row.{Row}
-use Rattle.incomplete_closure.specs.declared.reports.Report.{Report as TheReport}
-use Rattle.wire_frames.specs.Formats.{tested, ordered, pair, led, listed, many_fit, reached}
-use Rattle.wire_frames.specs.Fields.{scope_number, node, positive, epoch, many, trigger, first_of, is_one, is_alone, one_trigger, no_trigger, rising_triggers, sent, items, more_items, row, rows, session_rows, above, report}
-use Rattle.wire_frames.specs.Listing.{more_triggers, triggers, only_of, has_alone, is_plain_row, is_plain, RowSoFar, begun, item_meaning, item, behind_item, listed_items, RowsSoFar, no_rows, may_stand, scope_of, is_told, any_scope_meaning, scope_beside, listed_row_meaning, behind_triggers, listed_row, listed_rows, PendingSoFar, nothing_pending, pending_key, pending_meaning, pending_row, pending_rows, behind_rows, listed_report_meaning, any_report, listed_report}
-use Rattle.wire_frames.proofs.Formats.{IsFormat, IsSeries, wide16, tested_law, guarded_law, ordered_law, pair_law, led_law, meant_law, listed_law}
+use Rattle.wire_frames.specs.Formats.{tested, ordered, pair, led, listed, reached, IsFormat}
+use Rattle.wire_frames.specs.Fields.{scope_number, node, positive, epoch, many, no_trigger, rising_triggers, more_items, session_rows, above}
+use Rattle.wire_frames.specs.Listing.{more_triggers, triggers, is_plain, begun, item_meaning, item, listed_items, RowsSoFar, no_rows, may_stand, scope_of, is_told, any_scope_meaning, scope_beside, listed_row_meaning, behind_triggers, listed_row, listed_rows, PendingSoFar, nothing_pending, pending_key, pending_meaning, pending_row, pending_rows, behind_rows, listed_report_meaning, any_report, listed_report}
+use Rattle.wire_frames.proofs.Formats.{IsSeries, wide16, tested_law, guarded_law, ordered_law, pair_law, led_law, meant_law, listed_law}
 use Rattle.wire_frames.proofs.Fields.{node_law, prefix_law, positive_law, epoch_law, many_law, rising_triggers_laws, more_items_law, session_rows_laws}
 
 -- ---- lists of triggers

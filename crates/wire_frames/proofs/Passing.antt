@@ -5,10 +5,9 @@ use Rattle.std.proofs.lemmas.List.{take_at, length-append}
 use Rattle.topology.specs.Lists.{has}
 use Rattle.topology.specs.declared.frame_faults.FrameKind.{FrameKind}
 use Rattle.topology.specs.declared.frame_faults.FrameKind.TheVariants as fault
-use Rattle.wire_frames.specs.Formats.{Format, IsBytes, pair, Meaning, meant, Series, listed, stepped, skipped, passed}
+use Rattle.wire_frames.specs.Formats.{Format, IsBytes, pair, Meaning, meant, Series, listed, stepped, skipped, passed, IsFormat}
 use Rattle.wire_frames.specs.Fields.{node, different}
 use Rattle.wire_frames.specs.Shown.{Gives, Passes, Cuts}
-use Rattle.wire_frames.proofs.Formats.{IsFormat}
 use Rattle.wire_frames.proofs.Skipping.{skipped_ok, skipped_err, passed_ok, passed_err}
 
 -- a count and that many skipped elements are a list

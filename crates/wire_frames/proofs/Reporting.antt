@@ -1,7 +1,6 @@
 -- A report of version 2 that is skipped field by field.
-use Rattle.std.proofs.Common.{◌≡◌, ℕ, Bool, true, false, not, ◌&&◌, List, length, Ok, Err, refl, sym, ap, ap₂, ◌∙◌}
+use Rattle.std.proofs.Common.{◌≡◌, ℕ, Bool, true, false, ◌&&◌, List, length, Ok, Err, refl, sym, ap, ap₂, ◌∙◌}
 use Rattle.std.specs.Prelude.{◌==◌}
-use Rattle.std.specs.List.{list_all}
 use Rattle.topology.specs.declared.frame_faults.FrameKind.TheVariants as fault
 use Rattle.topology.specs.declared.items.Pending.{Pending}
 use Rattle.topology.specs.declared.limits.TheConstants.{MOST_ENTRIES, MOST_PENDING, MOST_SESSIONS}
@@ -10,7 +9,7 @@ use Rattle.incomplete_closure.specs.declared.session_rows.SessionRow.{SessionRow
 use Rattle.incomplete_closure.specs.declared.reports.Report.{Report as TheReport}
 use Rattle.wire_frames.specs.Formats.{listed, reached}
 use Rattle.wire_frames.specs.Fields.{node, epoch, many, session_rows}
-use Rattle.wire_frames.specs.Listing.{is_plain_row, is_plain, RowsSoFar, no_rows, listed_rows, pending_rows, nothing_pending, any_report, listed_report}
+use Rattle.wire_frames.specs.Listing.{is_plain, RowsSoFar, no_rows, listed_rows, pending_rows, nothing_pending, any_report, listed_report}
 use Rattle.wire_frames.proofs.Versions.{rows_reach}
 
 -- a report of these parts

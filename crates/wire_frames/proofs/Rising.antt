@@ -4,8 +4,8 @@ use Rattle.topology.specs.Triggers.{earlier, Ascend}
 use Rattle.topology.specs.declared.names.Trigger.{Trigger}
 use Rattle.topology.specs.declared.frame_faults.FrameKind.TheVariants as fault
 use Rattle.topology.proofs.Unions.{AllAfter, after_all}
-use Rattle.wire_frames.specs.Formats.{◌>>=◌, held, many_at}
-use Rattle.wire_frames.specs.Fields.{trigger, rising_triggers}
+use Rattle.wire_frames.specs.Formats.{Format, ◌>>=◌, held, many_at, listed}
+use Rattle.wire_frames.specs.Fields.{trigger, rising_triggers, no_trigger}
 use Rattle.wire_frames.proofs.Formats.{bind_ok, held_ok, ok_is}
 
 -- they ascend, and each is above the last one before them
@@ -23,3 +23,8 @@ rises last (suc n) bytes x e =
     let made : List Trigger × List ℕ = (a.0.0 ∷ b.0.0, b.0.1) in
     subst (λ (y : List Trigger × List ℕ). AllAfter last y.0 × Ascend y.0) (ok_is made x b.2)
     ((behind, after_all last a.0.0 b.0.0 behind later.0), (later.0, later.1))
+
+pub list_rises : (count : Format ℕ) (bytes rest : List ℕ) (xs : List Trigger) → (listed count rising_triggers no_trigger).reads bytes ≡ Ok (xs, rest) → Ascend xs
+list_rises count bytes rest xs e =
+    let a = bind_ok (count.reads bytes) (λ (n : ℕ × List ℕ). many_at rising_triggers no_trigger n.0 n.1) (xs, rest) e in
+    (rises no_trigger a.0.0 a.0.1 (xs, rest) a.2).1

@@ -1,5 +1,5 @@
 -- Only the body of a report can be longer than its kind allows.
-use Rattle.std.proofs.Common.{◌≡◌, ℕ, suc, ◌+◌, ◌*◌, ◌≤◌, ◌<◌, Bool, true, false, ◌&&◌, cond, List, [], ◌∷◌, ◌++◌, length, Option, Some, None, get_or, take, drop, inl, inr, refl, sym, ap, ◌∙◌, arith}
+use Rattle.std.proofs.Common.{◌≡◌, ℕ, suc, ◌+◌, ◌*◌, ◌≤◌, ◌<◌, Bool, true, false, cond, List, [], ◌∷◌, ◌++◌, length, Option, Some, None, get_or, take, drop, inl, inr, refl, sym, ap, ◌∙◌, arith}
 use Rattle.std.specs.Prelude.{nat_le, min}
 use Rattle.std.specs.List.{flat_map}
 use Rattle.std.specs.Int.{w8, w16, w32, w64, to_be_bytes, is_in_range}
@@ -18,7 +18,6 @@ use Rattle.wire_frames.specs.declared.frames.Frame.TheVariants as frame
 use Rattle.wire_frames.specs.Formats.{Format, tested, number, ordered, pair, Meaning, meant, optional, spelled_behind, Series, many_fit, listed}
 use Rattle.wire_frames.specs.Fields.{node, prefix, positive, epoch, epoch_or_none, preference, any16, any32, any64, few, many, more_items, flag, scope, mode, end, trigger, scope_number, is_one, one_meaning, one_trigger, ballot, sent, items, in_any_order, rising, different, nodes, links, path_meaning, path, paths_in_order, paths, no_trigger, rising_triggers, value_meaning, value, named, row, rows, session_row, report, carried, packet_meaning, packet, flag_meaning, mode_meaning, ballot_meaning}
 use Rattle.wire_frames.specs.Listing.{more_triggers, triggers, item, listed_row, no_rows, scope_beside, pending_row, nothing_pending, is_plain, listed_report, spelled_report}
-use Rattle.wire_frames.specs.declared.tags.Tag.{Tag}
 use Rattle.wire_frames.specs.declared.tags.Tag.TheVariants.{Report, ListedReport}
 use Rattle.wire_frames.specs.Frames.{limit_of, update, listed_update, promise, accept, decision, hop, forward, published, tag_of, fields_fit, body}
 

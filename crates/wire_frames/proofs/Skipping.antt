@@ -1,7 +1,7 @@
 -- Skipping elements one after another, as a loop does.
 use Rattle.std.proofs.Common.{◌≡◌, ℕ, zero, suc, ◌-◌, ◌+◌, ◌≤◌, ◌<◌, List, [], ◌∷◌, length, Result, Ok, Err, refl, sym, ap, ap₂, subst, ◌∙◌, arith}
 use Rattle.topology.specs.declared.frame_faults.FrameKind.{FrameKind}
-use Rattle.wire_frames.specs.Formats.{Format, ◌>>=◌, Series, many_at, listed, stepped, reached, skipped, passed}
+use Rattle.wire_frames.specs.Formats.{◌>>=◌, Series, many_at, listed, stepped, reached, skipped, passed}
 use Rattle.topology.specs.declared.names.Trigger.{Trigger}
 use Rattle.topology.specs.declared.names.Scope.{Scope}
 use Rattle.wire_frames.specs.Fields.{trigger, scope, more_items, items, row, rows}
@@ -117,33 +117,24 @@ passed_err series s n bytes wrong e = only_err (skipped series s n bytes) wrong 
 
 -- ---- rows
 
-pub row_goes_over : (before n : ℕ) (t t_end : Trigger) (s : Scope) (b0 b1 b2 b3 b4 : List ℕ) → trigger.reads b0 ≡ Ok (t, b1) → scope.reads b1 ≡ Ok (s, b2) → (more_items before).reads b2 ≡ Ok (n, b3) → skipped items t n b3 ≡ Ok (t_end, b4)
-    → stepped rows before b0 ≡ Ok (before + n, b4)
+pub row_goes_over : (before n : ℕ) (t : Trigger) (s : Scope) (xs : List Sent) (b0 b1 b2 b3 : List ℕ) → trigger.reads b0 ≡ Ok (t, b1) → scope.reads b1 ≡ Ok (s, b2) → (listed (more_items before) items t).reads b2 ≡ Ok (xs, b3) → n ≡ length xs
+    → stepped rows before b0 ≡ Ok (before + n, b3)
 unfolding row
-row_goes_over before n t t_end s b0 b1 b2 b3 b4 first second third fourth =
-    let a = skipped_ok items t t_end n b3 b4 fourth in
-    rw (first, second, third, a.read) (ap (λ (k : ℕ). Ok (before + k, b4)) a.long)
-
-pub row_goes_wrong : (before n : ℕ) (t : Trigger) (s : Scope) (b0 b1 b2 b3 : List ℕ) (wrong : FrameKind) → trigger.reads b0 ≡ Ok (t, b1) → scope.reads b1 ≡ Ok (s, b2) → (more_items before).reads b2 ≡ Ok (n, b3) → skipped items t n b3 ≡ Err wrong
-    → stepped rows before b0 ≡ Err wrong
-unfolding row
-row_goes_wrong before n t s b0 b1 b2 b3 wrong first second third fourth =
-    rw (first, second, third, skipped_err items t n b3 wrong fourth) refl
+row_goes_over before n t s xs b0 b1 b2 b3 first second third long =
+    rw (first, second, third) (ap (λ (k : ℕ). Ok (before + k, b3)) (sym long))
 
 -- ---- rows of version 2
 
-pub listed_row_goes_over : (s : RowsSoFar) (n : ℕ) (ts : List Trigger) (whole : Scope) (row : RowSoFar) (b0 b1 b2 b3 b4 : List ℕ) → (triggers 0 s.marks).reads b0 ≡ Ok (ts, b1) → (scope_beside (length ts == 0)).reads b1 ≡ Ok (whole, b2)
-    → (more_items s.items).reads b2 ≡ Ok (n, b3) → skipped listed_items (begun s.marks ts) n b3 ≡ Ok (row, b4) → stepped listed_rows s b0 ≡ Ok (with_row s n row, b4)
+pub listed_row_goes_over : (s : RowsSoFar) (n : ℕ) (ts : List Trigger) (whole : Scope) (xs : List Sent) (row : RowSoFar) (b0 b1 b2 b3 : List ℕ) → (triggers 0 s.marks).reads b0 ≡ Ok (ts, b1) → (scope_beside (length ts == 0)).reads b1 ≡ Ok (whole, b2)
+    → (listed (more_items s.items) listed_items (begun s.marks ts)).reads b2 ≡ Ok (xs, b3) → n ≡ length xs → row ≡ reached listed_items (begun s.marks ts) xs → stepped listed_rows s b0 ≡ Ok (with_row s n row, b3)
 unfolding listed_row
-listed_row_goes_over s n ts whole row b0 b1 b2 b3 b4 first second third fourth =
-    let a = skipped_ok listed_items (begun s.marks ts) row n b3 b4 fourth in
-    rw (first, second, third, a.read) (ap₂ (λ (k : ℕ) (r : RowSoFar). Ok (with_row s k r, b4)) a.long a.comes)
+listed_row_goes_over s n ts whole xs row b0 b1 b2 b3 first second third long comes =
+    rw (first, second, third) (ap₂ (λ (k : ℕ) (r : RowSoFar). Ok (with_row s k r, b3)) (sym long) (sym comes))
 
-pub listed_row_goes_wrong : (s : RowsSoFar) (n : ℕ) (ts : List Trigger) (whole : Scope) (b0 b1 b2 b3 : List ℕ) (wrong : FrameKind) → (triggers 0 s.marks).reads b0 ≡ Ok (ts, b1) → (scope_beside (length ts == 0)).reads b1 ≡ Ok (whole, b2)
-    → (more_items s.items).reads b2 ≡ Ok (n, b3) → skipped listed_items (begun s.marks ts) n b3 ≡ Err wrong → stepped listed_rows s b0 ≡ Err wrong
+pub listed_row_goes_wrong : (s : RowsSoFar) (ts : List Trigger) (whole : Scope) (b0 b1 b2 : List ℕ) (wrong : FrameKind) → (triggers 0 s.marks).reads b0 ≡ Ok (ts, b1) → (scope_beside (length ts == 0)).reads b1 ≡ Ok (whole, b2)
+    → (listed (more_items s.items) listed_items (begun s.marks ts)).reads b2 ≡ Err wrong → stepped listed_rows s b0 ≡ Err wrong
 unfolding listed_row
-listed_row_goes_wrong s n ts whole b0 b1 b2 b3 wrong first second third fourth =
-    rw (first, second, third, skipped_err listed_items (begun s.marks ts) n b3 wrong fourth) refl
+listed_row_goes_wrong s ts whole b0 b1 b2 wrong first second third = rw (first, second, third) refl
 
 -- the state after a row whose items were read
 pub row_counts : (s : RowsSoFar) (n : ℕ) (ts : List Trigger) (start row : RowSoFar) (xs ys : List Sent) → row ≡ reached listed_items start ys → start ≡ begun s.marks ts → xs ≡ ys → length ys ≡ n

@@ -9,12 +9,12 @@ use Rattle.wire_frames.specs.declared.tags.Tag.{Tag}
 use Rattle.wire_frames.specs.declared.tags.Tag.TheVariants.{Originate, Withdraw, Prefer, Notice, OpenSession, Snap, Propose, Update, Marker, Hello, Report, Prepare, Promise, Accept, Accepted, Decision, Hop, Forward, Ended, Published, Inject, ListedUpdate, ListedReport, Flush}
 use Rattle.wire_frames.specs.declared.frames.Frame.{Frame}
 use Rattle.wire_frames.specs.declared.frames.Frame.TheVariants as frame
-use Rattle.wire_frames.specs.Formats.{Format, IsBytes, pair}
+use Rattle.wire_frames.specs.Formats.{Format, IsBytes, pair, IsFormat}
 use Rattle.wire_frames.specs.Fields.{node, prefix, positive, epoch, epoch_or_none, preference, any32, end, is_one, one_trigger, ballot, links, path, paths, value, named, report, packet}
 use Rattle.wire_frames.specs.Listing.{triggers, is_plain, listed_report}
 use Rattle.wire_frames.specs.Frames.{session_opened, preferred, update, listed_update, marker, hello, reported, listed_reported, in_ballot, promise, accept, decision, hop, forward, ended, published, injected, tag_of, fields_fit, body}
 use Rattle.wire_frames.specs.Reading.{all_read, whole, body_at}
-use Rattle.wire_frames.proofs.Formats.{IsFormat, bind_ok, pair_law}
+use Rattle.wire_frames.proofs.Formats.{bind_ok, pair_law}
 use Rattle.wire_frames.proofs.Fields.{node_law, prefix_law, positive_law, epoch_law, epoch_or_none_law, preference_law, any32_law, end_law, one_trigger_law, ballot_law, links_law, path_law, paths_law, value_law, named_law, report_law, packet_law}
 use Rattle.wire_frames.proofs.Listing.{triggers_law, listed_report_law}
 use Rattle.wire_frames.proofs.Versions.{one_is_one, several_are_not_one, report_is_plain, listed_is_not_plain}

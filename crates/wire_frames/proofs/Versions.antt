@@ -1,5 +1,5 @@
 -- Which updates and reports have a spelling in version 1.
-use Rattle.std.proofs.Common.{◌≡◌, ◌≢◌, ◌⊎◌, inl, inr, arith, cond, ◌+◌, ℕ, Bool, true, false, not, ◌&&◌, List, [], ◌∷◌, Option, Some, None, length, refl, sym, ap, ◌∙◌}
+use Rattle.std.proofs.Common.{◌≡◌, ◌≢◌, arith, cond, ◌+◌, ℕ, Bool, true, false, not, ◌&&◌, List, [], ◌∷◌, Some, None, length, refl, sym, ap, ◌∙◌}
 use Rattle.std.specs.Prelude.{◌==◌}
 use Rattle.std.specs.List.{list_all}
 use Rattle.std.proofs.lemmas.Bool.{and_parts, and_from, not-true}
@@ -10,7 +10,7 @@ use Rattle.incomplete_closure.specs.declared.cut_rows.Row.{Row}
 use Rattle.incomplete_closure.specs.declared.reports.Report.{Report as TheReport}
 use Rattle.wire_frames.specs.Formats.{many_fit, reached, listed}
 use Rattle.wire_frames.specs.Fields.{epoch, node, many, first_of, is_one, is_alone, one_trigger, no_trigger, rising_triggers, trigger, scope, more_items, sent, items, row, rows, session_rows, report}
-use Rattle.wire_frames.specs.Listing.{more_triggers, triggers, only_of, has_alone, is_plain_row, is_plain, RowSoFar, begun, listed_items, RowsSoFar, no_rows, any_report, listed_rows, listed_report, update_version, report_version}
+use Rattle.wire_frames.specs.Listing.{more_triggers, triggers, only_of, has_alone, is_plain_row, is_plain, RowSoFar, begun, listed_items, RowsSoFar, any_report, listed_rows, listed_report, update_version, report_version}
 
 -- ---- updates
 

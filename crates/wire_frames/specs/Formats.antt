@@ -1,6 +1,6 @@
 -- Formats of fields: what is read from the front of bytes, or the first fault there; how a value is spelled; and which
 -- values have a spelling.
-use Rattle.std.specs.Prelude.{ℕ, zero, suc, Bool, true, false, ◌&&◌, List, [], ◌∷◌, ◌++◌, ◌<◌, get_or, length, take, drop, Option, Some, None, Result, Ok, Err, nat_lt, if◌then◌else◌}
+use Rattle.std.specs.Prelude.{◌≡◌, ℕ, zero, suc, Bool, true, false, ◌&&◌, List, [], ◌∷◌, ◌++◌, ◌<◌, get_or, length, take, drop, Option, Some, None, Result, Ok, Err, nat_lt, if◌then◌else◌}
 use Rattle.std.specs.List.{flat_map}
 use Rattle.std.specs.Int.{Width, w8, byte_len, to_be_bytes, from_be_bytes, is_in_range}
 use Rattle.topology.specs.declared.frame_faults.FrameKind.{FrameKind}
@@ -157,3 +157,15 @@ skipped series s (suc n) bytes = stepped series s bytes >>= λ x. skipped series
 -- the bytes after this many elements
 abbrev pub passed : {S A : Type 0} → Series S A → S → ℕ → List ℕ → Result (List ℕ) FrameKind
 passed series s n bytes = skipped series s n bytes >>= λ x. Ok x.1
+
+-- ---- when bytes have one reading, and values one spelling
+
+-- what a field took from the front
+pub record Takes (bytes text rest : List ℕ) : Type 0 where
+  pub parts : bytes ≡ text ++ rest
+  pub rest_fits : IsBytes rest
+
+-- what is read was spelled like that and has a spelling; what is spelled is read back, whatever follows
+pub record IsFormat {A : Type 0} (f : Format A) : Type 0 where
+  pub takes : (bytes : List ℕ) (x : A) (rest : List ℕ) → IsBytes bytes → f.reads bytes ≡ Ok (x, rest) → Takes bytes (f.spells x) rest × (f.fits x ≡ true)
+  pub again : (x : A) (rest : List ℕ) → f.fits x ≡ true → f.reads (f.spells x ++ rest) ≡ Ok (x, rest)

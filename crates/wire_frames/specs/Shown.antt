@@ -1,5 +1,5 @@
 -- Frames that are still in bytes, and the meaning of answers.
-use Rattle.std.specs.Prelude.{◌≡◌, ◌≤◌, ℕ, true, length, take, List, [], ◌∷◌, Option, Some, None, Result, Ok, Err}
+use Rattle.std.specs.Prelude.{◌≡◌, ◌≤◌, ℕ, true, length, take, List, Option, Some, None, Result, Ok, Err}
 use Rattle.std.specs.Borrow.{Bor}
 use Rattle.topology.specs.declared.names.Trigger.{Trigger}
 use Rattle.topology.specs.declared.ballots.Ballot.{Ballot}

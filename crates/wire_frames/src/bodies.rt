@@ -1,13 +1,22 @@
-//! The bodies of frames, with one function for each kind. Nothing here takes memory.
+//! The bodies of frames, with one function for each kind of several fields. Nothing here takes memory.
+#![tactic(auto, unfolding(crate::specs::Reading::body_at))]
+
 ghost use Rattle.std.specs.Prelude.{◌≡◌, [], Err, MatchResult};
 ghost use Rattle.wire_frames.specs.Reading.{all_read, body_at};
-ghost use Rattle.wire_frames.specs.Shown.{Shows, Cuts};
+ghost use Rattle.wire_frames.specs.Bodies.{Begins};
+ghost use Rattle.wire_frames.specs.Shown.{Shows};
 ghost use Rattle.wire_frames.specs.declared.frames.Frame.{Frame as AnyFrame};
 ghost use Rattle.wire_frames.specs.declared.tags.Tag.TheVariants as of;
 
+use crate::parts::{Links, OneTrigger, SeveralTriggers};
+use crate::paths::Paths;
 use crate::reading::Fields;
+use crate::reports::{ListedReport, PlainReport};
 use crate::tags::Tag;
 use crate::{FrameKind, FrameRef};
+use epoch_packet::Packet;
+use incomplete_closure::Value;
+use topology::Path;
 
 impl<'a> Fields<'a> {
     /// Checks that no bytes are left over.
@@ -22,211 +31,110 @@ impl<'a> Fields<'a> {
     }
 }
 
-#[tactic(auto, unfolding(crate::specs::Reading::body_at))]
-fn snap(body: &[u8]) -> Result<FrameRef<'_>, FrameKind>
-    ensures { Shows result (body_at of.Snap body.now) }
+fn prefer<'a>(fields: &mut Fields<'a>) -> Result<FrameRef<'a>, FrameKind>
+    ensures { Begins of.Prefer fields.old result fields.new }
 {
-    let fields = Fields::new(body);
-    fields.finish()?;
-    Ok(FrameRef::Snap)
+    Ok(FrameRef::Prefer {
+        nbr: fields.node()?,
+        value: fields.preference()?,
+    })
 }
 
-#[tactic(auto, unfolding(crate::specs::Reading::body_at))]
-fn originate(body: &[u8]) -> Result<FrameRef<'_>, FrameKind>
-    ensures { Shows result (body_at of.Originate body.now) }
+fn open_session<'a>(fields: &mut Fields<'a>) -> Result<FrameRef<'a>, FrameKind>
+    ensures { Begins of.OpenSession fields.old result fields.new }
 {
-    let mut fields = Fields::new(body);
-    let prefix = fields.prefix()?;
-    fields.finish()?;
-    Ok(FrameRef::Originate { prefix })
+    Ok(FrameRef::OpenSession {
+        nbr: fields.node()?,
+        session: fields.session()?,
+    })
 }
 
-#[tactic(auto, unfolding(crate::specs::Reading::body_at))]
-fn withdraw(body: &[u8]) -> Result<FrameRef<'_>, FrameKind>
-    ensures { Shows result (body_at of.Withdraw body.now) }
+fn update<'a>(fields: &mut Fields<'a>) -> Result<FrameRef<'a>, FrameKind>
+    ensures { Begins of.Update fields.old result fields.new }
 {
-    let mut fields = Fields::new(body);
-    let prefix = fields.prefix()?;
-    fields.finish()?;
-    Ok(FrameRef::Withdraw { prefix })
-}
-
-#[tactic(auto, unfolding(crate::specs::Reading::body_at))]
-fn prefer(body: &[u8]) -> Result<FrameRef<'_>, FrameKind>
-    ensures { Shows result (body_at of.Prefer body.now) }
-{
-    let mut fields = Fields::new(body);
-    let nbr = fields.node()?;
-    let value = fields.preference()?;
-    fields.finish()?;
-    Ok(FrameRef::Prefer { nbr, value })
-}
-
-#[tactic(auto, unfolding(crate::specs::Reading::body_at))]
-fn notice(body: &[u8]) -> Result<FrameRef<'_>, FrameKind>
-    ensures { Shows result (body_at of.Notice body.now) }
-{
-    let mut fields = Fields::new(body);
-    let nbr = fields.node()?;
-    fields.finish()?;
-    Ok(FrameRef::Notice { nbr })
-}
-
-#[tactic(auto, unfolding(crate::specs::Reading::body_at))]
-fn open_session(body: &[u8]) -> Result<FrameRef<'_>, FrameKind>
-    ensures { Shows result (body_at of.OpenSession body.now) }
-{
-    let mut fields = Fields::new(body);
-    let nbr = fields.node()?;
-    let session = fields.session()?;
-    fields.finish()?;
-    Ok(FrameRef::OpenSession { nbr, session })
-}
-
-#[tactic(auto, unfolding(crate::specs::Reading::body_at))]
-fn propose(body: &[u8]) -> Result<FrameRef<'_>, FrameKind>
-    ensures { Shows result (body_at of.Propose body.now) }
-{
-    let mut fields = Fields::new(body);
-    let epoch = fields.epoch()?;
-    fields.finish()?;
-    Ok(FrameRef::Propose { epoch })
-}
-
-#[tactic(auto, unfolding(crate::specs::Reading::body_at))]
-fn update(body: &[u8]) -> Result<FrameRef<'_>, FrameKind>
-    ensures { Shows result (body_at of.Update body.now) }
-{
-    let mut fields = Fields::new(body);
-    let peer = fields.node()?;
-    let session = fields.session()?;
-    let seq = fields.positive()?;
-    let triggers = fields.one_trigger_part()?;
-    let prefix = fields.prefix()?;
-    let path = fields.path_part()?;
-    fields.finish()?;
     Ok(FrameRef::Update {
         version: 1,
-        peer,
-        session,
-        seq,
-        triggers,
-        prefix,
-        path,
+        peer: fields.node()?,
+        session: fields.session()?,
+        seq: fields.positive()?,
+        triggers: fields.part::<OneTrigger>()?,
+        prefix: fields.prefix()?,
+        path: fields.part::<Option<Path>>()?,
     })
 }
 
-#[tactic(auto, unfolding(crate::specs::Reading::body_at))]
-fn listed_update(body: &[u8]) -> Result<FrameRef<'_>, FrameKind>
-    ensures { Shows result (body_at of.ListedUpdate body.now) }
+fn listed_update<'a>(fields: &mut Fields<'a>) -> Result<FrameRef<'a>, FrameKind>
+    ensures { Begins of.ListedUpdate fields.old result fields.new }
 {
-    let mut fields = Fields::new(body);
-    let peer = fields.node()?;
-    let session = fields.session()?;
-    let seq = fields.positive()?;
-    let triggers = fields.triggers_part()?;
-    let prefix = fields.prefix()?;
-    let path = fields.path_part()?;
-    fields.finish()?;
     Ok(FrameRef::Update {
         version: 2,
-        peer,
-        session,
-        seq,
-        triggers,
-        prefix,
-        path,
+        peer: fields.node()?,
+        session: fields.session()?,
+        seq: fields.positive()?,
+        triggers: fields.part::<SeveralTriggers>()?,
+        prefix: fields.prefix()?,
+        path: fields.part::<Option<Path>>()?,
     })
 }
 
-#[tactic(auto, unfolding(crate::specs::Reading::body_at))]
-fn marker(body: &[u8]) -> Result<FrameRef<'_>, FrameKind>
-    ensures { Shows result (body_at of.Marker body.now) }
+fn marker<'a>(fields: &mut Fields<'a>) -> Result<FrameRef<'a>, FrameKind>
+    ensures { Begins of.Marker fields.old result fields.new }
 {
-    let mut fields = Fields::new(body);
-    let peer = fields.node()?;
-    let session = fields.session()?;
-    let epoch = fields.epoch()?;
-    fields.finish()?;
     Ok(FrameRef::Marker {
-        peer,
-        session,
-        epoch,
+        peer: fields.node()?,
+        session: fields.session()?,
+        epoch: fields.epoch()?,
     })
 }
 
-#[tactic(auto, unfolding(crate::specs::Reading::body_at))]
-fn hello(body: &[u8]) -> Result<FrameRef<'_>, FrameKind>
-    ensures { Shows result (body_at of.Hello body.now) }
+fn hello<'a>(fields: &mut Fields<'a>) -> Result<FrameRef<'a>, FrameKind>
+    ensures { Begins of.Hello fields.old result fields.new }
 {
-    let mut fields = Fields::new(body);
-    let peer = fields.node()?;
-    let session = fields.session()?;
-    let epoch = fields.epoch_or_none()?;
-    fields.finish()?;
     Ok(FrameRef::Hello {
-        peer,
-        session,
-        epoch,
+        peer: fields.node()?,
+        session: fields.session()?,
+        epoch: fields.epoch_or_none()?,
     })
 }
 
-#[tactic(auto, unfolding(crate::specs::Reading::body_at))]
-fn report(body: &[u8]) -> Result<FrameRef<'_>, FrameKind>
-    ensures { Shows result (body_at of.Report body.now) }
+fn report<'a>(fields: &mut Fields<'a>) -> Result<FrameRef<'a>, FrameKind>
+    ensures { Begins of.Report fields.old result fields.new }
 {
-    let mut fields = Fields::new(body);
-    let peer = fields.node()?;
-    let report = fields.report_part()?;
-    fields.finish()?;
     Ok(FrameRef::Report {
         version: 1,
-        peer,
-        report,
+        peer: fields.node()?,
+        report: fields.part::<PlainReport>()?,
     })
 }
 
-#[tactic(auto, unfolding(crate::specs::Reading::body_at))]
-fn listed_report(body: &[u8]) -> Result<FrameRef<'_>, FrameKind>
-    ensures { Shows result (body_at of.ListedReport body.now) }
+fn listed_report<'a>(fields: &mut Fields<'a>) -> Result<FrameRef<'a>, FrameKind>
+    ensures { Begins of.ListedReport fields.old result fields.new }
 {
-    let mut fields = Fields::new(body);
-    let peer = fields.node()?;
-    let report = fields.listed_report_part()?;
-    fields.finish()?;
     Ok(FrameRef::Report {
         version: 2,
-        peer,
-        report,
+        peer: fields.node()?,
+        report: fields.part::<ListedReport>()?,
     })
 }
 
-#[tactic(auto, unfolding(crate::specs::Reading::body_at))]
-fn prepare(body: &[u8]) -> Result<FrameRef<'_>, FrameKind>
-    ensures { Shows result (body_at of.Prepare body.now) }
+fn prepare<'a>(fields: &mut Fields<'a>) -> Result<FrameRef<'a>, FrameKind>
+    ensures { Begins of.Prepare fields.old result fields.new }
 {
-    let mut fields = Fields::new(body);
-    let peer = fields.node()?;
-    let epoch = fields.epoch()?;
-    let ballot = fields.ballot()?;
-    fields.finish()?;
     Ok(FrameRef::Prepare {
-        peer,
-        epoch,
-        ballot,
+        peer: fields.node()?,
+        epoch: fields.epoch()?,
+        ballot: fields.ballot()?,
     })
 }
 
 #[tactic(auto, unfolding(crate::specs::Reading::body_at, crate::specs::Fields::named))]
-fn promise(body: &[u8]) -> Result<FrameRef<'_>, FrameKind>
-    ensures { Shows result (body_at of.Promise body.now) }
+fn promise<'a>(fields: &mut Fields<'a>) -> Result<FrameRef<'a>, FrameKind>
+    ensures { Begins of.Promise fields.old result fields.new }
 {
-    let mut fields = Fields::new(body);
     let peer = fields.node()?;
     let epoch = fields.epoch()?;
     let ballot = fields.ballot()?;
     if fields.number8(0, 1)? == 0 {
-        fields.finish()?;
         return Ok(FrameRef::Promise {
             peer,
             epoch,
@@ -235,8 +143,7 @@ fn promise(body: &[u8]) -> Result<FrameRef<'_>, FrameKind>
         });
     }
     let accepted = fields.ballot()?;
-    let value = fields.value_part()?;
-    fields.finish()?;
+    let value = fields.part::<Value>()?;
     let named = Some((accepted, value));
     Ok(FrameRef::Promise {
         peer,
@@ -246,145 +153,134 @@ fn promise(body: &[u8]) -> Result<FrameRef<'_>, FrameKind>
     })
 }
 
-#[tactic(auto, unfolding(crate::specs::Reading::body_at))]
-fn accept(body: &[u8]) -> Result<FrameRef<'_>, FrameKind>
-    ensures { Shows result (body_at of.Accept body.now) }
+fn accept<'a>(fields: &mut Fields<'a>) -> Result<FrameRef<'a>, FrameKind>
+    ensures { Begins of.Accept fields.old result fields.new }
 {
-    let mut fields = Fields::new(body);
-    let peer = fields.node()?;
-    let epoch = fields.epoch()?;
-    let ballot = fields.ballot()?;
-    let value = fields.value_part()?;
-    fields.finish()?;
     Ok(FrameRef::Accept {
-        peer,
-        epoch,
-        ballot,
-        value,
+        peer: fields.node()?,
+        epoch: fields.epoch()?,
+        ballot: fields.ballot()?,
+        value: fields.part::<Value>()?,
     })
 }
 
-#[tactic(auto, unfolding(crate::specs::Reading::body_at))]
-fn accepted(body: &[u8]) -> Result<FrameRef<'_>, FrameKind>
-    ensures { Shows result (body_at of.Accepted body.now) }
+fn accepted<'a>(fields: &mut Fields<'a>) -> Result<FrameRef<'a>, FrameKind>
+    ensures { Begins of.Accepted fields.old result fields.new }
 {
-    let mut fields = Fields::new(body);
-    let peer = fields.node()?;
-    let epoch = fields.epoch()?;
-    let ballot = fields.ballot()?;
-    fields.finish()?;
     Ok(FrameRef::Accepted {
-        peer,
-        epoch,
-        ballot,
+        peer: fields.node()?,
+        epoch: fields.epoch()?,
+        ballot: fields.ballot()?,
     })
 }
 
-#[tactic(auto, unfolding(crate::specs::Reading::body_at))]
-fn decision(body: &[u8]) -> Result<FrameRef<'_>, FrameKind>
-    ensures { Shows result (body_at of.Decision body.now) }
+fn decision<'a>(fields: &mut Fields<'a>) -> Result<FrameRef<'a>, FrameKind>
+    ensures { Begins of.Decision fields.old result fields.new }
 {
-    let mut fields = Fields::new(body);
-    let peer = fields.node()?;
-    let epoch = fields.epoch()?;
-    let value = fields.value_part()?;
-    fields.finish()?;
-    Ok(FrameRef::Decision { peer, epoch, value })
+    Ok(FrameRef::Decision {
+        peer: fields.node()?,
+        epoch: fields.epoch()?,
+        value: fields.part::<Value>()?,
+    })
 }
 
-#[tactic(auto, unfolding(crate::specs::Reading::body_at))]
-fn hop(body: &[u8]) -> Result<FrameRef<'_>, FrameKind>
-    ensures { Shows result (body_at of.Hop body.now) }
+fn hop<'a>(fields: &mut Fields<'a>) -> Result<FrameRef<'a>, FrameKind>
+    ensures { Begins of.Hop fields.old result fields.new }
 {
-    let mut fields = Fields::new(body);
-    let packet = fields.packet_part()?;
-    let up = fields.links_part()?;
-    fields.finish()?;
-    Ok(FrameRef::Hop { packet, up })
+    Ok(FrameRef::Hop {
+        packet: fields.part::<Packet>()?,
+        up: fields.part::<Links>()?,
+    })
 }
 
-#[tactic(auto, unfolding(crate::specs::Reading::body_at))]
-fn forward(body: &[u8]) -> Result<FrameRef<'_>, FrameKind>
-    ensures { Shows result (body_at of.Forward body.now) }
+fn forward<'a>(fields: &mut Fields<'a>) -> Result<FrameRef<'a>, FrameKind>
+    ensures { Begins of.Forward fields.old result fields.new }
 {
-    let mut fields = Fields::new(body);
-    let next = fields.node()?;
-    let packet = fields.packet_part()?;
-    fields.finish()?;
-    Ok(FrameRef::Forward { next, packet })
+    Ok(FrameRef::Forward {
+        next: fields.node()?,
+        packet: fields.part::<Packet>()?,
+    })
 }
 
-#[tactic(auto, unfolding(crate::specs::Reading::body_at))]
-fn ended(body: &[u8]) -> Result<FrameRef<'_>, FrameKind>
-    ensures { Shows result (body_at of.Ended body.now) }
+fn ended<'a>(fields: &mut Fields<'a>) -> Result<FrameRef<'a>, FrameKind>
+    ensures { Begins of.Ended fields.old result fields.new }
 {
-    let mut fields = Fields::new(body);
-    let id = fields.any32()?;
-    let end = fields.end()?;
-    fields.finish()?;
-    Ok(FrameRef::Ended { id, end })
+    Ok(FrameRef::Ended {
+        id: fields.any32()?,
+        end: fields.end()?,
+    })
 }
 
-#[tactic(auto, unfolding(crate::specs::Reading::body_at))]
-fn published(body: &[u8]) -> Result<FrameRef<'_>, FrameKind>
-    ensures { Shows result (body_at of.Published body.now) }
+fn published<'a>(fields: &mut Fields<'a>) -> Result<FrameRef<'a>, FrameKind>
+    ensures { Begins of.Published fields.old result fields.new }
 {
-    let mut fields = Fields::new(body);
-    let epoch = fields.epoch()?;
-    let paths = fields.paths_part()?;
-    fields.finish()?;
-    Ok(FrameRef::Published { epoch, paths })
+    Ok(FrameRef::Published {
+        epoch: fields.epoch()?,
+        paths: fields.part::<Paths>()?,
+    })
 }
 
-#[tactic(auto, unfolding(crate::specs::Reading::body_at))]
-fn inject(body: &[u8]) -> Result<FrameRef<'_>, FrameKind>
-    ensures { Shows result (body_at of.Inject body.now) }
+fn inject<'a>(fields: &mut Fields<'a>) -> Result<FrameRef<'a>, FrameKind>
+    ensures { Begins of.Inject fields.old result fields.new }
 {
-    let mut fields = Fields::new(body);
-    let id = fields.positive()?;
-    let prefix = fields.prefix()?;
-    fields.finish()?;
-    Ok(FrameRef::Inject { id, prefix })
+    Ok(FrameRef::Inject {
+        id: fields.positive()?,
+        prefix: fields.prefix()?,
+    })
 }
 
-#[tactic(auto, unfolding(crate::specs::Reading::body_at))]
-fn flush(body: &[u8]) -> Result<FrameRef<'_>, FrameKind>
-    ensures { Shows result (body_at of.Flush body.now) }
+// The fields of a body of this kind.
+fn read_fields<'a>(tag: Tag, fields: &mut Fields<'a>) -> Result<FrameRef<'a>, FrameKind>
+    ensures { Begins tag fields.old result fields.new }
 {
-    let mut fields = Fields::new(body);
-    let nbr = fields.node()?;
-    fields.finish()?;
-    Ok(FrameRef::Flush { nbr })
+    match tag {
+        Tag::Originate => Ok(FrameRef::Originate {
+            prefix: fields.prefix()?,
+        }),
+        Tag::Withdraw => Ok(FrameRef::Withdraw {
+            prefix: fields.prefix()?,
+        }),
+        Tag::Prefer => prefer(fields),
+        Tag::Notice => Ok(FrameRef::Notice {
+            nbr: fields.node()?,
+        }),
+        Tag::OpenSession => open_session(fields),
+        Tag::Snap => Ok(FrameRef::Snap),
+        Tag::Propose => Ok(FrameRef::Propose {
+            epoch: fields.epoch()?,
+        }),
+        Tag::Update => update(fields),
+        Tag::Marker => marker(fields),
+        Tag::Hello => hello(fields),
+        Tag::Report => report(fields),
+        Tag::Prepare => prepare(fields),
+        Tag::Promise => promise(fields),
+        Tag::Accept => accept(fields),
+        Tag::Accepted => accepted(fields),
+        Tag::Decision => decision(fields),
+        Tag::Hop => hop(fields),
+        Tag::Forward => forward(fields),
+        Tag::Ended => ended(fields),
+        Tag::Published => published(fields),
+        Tag::Inject => inject(fields),
+        Tag::ListedUpdate => listed_update(fields),
+        Tag::ListedReport => listed_report(fields),
+        Tag::Flush => Ok(FrameRef::Flush {
+            nbr: fields.node()?,
+        }),
+    }
 }
 
 /// The frame of this kind that the body spells, or the first fault of the body.
 pub(crate) fn read_body(tag: Tag, body: &[u8]) -> Result<FrameRef<'_>, FrameKind>
     ensures { Shows result (body_at tag body.now) }
 {
-    match tag {
-        Tag::Originate => originate(body),
-        Tag::Withdraw => withdraw(body),
-        Tag::Prefer => prefer(body),
-        Tag::Notice => notice(body),
-        Tag::OpenSession => open_session(body),
-        Tag::Snap => snap(body),
-        Tag::Propose => propose(body),
-        Tag::Update => update(body),
-        Tag::Marker => marker(body),
-        Tag::Hello => hello(body),
-        Tag::Report => report(body),
-        Tag::Prepare => prepare(body),
-        Tag::Promise => promise(body),
-        Tag::Accept => accept(body),
-        Tag::Accepted => accepted(body),
-        Tag::Decision => decision(body),
-        Tag::Hop => hop(body),
-        Tag::Forward => forward(body),
-        Tag::Ended => ended(body),
-        Tag::Published => published(body),
-        Tag::Inject => inject(body),
-        Tag::ListedUpdate => listed_update(body),
-        Tag::ListedReport => listed_report(body),
-        Tag::Flush => flush(body),
+    let mut fields = Fields::new(body);
+    match read_fields(tag, &mut fields) {
+        Ok(frame) => {
+            fields.finish()?;
+            Ok(frame)
+        }
+        Err(wrong) => Err(wrong),
     }
 }

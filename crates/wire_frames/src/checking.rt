@@ -5,10 +5,16 @@ ghost use Rattle.wire_frames.specs.Frames.{body, fields_fit, fit_within, fits, l
 
 use crate::Frame;
 use crate::fitting::*;
+use crate::layouts::Layout;
 use crate::listed_runs::{ListedRows, PendingRun};
+use crate::parts::{Links, named_fits, update_triggers_fit};
+use crate::paths::Paths;
 use crate::plain::is_plain;
+use crate::reports::report_fits;
 use crate::series::{ReportRows, ReportSessions, length_many};
-use incomplete_closure::Report;
+use epoch_packet::Packet;
+use incomplete_closure::{Report, Value};
+use topology::Path;
 
 // Inputs of the node itself: kinds 1 to 7.
 #[tactic(auto, unfolding(crate::specs::Frames::fit_within))]
@@ -45,7 +51,7 @@ fn session_frame_fits(frame: &Frame) -> bool
             && positive_fits(*seq)
             && update_triggers_fit(triggers)
             && prefix_fits(*prefix)
-            && path_fits(path),
+            && <Option<Path>>::fits(path),
         Frame::Marker {
             peer,
             session,
@@ -93,7 +99,7 @@ fn choice_fits(frame: &Frame) -> bool
             epoch,
             ballot,
             value,
-        } => node_fits(*peer) && epoch_fits(*epoch) && ballot_fits(*ballot) && value_fits(value),
+        } => node_fits(*peer) && epoch_fits(*epoch) && ballot_fits(*ballot) && Value::fits(value),
         Frame::Accepted {
             peer,
             epoch,
@@ -101,7 +107,7 @@ fn choice_fits(frame: &Frame) -> bool
         } => node_fits(*peer) && epoch_fits(*epoch) && ballot_fits(*ballot),
         Frame::Decision { peer, epoch, value } => node_fits(*peer)
             && epoch_fits(*epoch)
-            && value_fits(value),
+            && Value::fits(value),
         _ => true,
     }
 }
@@ -112,10 +118,10 @@ fn packet_frame_fits(frame: &Frame) -> bool
     ensures { result ≡ fit_within 17 22 frame.now }
 {
     match frame {
-        Frame::Hop { packet, up } => packet_fits(packet) && links_fits(up.as_slice()),
-        Frame::Forward { next, packet } => node_fits(*next) && packet_fits(packet),
+        Frame::Hop { packet, up } => Packet::fits(packet) && Links::fits(up),
+        Frame::Forward { next, packet } => node_fits(*next) && Packet::fits(packet),
         Frame::Ended { id, end } => any32_fits(*id) && end_fits(*end),
-        Frame::Published { epoch, paths } => epoch_fits(*epoch) && paths_fits(paths),
+        Frame::Published { epoch, paths } => epoch_fits(*epoch) && Paths::fits(paths),
         Frame::Inject { id, prefix } => positive_fits(*id) && prefix_fits(*prefix),
         Frame::Flush { nbr } => node_fits(*nbr),
         _ => true,

@@ -6,12 +6,17 @@ ghost use Rattle.wire_frames.specs.Listing.{is_plain as plain_report};
 ghost use Rattle.wire_frames.specs.Frames.{tag_of, body, body_within, fits, spell};
 
 use crate::Frame;
+use crate::layouts::Layout;
+use crate::parts::{Links, put_named, put_update_triggers};
+use crate::paths::Paths;
 use crate::plain::is_plain;
+use crate::reports::put_report;
 use crate::tags::Tag;
 use crate::writing::*;
-use incomplete_closure::Report;
+use epoch_packet::Packet;
+use incomplete_closure::{Report, Value};
 use std::alloc::Global;
-use topology::{NoMemory, Triggers};
+use topology::{NoMemory, Path, Triggers};
 
 fn update_tag(triggers: &Triggers) -> Tag
     ensures { result ≡ (if is_one triggers.now then of.Update else of.ListedUpdate) }
@@ -104,9 +109,9 @@ fn put_session_frame(out: &mut Vec<u8>, frame: &Frame) -> Result<(), NoMemory>
             put_node(out, *peer)?;
             put_session(out, *session)?;
             put_positive(out, *seq)?;
-            put_update_triggers(out, triggers)?;
+            put_update_triggers(triggers, out)?;
             put_prefix(out, *prefix)?;
-            put_path(out, path)
+            <Option<Path>>::put(path, out)
         }
         Frame::Marker {
             peer,
@@ -138,7 +143,7 @@ fn put_proposal(out: &mut Vec<u8>, frame: &Frame) -> Result<(), NoMemory>
     match frame {
         Frame::Report { peer, report } => {
             put_node(out, *peer)?;
-            put_report(out, report)
+            put_report(report, out)
         }
         Frame::Prepare {
             peer,
@@ -158,7 +163,7 @@ fn put_proposal(out: &mut Vec<u8>, frame: &Frame) -> Result<(), NoMemory>
             put_node(out, *peer)?;
             put_epoch(out, *epoch)?;
             put_ballot(out, *ballot)?;
-            put_named(out, named)
+            put_named(named, out)
         }
         _ => Ok(()),
     }
@@ -179,7 +184,7 @@ fn put_choice(out: &mut Vec<u8>, frame: &Frame) -> Result<(), NoMemory>
             put_node(out, *peer)?;
             put_epoch(out, *epoch)?;
             put_ballot(out, *ballot)?;
-            put_value(out, value)
+            Value::put(value, out)
         }
         Frame::Accepted {
             peer,
@@ -193,7 +198,7 @@ fn put_choice(out: &mut Vec<u8>, frame: &Frame) -> Result<(), NoMemory>
         Frame::Decision { peer, epoch, value } => {
             put_node(out, *peer)?;
             put_epoch(out, *epoch)?;
-            put_value(out, value)
+            Value::put(value, out)
         }
         _ => Ok(()),
     }
@@ -206,12 +211,12 @@ fn put_packet_frame(out: &mut Vec<u8>, frame: &Frame) -> Result<(), NoMemory>
 {
     match frame {
         Frame::Hop { packet, up } => {
-            put_packet(out, packet)?;
-            put_nodes(out, up.as_slice())
+            Packet::put(packet, out)?;
+            Links::put(up, out)
         }
         Frame::Forward { next, packet } => {
             put_node(out, *next)?;
-            put_packet(out, packet)
+            Packet::put(packet, out)
         }
         Frame::Ended { id, end } => {
             put_any32(out, *id)?;
@@ -219,7 +224,7 @@ fn put_packet_frame(out: &mut Vec<u8>, frame: &Frame) -> Result<(), NoMemory>
         }
         Frame::Published { epoch, paths } => {
             put_epoch(out, *epoch)?;
-            put_paths(out, paths)
+            Paths::put(paths, out)
         }
         Frame::Inject { id, prefix } => {
             put_positive(out, *id)?;

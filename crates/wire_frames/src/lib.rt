@@ -45,19 +45,21 @@
 
 mod bodies;
 pub mod checking;
+mod counts;
 pub mod decoding;
 pub mod encoding;
 mod faults;
 mod fitting;
 pub mod frames;
 pub mod laws;
+mod layouts;
 mod listed_runs;
 pub mod owned;
-mod owning;
 mod parts;
 pub mod paths;
 mod plain;
 mod reading;
+mod reports;
 mod sent_runs;
 mod series;
 pub mod tags;

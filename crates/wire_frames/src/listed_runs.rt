@@ -2,17 +2,20 @@
 ghost use Rattle.std.specs.Prelude.{◌≡◌, ◌+◌, ◌≤◌, List, length};
 ghost use Rattle.topology.specs.declared.limits.TheConstants.{MOST_MARKS, MOST_UPDATES};
 ghost use Rattle.topology.specs.declared.names.Trigger.{Trigger as AnyTrigger};
-ghost use Rattle.wire_frames.specs.Listing.{begun, listed_items, no_rows, nothing_pending, only_of, with_row};
+ghost use Rattle.wire_frames.specs.Listing.{begun, listed_items, no_rows, nothing_pending, only_of, with_row, listed_rows, pending_rows};
 
 use crate::FrameKind;
+use crate::counts::Count;
 use crate::faults::ReadError;
-use crate::fitting::{item_fits, items_fit, list_fits, pending_fits, scope_fits_beside};
-use crate::owning::read_triggers;
-use crate::plain::{only_of, stands_alone};
+use crate::fitting::*;
+use crate::parts::{put_triggers, read_triggers, skip_triggers};
+use crate::plain::{no_trigger, only_of, stands_alone};
 use crate::reading::Fields;
-use crate::sent_runs::{SentRun, length_items};
-use crate::series::{Measured, RisingTriggers, Run, Told, length_many, read_many, skip_many};
-use crate::writing::{put_listed_item, put_listed_row, put_pending};
+use crate::sent_runs::{SentRun, fit_items, length_items, put_items};
+use crate::series::{
+    Measured, RisingTriggers, Run, Told, fit_list, length_many, read_list, skip_list,
+};
+use crate::writing::*;
 use incomplete_closure::Row;
 use std::alloc::Global;
 use std::marker::Model;
@@ -64,31 +67,36 @@ impl ListedItems {
 }
 
 impl Run for ListedItems {
-    ghost use Rattle.wire_frames.specs.Listing.{listed_items};
+    type State = ListedItems;
 
     type Item = Sent;
 
     ghost series = { listed_items };
 
     #[tactic(auto, unfolding(crate::specs::Listing::item))]
-    fn skip(&mut self, fields: &mut Fields<'_>) -> Result<(), FrameKind> {
+    fn skip(state: &mut ListedItems, fields: &mut Fields<'_>) -> Result<(), FrameKind> {
         fields.node()?;
         fields.session()?;
         fields.positive()?;
-        let (count, only) = fields.skip_triggers(1, self.marks)?;
-        self.marks += count;
-        self.plain = self.plain && stands_alone(self.only, only);
+        let (count, only) = skip_triggers(1, state.marks, fields)?;
+        state.marks += count;
+        state.plain = state.plain && stands_alone(state.only, only);
         Ok(())
     }
 
-    #[tactic(auto, unfolding(crate::specs::Listing::item))]
-    fn read(&mut self, alloc: Global, fields: &mut Fields<'_>) -> Result<Sent, ReadError> {
+    #[tactic(auto, unfolding(crate::specs::Listing::item, crate::specs::Listing::triggers))]
+    fn read(
+        state: &mut ListedItems,
+        alloc: Global,
+        fields: &mut Fields<'_>,
+    ) -> Result<Sent, ReadError> {
         let to = fields.node()?;
         let session = fields.session()?;
         let seq = fields.positive()?;
-        let triggers = read_triggers(alloc, 1, self.marks, fields)?;
-        self.marks += triggers.len() as u32;
-        self.plain = self.plain && stands_alone(self.only, only_of(triggers.as_slice()));
+        let list = Count::Triggers(1, state.marks);
+        let triggers = read_triggers(list, alloc, fields)?;
+        state.marks += triggers.len() as u32;
+        state.plain = state.plain && stands_alone(state.only, only_of(triggers.as_slice()));
         Ok(Sent {
             to,
             session,
@@ -101,17 +109,26 @@ impl Run for ListedItems {
 impl SentRun for ListedItems {
     ghost lent = { listed_items };
 
-    fn fits(&mut self, item: &SentRef<'_>) -> bool {
-        if !item_fits(item, self.marks) {
+    #[tactic(auto, unfolding(crate::specs::Listing::item, crate::specs::Listing::triggers))]
+    fn fits(state: &mut ListedItems, item: &SentRef<'_>) -> bool {
+        let list = Count::Triggers(1, state.marks);
+        if !node_fits(item.to) || !session_fits(item.session) || !positive_fits(item.seq) {
             return false;
         }
-        self.marks += item.triggers.len() as u32;
-        self.plain = self.plain && stands_alone(self.only, only_of(item.triggers));
+        if !fit_list::<RisingTriggers>(list, &mut no_trigger(), item.triggers) {
+            return false;
+        }
+        state.marks += item.triggers.len() as u32;
+        state.plain = state.plain && stands_alone(state.only, only_of(item.triggers));
         true
     }
 
+    #[tactic(auto, unfolding(crate::specs::Listing::item, crate::specs::Listing::triggers, crate::specs::Listing::more_triggers))]
     fn write(item: &SentRef<'_>, out: &mut Vec<u8>) -> Result<(), NoMemory> {
-        put_listed_item(out, item)
+        put_node(out, item.to)?;
+        put_session(out, item.session)?;
+        put_positive(out, item.seq)?;
+        put_triggers(item.triggers, out)
     }
 
     #[tactic(auto, using(crate::proofs::Short::listed_item_wide))]
@@ -184,31 +201,36 @@ impl Measured for ListedRows {
 }
 
 impl Run for ListedRows {
-    ghost use Rattle.wire_frames.specs.Listing.{listed_rows};
+    type State = ListedRows;
 
     type Item = Row;
 
     ghost series = { listed_rows };
 
     #[tactic(auto, unfolding(crate::specs::Listing::listed_row))]
-    fn skip(&mut self, fields: &mut Fields<'_>) -> Result<(), FrameKind> {
-        let (count, only) = fields.skip_triggers(0, self.marks)?;
+    fn skip(state: &mut ListedRows, fields: &mut Fields<'_>) -> Result<(), FrameKind> {
+        let (count, only) = skip_triggers(0, state.marks, fields)?;
         fields.scope_beside(count == 0)?;
-        let items = fields.more_items(self.items)?;
-        let mut row = ListedItems::behind(self.marks, count, only);
-        skip_many(&mut row, items, fields)?;
-        self.pass(items as u32, &row);
+        let more = Count::Items(state.items);
+        let mut row = ListedItems::behind(state.marks, count, only);
+        let items = skip_list::<ListedItems>(more, &mut row, fields)?;
+        state.pass(items as u32, &row);
         Ok(())
     }
 
-    #[tactic(auto, unfolding(crate::specs::Listing::listed_row))]
-    fn read(&mut self, alloc: Global, fields: &mut Fields<'_>) -> Result<Row, ReadError> {
-        let triggers = read_triggers(alloc, 0, self.marks, fields)?;
+    #[tactic(auto, unfolding(crate::specs::Listing::listed_row, crate::specs::Listing::triggers))]
+    fn read(
+        state: &mut ListedRows,
+        alloc: Global,
+        fields: &mut Fields<'_>,
+    ) -> Result<Row, ReadError> {
+        let list = Count::Triggers(0, state.marks);
+        let triggers = read_triggers(list, alloc, fields)?;
         let scope = fields.scope_beside(triggers.is_empty())?;
-        let items = fields.more_items(self.items)?;
-        let mut row = ListedItems::begun(self.marks, triggers.as_slice());
-        let sent = read_many(&mut row, alloc, items, fields)?;
-        self.pass(items as u32, &row);
+        let more = Count::Items(state.items);
+        let mut row = ListedItems::begun(state.marks, triggers.as_slice());
+        let sent = read_list::<ListedItems>(more, &mut row, alloc, fields)?;
+        state.pass(sent.len() as u32, &row);
         Ok(Row {
             triggers,
             scope,
@@ -218,25 +240,29 @@ impl Run for ListedRows {
 }
 
 impl Told for ListedRows {
-    #[tactic(auto, unfolding(crate::specs::Listing::listed_row))]
-    fn fits(&mut self, item: &Row) -> bool {
+    #[tactic(auto, unfolding(crate::specs::Listing::listed_row, crate::specs::Listing::triggers))]
+    fn fits(state: &mut ListedRows, item: &Row) -> bool {
         let triggers = item.triggers.as_slice();
-        if !list_fits(triggers, 0, self.marks) {
+        let list = Count::Triggers(0, state.marks);
+        if !fit_list::<RisingTriggers>(list, &mut no_trigger(), triggers) {
             return false;
         }
         if !scope_fits_beside(item.scope, triggers.is_empty()) {
             return false;
         }
-        let mut row = ListedItems::begun(self.marks, triggers);
-        if !items_fit(&mut row, &item.sent, self.items) {
+        let mut row = ListedItems::begun(state.marks, triggers);
+        if !fit_items::<ListedItems>(&mut row, &item.sent, state.items) {
             return false;
         }
-        self.pass(item.sent.len() as u32, &row);
+        state.pass(item.sent.len() as u32, &row);
         true
     }
 
+    #[tactic(auto, unfolding(crate::specs::Fields::scope, crate::specs::Fields::more_items, crate::specs::Listing::listed_row, crate::specs::Listing::scope_beside, crate::specs::Listing::triggers, crate::specs::Listing::more_triggers))]
     fn write(item: &Row, out: &mut Vec<u8>) -> Result<(), NoMemory> {
-        put_listed_row(out, item)
+        put_triggers(item.triggers.as_slice(), out)?;
+        put_scope(out, item.scope)?;
+        put_items::<ListedItems>(&item.sent, out)
     }
 }
 
@@ -278,31 +304,36 @@ impl Measured for PendingRun {
 }
 
 impl Run for PendingRun {
-    ghost use Rattle.wire_frames.specs.Listing.{pending_rows};
+    type State = PendingRun;
 
     type Item = Pending;
 
     ghost series = { pending_rows };
 
     #[tactic(auto, unfolding(crate::specs::Listing::pending_row))]
-    fn skip(&mut self, fields: &mut Fields<'_>) -> Result<(), FrameKind> {
-        let (nbr, prefix) = fields.pending_key(self.nbr, self.prefix)?;
+    fn skip(state: &mut PendingRun, fields: &mut Fields<'_>) -> Result<(), FrameKind> {
+        let (nbr, prefix) = fields.pending_key(state.nbr, state.prefix)?;
         fields.session()?;
-        let (count, _) = fields.skip_triggers(1, self.marks)?;
-        self.nbr = nbr;
-        self.prefix = prefix;
-        self.marks += count;
+        let (count, _) = skip_triggers(1, state.marks, fields)?;
+        state.nbr = nbr;
+        state.prefix = prefix;
+        state.marks += count;
         Ok(())
     }
 
-    #[tactic(auto, unfolding(crate::specs::Listing::pending_row))]
-    fn read(&mut self, alloc: Global, fields: &mut Fields<'_>) -> Result<Pending, ReadError> {
-        let (to, prefix) = fields.pending_key(self.nbr, self.prefix)?;
+    #[tactic(auto, unfolding(crate::specs::Listing::pending_row, crate::specs::Listing::triggers))]
+    fn read(
+        state: &mut PendingRun,
+        alloc: Global,
+        fields: &mut Fields<'_>,
+    ) -> Result<Pending, ReadError> {
+        let (to, prefix) = fields.pending_key(state.nbr, state.prefix)?;
         let session = fields.session()?;
-        let triggers = read_triggers(alloc, 1, self.marks, fields)?;
-        self.nbr = to;
-        self.prefix = prefix;
-        self.marks += triggers.len() as u32;
+        let list = Count::Triggers(1, state.marks);
+        let triggers = read_triggers(list, alloc, fields)?;
+        state.nbr = to;
+        state.prefix = prefix;
+        state.marks += triggers.len() as u32;
         Ok(Pending {
             to,
             prefix,
@@ -313,17 +344,29 @@ impl Run for PendingRun {
 }
 
 impl Told for PendingRun {
-    fn fits(&mut self, item: &Pending) -> bool {
-        if !pending_fits(item, self.nbr, self.prefix, self.marks) {
+    #[tactic(auto, unfolding(crate::specs::Listing::pending_row, crate::specs::Listing::triggers))]
+    fn fits(state: &mut PendingRun, item: &Pending) -> bool {
+        let list = Count::Triggers(1, state.marks);
+        if !pending_key_fits(item.to, item.prefix, state.nbr, state.prefix) {
             return false;
         }
-        self.nbr = item.to;
-        self.prefix = item.prefix;
-        self.marks += item.triggers.len() as u32;
+        if !session_fits(item.session) {
+            return false;
+        }
+        if !fit_list::<RisingTriggers>(list, &mut no_trigger(), item.triggers.as_slice()) {
+            return false;
+        }
+        state.nbr = item.to;
+        state.prefix = item.prefix;
+        state.marks += item.triggers.len() as u32;
         true
     }
 
+    #[tactic(auto, unfolding(crate::specs::Listing::pending_row, crate::specs::Listing::triggers, crate::specs::Listing::more_triggers))]
     fn write(item: &Pending, out: &mut Vec<u8>) -> Result<(), NoMemory> {
-        put_pending(out, item)
+        put_node(out, item.to)?;
+        put_prefix(out, item.prefix)?;
+        put_session(out, item.session)?;
+        put_triggers(item.triggers.as_slice(), out)
     }
 }

@@ -8,13 +8,15 @@ ghost use Rattle.wire_frames.specs.Frames.{fields_fit, fits};
 ghost use Rattle.wire_frames.specs.Shown.{IsFrame, NamesSame};
 
 use crate::faults::ReadError;
-use crate::owning::{
-    owned_links, owned_packet, owned_path, owned_paths, owned_report, owned_triggers, owned_value,
-};
+use crate::layouts::owned;
+use crate::parts::{Links, owned_triggers};
+use crate::paths::Paths;
+use crate::reports::owned_report;
 use crate::{Frame, FrameKind, FrameRef};
+use epoch_packet::Packet;
 use incomplete_closure::Value;
 use std::alloc::Global;
-use topology::{Ballot, NoMemory};
+use topology::{Ballot, NoMemory, Path};
 
 // The ballot and the value that a promise names, if any.
 fn owned_named(
@@ -27,67 +29,43 @@ fn owned_named(
     match accepted {
         None => Ok(None),
         Some((ballot, value)) => {
-            let value = owned_value(alloc, value)?;
+            let value = owned::<Value>(alloc, value)?;
             Ok(Some((*ballot, value)))
         }
     }
 }
 
-// Frames of these kinds, which are the last ones.
-fn owned_rest(alloc: Global, frame: &FrameRef<'_>) -> Result<Frame, ReadError>
-    ensures { IfOk result (λ owned. (f : AnyFrame) → fields_fit f ≡ true → IsFrame frame.now f
-        → owned ≡ f) }
-{
-    match frame {
-        FrameRef::Ended { id, end } => Ok(Frame::Ended { id: *id, end: *end }),
-        FrameRef::Published { epoch, paths } => {
-            let paths = owned_paths(alloc, paths)?;
-            Ok(Frame::Published {
-                epoch: *epoch,
-                paths,
-            })
-        }
-        FrameRef::Inject { id, prefix } => Ok(Frame::Inject {
-            id: *id,
-            prefix: *prefix,
-        }),
-        FrameRef::Flush { nbr } => Ok(Frame::Flush { nbr: *nbr }),
-        _ => Err(ReadError::Bad(FrameKind::Kind)),
-    }
-}
-
-// Frames of these kinds; the others go to the function above.
+// Packets and tables, which are the last ones.
 fn owned_packet_frame(alloc: Global, frame: &FrameRef<'_>) -> Result<Frame, ReadError>
     ensures { IfOk result (λ owned. (f : AnyFrame) → fields_fit f ≡ true → IsFrame frame.now f
         → owned ≡ f) }
 {
     match frame {
-        FrameRef::Decision { peer, epoch, value } => {
-            let value = owned_value(alloc, value)?;
-            Ok(Frame::Decision {
-                peer: *peer,
-                epoch: *epoch,
-                value,
-            })
-        }
         FrameRef::Hop { packet, up } => {
-            let packet = owned_packet(alloc, packet)?;
-            let up = owned_links(alloc, up)?;
+            let packet = owned::<Packet>(alloc, packet)?;
+            let up = owned::<Links>(alloc, up)?;
             Ok(Frame::Hop { packet, up })
         }
         FrameRef::Forward { next, packet } => {
-            let packet = owned_packet(alloc, packet)?;
+            let packet = owned::<Packet>(alloc, packet)?;
             Ok(Frame::Forward {
                 next: *next,
                 packet,
             })
         }
-        _ => owned_rest(alloc, frame),
+        FrameRef::Published { epoch, paths } => {
+            let paths = owned::<Paths>(alloc, paths)?;
+            Ok(Frame::Published {
+                epoch: *epoch,
+                paths,
+            })
+        }
+        _ => Err(ReadError::Bad(FrameKind::Kind)),
     }
 }
 
-// Frames of these kinds; the others go to the function above.
-fn owned_accept(alloc: Global, frame: &FrameRef<'_>) -> Result<Frame, ReadError>
+// Messages about a value; the others go to the function above.
+fn owned_choice(alloc: Global, frame: &FrameRef<'_>) -> Result<Frame, ReadError>
     ensures { IfOk result (λ owned. (f : AnyFrame) → fields_fit f ≡ true → IsFrame frame.now f
         → owned ≡ f) }
 {
@@ -98,7 +76,7 @@ fn owned_accept(alloc: Global, frame: &FrameRef<'_>) -> Result<Frame, ReadError>
             ballot,
             value,
         } => {
-            let value = owned_value(alloc, value)?;
+            let value = owned::<Value>(alloc, value)?;
             Ok(Frame::Accept {
                 peer: *peer,
                 epoch: *epoch,
@@ -115,36 +93,20 @@ fn owned_accept(alloc: Global, frame: &FrameRef<'_>) -> Result<Frame, ReadError>
             epoch: *epoch,
             ballot: *ballot,
         }),
+        FrameRef::Decision { peer, epoch, value } => {
+            let value = owned::<Value>(alloc, value)?;
+            Ok(Frame::Decision {
+                peer: *peer,
+                epoch: *epoch,
+                value,
+            })
+        }
         _ => owned_packet_frame(alloc, frame),
     }
 }
 
-// Frames of these kinds; the others go to the function above.
-fn owned_promise(alloc: Global, frame: &FrameRef<'_>) -> Result<Frame, ReadError>
-    ensures { IfOk result (λ owned. (f : AnyFrame) → fields_fit f ≡ true → IsFrame frame.now f
-        → owned ≡ f) }
-{
-    match frame {
-        FrameRef::Promise {
-            peer,
-            epoch,
-            ballot,
-            named,
-        } => {
-            let named = owned_named(alloc, named)?;
-            Ok(Frame::Promise {
-                peer: *peer,
-                epoch: *epoch,
-                ballot: *ballot,
-                named,
-            })
-        }
-        _ => owned_accept(alloc, frame),
-    }
-}
-
-// Frames of these kinds; the others go to the function above.
-fn owned_report_frame(alloc: Global, frame: &FrameRef<'_>) -> Result<Frame, ReadError>
+// Messages to and from a proposer; the others go to the function above.
+fn owned_proposal(alloc: Global, frame: &FrameRef<'_>) -> Result<Frame, ReadError>
     ensures { IfOk result (λ owned. (f : AnyFrame) → fields_fit f ≡ true → IsFrame frame.now f
         → owned ≡ f) }
 {
@@ -169,16 +131,50 @@ fn owned_report_frame(alloc: Global, frame: &FrameRef<'_>) -> Result<Frame, Read
             epoch: *epoch,
             ballot: *ballot,
         }),
-        _ => owned_promise(alloc, frame),
+        FrameRef::Promise {
+            peer,
+            epoch,
+            ballot,
+            named,
+        } => {
+            let named = owned_named(alloc, named)?;
+            Ok(Frame::Promise {
+                peer: *peer,
+                epoch: *epoch,
+                ballot: *ballot,
+                named,
+            })
+        }
+        _ => owned_choice(alloc, frame),
     }
 }
 
-// Frames of these kinds; the others go to the function above.
-fn owned_opening(alloc: Global, frame: &FrameRef<'_>) -> Result<Frame, ReadError>
+// Items of a session; the others go to the function above.
+fn owned_item(alloc: Global, frame: &FrameRef<'_>) -> Result<Frame, ReadError>
     ensures { IfOk result (λ owned. (f : AnyFrame) → fields_fit f ≡ true → IsFrame frame.now f
         → owned ≡ f) }
 {
     match frame {
+        FrameRef::Update {
+            version,
+            peer,
+            session,
+            seq,
+            triggers,
+            prefix,
+            path,
+        } => {
+            let triggers = owned_triggers(alloc, *version, triggers)?;
+            let path = owned::<Option<Path>>(alloc, path)?;
+            Ok(Frame::Update {
+                peer: *peer,
+                session: *session,
+                seq: *seq,
+                triggers,
+                prefix: *prefix,
+                path,
+            })
+        }
         FrameRef::Marker {
             peer,
             session,
@@ -197,42 +193,12 @@ fn owned_opening(alloc: Global, frame: &FrameRef<'_>) -> Result<Frame, ReadError
             session: *session,
             epoch: *epoch,
         }),
-        _ => owned_report_frame(alloc, frame),
+        _ => owned_proposal(alloc, frame),
     }
 }
 
-// Frames of these kinds; the others go to the function above.
-fn owned_update(alloc: Global, frame: &FrameRef<'_>) -> Result<Frame, ReadError>
-    ensures { IfOk result (λ owned. (f : AnyFrame) → fields_fit f ≡ true → IsFrame frame.now f
-        → owned ≡ f) }
-{
-    match frame {
-        FrameRef::Update {
-            version,
-            peer,
-            session,
-            seq,
-            triggers,
-            prefix,
-            path,
-        } => {
-            let triggers = owned_triggers(alloc, *version, triggers)?;
-            let path = owned_path(alloc, path)?;
-            Ok(Frame::Update {
-                peer: *peer,
-                session: *session,
-                seq: *seq,
-                triggers,
-                prefix: *prefix,
-                path,
-            })
-        }
-        _ => owned_opening(alloc, frame),
-    }
-}
-
-// Inputs of the node itself; all others go to the function above.
-fn owned_input(alloc: Global, frame: &FrameRef<'_>) -> Result<Frame, ReadError>
+// Frames of one or two numbers; the others go to the function above.
+fn owned_numbers(alloc: Global, frame: &FrameRef<'_>) -> Result<Frame, ReadError>
     ensures { IfOk result (λ owned. (f : AnyFrame) → fields_fit f ≡ true → IsFrame frame.now f
         → owned ≡ f) }
 {
@@ -250,7 +216,13 @@ fn owned_input(alloc: Global, frame: &FrameRef<'_>) -> Result<Frame, ReadError>
         }),
         FrameRef::Snap => Ok(Frame::Snap),
         FrameRef::Propose { epoch } => Ok(Frame::Propose { epoch: *epoch }),
-        _ => owned_update(alloc, frame),
+        FrameRef::Ended { id, end } => Ok(Frame::Ended { id: *id, end: *end }),
+        FrameRef::Inject { id, prefix } => Ok(Frame::Inject {
+            id: *id,
+            prefix: *prefix,
+        }),
+        FrameRef::Flush { nbr } => Ok(Frame::Flush { nbr: *nbr }),
+        _ => owned_item(alloc, frame),
     }
 }
 
@@ -260,7 +232,7 @@ pub fn to_owned(alloc: Global, frame: &FrameRef<'_>) -> Result<Frame, NoMemory>
     ensures { IfOk result (λ owned. (f : AnyFrame) → fits f ≡ true → IsFrame frame.now f
         → owned ≡ f) }
 {
-    match owned_input(alloc, frame) {
+    match owned_numbers(alloc, frame) {
         Ok(owned) => Ok(owned),
         Err(ReadError::NoMemory) => Err(NoMemory),
         Err(ReadError::Bad(_)) => Err(NoMemory),

@@ -3,10 +3,41 @@ ghost use Rattle.std.specs.Prelude.{◌≡◌, Some, List};
 ghost use Rattle.std.specs.List.{list_all};
 ghost use Rattle.topology.specs.declared.items.Sent.{Sent as AnySent};
 ghost use Rattle.topology.specs.declared.names.Trigger.{Trigger as AnyTrigger};
+ghost use Rattle.wire_frames.specs.Fields.{no_trigger, first_of, is_alone};
 ghost use Rattle.wire_frames.specs.Listing.{only_of, has_alone, is_plain_row, is_plain};
 
 use incomplete_closure::{Report, Row};
-use topology::{SentItems, Trigger};
+use topology::{NodeId, SentItems, Trigger, Triggers};
+
+/// A value below all triggers.
+pub(crate) fn no_trigger() -> Trigger
+    ensures { result ≡ no_trigger }
+{
+    Trigger {
+        node: NodeId::new(0),
+        count: 0,
+    }
+}
+
+/// The first trigger of the list.
+pub(crate) fn first_of(triggers: &Triggers) -> Trigger
+    ensures { result ≡ first_of triggers.now }
+{
+    match triggers.as_slice() {
+        [first, ..] => *first,
+        [] => no_trigger(),
+    }
+}
+
+/// Whether the list has exactly this trigger.
+pub(crate) fn is_alone(triggers: &[Trigger], trigger: Trigger) -> bool
+    ensures { result ≡ is_alone trigger triggers.now }
+{
+    match triggers {
+        [only] => *only == trigger,
+        _ => false,
+    }
+}
 
 /// The trigger of a list if it has just one.
 pub(crate) fn only_of(triggers: &[Trigger]) -> Option<Trigger>

@@ -1,18 +1,15 @@
 //! Reads the fields of frames from the front of bytes. Nothing here takes memory.
-ghost use Rattle.std.specs.Prelude.{◌≡◌, ◌+◌, ◌≤◌, IfOk};
+ghost use Rattle.std.specs.Prelude.{◌≡◌, ◌≤◌, IfOk};
 ghost use Rattle.std.specs.Int.{w8, w16, w32, w64};
 ghost use Rattle.wire_frames.specs.Shown.{Gives};
-ghost use Rattle.wire_frames.specs.Formats.{IsBytes, word_at, number, ordered, optional, stepped};
-ghost use Rattle.wire_frames.specs.Fields.{node, prefix, positive, epoch, epoch_or_none, preference, any16, any32, any64, few, many, more_items, flag, scope, mode, end, trigger, ballot, sent, session_key, above, session_row, session_rows};
-ghost use Rattle.wire_frames.specs.Listing.{more_triggers, scope_beside, pending_key};
+ghost use Rattle.wire_frames.specs.Formats.{IsBytes, word_at, number, ordered, optional};
+ghost use Rattle.wire_frames.specs.Fields.{node, prefix, positive, epoch, epoch_or_none, preference, any16, any32, any64, flag, scope, mode, end, trigger, ballot, sent, session_key, above};
+ghost use Rattle.wire_frames.specs.Listing.{scope_beside, pending_key};
 
 use crate::FrameKind;
 use epoch_packet::{End, Mode};
-use incomplete_closure::SessionRow;
 use std::marker::Model;
-use topology::limits::{
-    HIGHEST_EPOCH, HIGHEST_NODE, HIGHEST_PREFERENCE, MOST_MARKS, MOST_TRIGGERS, MOST_UPDATES,
-};
+use topology::limits::{HIGHEST_EPOCH, HIGHEST_NODE, HIGHEST_PREFERENCE};
 use topology::{Ballot, Epoch, NodeId, PrefixId, Scope, Sent, Session, Trigger, Triggers};
 
 /// The rest of a body. Each call takes its field from the front, or returns the first fault there.
@@ -36,27 +33,6 @@ pub(crate) fn are_bytes(bytes: &[u8])
     let _length = bytes.len();
 }
 
-fn u8_at(bytes: &[u8]) -> Result<(u8, &[u8]), FrameKind>
-    ensures { Gives (λ x. (x.0, x.1.now)) result (word_at w8 bytes.now) }
-{
-    if bytes.len() < 1 {
-        return Err(FrameKind::Length);
-    }
-    let (front, rest) = bytes.split_at(1);
-    Ok((front[0], rest))
-}
-
-fn u16_at(bytes: &[u8]) -> Result<(u16, &[u8]), FrameKind>
-    ensures { Gives (λ x. (x.0, x.1.now)) result (word_at w16 bytes.now) }
-{
-    if bytes.len() < 2 {
-        return Err(FrameKind::Length);
-    }
-    let (front, rest) = bytes.split_at(2);
-    let number = u16::from_be_bytes([front[0], front[1]]);
-    Ok((number, rest))
-}
-
 pub(crate) fn u32_at(bytes: &[u8]) -> Result<(u32, &[u8]), FrameKind>
     ensures { Gives (λ x. (x.0, x.1.now)) result (word_at w32 bytes.now) }
 {
@@ -65,19 +41,6 @@ pub(crate) fn u32_at(bytes: &[u8]) -> Result<(u32, &[u8]), FrameKind>
     }
     let (front, rest) = bytes.split_at(4);
     let number = u32::from_be_bytes([front[0], front[1], front[2], front[3]]);
-    Ok((number, rest))
-}
-
-fn u64_at(bytes: &[u8]) -> Result<(u64, &[u8]), FrameKind>
-    ensures { Gives (λ x. (x.0, x.1.now)) result (word_at w64 bytes.now) }
-{
-    if bytes.len() < 8 {
-        return Err(FrameKind::Length);
-    }
-    let (front, rest) = bytes.split_at(8);
-    let number = u64::from_be_bytes([
-        front[0], front[1], front[2], front[3], front[4], front[5], front[6], front[7],
-    ]);
     Ok((number, rest))
 }
 
@@ -98,12 +61,35 @@ impl<'a> Fields<'a> {
         self.rest
     }
 
+    /// The next byte.
+    pub(crate) fn word8(&mut self) -> Result<u8, FrameKind>
+        ensures { Gives (λ n. (n, self.new)) result (word_at w8 self.old) }
+    {
+        if self.rest.len() < 1 {
+            return Err(FrameKind::Length);
+        }
+        let (front, rest) = self.rest.split_at(1);
+        self.rest = rest;
+        Ok(front[0])
+    }
+
+    /// The number in the next two bytes.
+    pub(crate) fn word16(&mut self) -> Result<u16, FrameKind>
+        ensures { Gives (λ n. (n, self.new)) result (word_at w16 self.old) }
+    {
+        if self.rest.len() < 2 {
+            return Err(FrameKind::Length);
+        }
+        let (front, rest) = self.rest.split_at(2);
+        self.rest = rest;
+        Ok(u16::from_be_bytes([front[0], front[1]]))
+    }
+
     pub(crate) fn number8(&mut self, low: usize, high: usize) -> Result<u8, FrameKind>
         ensures number { Gives (λ x. (x, self.new)) result ((number w8 low high).reads self.old) }
         ensures small { IfOk result (λ n. n ≤ high) }
     {
-        let (number, rest) = u8_at(self.rest)?;
-        self.rest = rest;
+        let number = self.word8()?;
         if (number as usize) < low || high < number as usize {
             return Err(FrameKind::Value);
         }
@@ -114,8 +100,7 @@ impl<'a> Fields<'a> {
         ensures number { Gives (λ x. (x, self.new)) result ((number w16 low high).reads self.old) }
         ensures small { IfOk result (λ n. n ≤ high) }
     {
-        let (number, rest) = u16_at(self.rest)?;
-        self.rest = rest;
+        let number = self.word16()?;
         if u32::from(number) < low || high < u32::from(number) {
             return Err(FrameKind::Value);
         }
@@ -132,22 +117,22 @@ impl<'a> Fields<'a> {
         }
         Ok(number)
     }
+}
 
-    #[tactic(auto, unfolding(crate::specs::Fields::node))]
+#[tactic(auto, unfolding(crate::specs::Fields::node, crate::specs::Fields::prefix, crate::specs::Fields::positive, crate::specs::Fields::epoch, crate::specs::Fields::epoch_or_none, crate::specs::Fields::preference, crate::specs::Fields::any16, crate::specs::Fields::any32, crate::specs::Fields::any64))]
+impl<'a> Fields<'a> {
     pub(crate) fn node(&mut self) -> Result<NodeId, FrameKind>
         ensures { Gives (λ x. (x, self.new)) result (node.reads self.old) }
     {
         Ok(NodeId::new(self.number16(1, HIGHEST_NODE)?))
     }
 
-    #[tactic(auto, unfolding(crate::specs::Fields::prefix))]
     pub(crate) fn prefix(&mut self) -> Result<PrefixId, FrameKind>
         ensures { Gives (λ x. (x, self.new)) result (prefix.reads self.old) }
     {
         Ok(PrefixId::new(self.number16(0, 255)?))
     }
 
-    #[tactic(auto, unfolding(crate::specs::Fields::positive))]
     pub(crate) fn positive(&mut self) -> Result<u32, FrameKind>
         ensures { Gives (λ x. (x, self.new)) result (positive.reads self.old) }
     {
@@ -160,109 +145,62 @@ impl<'a> Fields<'a> {
         Ok(Session::new(self.positive()?))
     }
 
-    #[tactic(auto, unfolding(crate::specs::Fields::epoch))]
     pub(crate) fn epoch(&mut self) -> Result<Epoch, FrameKind>
         ensures { Gives (λ x. (x, self.new)) result (epoch.reads self.old) }
     {
         Ok(Epoch::new(self.number32(1, HIGHEST_EPOCH)?))
     }
 
-    #[tactic(auto, unfolding(crate::specs::Fields::epoch_or_none))]
     pub(crate) fn epoch_or_none(&mut self) -> Result<Epoch, FrameKind>
         ensures { Gives (λ x. (x, self.new)) result (epoch_or_none.reads self.old) }
     {
         Ok(Epoch::new(self.number32(0, HIGHEST_EPOCH)?))
     }
 
-    #[tactic(auto, unfolding(crate::specs::Fields::preference))]
     pub(crate) fn preference(&mut self) -> Result<u32, FrameKind>
         ensures { Gives (λ x. (x, self.new)) result (preference.reads self.old) }
     {
         self.number32(0, HIGHEST_PREFERENCE)
     }
 
-    #[tactic(auto, unfolding(crate::specs::Fields::any16))]
     pub(crate) fn any16(&mut self) -> Result<u16, FrameKind>
         ensures { Gives (λ x. (x, self.new)) result (any16.reads self.old) }
     {
         self.number16(0, 65_535)
     }
 
-    #[tactic(auto, unfolding(crate::specs::Fields::any32))]
     pub(crate) fn any32(&mut self) -> Result<u32, FrameKind>
         ensures { Gives (λ x. (x, self.new)) result (any32.reads self.old) }
     {
         self.number32(0, 4_294_967_295)
     }
 
-    #[tactic(auto, unfolding(crate::specs::Fields::any64))]
     pub(crate) fn any64(&mut self) -> Result<u64, FrameKind>
         ensures { Gives (λ x. (x, self.new)) result (any64.reads self.old) }
     {
-        let (number, rest) = u64_at(self.rest)?;
-        self.rest = rest;
-        Ok(number)
-    }
-
-    #[tactic(auto, unfolding(crate::specs::Fields::few))]
-    pub(crate) fn few(&mut self, most: usize) -> Result<u16, FrameKind>
-        ensures number { Gives (λ x. (x, self.new)) result ((few most).reads self.old) }
-        ensures small { IfOk result (λ n. n ≤ most) }
-    {
-        Ok(self.number8(0, most)? as u16)
-    }
-
-    #[tactic(auto, unfolding(crate::specs::Fields::many))]
-    pub(crate) fn many(&mut self, most: u32) -> Result<u16, FrameKind>
-        ensures number { Gives (λ x. (x, self.new)) result ((many most).reads self.old) }
-        ensures small { IfOk result (λ n. n ≤ most) }
-    {
-        self.number16(0, most)
-    }
-
-    #[tactic(auto, unfolding(crate::specs::Fields::more_items))]
-    pub(crate) fn more_items(&mut self, before: u32) -> Result<u16, FrameKind>
-        ensures number { Gives (λ x. (x, self.new)) result ((more_items before).reads self.old) }
-        ensures small { IfOk result (λ n. before + n ≤ MOST_UPDATES) }
-    {
-        let (number, rest) = u16_at(self.rest)?;
-        self.rest = rest;
-        if before > MOST_UPDATES || number as u32 > MOST_UPDATES - before {
-            return Err(FrameKind::Value);
+        if self.rest.len() < 8 {
+            return Err(FrameKind::Length);
         }
-        Ok(number)
-    }
-
-    /// How many triggers a list has: at least `low`, after lists with `before` triggers in all.
-    #[tactic(auto, unfolding(crate::specs::Listing::more_triggers))]
-    pub(crate) fn more_triggers(&mut self, low: u16, before: u32) -> Result<u16, FrameKind>
-        ensures number { Gives (λ x. (x, self.new)) result ((more_triggers low before).reads self.old) }
-        ensures small { IfOk result (λ n. before + n ≤ MOST_MARKS) }
-    {
-        let (number, rest) = u16_at(self.rest)?;
+        let (front, rest) = self.rest.split_at(8);
         self.rest = rest;
-        if number < low || u32::from(number) > MOST_TRIGGERS {
-            return Err(FrameKind::Value);
-        }
-        if before > MOST_MARKS || number as u32 > MOST_MARKS - before {
-            return Err(FrameKind::Value);
-        }
-        Ok(number)
+        Ok(u64::from_be_bytes([
+            front[0], front[1], front[2], front[3], front[4], front[5], front[6], front[7],
+        ]))
     }
+}
 
-    #[tactic(auto, unfolding(crate::specs::Fields::flag))]
+#[tactic(auto, unfolding(crate::specs::Fields::flag, crate::specs::Fields::scope, crate::specs::Listing::scope_beside, crate::specs::Fields::mode, crate::specs::Fields::end, crate::specs::Fields::trigger, crate::specs::Fields::ballot, crate::specs::Fields::sent))]
+impl<'a> Fields<'a> {
     pub(crate) fn flag(&mut self) -> Result<bool, FrameKind>
         ensures { Gives (λ x. (x, self.new)) result (flag.reads self.old) }
     {
         Ok(self.number8(0, 1)? == 1)
     }
 
-    #[tactic(auto, unfolding(crate::specs::Fields::scope))]
     pub(crate) fn scope(&mut self) -> Result<Scope, FrameKind>
         ensures { Gives (λ x. (x, self.new)) result (scope.reads self.old) }
     {
-        let (number, rest) = u16_at(self.rest)?;
-        self.rest = rest;
+        let number = self.word16()?;
         if number == 65_535 {
             return Ok(Scope::All);
         }
@@ -273,12 +211,10 @@ impl<'a> Fields<'a> {
     }
 
     /// The scope of a row; `none` says that the row lists no triggers.
-    #[tactic(auto, unfolding(crate::specs::Listing::scope_beside))]
     pub(crate) fn scope_beside(&mut self, none: bool) -> Result<Scope, FrameKind>
         ensures { Gives (λ x. (x, self.new)) result ((scope_beside none).reads self.old) }
     {
-        let (number, rest) = u16_at(self.rest)?;
-        self.rest = rest;
+        let number = self.word16()?;
         if none {
             if number != 65_534 {
                 return Err(FrameKind::Value);
@@ -294,7 +230,6 @@ impl<'a> Fields<'a> {
         Ok(Scope::One(PrefixId::new(number)))
     }
 
-    #[tactic(auto, unfolding(crate::specs::Fields::mode))]
     pub(crate) fn mode(&mut self) -> Result<Mode, FrameKind>
         ensures { Gives (λ x. (x, self.new)) result (mode.reads self.old) }
     {
@@ -304,7 +239,6 @@ impl<'a> Fields<'a> {
         Ok(Mode::Transient)
     }
 
-    #[tactic(auto, unfolding(crate::specs::Fields::end))]
     pub(crate) fn end(&mut self) -> Result<End, FrameKind>
         ensures { Gives (λ x. (x, self.new)) result (end.reads self.old) }
     {
@@ -318,7 +252,6 @@ impl<'a> Fields<'a> {
         Ok(End::Stuck)
     }
 
-    #[tactic(auto, unfolding(crate::specs::Fields::trigger))]
     pub(crate) fn trigger(&mut self) -> Result<Trigger, FrameKind>
         ensures { Gives (λ x. (x, self.new)) result (trigger.reads self.old) }
     {
@@ -327,7 +260,6 @@ impl<'a> Fields<'a> {
         Ok(Trigger { node, count })
     }
 
-    #[tactic(auto, unfolding(crate::specs::Fields::ballot))]
     pub(crate) fn ballot(&mut self) -> Result<Ballot, FrameKind>
         ensures { Gives (λ x. (x, self.new)) result (ballot.reads self.old) }
     {
@@ -337,7 +269,6 @@ impl<'a> Fields<'a> {
     }
 
     /// An item that lists exactly this trigger.
-    #[tactic(auto, unfolding(crate::specs::Fields::sent))]
     pub(crate) fn sent(&mut self, trigger: Trigger) -> Result<Sent, FrameKind>
         ensures { Gives (λ x. (x, self.new)) result ((sent trigger).reads self.old) }
     {
@@ -352,8 +283,12 @@ impl<'a> Fields<'a> {
         })
     }
 
-    // The neighbour and the number of a session, which must be above those of the last one.
-    fn key_behind(&mut self, nbr: NodeId, session: Session) -> Result<(NodeId, Session), FrameKind>
+    /// The neighbour and the number of a session, which must be above those of the last one.
+    pub(crate) fn session_key(
+        &mut self,
+        nbr: NodeId,
+        session: Session,
+    ) -> Result<(NodeId, Session), FrameKind>
         ensures { Gives (λ x. (x, self.new)) result
             ((ordered session_key (above (nbr, session))).reads self.old) }
     {
@@ -365,48 +300,13 @@ impl<'a> Fields<'a> {
         Ok((next, number))
     }
 
-    fn optional_trigger(&mut self) -> Result<Option<Trigger>, FrameKind>
+    pub(crate) fn optional_trigger(&mut self) -> Result<Option<Trigger>, FrameKind>
         ensures { Gives (λ x. (x, self.new)) result ((optional trigger).reads self.old) }
     {
         if self.number8(0, 1)? == 0 {
             return Ok(None);
         }
         Ok(Some(self.trigger()?))
-    }
-
-    /// A session row, whose session must be above the last one.
-    #[tactic(auto, unfolding(crate::specs::Fields::session_row))]
-    pub(crate) fn session_row(
-        &mut self,
-        nbr: NodeId,
-        session: Session,
-    ) -> Result<SessionRow, FrameKind>
-        ensures { Gives (λ x. (x, self.new)) result ((session_row (nbr, session)).reads self.old) }
-    {
-        let (nbr, session) = self.key_behind(nbr, session)?;
-        let received = self.any32()?;
-        let down = self.optional_trigger()?;
-        Ok(SessionRow {
-            nbr,
-            session,
-            received,
-            down,
-        })
-    }
-
-    /// Skips such a session row. Returns its neighbour and session.
-    #[tactic(auto, unfolding(crate::specs::Fields::session_row))]
-    pub(crate) fn skip_session_row(
-        &mut self,
-        nbr: NodeId,
-        session: Session,
-    ) -> Result<(NodeId, Session), FrameKind>
-        ensures { Gives (λ x. (x, self.new)) result (stepped session_rows (nbr, session) self.old) }
-    {
-        let (nbr, session) = self.key_behind(nbr, session)?;
-        self.any32()?;
-        self.optional_trigger()?;
-        Ok((nbr, session))
     }
 
     /// The neighbour and the prefix of a pending row, which must be above those of the last one.

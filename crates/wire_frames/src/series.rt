@@ -2,44 +2,54 @@
 ghost use Rattle.std.specs.Prelude.{◌≡◌, ◌++◌, ◌-◌, ◌^◌, OnOk, IfOk, IsTrue, length, min};
 ghost use Rattle.std.specs.List.{flat_map};
 ghost use Rattle.wire_frames.specs.Shown.{Gives};
-ghost use Rattle.wire_frames.specs.Formats.{Series, stepped, reached, skipped, many_at, many_fit};
-ghost use Rattle.wire_frames.specs.Fields.{items, no_trigger};
+ghost use Rattle.wire_frames.specs.Formats.{Series, stepped, reached, skipped, many_at, many_fit, listed};
+ghost use Rattle.wire_frames.specs.Counts.{counted, IsWithin, PassesList};
+ghost use Rattle.wire_frames.specs.Fields.{items, in_any_order, rising, rising_triggers, rows, session_rows, paths_in_order};
 
 use crate::FrameKind;
+use crate::counts::Count;
 use crate::faults::ReadError;
-use crate::fitting::{node_fits, path_fits, row_fits, sent_fits, session_row_fits, trigger_fits};
-use crate::owning::read_path;
+use crate::fitting::*;
+use crate::layouts::Layout;
+use crate::parts::OneTrigger;
+use crate::plain::{first_of, is_alone};
 use crate::reading::Fields;
-use crate::sent_runs::{SentRun, length_items};
-use crate::writing::{put_node, put_path, put_row, put_sent, put_session_row, put_trigger};
+use crate::sent_runs::{SentRun, fit_items, length_items, put_items};
+use crate::writing::*;
 use incomplete_closure::{Row, SessionRow};
 use std::alloc::Global;
-use std::marker::Model;
 use topology::{NoMemory, NodeId, Path, Sent, SentItems, SentRef, Session, Trigger, Triggers};
 
-/// Elements of one kind. The value holds what must be known of the elements before.
+/// Elements of one sort. The state holds what must be known of the elements before.
 pub(crate) trait Run {
+    type State;
+
     type Item: Drop;
 
-    ghost series: { Series Self Self.Item };
+    ghost series: { Series Self.State Self.Item };
 
     /// Skips one element. Takes no memory.
-    fn skip(&mut self, fields: &mut Fields<'_>) -> Result<(), FrameKind>
-        ensures { Gives (λ _. (self.new, fields.new)) result (stepped series self.old fields.old) };
+    fn skip(state: &mut Self::State, fields: &mut Fields<'_>) -> Result<(), FrameKind>
+        ensures { Gives (λ _. (state.new, fields.new)) result
+            (stepped series state.old fields.old) };
 
     /// Reads one element into memory.
-    fn read(&mut self, alloc: Global, fields: &mut Fields<'_>) -> Result<Self::Item, ReadError>
-        ensures read { IfOk result (λ x. (series.at self.old).reads fields.old
+    fn read(
+        state: &mut Self::State,
+        alloc: Global,
+        fields: &mut Fields<'_>,
+    ) -> Result<Self::Item, ReadError>
+        ensures read { IfOk result (λ x. (series.at state.old).reads fields.old
             ≡ Ok (x, fields.new)) }
-        ensures step { IfOk result (λ x. self.new ≡ series.step self.old x) };
+        ensures step { IfOk result (λ x. state.new ≡ series.step state.old x) };
 }
 
 /// Elements that stand in slices.
 pub(crate) trait Told: Run {
     /// Whether the element has a spelling after those before it. Takes no memory.
-    fn fits(&mut self, item: &Self::Item) -> bool
-        ensures fits { result ≡ (Self.series.at self.old).fits item.now }
-        ensures step { IsTrue result → self.new ≡ Self.series.step self.old item.now };
+    fn fits(state: &mut Self::State, item: &Self::Item) -> bool
+        ensures fits { result ≡ (Self.series.at state.old).fits item.now }
+        ensures step { IsTrue result → state.new ≡ Self.series.step state.old item.now };
 
     /// Writes one element at the end.
     fn write(item: &Self::Item, out: &mut Vec<u8>) -> Result<(), NoMemory>
@@ -47,46 +57,46 @@ pub(crate) trait Told: Run {
 }
 
 /// Elements whose lengths can be added up.
-/// The number of bytes of the element, up to the highest number.
 pub(crate) trait Measured: Told {
+    /// The number of bytes of the element, up to the highest number.
     fn length(item: &Self::Item) -> usize
         ensures { result ≡ min (length (Self.series.spells item.now)) (2 ^ 64 - 1) };
 }
 
-/// Reads `count` elements into memory.
-pub(crate) fn read_many<R: Run>(
-    run: &mut R,
+// Reads `count` elements into memory.
+fn read_many<R: Run>(
+    state: &mut R::State,
     alloc: Global,
     count: u16,
     fields: &mut Fields<'_>,
 ) -> Result<Vec<R::Item>, ReadError>
-    ensures read { IfOk result (λ list. many_at R.series run.old count fields.old
+    ensures read { IfOk result (λ list. many_at R.series state.old count fields.old
         ≡ Ok (list.items, fields.new)) }
-    ensures reached { IfOk result (λ list. run.new ≡ reached R.series run.old list.items) }
+    ensures reached { IfOk result (λ list. state.new ≡ reached R.series state.old list.items) }
 {
     let mut list = Vec::new(alloc);
     for _ in 0..count {
-        let item = run.read(alloc, fields)?;
+        let item = R::read(state, alloc, fields)?;
         list.push(item)?;
     }
     Ok(list)
 }
 
-/// Whether the elements have a spelling, one after another. Takes no memory.
-pub(crate) fn fit_many<R: Told>(run: &mut R, items: &[R::Item]) -> bool
-    ensures fits { result ≡ many_fit R.series run.old items.now }
-    ensures reached { IsTrue result → run.new ≡ reached R.series run.old items.now }
+// Whether the elements have a spelling, one after another. Takes no memory.
+fn fit_many<R: Told>(state: &mut R::State, items: &[R::Item]) -> bool
+    ensures fits { result ≡ many_fit R.series state.old items.now }
+    ensures reached { IsTrue result → state.new ≡ reached R.series state.old items.now }
 {
     for item in items {
-        if !run.fits(item) {
+        if !R::fits(state, item) {
             return false;
         }
     }
     true
 }
 
-/// Writes the elements at the end, one after another.
-pub(crate) fn write_many<R: Told>(items: &[R::Item], out: &mut Vec<u8>) -> Result<(), NoMemory>
+// Writes the elements at the end, one after another.
+fn write_many<R: Told>(items: &[R::Item], out: &mut Vec<u8>) -> Result<(), NoMemory>
     ensures { OnOk result (out.new.items ≡ out.old.items ++ flat_map R.series.spells items.now) }
 {
     for item in items {
@@ -106,52 +116,96 @@ pub(crate) fn length_many<R: Measured>(items: &[R::Item]) -> usize
     total
 }
 
-/// Skips `count` elements. Takes no memory.
-pub(crate) fn skip_many<R: Run>(
-    run: &mut R,
+// Skips `count` elements. Takes no memory.
+fn skip_many<R: Run>(
+    state: &mut R::State,
     count: u16,
     fields: &mut Fields<'_>,
 ) -> Result<(), FrameKind>
-    ensures { Gives (λ _. (run.new, fields.new)) result
-        (skipped R.series run.old count fields.old) }
+    ensures { Gives (λ _. (state.new, fields.new)) result
+        (skipped R.series state.old count fields.old) }
 {
     for _ in 0..count {
-        run.skip(fields)?;
+        R::skip(state, fields)?;
     }
     Ok(())
 }
 
-/// Nodes in any order.
-#[derive(Drop)]
-pub(crate) struct AnyOrder;
-
-impl Model for AnyOrder {
-    ghost use Rattle.std.specs.Prelude.{ℕ};
-
-    ghost Value = { ℕ };
-
-    ghost view = { λ _. 0 };
+/// Skips a list. Returns how many elements it has. Takes no memory.
+pub(crate) fn skip_list<R: Run>(
+    count: Count,
+    state: &mut R::State,
+    fields: &mut Fields<'_>,
+) -> Result<u16, FrameKind>
+    ensures list { PassesList (counted count) R.series state.old fields.old result state.new fields.new }
+    ensures within { IfOk result (λ n. IsWithin count n) }
+{
+    let number = count.read(fields)?;
+    skip_many::<R>(state, number, fields)?;
+    Ok(number)
 }
 
+/// Reads a list into memory.
+pub(crate) fn read_list<R: Run>(
+    count: Count,
+    state: &mut R::State,
+    alloc: Global,
+    fields: &mut Fields<'_>,
+) -> Result<Vec<R::Item>, ReadError>
+    ensures read { IfOk result (λ list. (listed (counted count) R.series state.old).reads fields.old
+        ≡ Ok (list.items, fields.new)) }
+    ensures reached { IfOk result (λ list. state.new ≡ reached R.series state.old list.items) }
+    ensures within { IfOk result (λ list. IsWithin count (length list.items)) }
+{
+    let number = count.read(fields)?;
+    let list = read_many::<R>(state, alloc, number, fields)?;
+    Ok(list)
+}
+
+/// Whether the list has a spelling. Takes no memory.
+pub(crate) fn fit_list<R: Told>(count: Count, state: &mut R::State, list: &[R::Item]) -> bool
+    ensures fits { result ≡ (listed (counted count) R.series state.old).fits list.now }
+    ensures reached { IsTrue result → state.new ≡ reached R.series state.old list.now }
+    ensures within { IsTrue result → IsWithin count (length list.now) }
+{
+    count.allows(list.len()) && fit_many::<R>(state, list)
+}
+
+/// Writes the list at the end.
+pub(crate) fn put_list<R: Told>(
+    count: Count,
+    list: &[R::Item],
+    out: &mut Vec<u8>,
+) -> Result<(), NoMemory>
+    ensures { OnOk result (out.new.items ≡ out.old.items
+        ++ ((counted count).spells (length list.now) ++ flat_map R.series.spells list.now)) }
+{
+    count.put(list.len(), out)?;
+    write_many::<R>(list, out)
+}
+
+/// Nodes in any order. The state says nothing.
+pub(crate) struct AnyOrder;
+
 impl Run for AnyOrder {
-    ghost use Rattle.wire_frames.specs.Fields.{in_any_order};
+    type State = u8;
 
     type Item = NodeId;
 
     ghost series = { in_any_order };
 
-    fn skip(&mut self, fields: &mut Fields<'_>) -> Result<(), FrameKind> {
+    fn skip(_state: &mut u8, fields: &mut Fields<'_>) -> Result<(), FrameKind> {
         fields.node()?;
         Ok(())
     }
 
-    fn read(&mut self, _alloc: Global, fields: &mut Fields<'_>) -> Result<NodeId, ReadError> {
+    fn read(_state: &mut u8, _alloc: Global, fields: &mut Fields<'_>) -> Result<NodeId, ReadError> {
         Ok(fields.node()?)
     }
 }
 
 impl Told for AnyOrder {
-    fn fits(&mut self, item: &NodeId) -> bool {
+    fn fits(_state: &mut u8, item: &NodeId) -> bool {
         node_fits(*item)
     }
 
@@ -160,63 +214,45 @@ impl Told for AnyOrder {
     }
 }
 
-/// Nodes in strictly ascending order.
-#[derive(Drop)]
-pub(crate) struct Rising {
-    last: NodeId,
-}
-
-impl Model for Rising {
-    ghost use Rattle.std.specs.Prelude.{ℕ};
-
-    ghost Value = { ℕ };
-
-    ghost view = { λ r. r.last };
-}
-
-impl Rising {
-    /// The value before the first node.
-    pub(crate) fn first() -> Rising
-        ensures { result ≡ 0 }
-    {
-        Rising {
-            last: NodeId::new(0),
-        }
-    }
-}
+/// Nodes in strictly ascending order. The state is the last node.
+pub(crate) struct Rising;
 
 impl Run for Rising {
-    ghost use Rattle.wire_frames.specs.Fields.{rising};
+    type State = NodeId;
 
     type Item = NodeId;
 
     ghost series = { rising };
 
-    fn skip(&mut self, fields: &mut Fields<'_>) -> Result<(), FrameKind> {
+    fn skip(state: &mut NodeId, fields: &mut Fields<'_>) -> Result<(), FrameKind> {
         let node = fields.node()?;
-        if node <= self.last {
+        if node <= *state {
             return Err(FrameKind::Order);
         }
-        self.last = node;
+        *state = node;
         Ok(())
     }
 
-    fn read(&mut self, _alloc: Global, fields: &mut Fields<'_>) -> Result<NodeId, ReadError> {
+    fn read(
+        state: &mut NodeId,
+        _alloc: Global,
+        fields: &mut Fields<'_>,
+    ) -> Result<NodeId, ReadError> {
         let node = fields.node()?;
-        if node <= self.last {
+        if node <= *state {
             return Err(ReadError::Bad(FrameKind::Order));
         }
-        self.last = node;
+        *state = node;
         Ok(node)
     }
 }
 
 impl Told for Rising {
-    fn fits(&mut self, item: &NodeId) -> bool {
-        if !node_fits(*item) || *item <= self.last {
+    fn fits(state: &mut NodeId, item: &NodeId) -> bool {
+        if !node_fits(*item) || *item <= *state {
             return false;
         }
-        self.last = *item;
+        *state = *item;
         true
     }
 
@@ -225,40 +261,51 @@ impl Told for Rising {
     }
 }
 
-/// Triggers in strictly ascending order.
-#[derive(Drop)]
-pub(crate) struct RisingTriggers {
-    last: Trigger,
-}
+/// Triggers in strictly ascending order. The state is the last trigger.
+pub(crate) struct RisingTriggers;
 
-impl Model for RisingTriggers {
-    ghost use Rattle.topology.specs.declared.names.Trigger.{Trigger};
+impl Run for RisingTriggers {
+    type State = Trigger;
 
-    ghost Value = { Trigger };
+    type Item = Trigger;
 
-    ghost view = { λ r. r.last };
-}
+    ghost series = { rising_triggers };
 
-impl RisingTriggers {
-    /// The value before the first trigger.
-    pub(crate) fn first() -> RisingTriggers
-        ensures { result ≡ no_trigger }
-    {
-        RisingTriggers {
-            last: Trigger {
-                node: NodeId::new(0),
-                count: 0,
-            },
+    fn skip(state: &mut Trigger, fields: &mut Fields<'_>) -> Result<(), FrameKind> {
+        let Trigger { node, count } = fields.trigger()?;
+        if !state.is_earlier(Trigger { node, count }) {
+            return Err(FrameKind::Order);
         }
+        *state = Trigger { node, count };
+        Ok(())
+    }
+
+    fn read(
+        state: &mut Trigger,
+        _alloc: Global,
+        fields: &mut Fields<'_>,
+    ) -> Result<Trigger, ReadError> {
+        let Trigger { node, count } = fields.trigger()?;
+        if !state.is_earlier(Trigger { node, count }) {
+            return Err(ReadError::Bad(FrameKind::Order));
+        }
+        *state = Trigger { node, count };
+        Ok(Trigger { node, count })
     }
 }
 
-impl RisingTriggers {
-    /// The last trigger.
-    pub(crate) fn last(&self) -> Trigger
-        ensures { result ≡ self.now }
-    {
-        self.last
+impl Told for RisingTriggers {
+    fn fits(state: &mut Trigger, item: &Trigger) -> bool {
+        let Trigger { node, count } = *item;
+        if !trigger_fits(Trigger { node, count }) || !state.is_earlier(Trigger { node, count }) {
+            return false;
+        }
+        *state = Trigger { node, count };
+        true
+    }
+
+    fn write(item: &Trigger, out: &mut Vec<u8>) -> Result<(), NoMemory> {
+        put_trigger(out, *item)
     }
 }
 
@@ -269,98 +316,46 @@ impl Measured for RisingTriggers {
     }
 }
 
-impl Run for RisingTriggers {
-    ghost use Rattle.wire_frames.specs.Fields.{rising_triggers};
-
-    type Item = Trigger;
-
-    ghost series = { rising_triggers };
-
-    fn skip(&mut self, fields: &mut Fields<'_>) -> Result<(), FrameKind> {
-        let Trigger { node, count } = fields.trigger()?;
-        if !self.last.is_earlier(Trigger { node, count }) {
-            return Err(FrameKind::Order);
-        }
-        self.last = Trigger { node, count };
-        Ok(())
-    }
-
-    fn read(&mut self, _alloc: Global, fields: &mut Fields<'_>) -> Result<Trigger, ReadError> {
-        let Trigger { node, count } = fields.trigger()?;
-        if !self.last.is_earlier(Trigger { node, count }) {
-            return Err(ReadError::Bad(FrameKind::Order));
-        }
-        self.last = Trigger { node, count };
-        Ok(Trigger { node, count })
-    }
-}
-
-impl Told for RisingTriggers {
-    fn fits(&mut self, item: &Trigger) -> bool {
-        let Trigger { node, count } = *item;
-        if !trigger_fits(Trigger { node, count })
-            || !self.last.is_earlier(Trigger { node, count })
-        {
-            return false;
-        }
-        self.last = Trigger { node, count };
-        true
-    }
-
-    fn write(item: &Trigger, out: &mut Vec<u8>) -> Result<(), NoMemory> {
-        put_trigger(out, *item)
-    }
-}
-
-/// Items of an entry, each of which lists exactly this trigger.
-#[derive(Drop)]
-pub(crate) struct Items {
-    trigger: Trigger,
-}
-
-impl Model for Items {
-    ghost use Rattle.topology.specs.declared.names.Trigger.{Trigger};
-
-    ghost Value = { Trigger };
-
-    ghost view = { λ i. i.trigger };
-}
-
-impl Items {
-    /// The value for an entry with this trigger.
-    pub(crate) fn of(trigger: Trigger) -> Items
-        ensures { result ≡ trigger }
-    {
-        Items { trigger }
-    }
-}
+/// Items of an entry that lists one trigger, each of which lists exactly this trigger. The state is the trigger.
+pub(crate) struct Items;
 
 impl Run for Items {
-    ghost use Rattle.wire_frames.specs.Fields.{items};
+    type State = Trigger;
 
     type Item = Sent;
 
     ghost series = { items };
 
-    fn skip(&mut self, fields: &mut Fields<'_>) -> Result<(), FrameKind> {
-        fields.sent(self.trigger)?;
+    fn skip(state: &mut Trigger, fields: &mut Fields<'_>) -> Result<(), FrameKind> {
+        fields.sent(*state)?;
         Ok(())
     }
 
-    fn read(&mut self, _alloc: Global, fields: &mut Fields<'_>) -> Result<Sent, ReadError> {
-        Ok(fields.sent(self.trigger)?)
+    fn read(
+        state: &mut Trigger,
+        _alloc: Global,
+        fields: &mut Fields<'_>,
+    ) -> Result<Sent, ReadError> {
+        Ok(fields.sent(*state)?)
     }
 }
 
 impl SentRun for Items {
     ghost lent = { items };
 
-    fn fits(&mut self, item: &SentRef<'_>) -> bool {
-        sent_fits(item, self.trigger)
+    #[tactic(auto, unfolding(crate::specs::Fields::sent))]
+    fn fits(state: &mut Trigger, item: &SentRef<'_>) -> bool {
+        is_alone(item.triggers, *state)
+            && node_fits(item.to)
+            && session_fits(item.session)
+            && positive_fits(item.seq)
     }
 
+    #[tactic(auto, unfolding(crate::specs::Fields::sent))]
     fn write(item: &SentRef<'_>, out: &mut Vec<u8>) -> Result<(), NoMemory> {
-        put_sent(out, item)
+        put_node(out, item.to)?;
+        put_session(out, item.session)?;
+        put_positive(out, item.seq)
     }
 
     #[tactic(auto, using(crate::proofs::Short::item_wide))]
@@ -370,28 +365,8 @@ impl SentRun for Items {
     }
 }
 
-/// The rows of a report.
-#[derive(Drop)]
-pub(crate) struct ReportRows {
-    before: u32,
-}
-
-impl Model for ReportRows {
-    ghost use Rattle.std.specs.Prelude.{ℕ};
-
-    ghost Value = { ℕ };
-
-    ghost view = { λ r. r.before };
-}
-
-impl ReportRows {
-    /// The value before the first row.
-    pub(crate) fn first() -> ReportRows
-        ensures { result ≡ 0 }
-    {
-        ReportRows { before: 0 }
-    }
-}
+/// The rows of a report. The state is the number of items so far.
+pub(crate) struct ReportRows;
 
 impl Measured for ReportRows {
     #[tactic(auto, using(crate::proofs::Short::row_wide))]
@@ -401,29 +376,30 @@ impl Measured for ReportRows {
 }
 
 impl Run for ReportRows {
-    ghost use Rattle.wire_frames.specs.Fields.{rows};
+    type State = u32;
 
     type Item = Row;
 
     ghost series = { rows };
 
     #[tactic(auto, unfolding(crate::specs::Fields::row))]
-    fn skip(&mut self, fields: &mut Fields<'_>) -> Result<(), FrameKind> {
-        let trigger = fields.trigger()?;
+    fn skip(state: &mut u32, fields: &mut Fields<'_>) -> Result<(), FrameKind> {
+        let mut trigger = fields.trigger()?;
         fields.scope()?;
-        let count = fields.more_items(self.before)?;
-        skip_many(&mut Items::of(trigger), count, fields)?;
-        self.before += count as u32;
+        let more = Count::Items(*state);
+        let count = skip_list::<Items>(more, &mut trigger, fields)?;
+        *state += count as u32;
         Ok(())
     }
 
     #[tactic(auto, unfolding(crate::specs::Fields::row))]
-    fn read(&mut self, alloc: Global, fields: &mut Fields<'_>) -> Result<Row, ReadError> {
+    fn read(state: &mut u32, alloc: Global, fields: &mut Fields<'_>) -> Result<Row, ReadError> {
         let trigger = fields.trigger()?;
         let scope = fields.scope()?;
-        let count = fields.more_items(self.before)?;
-        let sent = read_many(&mut Items::of(trigger), alloc, count, fields)?;
-        self.before += count as u32;
+        let mut each = trigger;
+        let more = Count::Items(*state);
+        let sent = read_list::<Items>(more, &mut each, alloc, fields)?;
+        *state += sent.len() as u32;
         Ok(Row {
             triggers: Triggers::one(trigger),
             scope,
@@ -433,45 +409,29 @@ impl Run for ReportRows {
 }
 
 impl Told for ReportRows {
-    fn fits(&mut self, item: &Row) -> bool {
-        if !row_fits(item, self.before) {
+    #[tactic(auto, unfolding(crate::specs::Fields::row, crate::specs::Fields::one_trigger))]
+    fn fits(state: &mut u32, item: &Row) -> bool {
+        if !OneTrigger::fits(&item.triggers) || !scope_fits(item.scope) {
             return false;
         }
-        self.before += item.sent.len() as u32;
+        let mut trigger = first_of(&item.triggers);
+        if !fit_items::<Items>(&mut trigger, &item.sent, *state) {
+            return false;
+        }
+        *state += item.sent.len() as u32;
         true
     }
 
+    #[tactic(auto, unfolding(crate::specs::Fields::row, crate::specs::Fields::more_items))]
     fn write(item: &Row, out: &mut Vec<u8>) -> Result<(), NoMemory> {
-        put_row(out, item)
+        put_trigger(out, first_of(&item.triggers))?;
+        put_scope(out, item.scope)?;
+        put_items::<Items>(&item.sent, out)
     }
 }
 
-/// The session rows of a report, in strictly ascending order.
-#[derive(Drop)]
-pub(crate) struct ReportSessions {
-    nbr: NodeId,
-    session: Session,
-}
-
-impl Model for ReportSessions {
-    ghost use Rattle.std.specs.Prelude.{ℕ};
-
-    ghost Value = { ℕ × ℕ };
-
-    ghost view = { λ r. (r.nbr, r.session) };
-}
-
-impl ReportSessions {
-    /// The value before the first row.
-    pub(crate) fn first() -> ReportSessions
-        ensures { result ≡ (0, 0) }
-    {
-        ReportSessions {
-            nbr: NodeId::new(0),
-            session: Session::new(0),
-        }
-    }
-}
+/// The session rows of a report, in strictly ascending order. The state is the neighbour and the session of the last row.
+pub(crate) struct ReportSessions;
 
 impl Measured for ReportSessions {
     fn length(item: &SessionRow) -> usize {
@@ -483,28 +443,31 @@ impl Measured for ReportSessions {
 }
 
 impl Run for ReportSessions {
-    ghost use Rattle.wire_frames.specs.Fields.{session_rows};
+    type State = (NodeId, Session);
 
     type Item = SessionRow;
 
     ghost series = { session_rows };
 
-    fn skip(&mut self, fields: &mut Fields<'_>) -> Result<(), FrameKind> {
-        let (nbr, session) = fields.skip_session_row(self.nbr, self.session)?;
-        self.nbr = nbr;
-        self.session = session;
+    #[tactic(auto, unfolding(crate::specs::Fields::session_row))]
+    fn skip(state: &mut (NodeId, Session), fields: &mut Fields<'_>) -> Result<(), FrameKind> {
+        let (nbr, session) = fields.session_key(state.0, state.1)?;
+        fields.any32()?;
+        fields.optional_trigger()?;
+        *state = (nbr, session);
         Ok(())
     }
 
-    fn read(&mut self, _alloc: Global, fields: &mut Fields<'_>) -> Result<SessionRow, ReadError> {
-        let SessionRow {
-            nbr,
-            session,
-            received,
-            down,
-        } = fields.session_row(self.nbr, self.session)?;
-        self.nbr = nbr;
-        self.session = session;
+    #[tactic(auto, unfolding(crate::specs::Fields::session_row))]
+    fn read(
+        state: &mut (NodeId, Session),
+        _alloc: Global,
+        fields: &mut Fields<'_>,
+    ) -> Result<SessionRow, ReadError> {
+        let (nbr, session) = fields.session_key(state.0, state.1)?;
+        let received = fields.any32()?;
+        let down = fields.optional_trigger()?;
+        *state = (nbr, session);
         Ok(SessionRow {
             nbr,
             session,
@@ -515,54 +478,53 @@ impl Run for ReportSessions {
 }
 
 impl Told for ReportSessions {
-    fn fits(&mut self, item: &SessionRow) -> bool {
-        if !session_row_fits(item, self.nbr, self.session) {
+    #[tactic(auto, unfolding(crate::specs::Fields::session_row))]
+    fn fits(state: &mut (NodeId, Session), item: &SessionRow) -> bool {
+        if !session_key_fits(item.nbr, item.session, state.0, state.1) {
             return false;
         }
-        self.nbr = item.nbr;
-        self.session = item.session;
-        true
+        *state = (item.nbr, item.session);
+        any32_fits(item.received) && down_fits(item.down)
     }
 
+    #[tactic(auto, unfolding(crate::specs::Fields::session_row))]
     fn write(item: &SessionRow, out: &mut Vec<u8>) -> Result<(), NoMemory> {
-        put_session_row(out, item)
+        put_node(out, item.nbr)?;
+        put_session(out, item.session)?;
+        put_any32(out, item.received)?;
+        put_down(out, item.down)
     }
 }
 
-/// Paths, each of which may be none.
-#[derive(Drop)]
+/// Paths, each of which may be none. The state says nothing.
 pub(crate) struct PathRun;
 
-impl Model for PathRun {
-    ghost use Rattle.std.specs.Prelude.{ℕ};
-
-    ghost Value = { ℕ };
-
-    ghost view = { λ _. 0 };
-}
-
 impl Run for PathRun {
-    ghost use Rattle.wire_frames.specs.Fields.{paths_in_order};
+    type State = u8;
 
     type Item = Option<Path>;
 
     ghost series = { paths_in_order };
 
-    fn skip(&mut self, fields: &mut Fields<'_>) -> Result<(), FrameKind> {
-        fields.skip_path()
+    fn skip(_state: &mut u8, fields: &mut Fields<'_>) -> Result<(), FrameKind> {
+        <Option<Path>>::skip(fields)
     }
 
-    fn read(&mut self, alloc: Global, fields: &mut Fields<'_>) -> Result<Option<Path>, ReadError> {
-        read_path(alloc, fields)
+    fn read(
+        _state: &mut u8,
+        alloc: Global,
+        fields: &mut Fields<'_>,
+    ) -> Result<Option<Path>, ReadError> {
+        <Option<Path>>::read(alloc, fields)
     }
 }
 
 impl Told for PathRun {
-    fn fits(&mut self, item: &Option<Path>) -> bool {
-        path_fits(item)
+    fn fits(_state: &mut u8, item: &Option<Path>) -> bool {
+        <Option<Path>>::fits(item)
     }
 
     fn write(item: &Option<Path>, out: &mut Vec<u8>) -> Result<(), NoMemory> {
-        put_path(out, item)
+        <Option<Path>>::put(item, out)
     }
 }

@@ -5,8 +5,4 @@ use Rattle.wire_frames.proofs.bodies.decision.Goals as goal
 
 pub returns : goal.returns
 unfolding body_at
-returns c = (
-  frame.Decision c.in_ok-peer.peer c.in_ok-epoch.epoch c.in_ok-value.ensures.0,
-  rw (← c.new-fields.ensures, c.in_ok-peer.ensures, c.in_ok-epoch.ensures, c.in_ok-value.ensures.1, c.in_ok-finish.ensures) refl,
-  (c.in_ok-value.ensures.0, refl, c.in_ok-value.ensures.2),
-)
+returns c = (frame.Decision c.in_ok-node.field-0 c.in_ok-epoch.field-0 c.in_ok-part.ensures.0, rw (c.in_ok-node.ensures, c.in_ok-epoch.ensures, c.in_ok-part.ensures.1) refl, (c.in_ok-part.ensures.0, refl, c.in_ok-part.ensures.2))

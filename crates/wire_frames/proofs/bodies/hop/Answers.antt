@@ -5,8 +5,4 @@ use Rattle.wire_frames.proofs.bodies.hop.Goals as goal
 
 pub returns : goal.returns
 unfolding body_at
-returns c = (
-  frame.Hop c.in_ok-packet.ensures.0 c.in_ok-up.ensures.0,
-  rw (← c.new-fields.ensures, c.in_ok-packet.ensures.1, c.in_ok-up.ensures.1, c.in_ok-finish.ensures) refl,
-  (c.in_ok-packet.ensures.0, c.in_ok-up.ensures.0, refl, c.in_ok-packet.ensures.2, c.in_ok-up.ensures.2),
-)
+returns c = (frame.Hop c.in_ok-part.ensures.0 c.in_ok-part-2.ensures.0, rw (c.in_ok-part.ensures.1, c.in_ok-part-2.ensures.1) refl, (c.in_ok-part.ensures.0, c.in_ok-part-2.ensures.0, refl, c.in_ok-part.ensures.2, c.in_ok-part-2.ensures.2))

@@ -11,7 +11,7 @@ unfolding body_at named
 returns-then-branch-eq0 c =
     let flag : (number w8 0 1).reads c.ballot.new.self ≡ Ok (0, c.number8.new.self) = rw c.if-branch-eq0.true at c.in_ok-number8.ensures.number in (
       frame.Promise c.in_ok-peer.peer c.in_ok-epoch.epoch c.in_ok-ballot.ballot None,
-      rw (← c.new-fields.ensures, c.in_ok-peer.ensures, c.in_ok-epoch.ensures, c.in_ok-ballot.ensures, flag, c.in_ok-finish.ensures) refl,
+      rw (c.in_ok-peer.ensures, c.in_ok-epoch.ensures, c.in_ok-ballot.ensures, flag) refl,
       (None, refl, tt),
     )
 
@@ -21,6 +21,6 @@ returns c =
     let one : c.in_ok-number8.field-0 ≡ 1 = omega (arith, c.in_ok-number8.ensures.small) in
     let flag : (number w8 0 1).reads c.ballot.new.self ≡ Ok (1, c.number8.new.self) = rw one at c.in_ok-number8.ensures.number in (
       frame.Promise c.in_ok-peer.peer c.in_ok-epoch.epoch c.in_ok-ballot.ballot (Some (c.in_ok-accepted.accepted, c.in_ok-value.ensures.0)),
-      rw (← c.new-fields.ensures, c.in_ok-peer.ensures, c.in_ok-epoch.ensures, c.in_ok-ballot.ensures, flag, c.in_ok-accepted.ensures, c.in_ok-value.ensures.1, c.in_ok-finish-2.ensures) refl,
+      rw (c.in_ok-peer.ensures, c.in_ok-epoch.ensures, c.in_ok-ballot.ensures, flag, c.in_ok-accepted.ensures, c.in_ok-value.ensures.1) refl,
       (Some (c.in_ok-accepted.accepted, c.in_ok-value.ensures.0), refl, (refl, c.in_ok-value.ensures.2)),
     )

@@ -7,9 +7,9 @@ use Rattle.wire_frames.proofs.bodies.update.Goals as goal
 pub returns : goal.returns
 unfolding body_at
 returns c =
-    let ts = c.in_ok-triggers.ensures.0 in
-    let one = one_is_one ts c.in_ok-triggers.ensures.3 in (
-      frame.Update c.in_ok-peer.peer c.in_ok-session.session c.in_ok-seq.seq ts c.in_ok-prefix.prefix c.in_ok-path.ensures.0,
-      rw (← c.new-fields.ensures, c.in_ok-peer.ensures, c.in_ok-session.ensures, c.in_ok-seq.ensures, c.in_ok-triggers.ensures.1, c.in_ok-prefix.ensures, c.in_ok-path.ensures.1, c.in_ok-finish.ensures) refl,
-      (ts, c.in_ok-path.ensures.0, refl, rw one refl, rw one c.in_ok-triggers.ensures.2, c.in_ok-path.ensures.2),
+    let ts = c.in_ok-part.ensures.0 in
+    let one = one_is_one ts c.in_ok-part.ensures.3 in (
+      frame.Update c.in_ok-node.field-0 c.in_ok-session.field-0 c.in_ok-positive.field-0 ts c.in_ok-prefix.field-0 c.in_ok-part-2.ensures.0,
+      rw (c.in_ok-node.ensures, c.in_ok-session.ensures, c.in_ok-positive.ensures, c.in_ok-part.ensures.1, c.in_ok-prefix.ensures, c.in_ok-part-2.ensures.1) refl,
+      (ts, c.in_ok-part-2.ensures.0, refl, rw one refl, rw one c.in_ok-part.ensures.2, c.in_ok-part-2.ensures.2),
     )

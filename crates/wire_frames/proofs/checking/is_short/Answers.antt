@@ -1,4 +1,4 @@
-use Rattle.std.proofs.Common.{sym, ◌∙◌}
+use Rattle.std.proofs.Common.{sym}
 use Rattle.std.proofs.lemmas.Bool.{le-leb}
 use Rattle.wire_frames.proofs.Short.{short_unless_report, report_body, report_limit}
 use Rattle.wire_frames.proofs.checking.is_short.Goals as goal
