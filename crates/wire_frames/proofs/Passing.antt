@@ -1,22 +1,13 @@
 -- Fields that are skipped or cut out can be read.
-use Rattle.std.proofs.Common.{◌≡◌, ℕ, ◌-◌, true, false, List, [], ◌∷◌, ◌++◌, length, take, Result, Ok, Err, refl, ap, ◌∙◌, arith}
+use Rattle.std.proofs.Common.{◌≡◌, ℕ, ◌-◌, false, List, [], ◌∷◌, ◌++◌, length, take, Result, Ok, Err, refl, ap, ◌∙◌, arith}
 use Rattle.std.specs.Borrow.{Bor}
 use Rattle.std.proofs.lemmas.List.{take_at, length-append}
 use Rattle.topology.specs.Lists.{has}
 use Rattle.topology.specs.declared.frame_faults.FrameKind.{FrameKind}
-use Rattle.topology.specs.declared.frame_faults.FrameKind.TheVariants as fault
 use Rattle.wire_frames.specs.Formats.{Format, IsBytes, pair, Meaning, meant, Series, listed, stepped, skipped, passed, IsFormat}
 use Rattle.wire_frames.specs.Fields.{node, different}
 use Rattle.wire_frames.specs.Shown.{Gives, Passes, Cuts}
 use Rattle.wire_frames.proofs.Skipping.{skipped_ok, skipped_err, passed_ok, passed_err}
-
--- a count and that many skipped elements are a list
-pub list_passes : {S A T : Type 0} (count : Format ℕ) (series : Series S A) (s t : S) (n : ℕ) (b0 b1 b2 : List ℕ) (r : Result T FrameKind) → count.reads b0 ≡ Ok (n, b1) → Gives (λ _. (t, b2)) r (skipped series s n b1)
-    → Passes (listed count series s) b0 r b2
-list_passes count series s t n b0 b1 b2 (Ok x) counted gone =
-    let a = skipped_ok series s t n b1 b2 gone in
-    (a.list, rw (counted, a.read) refl)
-list_passes count series s t n b0 b1 b2 (Err wrong) counted gone = rw (counted, skipped_err series s n b1 wrong gone) refl
 
 pub list_fails : {S A : Type 0} (count : Format ℕ) (series : Series S A) (s : S) (n : ℕ) (b0 b1 : List ℕ) (wrong : FrameKind) → count.reads b0 ≡ Ok (n, b1) → skipped series s n b1 ≡ Err wrong
     → (listed count series s).reads b0 ≡ Err wrong
@@ -52,9 +43,3 @@ part_is f law b0 b1 text y are read cut =
 
 pub different_step : (seen : List ℕ) (n : ℕ) (b0 b1 : List ℕ) → node.reads b0 ≡ Ok (n, b1) → has seen n ≡ false → stepped different seen b0 ≡ Ok (seen ++ n ∷ [], b1)
 different_step seen n b0 b1 read new = rw (read, new) refl
-
-pub different_again : (seen : List ℕ) (n : ℕ) (b0 b1 : List ℕ) → node.reads b0 ≡ Ok (n, b1) → has seen n ≡ true → stepped different seen b0 ≡ Err fault.Order
-different_again seen n b0 b1 read old = rw (read, old) refl
-
-pub different_wrong : (seen : List ℕ) (b0 : List ℕ) (wrong : FrameKind) → node.reads b0 ≡ Err wrong → stepped different seen b0 ≡ Err wrong
-different_wrong seen b0 wrong read = rw read refl

@@ -1,5 +1,5 @@
 -- Skipping elements one after another, as a loop does.
-use Rattle.std.proofs.Common.{◌≡◌, ℕ, zero, suc, ◌-◌, ◌+◌, ◌≤◌, ◌<◌, List, [], ◌∷◌, length, Result, Ok, Err, refl, sym, ap, ap₂, subst, ◌∙◌, arith}
+use Rattle.std.proofs.Common.{◌≡◌, ℕ, zero, suc, ◌-◌, ◌+◌, ◌<◌, List, [], ◌∷◌, length, Result, Ok, Err, refl, sym, ap, ap₂, subst, ◌∙◌, arith}
 use Rattle.topology.specs.declared.frame_faults.FrameKind.{FrameKind}
 use Rattle.wire_frames.specs.Formats.{◌>>=◌, Series, many_at, listed, stepped, reached, skipped, passed}
 use Rattle.topology.specs.declared.names.Trigger.{Trigger}
@@ -22,12 +22,6 @@ pub ends : {S A : Type 0} (series : Series S A) (count i : ℕ) (s : S) (bytes :
 ends series count i s bytes wrong total lt step so_far =
     let k : count - i ≡ suc (count - (i + 1)) = omega arith in
     let one : skipped series s (count - i) bytes ≡ Err wrong = rw (k, step) refl in
-    sym so_far ∙ one
-
-pub is_done : {S A : Type 0} (series : Series S A) (count i : ℕ) (s : S) (bytes : List ℕ) (total : Result (S × List ℕ) FrameKind) → count ≤ i → skipped series s (count - i) bytes ≡ total → total ≡ Ok (s, bytes)
-is_done series count i s bytes total le so_far =
-    let k : count - i ≡ 0 = omega arith in
-    let one : skipped series s (count - i) bytes ≡ Ok (s, bytes) = rw k refl in
     sym so_far ∙ one
 
 -- the state after elements, and the bytes after them

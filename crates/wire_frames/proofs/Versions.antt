@@ -1,5 +1,5 @@
 -- Which updates and reports have a spelling in version 1.
-use Rattle.std.proofs.Common.{◌≡◌, ◌≢◌, arith, cond, ◌+◌, ℕ, Bool, true, false, not, ◌&&◌, List, [], ◌∷◌, Some, None, length, refl, sym, ap, ◌∙◌}
+use Rattle.std.proofs.Common.{◌≡◌, ◌≢◌, arith, ◌+◌, ℕ, Bool, true, false, not, ◌&&◌, List, [], ◌∷◌, Some, None, length, refl, sym, ap, ◌∙◌}
 use Rattle.std.specs.Prelude.{◌==◌}
 use Rattle.std.specs.List.{list_all}
 use Rattle.std.proofs.lemmas.Bool.{and_parts, and_from, not-true}
@@ -10,7 +10,7 @@ use Rattle.incomplete_closure.specs.declared.cut_rows.Row.{Row}
 use Rattle.incomplete_closure.specs.declared.reports.Report.{Report as TheReport}
 use Rattle.wire_frames.specs.Formats.{many_fit, reached, listed}
 use Rattle.wire_frames.specs.Fields.{epoch, node, many, first_of, is_one, is_alone, one_trigger, no_trigger, rising_triggers, trigger, scope, more_items, sent, items, row, rows, session_rows, report}
-use Rattle.wire_frames.specs.Listing.{more_triggers, triggers, only_of, has_alone, is_plain_row, is_plain, RowSoFar, begun, listed_items, RowsSoFar, any_report, listed_rows, listed_report, update_version, report_version}
+use Rattle.wire_frames.specs.Listing.{more_triggers, triggers, only_of, has_alone, is_plain_row, is_plain, RowSoFar, begun, listed_items, RowsSoFar, any_report, listed_rows, listed_report}
 
 -- ---- updates
 
@@ -105,25 +105,3 @@ pub only_else : (ts : List Trigger) (count : ℕ) → length ts ≡ count → co
 only_else [] count long other = refl
 only_else (t ∷ []) count long other = absurd (other (sym long))
 only_else (t ∷ s ∷ ts) count long other = refl
-
--- ---- versions
-
-cond_first : (b : Bool) → ◌≡◌ {A = ℕ} 1 (cond b 1 2) → b ≡ true
-cond_first true e = refl
-cond_first false e = absurd (omega (arith, e))
-
-cond_second : (b : Bool) (n : ℕ) → ◌≢◌ {A = ℕ} n 1 → n ≡ cond b 1 2 → b ≡ false
-cond_second true n other e = absurd (other e)
-cond_second false n other e = refl
-
-pub first_update : (ts : List Trigger) → ◌≡◌ {A = ℕ} 1 (update_version ts) → is_one ts ≡ true
-first_update ts e = cond_first (is_one ts) e
-
-pub second_update : (ts : List Trigger) (n : ℕ) → ◌≢◌ {A = ℕ} n 1 → n ≡ update_version ts → is_one ts ≡ false
-second_update ts n other e = cond_second (is_one ts) n other e
-
-pub first_report : (r : TheReport) → ◌≡◌ {A = ℕ} 1 (report_version r) → is_plain r ≡ true
-first_report r e = cond_first (is_plain r) e
-
-pub second_report : (r : TheReport) (n : ℕ) → ◌≢◌ {A = ℕ} n 1 → n ≡ report_version r → is_plain r ≡ false
-second_report r n other e = cond_second (is_plain r) n other e

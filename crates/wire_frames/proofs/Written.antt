@@ -1,79 +1,48 @@
--- The body of a frame is written by one of five calls.
-use Rattle.std.proofs.Common.{◌≡◌, ℕ, Bool, true, false, ◌&&◌, List, ◌++◌, refl, sym, ◌∙◌}
+-- A frame is checked and written as two lists of fields.
+use Rattle.std.proofs.Common.{◌≡◌, ℕ, Bool, true, false, ◌&&◌, cond, List, [], ◌∷◌, ◌++◌, refl, sym, ap, ◌∙◌}
+use Rattle.std.specs.List.{flat_map, list_all}
 use Rattle.std.proofs.lemmas.List.{append-nil}
 use Rattle.wire_frames.specs.declared.frames.Frame.{Frame}
-use Rattle.wire_frames.specs.declared.frames.Frame.TheVariants as frame
-use Rattle.wire_frames.specs.Frames.{body, body_within, fields_fit, fit_within}
+use Rattle.wire_frames.specs.declared.kinds.Field.{Field}
+use Rattle.wire_frames.specs.Frames.{body, fields_fit}
+use Rattle.wire_frames.specs.Kinds.{spelling, fitting, spelled_all, all_fitting, is_early, early_body, late_body, early_fit, late_fit}
 
-pub five_parts : (out : List ℕ) (f : Frame) → ((((out ++ body_within 1 7 f) ++ body_within 8 10 f) ++ body_within 11 13 f) ++ body_within 14 16 f) ++ body_within 17 22 f ≡ out ++ body f
-unfolding body_within
-five_parts out (frame.Originate a) = simp append-nil
-five_parts out (frame.Withdraw a) = simp append-nil
-five_parts out (frame.Prefer a b) = simp append-nil
-five_parts out (frame.Notice a) = simp append-nil
-five_parts out (frame.OpenSession a b) = simp append-nil
-five_parts out frame.Snap = simp append-nil
-five_parts out (frame.Propose a) = simp append-nil
-five_parts out (frame.Update a b c d e f) = simp append-nil
-five_parts out (frame.Marker a b c) = simp append-nil
-five_parts out (frame.Hello a b c) = simp append-nil
-five_parts out (frame.Report a b) = simp append-nil
-five_parts out (frame.Prepare a b c) = simp append-nil
-five_parts out (frame.Promise a b c d) = simp append-nil
-five_parts out (frame.Accept a b c d) = simp append-nil
-five_parts out (frame.Accepted a b c) = simp append-nil
-five_parts out (frame.Decision a b c) = simp append-nil
-five_parts out (frame.Hop a b) = simp append-nil
-five_parts out (frame.Forward a b) = simp append-nil
-five_parts out (frame.Ended a b) = simp append-nil
-five_parts out (frame.Published a b) = simp append-nil
-five_parts out (frame.Inject a b) = simp append-nil
-five_parts out (frame.Flush a) = simp append-nil
+pub spelled_each : (fs : List Field) → flat_map spelling fs ≡ spelled_all fs
+spelled_each [] = refl
+spelled_each (f ∷ []) = append-nil (spelling f)
+spelled_each (f ∷ g ∷ fs) = ap (λ (text : List ℕ). spelling f ++ text) (spelled_each (g ∷ fs))
 
 and_true : (b : Bool) → (b && true) ≡ b
 and_true true = refl
 and_true false = refl
 
--- the five tests together
-abbrev all_five : Frame → Bool
-all_five f = fit_within 1 7 f && (fit_within 8 10 f && (fit_within 11 13 f && (fit_within 14 16 f && fit_within 17 22 f)))
+pub fitting_each : (fs : List Field) → list_all fitting fs ≡ all_fitting fs
+fitting_each [] = refl
+fitting_each (f ∷ []) = and_true (fitting f)
+fitting_each (f ∷ g ∷ fs) = ap (λ (b : Bool). fitting f && b) (fitting_each (g ∷ fs))
 
-five_fit : (f : Frame) → all_five f ≡ fields_fit f
-unfolding fit_within
-five_fit (frame.Originate a) = and_true _
-five_fit (frame.Withdraw a) = and_true _
-five_fit (frame.Prefer a b) = and_true _
-five_fit (frame.Notice a) = and_true _
-five_fit (frame.OpenSession a b) = and_true _
-five_fit frame.Snap = and_true _
-five_fit (frame.Propose a) = and_true _
-five_fit (frame.Update a b c d e f) = and_true _
-five_fit (frame.Marker a b c) = and_true _
-five_fit (frame.Hello a b c) = and_true _
-five_fit (frame.Report a b) = and_true _
-five_fit (frame.Prepare a b c) = and_true _
-five_fit (frame.Promise a b c d) = and_true _
-five_fit (frame.Accept a b c d) = and_true _
-five_fit (frame.Accepted a b c) = and_true _
-five_fit (frame.Decision a b c) = and_true _
-five_fit (frame.Hop a b) = refl
-five_fit (frame.Forward a b) = refl
-five_fit (frame.Ended a b) = refl
-five_fit (frame.Published a b) = refl
-five_fit (frame.Inject a b) = refl
-five_fit (frame.Flush a) = refl
+pub both_written : (out : List ℕ) (f : Frame) → (out ++ early_body f) ++ late_body f ≡ out ++ body f
+unfolding early_body late_body
+both_written out f = go (is_early f)
+  where
+    go : (b : Bool) → (out ++ cond b (body f) []) ++ cond b [] (body f) ≡ out ++ body f
+    go true = append-nil (out ++ body f)
+    go false = ap (λ (text : List ℕ). text ++ body f) (append-nil out)
 
-pub fails_first : (f : Frame) → fit_within 1 7 f ≡ false → false ≡ fields_fit f
-fails_first f a = let no : all_five f ≡ false = rw a refl in sym no ∙ five_fit f
+both_fit : (f : Frame) → (early_fit f && late_fit f) ≡ fields_fit f
+unfolding early_fit late_fit
+both_fit f = go (is_early f)
+  where
+    go : (b : Bool) → (cond b (fields_fit f) true && cond b true (fields_fit f)) ≡ fields_fit f
+    go true = and_true (fields_fit f)
+    go false = refl
 
-pub fails_second : (f : Frame) → fit_within 1 7 f ≡ true → fit_within 8 10 f ≡ false → false ≡ fields_fit f
-fails_second f a b = let no : all_five f ≡ false = rw (a, b) refl in sym no ∙ five_fit f
+-- the test of the fields is the test of the group
+pub told : (fs : List Field) (passed group : Bool) → all_fitting fs ≡ group → passed ≡ list_all fitting fs → group ≡ passed
+told fs passed group fit test = sym fit ∙ sym (fitting_each fs) ∙ sym test
 
-pub fails_third : (f : Frame) → fit_within 1 7 f ≡ true → fit_within 8 10 f ≡ true → fit_within 11 13 f ≡ false → false ≡ fields_fit f
-fails_third f a b c = let no : all_five f ≡ false = rw (a, b, c) refl in sym no ∙ five_fit f
+pub fails_early : (f : Frame) → early_fit f ≡ false → false ≡ fields_fit f
+fails_early f a = let no : (early_fit f && late_fit f) ≡ false = rw a refl in sym no ∙ both_fit f
 
-pub fails_fourth : (f : Frame) → fit_within 1 7 f ≡ true → fit_within 8 10 f ≡ true → fit_within 11 13 f ≡ true → fit_within 14 16 f ≡ false → false ≡ fields_fit f
-fails_fourth f a b c d = let no : all_five f ≡ false = rw (a, b, c, d) refl in sym no ∙ five_fit f
-
-pub rests_on_last : (f : Frame) → fit_within 1 7 f ≡ true → fit_within 8 10 f ≡ true → fit_within 11 13 f ≡ true → fit_within 14 16 f ≡ true → fit_within 17 22 f ≡ fields_fit f
-rests_on_last f a b c d = let last : all_five f ≡ fit_within 17 22 f = rw (a, b, c, d) refl in sym last ∙ five_fit f
+pub rests_on_late : (f : Frame) → early_fit f ≡ true → late_fit f ≡ fields_fit f
+rests_on_late f a = let last : (early_fit f && late_fit f) ≡ late_fit f = rw a refl in sym last ∙ both_fit f

@@ -1,6 +1,6 @@
 -- The kinds of frames, and the only spelling of each frame.
 use Rattle.std.specs.Prelude.{ℕ, Bool, true, ◌&&◌, ◌==◌, nat_le, List, [], ◌∷◌, ◌++◌, length, Option, find, if◌then◌else◌}
-use Rattle.std.specs.Int.{w32, to_be_bytes, is_in_range}
+use Rattle.std.specs.Int.{w32, to_be_bytes}
 use Rattle.topology.specs.declared.names.Trigger.{Trigger}
 use Rattle.topology.specs.declared.ballots.Ballot.{Ballot}
 use Rattle.incomplete_closure.specs.declared.reports.Report.{Report as TheReport}
@@ -233,17 +233,3 @@ fits f = fields_fit f && nat_le (length (body f)) (limit_of (tag_of f))
 -- version, kind, length and body
 unfoldable pub spell : Frame → List ℕ
 spell f = version_of (tag_of f) ∷ number_of (tag_of f) ∷ to_be_bytes w32 (length (body f)) ++ body f
-
--- the number of a frame's kind, the same in both versions
-abbrev pub kind_number : Frame → ℕ
-kind_number (frame.Update n s q ts p ns) = 8
-kind_number (frame.Report n r) = 11
-kind_number f = number_of (tag_of f)
-
--- the body of a frame if the number of its kind is in this range, else nothing
-unfoldable pub body_within : ℕ → ℕ → Frame → List ℕ
-body_within low high f = if is_in_range low high (kind_number f) then body f else []
-
--- the fields of a frame fit if the number of its kind is in this range
-unfoldable pub fit_within : ℕ → ℕ → Frame → Bool
-fit_within low high f = if is_in_range low high (kind_number f) then fields_fit f else true

@@ -51,6 +51,7 @@ pub mod encoding;
 mod faults;
 mod fitting;
 pub mod frames;
+mod kinds;
 pub mod laws;
 mod layouts;
 mod listed_runs;

@@ -220,7 +220,7 @@ impl Layout for OneTrigger {
         Ok(())
     }
 
-    fn read(_alloc: Global, fields: &mut Fields<'_>) -> Result<Triggers, ReadError> {
+    fn read(_: Global, fields: &mut Fields<'_>) -> Result<Triggers, ReadError> {
         Ok(Triggers::one(fields.trigger()?))
     }
 

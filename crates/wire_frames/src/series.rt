@@ -199,7 +199,7 @@ impl Run for AnyOrder {
         Ok(())
     }
 
-    fn read(_state: &mut u8, _alloc: Global, fields: &mut Fields<'_>) -> Result<NodeId, ReadError> {
+    fn read(_state: &mut u8, _: Global, fields: &mut Fields<'_>) -> Result<NodeId, ReadError> {
         Ok(fields.node()?)
     }
 }
@@ -233,11 +233,7 @@ impl Run for Rising {
         Ok(())
     }
 
-    fn read(
-        state: &mut NodeId,
-        _alloc: Global,
-        fields: &mut Fields<'_>,
-    ) -> Result<NodeId, ReadError> {
+    fn read(state: &mut NodeId, _: Global, fields: &mut Fields<'_>) -> Result<NodeId, ReadError> {
         let node = fields.node()?;
         if node <= *state {
             return Err(ReadError::Bad(FrameKind::Order));
@@ -280,11 +276,7 @@ impl Run for RisingTriggers {
         Ok(())
     }
 
-    fn read(
-        state: &mut Trigger,
-        _alloc: Global,
-        fields: &mut Fields<'_>,
-    ) -> Result<Trigger, ReadError> {
+    fn read(state: &mut Trigger, _: Global, fields: &mut Fields<'_>) -> Result<Trigger, ReadError> {
         let Trigger { node, count } = fields.trigger()?;
         if !state.is_earlier(Trigger { node, count }) {
             return Err(ReadError::Bad(FrameKind::Order));
@@ -331,11 +323,7 @@ impl Run for Items {
         Ok(())
     }
 
-    fn read(
-        state: &mut Trigger,
-        _alloc: Global,
-        fields: &mut Fields<'_>,
-    ) -> Result<Sent, ReadError> {
+    fn read(state: &mut Trigger, _: Global, fields: &mut Fields<'_>) -> Result<Sent, ReadError> {
         Ok(fields.sent(*state)?)
     }
 }
@@ -461,7 +449,7 @@ impl Run for ReportSessions {
     #[tactic(auto, unfolding(crate::specs::Fields::session_row))]
     fn read(
         state: &mut (NodeId, Session),
-        _alloc: Global,
+        _: Global,
         fields: &mut Fields<'_>,
     ) -> Result<SessionRow, ReadError> {
         let (nbr, session) = fields.session_key(state.0, state.1)?;
