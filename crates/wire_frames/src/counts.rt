@@ -40,6 +40,7 @@ fn put_many(out: &mut Vec<u8>, count: usize) -> Result<(), NoMemory>
 
 impl Count {
     // The count, before it is tested.
+    #[inline(always)]
     fn word(self, fields: &mut Fields<'_>) -> Result<u16, FrameKind>
         ensures { Gives (λ n. (n, fields.new)) result (word_at (width_of self) fields.old) }
     {
@@ -53,6 +54,7 @@ impl Count {
 
     /// Whether a list may have so many elements.
     #[tactic(auto, unfolding(crate::specs::Fields::few, crate::specs::Fields::many, crate::specs::Fields::more_items, crate::specs::Listing::more_triggers))]
+    #[inline(always)]
     pub(crate) fn allows(self, count: usize) -> bool
         ensures fits { result ≡ (counted self).fits count }
         ensures within { IsTrue result → IsWithin self count }
@@ -72,6 +74,7 @@ impl Count {
     }
 
     /// Reads the count.
+    #[inline(always)]
     pub(crate) fn read(self, fields: &mut Fields<'_>) -> Result<u16, FrameKind>
         ensures number { Gives (λ n. (n, fields.new)) result ((counted self).reads fields.old) }
         ensures within { IfOk result (λ n. IsWithin self n) }

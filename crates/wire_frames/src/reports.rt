@@ -3,6 +3,7 @@ ghost use Rattle.std.specs.Prelude.{◌≡◌, ◌++◌, ◌==◌, ◌&&◌, tru
 ghost use Rattle.incomplete_closure.specs.declared.reports.Report.{Report as AnyReport};
 ghost use Rattle.topology.specs.declared.limits.TheConstants.{MOST_SESSIONS};
 ghost use Rattle.wire_frames.specs.Formats.{listed};
+ghost use Rattle.wire_frames.specs.Shown.{Passes};
 ghost use Rattle.wire_frames.specs.Fields.{many, session_rows, report};
 ghost use Rattle.wire_frames.specs.Listing.{report_fits, spelled_report, report_version, listed_report};
 
@@ -28,6 +29,13 @@ fn first_session() -> (NodeId, Session)
     (NodeId::new(0), Session::new(0))
 }
 
+fn skip_sessions(fields: &mut Fields<'_>) -> Result<(), FrameKind>
+    ensures { Passes (listed (many MOST_SESSIONS) session_rows (0, 0)) fields.old result fields.new }
+{
+    skip_list::<ReportSessions>(Count::Many(MOST_SESSIONS), &mut first_session(), fields)?;
+    Ok(())
+}
+
 fn read_sessions(alloc: Global, fields: &mut Fields<'_>) -> Result<SessionRows, ReadError>
     ensures { IfOk result (λ x. (listed (many MOST_SESSIONS) session_rows (0, 0)).reads fields.old
         ≡ Ok (x, fields.new)) }
@@ -50,8 +58,7 @@ impl Layout for PlainReport {
         fields.node()?;
         fields.epoch()?;
         skip_list::<ReportRows>(Count::Many(MOST_ENTRIES), &mut 0, fields)?;
-        skip_list::<ReportSessions>(Count::Many(MOST_SESSIONS), &mut first_session(), fields)?;
-        Ok(())
+        skip_sessions(fields)
     }
 
     fn read(alloc: Global, fields: &mut Fields<'_>) -> Result<Report, ReadError> {
@@ -114,7 +121,7 @@ impl Layout for ListedReport {
         fields.epoch()?;
         let mut rows = ListedRows::first();
         skip_list::<ListedRows>(Count::Many(MOST_ENTRIES), &mut rows, fields)?;
-        skip_list::<ReportSessions>(Count::Many(MOST_SESSIONS), &mut first_session(), fields)?;
+        skip_sessions(fields)?;
         let mut behind = PendingRun::behind(rows.marks());
         let pending = skip_list::<PendingRun>(Count::Many(MOST_PENDING), &mut behind, fields)?;
         if are_plain(&rows, pending) {

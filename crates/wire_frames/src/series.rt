@@ -117,6 +117,7 @@ pub(crate) fn length_many<R: Measured>(items: &[R::Item]) -> usize
 }
 
 // Skips `count` elements. Takes no memory.
+#[inline(always)]
 fn skip_many<R: Run>(
     state: &mut R::State,
     count: u16,
@@ -132,6 +133,7 @@ fn skip_many<R: Run>(
 }
 
 /// Skips a list. Returns how many elements it has. Takes no memory.
+#[inline(always)]
 pub(crate) fn skip_list<R: Run>(
     count: Count,
     state: &mut R::State,
@@ -146,6 +148,7 @@ pub(crate) fn skip_list<R: Run>(
 }
 
 /// Reads a list into memory.
+#[inline(always)]
 pub(crate) fn read_list<R: Run>(
     count: Count,
     state: &mut R::State,
@@ -442,7 +445,8 @@ impl Run for ReportSessions {
         let (nbr, session) = fields.session_key(state.0, state.1)?;
         fields.any32()?;
         fields.optional_trigger()?;
-        *state = (nbr, session);
+        state.0 = nbr;
+        state.1 = session;
         Ok(())
     }
 
@@ -455,7 +459,8 @@ impl Run for ReportSessions {
         let (nbr, session) = fields.session_key(state.0, state.1)?;
         let received = fields.any32()?;
         let down = fields.optional_trigger()?;
-        *state = (nbr, session);
+        state.0 = nbr;
+        state.1 = session;
         Ok(SessionRow {
             nbr,
             session,
