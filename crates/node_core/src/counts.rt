@@ -104,6 +104,9 @@ impl Counts {
     fn add_sent(&mut self, sent: &SentItems) -> Result<(), NoMemory>
         ensures { OnOk result (Adds sent.now self.old self.new) }
     {
+        if sent.is_none() {
+            return Ok(());
+        }
         let Some(marks) = sent.marks() else {
             return Err(NoMemory);
         };

@@ -1,5 +1,5 @@
 //! The items that an entry sent.
-ghost use Rattle.std.specs.Prelude.{◌≡◌, ◌≤◌, ◌<◌, ◌^◌, ◌+◌, ◌↔◌, ◌∷◌, [], drop, length, slice_get, IfOk, IsOk, IfSome, IsSome, IsNone};
+ghost use Rattle.std.specs.Prelude.{◌≡◌, ◌≤◌, ◌<◌, ◌^◌, ◌+◌, ◌↔◌, ◌∷◌, [], drop, length, slice_get, IfOk, IsOk, IfSome, IsSome, IsNone, IsTrue};
 ghost use Rattle.std.specs.List.{list_any};
 ghost use Rattle.topology.specs.Triggers.{Ascend};
 ghost use Rattle.topology.specs.SentLists.{AreAlike, IsUnlike, is_above, listed_sent, marks_of};
@@ -141,6 +141,14 @@ impl SentItems {
                 kept: Kept::Many(items.clone()?),
             }),
         }
+    }
+
+    /// Whether there are none, as in most entries. A list that was made of no items is one of them.
+    #[inline(always)]
+    pub fn is_none(&self) -> bool
+        ensures { IsTrue result → self.now ≡ [] }
+    {
+        matches!(self.kept, Kept::Nothing)
     }
 
     /// How many items there are.
