@@ -22,13 +22,13 @@ IsSmall t item = (item.triggers ≡ t ∷ []) × (item.session < 2 ^ 16) × (ite
 abbrev pub AreAlike : Trigger → List Sent → Type 0
 AreAlike t items = (length items ≤ 2) × AllByRecursion (IsSmall t) items
 
--- what is shared could not stand in place
+-- what is shared could not stand in place, and what has items one by one could not be packed
 abbrev pub IsUnlike : Kept → Type 0
 IsUnlike Nothing = Unit {0}
 IsUnlike (One items) = Unit {0}
 IsUnlike (Two items) = Unit {0}
 IsUnlike (Alike items) = (t : Trigger) → AreAlike t items.value → ⊥
-IsUnlike (Many items) = (t : Trigger) → AreAlike t items.value.items → ⊥
+IsUnlike (Many items) = (t : Trigger) → AllByRecursion (IsSmall t) items.value.items → ⊥
 
 -- how many triggers the items list, counted once for each item
 abbrev pub marks_of : List Sent → ℕ

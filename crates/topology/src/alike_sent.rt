@@ -1,9 +1,10 @@
 //! Any number of items that were sent for one trigger, in one block.
-ghost use Rattle.std.specs.Prelude.{◌≡◌, length, map, slice_get, IfOk, IfSome};
-ghost use Rattle.std.specs.List.{list_any};
+ghost use Rattle.std.specs.Prelude.{◌≡◌, [], length, map, slice_get, IfOk, IfSome, IsNone};
+ghost use Rattle.std.specs.List.{AllByRecursion, list_any};
 ghost use Rattle.topology.specs.AlikeLists.{unpacked};
 ghost use Rattle.topology.specs.Triggers.{Ascend};
-ghost use Rattle.topology.specs.SentLists.{is_above, marks_of};
+ghost use Rattle.topology.specs.SentLists.{IsSmall, is_above, marks_of};
+ghost use Rattle.topology.specs.declared.names.Trigger.{Trigger as AnyTrigger};
 
 use crate::items::Sent;
 use crate::packed_sent::{only, short};
@@ -43,7 +44,8 @@ impl Model for AlikeSent {
 
 // The item without the trigger, where it lists this one and no other, and its session and its number have two bytes.
 fn packed(item: &Sent, trigger: &Trigger) -> Option<ShortSent>
-    ensures { IfSome result (λ packed. unpacked trigger.now packed ≡ item.now) }
+    ensures some { IfSome result (λ packed. unpacked trigger.now packed ≡ item.now) }
+    ensures none { IsNone result → IsSmall trigger.now item.now → ⊥ }
 {
     if only(&item.triggers)? != *trigger {
         return None;
@@ -63,7 +65,8 @@ fn all_packed(
     items: &[Sent],
     trigger: &Trigger,
 ) -> Result<Option<SmallVec<ShortSent, IN_PLACE>>, NoMemory>
-    ensures { IfOk result (λ found. IfSome found (λ list. map (unpacked trigger.now) list.items ≡ items.now)) }
+    ensures some { IfOk result (λ found. IfSome found (λ list. map (unpacked trigger.now) list.items ≡ items.now)) }
+    ensures none { IfOk result (λ found. IsNone found → AllByRecursion (IsSmall trigger.now) items.now → ⊥) }
 {
     let mut list = SmallVec::new(alloc);
     list.reserve(items.len())?;
@@ -78,8 +81,10 @@ fn all_packed(
 
 impl AlikeSent {
     /// These items, if there is one, they list one and the same trigger, and their sessions and numbers have two bytes.
+    /// The answer is `None` exactly where that is not so.
     pub fn of(alloc: Global, items: &[Sent]) -> Result<Option<AlikeSent>, NoMemory>
-        ensures { IfOk result (λ found. IfSome found (λ kept. kept ≡ items.now)) }
+        ensures some { IfOk result (λ found. IfSome found (λ kept. kept ≡ items.now)) }
+        ensures none { IfOk result (λ found. IsNone found → (t : AnyTrigger) → AllByRecursion (IsSmall t) items.now → items.now ≡ []) }
     {
         let [first, ..] = items else {
             return Ok(None);

@@ -5,7 +5,7 @@ pub returns-in_err-clone-in-Many-clause-few : goal.returns-in_err-clone-in-Many-
 returns-in_err-clone-in-Many-clause-few c = λ t alike.
     let unlike = rw c.in-Many.is at c.self.invariant in
     let items = rw c.in-Many.is at c.self.view_is in
-    absurd (unlike t (rw (sym items) at alike))
+    absurd (unlike t (rw (sym items) at alike).1)
 
 pub invariant_of-result-in-Many : goal.invariant_of-result-in-Many
 invariant_of-result-in-Many c = λ t alike.
