@@ -106,6 +106,7 @@ pub struct Turn<'a> {
 }
 
 /// The path that the neighbour knows; `None` if it knows no offer.
+#[inline(always)]
 pub fn known<'a, P: Policy + Copy>(
     routes: &RouteState<P>,
     before: &'a Offer,
