@@ -625,8 +625,7 @@ impl<P: Policy + Copy> NodeLog<P> {
         self.finish(triggers, Scope::Nothing, cause, offers)
     }
 
-    // Does the rest of an entry that the routes took already: marks its sessions, tells each neighbour, and keeps the
-    // entry.
+    // Does the rest of an entry that the routes took already: marks sessions, tells each neighbour, keeps the entry.
     #[inline(always)]
     fn finish(
         &mut self,
